@@ -1,0 +1,8 @@
+pub mod Atoms
+pub mod Bounds
+pub mod Deciding
+pub mod Fluents
+pub mod Growing
+pub mod Optimal
+pub mod Runs
+pub mod Sums

@@ -1,0 +1,13 @@
+use Rattle.std.proofs.Common.{◌≡◌, true, take, fold, pos, neg_ℤ, ◌≤ℤ◌, ◌+◌, ◌*◌}
+use Rattle.std.specs.List.{list_all}
+use Rattle.hd_task.specs.Effects.{term_stays, with_term}
+use Rattle.hd_task.proofs.effect.sum_of.Given as goal
+
+-- the terms so far stay in the range, and `sum` is their exact sum, which is far from the ends of 128 bits
+abbrev pub invariant-loop-term : goal.invariant-loop-term
+invariant-loop-term l = record {
+  stay : list_all (term_stays l.fluents) (take l.term-index l.terms) ≡ true;
+  sum : l.sum ≡ fold (with_term l.fluents) l.first (take l.term-index l.terms);
+  low : neg_ℤ (pos (9223372036854775808 + 1000000000000000 * l.term-index)) ≤ℤ l.sum;
+  high : l.sum ≤ℤ pos (9223372036854775808 + 1000000000000000 * l.term-index);
+}

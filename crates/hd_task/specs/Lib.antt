@@ -1,0 +1,14 @@
+pub mod Applying
+pub mod Conditions
+pub mod Covers
+pub mod Departures
+pub mod Effects
+pub mod Entries
+pub mod Examples
+pub mod Expansions
+pub mod Expressions
+pub mod Parts
+pub mod Plans
+pub mod Sums
+pub mod Verdicts
+pub mod WellFormed

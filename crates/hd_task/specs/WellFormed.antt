@@ -1,0 +1,122 @@
+-- What a task keeps: its numbers name what it has, its costs are fixed. Tests that compute. (Our own.)
+use Rattle.std.specs.Prelude.{ℕ, ◌^◌, Bool, true, false, ◌&&◌, ◌||◌, ◌==◌, List, [], ◌∷◌, length, map, ℤ, pos, ◌+ℤ◌, int_le, nat_lt, nat_le}
+use Rattle.std.specs.List.{list_all, fold}
+use Rattle.hd_task.specs.declared.state.State.{State}
+use Rattle.hd_task.specs.declared.form.GroundForm.{GroundForm}
+use Rattle.hd_task.specs.declared.form.Names.{Names}
+use Rattle.hd_task.specs.declared.expression.Expr.{Expr}
+use Rattle.hd_task.specs.declared.expression.Expr.TheVariants.{Number, Fluent, Negate', Add', Subtract', Multiply'}
+use Rattle.hd_task.specs.declared.condition.Literal.{Literal}
+use Rattle.hd_task.specs.declared.condition.Comparison.{Comparison}
+use Rattle.hd_task.specs.declared.condition.Condition.{Condition}
+use Rattle.hd_task.specs.declared.effect.Term.{Term}
+use Rattle.hd_task.specs.declared.effect.Term.TheVariants.{Increase, Decrease}
+use Rattle.hd_task.specs.declared.effect.Change.{Change}
+use Rattle.hd_task.specs.declared.effect.Change.TheVariants.{Assign, ScaleUp, Sum}
+use Rattle.hd_task.specs.declared.effect.Effect.{Effect}
+use Rattle.hd_task.specs.declared.action.Action.{Action}
+use Rattle.hd_task.specs.Expressions.{value_of, in_range}
+
+-- ---- sizes
+
+-- at most 2^20 atoms, 2^16 fluents and 2^20 actions
+abbrev pub within_limits : ℕ → ℕ → ℕ → Bool
+within_limits atoms fluents actions = nat_le atoms (2 ^ 20) && nat_le fluents (2 ^ 16) && nat_le actions (2 ^ 20)
+
+-- ---- names
+
+-- a ground form has a name for its symbol and for each object
+abbrev pub is_named : ℕ → ℕ → GroundForm → Bool
+is_named symbols objects g = nat_lt g.symbol symbols && list_all (λ o. nat_lt o objects) g.objects
+
+-- each atom, fluent and action has its names
+abbrev pub are_named : Names → List GroundForm → List GroundForm → List Action → Bool
+are_named n atoms fluents actions =
+    list_all (is_named (length n.predicates) (length n.objects)) atoms
+    && list_all (is_named (length n.functions) (length n.objects)) fluents
+    && list_all (λ (a : Action). is_named (length n.schemas) (length n.objects) a.form) actions
+
+-- ---- fluents that are read and changed
+
+-- an expression reads only fluents below this number
+abbrev pub reads_below : ℕ → Expr → Bool
+reads_below n (Number v) = true
+reads_below n (Fluent j) = nat_lt j n
+reads_below n (Negate' p a) = reads_below n a
+reads_below n (Add' p a q b) = reads_below n a && reads_below n b
+reads_below n (Subtract' p a q b) = reads_below n a && reads_below n b
+reads_below n (Multiply' p a q b) = reads_below n a && reads_below n b
+
+-- a comparison reads only fluents below this number
+abbrev pub comparison_reads_below : ℕ → Comparison → Bool
+comparison_reads_below n c = reads_below n c.left && reads_below n c.right
+
+-- the same of a term
+abbrev pub term_reads_below : ℕ → Term → Bool
+term_reads_below n (Increase e) = reads_below n e
+term_reads_below n (Decrease e) = reads_below n e
+
+-- the same of a change
+abbrev pub change_reads_below : ℕ → Change → Bool
+change_reads_below n (Assign e) = reads_below n e
+change_reads_below n (ScaleUp e) = reads_below n e
+change_reads_below n (Sum terms) = list_all (term_reads_below n) terms
+
+-- an effect reads and changes only fluents below this number
+abbrev pub effect_fits : ℕ → Effect → Bool
+effect_fits n e = nat_lt e.fluent n && change_reads_below n e.change
+
+-- numbers that rise: so none stands twice
+abbrev pub is_below_first : ℕ → List ℕ → Bool
+is_below_first x [] = true
+is_below_first x (y ∷ ys) = nat_lt x y
+
+abbrev pub is_rising : List ℕ → Bool
+is_rising [] = true
+is_rising (x ∷ xs) = is_below_first x xs && is_rising xs
+
+-- an action adds only atoms of the task, reads and changes only its fluents, and changes each of them once at most
+abbrev pub action_fits : ℕ → ℕ → Action → Bool
+action_fits atoms fluents a =
+    list_all (λ i. nat_lt i atoms) a.adds
+    && list_all (comparison_reads_below fluents) a.condition.comparisons
+    && list_all (effect_fits fluents) a.effects
+    && is_rising (map (λ (e : Effect). e.fluent) a.effects)
+
+-- a goal names only atoms of the task, and reads only its fluents
+abbrev pub goal_fits : ℕ → ℕ → Condition → Bool
+goal_fits atoms fluents c =
+    list_all (λ (l : Literal). nat_lt l.atom atoms) c.literals && list_all (comparison_reads_below fluents) c.comparisons
+
+-- ---- costs
+
+abbrev pub is_number : Expr → Bool
+is_number (Number v) = true
+is_number (Fluent j) = false
+is_number (Negate' p a) = false
+is_number (Add' p a q b) = false
+is_number (Subtract' p a q b) = false
+is_number (Multiply' p a q b) = false
+
+-- the sum of amounts that read no fluent
+abbrev pub fixed_sum : List Expr → ℤ
+fixed_sum costs = fold (λ sum e. sum +ℤ value_of [] e) (pos 0) costs
+
+-- an action's amounts are numbers, whose sum is not negative; without a metric there are none
+abbrev pub cost_is_fixed : Bool → Action → Bool
+cost_is_fixed metric a =
+    ((metric || (length a.costs == 0)) && list_all is_number a.costs) && int_le (pos 0) (fixed_sum a.costs)
+
+-- ---- all of it
+
+-- the parts of a task fit together
+abbrev pub fit_together : Names → List GroundForm → List GroundForm → State → List Action → Condition → Bool → Bool
+fit_together names atoms fluents initial actions goal metric =
+    within_limits (length atoms) (length fluents) (length actions)
+    && are_named names atoms fluents actions
+    && (length initial.atoms == length atoms)
+    && (length initial.fluents == length fluents)
+    && list_all in_range initial.fluents
+    && list_all (action_fits (length atoms) (length fluents)) actions
+    && goal_fits (length atoms) (length fluents) goal
+    && list_all (cost_is_fixed metric) actions

@@ -1,0 +1,120 @@
+ghost use Rattle.std.specs.Prelude.{◌≡◌, true, false, MatchOption};
+ghost use Rattle.std.specs.List.{list_all};
+ghost use Rattle.hd_task.specs.Conditions.{has_atom, literal_holds, literals_hold, related, comparison_stays, comparison_holds};
+ghost use Rattle.hd_task.specs.Applying.{tested};
+
+use crate::expression::value_of;
+use crate::{Expr, GoalTest, State};
+use hd_list::Sequence;
+
+/// That an atom is true, or that it is false.
+#[derive(Clone, Copy, Debug, PartialEq, Eq)]
+pub struct Literal {
+    /// The atom's number. One that the task lacks is false.
+    pub atom: u32,
+    /// Whether the atom has to be true.
+    pub positive: bool,
+}
+
+/// How the two sides of a comparison compare.
+#[derive(Clone, Copy, Debug, PartialEq, Eq)]
+pub enum Relation {
+    Less,
+    LessOrEqual,
+    Equal,
+    GreaterOrEqual,
+    Greater,
+}
+
+/// A comparison of two numeric expressions.
+#[derive(Debug, Drop)]
+pub struct Comparison {
+    pub left: Expr,
+    pub relation: Relation,
+    pub right: Expr,
+}
+
+/// A conjunction of literals and comparisons, which holds where each part does.
+#[derive(Debug, Drop)]
+pub struct Condition {
+    pub literals: Sequence<Literal>,
+    pub comparisons: Sequence<Comparison>,
+    /// Whether it can't hold in any state, as where an equality of two different objects stands in it.
+    pub never: bool,
+}
+
+fn has_atom(state: &State, atom: u32) -> bool
+    ensures { result ≡ has_atom state.now atom }
+{
+    let atoms = state.atoms.as_slice();
+    atoms.get(atom as usize).copied().unwrap_or(false)
+}
+
+fn literal_holds(state: &State, literal: Literal) -> bool
+    ensures { result ≡ literal_holds state.now literal }
+{
+    has_atom(state, literal.atom) == literal.positive
+}
+
+fn all_hold(state: &State, literals: &[Literal]) -> bool
+    ensures { result ≡ list_all (literal_holds state.now) literals.now }
+{
+    literals
+        .iter()
+        .all(|literal| literal_holds(state, *literal))
+}
+
+/// Whether the conditions on atoms and objects hold.
+fn literals_hold(state: &State, condition: &Condition) -> bool
+    ensures { result ≡ literals_hold state.now condition.now }
+{
+    !condition.never && all_hold(state, condition.literals.as_slice())
+}
+
+fn related(relation: Relation, left: i64, right: i64) -> bool
+    ensures { result ≡ related relation left right }
+{
+    match relation {
+        Relation::Less => left < right,
+        Relation::LessOrEqual => left <= right,
+        Relation::Equal => left <= right && right <= left,
+        Relation::GreaterOrEqual => right <= left,
+        Relation::Greater => right < left,
+    }
+}
+
+/// Whether a comparison holds, unless a subexpression leaves the range.
+fn comparison_holds(fluents: &[i64], comparison: &Comparison) -> Option<bool>
+    ensures { MatchOption result (comparison_stays fluents.now comparison.now ≡ false) (λ v. (comparison_stays fluents.now comparison.now ≡ true) × (v ≡ comparison_holds fluents.now comparison.now)) }
+{
+    let left = value_of(fluents, &comparison.left)?;
+    let right = value_of(fluents, &comparison.right)?;
+    Some(related(comparison.relation, left, right))
+}
+
+/// Whether all comparisons hold, unless a subexpression of one leaves the range.
+fn comparisons_hold(fluents: &[i64], comparisons: &[Comparison]) -> Option<bool>
+    ensures { MatchOption result (list_all (comparison_stays fluents.now) comparisons.now ≡ false) (λ v. (list_all (comparison_stays fluents.now) comparisons.now ≡ true) × (v ≡ list_all (comparison_holds fluents.now) comparisons.now)) }
+{
+    let mut all = true;
+    for comparison in comparisons {
+        let holds = comparison_holds(fluents, comparison)?;
+        all = all && holds;
+    }
+    Some(all)
+}
+
+/// Whether a condition holds, or departs.
+#[tactic(auto, unfolding(crate::specs::Applying::tested, crate::specs::Conditions::holds, crate::specs::Conditions::condition_departs))]
+pub(crate) fn test(state: &State, condition: &Condition) -> GoalTest
+    ensures { result ≡ tested state.now condition.now }
+{
+    if !literals_hold(state, condition) {
+        return GoalTest::No;
+    }
+    match comparisons_hold(state.fluents.as_slice(), condition.comparisons.as_slice()) {
+        None => GoalTest::Departs,
+        Some(true) => GoalTest::Yes,
+        Some(false) => GoalTest::No,
+    }
+}

@@ -1,0 +1,36 @@
+//! Numeric planning tasks: what a task, a state and an action are, what an action does in a state, and the laws by
+//! which a finished search has the last word.
+//!
+//! The definitions in `specs/` say what plans mean (PDDL 2.1, Fox and Long 2003) and what a search has to have looked
+//! at (HDA*, Kishimoto, Fukunaga and Botea 2013). [`apply`] and [`goal`] compute them, and the functions of [`laws`]
+//! state what follows from them.
+#![tactic(auto)]
+
+mod action;
+mod applying;
+mod condition;
+mod departure;
+mod effect;
+pub mod examples;
+mod expression;
+mod form;
+pub mod laws;
+mod plan;
+mod state;
+mod task;
+mod well_formed;
+
+pub use action::{Action, ActionId};
+pub use applying::{Applied, GoalTest, apply, goal};
+pub use condition::{Comparison, Condition, Literal, Relation};
+pub use departure::{DepartsBy, Departure};
+pub use effect::{Change, Effect, Term};
+pub use expression::{Expr, RANGE_END};
+pub use form::{GroundForm, Names};
+pub use hd_list::{Name, NoMemory, Sequence};
+pub use plan::{Kid, Plan, ROOT};
+pub use state::State;
+pub use task::{MAX_ACTIONS, MAX_ATOMS, MAX_FLUENTS, Task};
+
+#[cfg(test)]
+mod tests;

@@ -1,0 +1,98 @@
+ghost use Rattle.std.specs.Prelude.{◌≡◌, IsTrue, length};
+ghost use Rattle.std.specs.List.{list_all};
+ghost use Rattle.hd_task.specs.Expressions.{in_range};
+ghost use Rattle.hd_task.specs.WellFormed.{within_limits, are_named, action_fits, goal_fits, cost_is_fixed};
+
+use crate::well_formed::{
+    are_all_in_range, are_fixed, are_named, are_within_limits, do_all_fit, goal_fits,
+};
+use crate::{Action, Condition, GroundForm, Names, State};
+use hd_list::Sequence;
+
+/// The greatest number of actions of a task.
+pub const MAX_ACTIONS: usize = 1 << 20;
+
+/// The greatest number of atoms of a task.
+pub const MAX_ATOMS: usize = 1 << 20;
+
+/// The greatest number of fluents of a task.
+pub const MAX_FLUENTS: usize = 1 << 16;
+
+/// A planning task: a start, a goal and the actions that may lead there.
+#[derive(Debug, Drop)]
+pub struct Task {
+    pub names: Names,
+    /// The atoms by number.
+    pub atoms: Sequence<GroundForm>,
+    /// The fluents by number. The metric's function is none of them.
+    pub fluents: Sequence<GroundForm>,
+    pub initial: State,
+    /// The actions by number.
+    pub actions: Sequence<Action>,
+    pub goal: Condition,
+    /// Whether actions cost what they say; else each costs 1.
+    pub metric: bool,
+    // At most 2^20 atoms, 2^16 fluents and 2^20 actions.
+    ghost limits: { IsTrue (within_limits (length atoms) (length fluents) (length actions)) },
+    // Each symbol and object has a name.
+    ghost named: { IsTrue (are_named names atoms fluents actions) },
+    // The start has a bit for each atom.
+    ghost start_atoms: { length initial.atoms ≡ length atoms },
+    // The start has a value for each fluent.
+    ghost start_fluents: { length initial.fluents ≡ length fluents },
+    // Each fluent starts in the range.
+    ghost start_in_range: { IsTrue (list_all in_range initial.fluents) },
+    // Actions add atoms of the task, and read and change its fluents, each of them once at most.
+    ghost actions_fit: { IsTrue (list_all (action_fits (length atoms) (length fluents)) actions) },
+    // The goal names atoms of the task and reads its fluents.
+    ghost goal_fits: { IsTrue (goal_fits (length atoms) (length fluents) goal) },
+    // An action's cost doesn't depend on the state and is not negative.
+    ghost costs_fixed: { IsTrue (list_all (cost_is_fixed metric) actions) },
+}
+
+impl Task {
+    ghost use Rattle.std.specs.Prelude.{◌≡◌, is_some, IfSome};
+    ghost use Rattle.hd_task.specs.WellFormed.{fit_together};
+    ghost use Rattle.hd_task.specs.Parts.{HasParts};
+
+    /// The task of these parts, or `None` where they do not fit together: where a number names nothing, an effect's
+    /// fluent stands twice or out of order, the start is out of the range, a cost is negative, or a limit is passed.
+    pub fn new(
+        names: Names,
+        atoms: Sequence<GroundForm>,
+        fluents: Sequence<GroundForm>,
+        initial: State,
+        actions: Sequence<Action>,
+        goal: Condition,
+        metric: bool,
+    ) -> Option<Task>
+        ensures made { is_some result ≡ fit_together names atoms fluents initial actions goal metric }
+        ensures parts { IfSome result (HasParts names atoms fluents initial actions goal metric) }
+    {
+        let fits = are_within_limits(atoms.len(), fluents.len(), actions.len())
+            && are_named(
+                &names,
+                atoms.as_slice(),
+                fluents.as_slice(),
+                actions.as_slice(),
+            )
+            && initial.atoms.len() == atoms.len()
+            && initial.fluents.len() == fluents.len()
+            && are_all_in_range(initial.fluents.as_slice())
+            && do_all_fit(actions.as_slice(), atoms.len(), fluents.len())
+            && goal_fits(&goal, atoms.len(), fluents.len())
+            && are_fixed(actions.as_slice(), metric);
+        if !fits {
+            return None;
+        }
+        Some(Task {
+            names,
+            atoms,
+            fluents,
+            initial,
+            actions,
+            goal,
+            metric,
+        })
+    }
+}

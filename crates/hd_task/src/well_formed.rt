@@ -1,0 +1,222 @@
+ghost use Rattle.std.specs.Prelude.{◌≡◌, ◌+ℤ◌, ◌≤ℤ◌, pos, neg_ℤ, [], true, false, map, nat_lt, IfSome, MatchOption};
+ghost use Rattle.std.specs.List.{list_all};
+ghost use Rattle.hd_task.specs.Expressions.{in_range, value_of};
+ghost use Rattle.hd_task.specs.Sums.{IsNear};
+ghost use Rattle.hd_task.specs.WellFormed.{within_limits, is_named, are_named, reads_below, comparison_reads_below, term_reads_below, change_reads_below, effect_fits, is_rising, action_fits, goal_fits, is_number, fixed_sum, cost_is_fixed};
+
+use crate::expression::is_in_range;
+use crate::{
+    Action, Change, Comparison, Condition, Effect, Expr, GroundForm, MAX_ACTIONS, MAX_ATOMS,
+    MAX_FLUENTS, Names, Term,
+};
+
+/// Whether a task may have so many atoms, fluents and actions.
+pub(crate) fn are_within_limits(atoms: usize, fluents: usize, actions: usize) -> bool
+    ensures { result ≡ within_limits atoms fluents actions }
+{
+    atoms <= MAX_ATOMS && fluents <= MAX_FLUENTS && actions <= MAX_ACTIONS
+}
+
+/// Whether all values are in the range.
+pub(crate) fn are_all_in_range(values: &[i64]) -> bool
+    ensures { result ≡ list_all in_range values.now }
+{
+    values.iter().all(|value| is_in_range(*value))
+}
+
+fn are_below(numbers: &[u32], end: usize) -> bool
+    ensures { result ≡ list_all (λ i. nat_lt i end) numbers.now }
+{
+    numbers.iter().all(|number| (*number as usize) < end)
+}
+
+fn is_named(form: &GroundForm, symbols: usize, objects: usize) -> bool
+    ensures { result ≡ is_named symbols objects form.now }
+{
+    (form.symbol as usize) < symbols && are_below(form.objects.as_slice(), objects)
+}
+
+fn are_forms_named(forms: &[GroundForm], symbols: usize, objects: usize) -> bool
+    ensures { result ≡ list_all (is_named symbols objects) forms.now }
+{
+    forms.iter().all(|form| is_named(form, symbols, objects))
+}
+
+fn are_actions_named(actions: &[Action], schemas: usize, objects: usize) -> bool
+    ensures { result ≡ list_all (λ a. is_named schemas objects a.form) actions.now }
+{
+    actions
+        .iter()
+        .all(|action| is_named(&action.form, schemas, objects))
+}
+
+/// Whether each atom, fluent and action has its names.
+pub(crate) fn are_named(
+    names: &Names,
+    atoms: &[GroundForm],
+    fluents: &[GroundForm],
+    actions: &[Action],
+) -> bool
+    ensures { result ≡ are_named names.now atoms.now fluents.now actions.now }
+{
+    let objects = names.objects.len();
+    are_forms_named(atoms, names.predicates.len(), objects)
+        && are_forms_named(fluents, names.functions.len(), objects)
+        && are_actions_named(actions, names.schemas.len(), objects)
+}
+
+/// Whether an expression reads only fluents below a number.
+fn reads_below(expr: &Expr, fluents: usize) -> bool
+    ensures { result ≡ reads_below fluents expr.now }
+{
+    match expr {
+        Expr::Number(_) => true,
+        Expr::Fluent(j) => (*j as usize) < fluents,
+        Expr::Negate(a) => reads_below(a, fluents),
+        Expr::Add(a, b) | Expr::Subtract(a, b) | Expr::Multiply(a, b) => {
+            reads_below(a, fluents) && reads_below(b, fluents)
+        }
+    }
+}
+
+fn comparison_reads_below(comparison: &Comparison, fluents: usize) -> bool
+    ensures { result ≡ comparison_reads_below fluents comparison.now }
+{
+    reads_below(&comparison.left, fluents) && reads_below(&comparison.right, fluents)
+}
+
+fn comparisons_read_below(comparisons: &[Comparison], fluents: usize) -> bool
+    ensures { result ≡ list_all (comparison_reads_below fluents) comparisons.now }
+{
+    comparisons
+        .iter()
+        .all(|comparison| comparison_reads_below(comparison, fluents))
+}
+
+fn term_reads_below(term: &Term, fluents: usize) -> bool
+    ensures { result ≡ term_reads_below fluents term.now }
+{
+    match term {
+        Term::Increase(amount) | Term::Decrease(amount) => reads_below(amount, fluents),
+    }
+}
+
+fn terms_read_below(terms: &[Term], fluents: usize) -> bool
+    ensures { result ≡ list_all (term_reads_below fluents) terms.now }
+{
+    terms.iter().all(|term| term_reads_below(term, fluents))
+}
+
+fn change_reads_below(change: &Change, fluents: usize) -> bool
+    ensures { result ≡ change_reads_below fluents change.now }
+{
+    match change {
+        Change::Assign(amount) | Change::ScaleUp(amount) => reads_below(amount, fluents),
+        Change::Sum(terms) => terms_read_below(terms.as_slice(), fluents),
+    }
+}
+
+fn effect_fits(effect: &Effect, fluents: usize) -> bool
+    ensures { result ≡ effect_fits fluents effect.now }
+{
+    (effect.fluent as usize) < fluents && change_reads_below(&effect.change, fluents)
+}
+
+fn effects_fit(effects: &[Effect], fluents: usize) -> bool
+    ensures { result ≡ list_all (effect_fits fluents) effects.now }
+{
+    effects.iter().all(|effect| effect_fits(effect, fluents))
+}
+
+/// Whether the fluents of the effects rise, so that none stands twice.
+fn are_rising(effects: &[Effect]) -> bool
+    ensures { result ≡ is_rising (map (λ e. e.fluent) effects.now) }
+{
+    let mut left = effects;
+    while let [first, rest @ ..] = left {
+        if let [second, ..] = rest
+            && second.fluent <= first.fluent
+        {
+            return false;
+        }
+        left = rest;
+    }
+    true
+}
+
+fn action_fits(action: &Action, atoms: usize, fluents: usize) -> bool
+    ensures { result ≡ action_fits atoms fluents action.now }
+{
+    are_below(action.adds.as_slice(), atoms)
+        && comparisons_read_below(action.condition.comparisons.as_slice(), fluents)
+        && effects_fit(action.effects.as_slice(), fluents)
+        && are_rising(action.effects.as_slice())
+}
+
+/// Whether all actions add atoms of the task, and read and change its fluents, each of them once at most.
+pub(crate) fn do_all_fit(actions: &[Action], atoms: usize, fluents: usize) -> bool
+    ensures { result ≡ list_all (action_fits atoms fluents) actions.now }
+{
+    actions
+        .iter()
+        .all(|action| action_fits(action, atoms, fluents))
+}
+
+fn literals_name_below(condition: &Condition, atoms: usize) -> bool
+    ensures { result ≡ list_all (λ l. nat_lt l.atom atoms) condition.now.literals }
+{
+    let literals = condition.literals.as_slice();
+    literals
+        .iter()
+        .all(|literal| (literal.atom as usize) < atoms)
+}
+
+/// Whether a goal names atoms of the task and reads its fluents.
+pub(crate) fn goal_fits(goal: &Condition, atoms: usize, fluents: usize) -> bool
+    ensures { result ≡ goal_fits atoms fluents goal.now }
+{
+    literals_name_below(goal, atoms) && comparisons_read_below(goal.comparisons.as_slice(), fluents)
+}
+
+/// A sum with one more amount, if that is a number.
+fn plus_number(sum: i128, cost: &Expr) -> Option<i128>
+    requires low { neg_ℤ (pos 170141183460469231722463931679029329920) ≤ℤ sum }
+    requires high { sum ≤ℤ pos 170141183460469231722463931679029329920 }
+    ensures value { MatchOption result (is_number cost.now ≡ false) (λ r. (is_number cost.now ≡ true) × (r ≡ sum +ℤ value_of [] cost.now)) }
+    ensures near { IfSome result (IsNear 9223372036854775808 sum) }
+{
+    match cost {
+        Expr::Number(amount) => Some(sum + i128::from(*amount)),
+        _ => None,
+    }
+}
+
+/// The sum of the amounts, if each is a number.
+fn fixed_sum(costs: &[Expr]) -> Option<i128>
+    ensures { MatchOption result (list_all is_number costs.now ≡ false) (λ sum. (list_all is_number costs.now ≡ true) × (sum ≡ fixed_sum costs.now)) }
+{
+    let mut sum = 0;
+    for cost in costs {
+        sum = plus_number(sum, cost)?;
+    }
+    Some(sum)
+}
+
+fn cost_is_fixed(action: &Action, metric: bool) -> bool
+    ensures { result ≡ cost_is_fixed metric action.now }
+{
+    if !metric && !action.costs.is_empty() {
+        return false;
+    }
+    match fixed_sum(action.costs.as_slice()) {
+        Some(sum) => 0 <= sum,
+        None => false,
+    }
+}
+
+/// Whether the actions' costs are numbers and not negative, and there are none without a metric.
+pub(crate) fn are_fixed(actions: &[Action], metric: bool) -> bool
+    ensures { result ≡ list_all (cost_is_fixed metric) actions.now }
+{
+    actions.iter().all(|action| cost_is_fixed(action, metric))
+}
