@@ -7,6 +7,7 @@ pub mod Entries
 pub mod Examples
 pub mod Expansions
 pub mod Expressions
+pub mod Judging
 pub mod Parts
 pub mod Plans
 pub mod Sums

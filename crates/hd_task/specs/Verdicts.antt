@@ -1,8 +1,16 @@
 -- True verdicts: what a planner may say of a task, in exact integers, whatever it searched. (PDDL 2.1, section 8, for
 -- validity.)
-use Rattle.std.specs.Prelude.{ℕ, ◌≤◌, List}
+use Rattle.std.specs.Prelude.{◌≡◌, ℕ, ◌≤◌, List, []}
 use Rattle.hd_task.specs.declared.task.Task.{Task}
 use Rattle.hd_task.specs.Plans.{IsValidAt}
+use Rattle.hd_task.specs.Expansions.{departures_of}
+use Rattle.hd_task.specs.Covers.{Estimate, IsAdmissible, IsCovered}
+
+-- a search is finished where its estimate is admissible, its list of expansions is covered and nothing in it departs
+pub record IsFinished (t : Task) (h : Estimate) (expanded : List (List ℕ)) : Type 0 where
+  pub admissible : IsAdmissible t h
+  pub covered : IsCovered t h expanded
+  pub in_range : departures_of t expanded ≡ []
 
 -- a plan is optimal if it is valid and no valid plan costs less
 pub record IsOptimal (t : Task) (p : List ℕ) : Type 0 where

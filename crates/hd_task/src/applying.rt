@@ -68,7 +68,9 @@ fn fluents_after(
 ) -> Result<Option<Vec<i64>>, NoMemory>
     requires of_task { IsStateOf task.now state.now }
     requires fits { action_fits (length task.now.atoms) (length task.now.fluents) action.now ≡ true }
-    ensures { IfOk result (λ r. MatchOption r (list_all (effect_stays state.now.fluents) action.now.effects ≡ false) (λ v. (list_all (effect_stays state.now.fluents) action.now.effects ≡ true) × (v.items ≡ fluents_after task.now state.now action.now))) }
+    ensures { IfOk result (λ next. MatchOption next
+        (list_all (effect_stays state.now.fluents) action.now.effects ≡ false)
+        (λ v. (list_all (effect_stays state.now.fluents) action.now.effects ≡ true) × (v.items ≡ fluents_after task.now state.now action.now))) }
 {
     let old = state.fluents.as_slice();
     let mut next = Vec::from_slice(alloc, old)?;
@@ -87,7 +89,9 @@ fn fluents_after(
 /// The cost of a step, unless a subexpression of it leaves the range or it is negative.
 #[tactic(auto, unfolding(crate::specs::Effects::step_cost))]
 fn step_cost(task: &Task, state: &State, action: &Action) -> Option<u128>
-    ensures { MatchOption result ((list_all (stays_in_range state.now.fluents) action.now.costs && is_some (step_cost task.now state.now action.now)) ≡ false) (λ c. (list_all (stays_in_range state.now.fluents) action.now.costs ≡ true) × (step_cost task.now state.now action.now ≡ Some c)) }
+    ensures { MatchOption result
+        ((list_all (stays_in_range state.now.fluents) action.now.costs && is_some (step_cost task.now state.now action.now)) ≡ false)
+        (λ c. (list_all (stays_in_range state.now.fluents) action.now.costs ≡ true) × (step_cost task.now state.now action.now ≡ Some c)) }
 {
     let sum = cost_of(state.fluents.as_slice(), action.costs.as_slice())?;
     if task.metric {

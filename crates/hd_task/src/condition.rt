@@ -1,6 +1,7 @@
-ghost use Rattle.std.specs.Prelude.{◌≡◌, true, false, MatchOption};
+ghost use Rattle.std.specs.Prelude.{◌≡◌};
 ghost use Rattle.std.specs.List.{list_all};
 ghost use Rattle.hd_task.specs.Conditions.{has_atom, literal_holds, literals_hold, related, comparison_stays, comparison_holds};
+ghost use Rattle.hd_task.specs.Judging.{Judges};
 ghost use Rattle.hd_task.specs.Applying.{tested};
 
 use crate::expression::value_of;
@@ -85,7 +86,7 @@ fn related(relation: Relation, left: i64, right: i64) -> bool
 
 /// Whether a comparison holds, unless a subexpression leaves the range.
 fn comparison_holds(fluents: &[i64], comparison: &Comparison) -> Option<bool>
-    ensures { MatchOption result (comparison_stays fluents.now comparison.now ≡ false) (λ v. (comparison_stays fluents.now comparison.now ≡ true) × (v ≡ comparison_holds fluents.now comparison.now)) }
+    ensures { Judges result (comparison_stays fluents.now comparison.now) (comparison_holds fluents.now comparison.now) }
 {
     let left = value_of(fluents, &comparison.left)?;
     let right = value_of(fluents, &comparison.right)?;
@@ -94,7 +95,7 @@ fn comparison_holds(fluents: &[i64], comparison: &Comparison) -> Option<bool>
 
 /// Whether all comparisons hold, unless a subexpression of one leaves the range.
 fn comparisons_hold(fluents: &[i64], comparisons: &[Comparison]) -> Option<bool>
-    ensures { MatchOption result (list_all (comparison_stays fluents.now) comparisons.now ≡ false) (λ v. (list_all (comparison_stays fluents.now) comparisons.now ≡ true) × (v ≡ list_all (comparison_holds fluents.now) comparisons.now)) }
+    ensures { Judges result (list_all (comparison_stays fluents.now) comparisons.now) (list_all (comparison_holds fluents.now) comparisons.now) }
 {
     let mut all = true;
     for comparison in comparisons {

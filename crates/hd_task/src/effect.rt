@@ -1,7 +1,8 @@
-ghost use Rattle.std.specs.Prelude.{◌≡◌, ◌+ℤ◌, ◌≤ℤ◌, pos, neg_ℤ, ◌^◌, true, false, IfSome, MatchOption, fold};
+ghost use Rattle.std.specs.Prelude.{◌≡◌, ◌+ℤ◌, ◌≤ℤ◌, pos, neg_ℤ, ◌^◌, IfSome, fold};
 ghost use Rattle.std.specs.List.{list_all};
 ghost use Rattle.hd_task.specs.Expressions.{in_range, stays_in_range, value_of};
 ghost use Rattle.hd_task.specs.Effects.{term_stays, with_term, effect_stays, new_value, sum_of_costs};
+ghost use Rattle.hd_task.specs.Judging.{Judges};
 ghost use Rattle.hd_task.specs.Sums.{IsNear};
 
 use crate::Expr;
@@ -37,7 +38,7 @@ pub struct Effect {
 fn plus_value(fluents: &[i64], sum: i128, amount: &Expr) -> Option<i128>
     requires low { neg_ℤ (pos (2 ^ 126)) ≤ℤ sum }
     requires high { sum ≤ℤ pos (2 ^ 126) }
-    ensures value { MatchOption result (stays_in_range fluents.now amount.now ≡ false) (λ r. (stays_in_range fluents.now amount.now ≡ true) × (r ≡ sum +ℤ value_of fluents.now amount.now)) }
+    ensures value { Judges result (stays_in_range fluents.now amount.now) (sum +ℤ value_of fluents.now amount.now) }
     ensures near { IfSome result (IsNear 1000000000000000 sum) }
 {
     Some(sum + i128::from(value_of(fluents, amount)?))
@@ -47,7 +48,7 @@ fn plus_value(fluents: &[i64], sum: i128, amount: &Expr) -> Option<i128>
 fn with_term(fluents: &[i64], sum: i128, term: &Term) -> Option<i128>
     requires low { neg_ℤ (pos (2 ^ 126)) ≤ℤ sum }
     requires high { sum ≤ℤ pos (2 ^ 126) }
-    ensures value { MatchOption result (term_stays fluents.now term.now ≡ false) (λ r. (term_stays fluents.now term.now ≡ true) × (r ≡ with_term fluents.now sum term.now)) }
+    ensures value { Judges result (term_stays fluents.now term.now) (with_term fluents.now sum term.now) }
     ensures near { IfSome result (IsNear 1000000000000000 sum) }
 {
     match term {
@@ -58,7 +59,7 @@ fn with_term(fluents: &[i64], sum: i128, term: &Term) -> Option<i128>
 
 /// The sum of the terms, onto a first value.
 fn sum_of(fluents: &[i64], terms: &[Term], first: i64) -> Option<i128>
-    ensures { MatchOption result (list_all (term_stays fluents.now) terms.now ≡ false) (λ v. (list_all (term_stays fluents.now) terms.now ≡ true) × (v ≡ fold (with_term fluents.now) first terms.now)) }
+    ensures { Judges result (list_all (term_stays fluents.now) terms.now) (fold (with_term fluents.now) first terms.now) }
 {
     let mut sum = i128::from(first);
     for term in terms {
@@ -69,7 +70,7 @@ fn sum_of(fluents: &[i64], terms: &[Term], first: i64) -> Option<i128>
 
 /// A sum that is in the range.
 fn narrowed(value: i128) -> Option<i64>
-    ensures { MatchOption result (in_range value ≡ false) (λ v. (in_range value ≡ true) × (v ≡ value)) }
+    ensures { Judges result (in_range value) value }
 {
     if value.unsigned_abs() <= u128::from(RANGE_END) {
         Some(value as i64)
@@ -80,7 +81,7 @@ fn narrowed(value: i128) -> Option<i64>
 
 /// The value that an effect gives its fluent, unless it or a subexpression leaves the range.
 pub(crate) fn new_value(fluents: &[i64], effect: &Effect) -> Option<i64>
-    ensures { MatchOption result (effect_stays fluents.now effect.now ≡ false) (λ v. (effect_stays fluents.now effect.now ≡ true) × (v ≡ new_value fluents.now effect.now)) }
+    ensures { Judges result (effect_stays fluents.now effect.now) (new_value fluents.now effect.now) }
 {
     let old = fluent_of(fluents, effect.fluent);
     match &effect.change {
@@ -92,7 +93,7 @@ pub(crate) fn new_value(fluents: &[i64], effect: &Effect) -> Option<i64>
 
 /// The sum of the amounts, unless a subexpression of one leaves the range.
 pub(crate) fn cost_of(fluents: &[i64], amounts: &[Expr]) -> Option<i128>
-    ensures { MatchOption result (list_all (stays_in_range fluents.now) amounts.now ≡ false) (λ v. (list_all (stays_in_range fluents.now) amounts.now ≡ true) × (v ≡ sum_of_costs fluents.now amounts.now)) }
+    ensures { Judges result (list_all (stays_in_range fluents.now) amounts.now) (sum_of_costs fluents.now amounts.now) }
 {
     let mut sum = 0;
     for amount in amounts {

@@ -1,6 +1,7 @@
-ghost use Rattle.std.specs.Prelude.{◌≡◌, ℤ, true, false, FitsSigned, MatchOption};
+ghost use Rattle.std.specs.Prelude.{◌≡◌, ℤ, true, FitsSigned, IfSome};
 ghost use Rattle.std.specs.Int.{w64};
 ghost use Rattle.std.specs.Option.{SomeIff};
+ghost use Rattle.hd_task.specs.Judging.{Judges};
 ghost use Rattle.hd_task.specs.Expressions.{fluent_of, value_of, in_range, stays_in_range};
 
 /// The greatest number of the range, whose least is its negative.
@@ -27,7 +28,7 @@ pub(crate) fn is_in_range(value: i64) -> bool
 
 /// The exact value that these 64 bits hold, if it is in the range. `None` stands for one that they can't hold.
 pub(crate) fn judged(value: Option<i64>) -> Option<i64>
-    ensures { (z : ℤ) → SomeIff value (FitsSigned w64 z) z → MatchOption result (in_range z ≡ false) (λ r. (in_range z ≡ true) × (r ≡ z)) }
+    ensures { (z : ℤ) → SomeIff value (FitsSigned w64 z) z → Judges result (in_range z) z }
 {
     match value {
         Some(v) if is_in_range(v) => Some(v),
@@ -44,7 +45,8 @@ pub(crate) fn fluent_of(fluents: &[i64], fluent: u32) -> i64
 
 /// The value of an expression, unless a subexpression leaves the range.
 pub(crate) fn value_of(fluents: &[i64], expr: &Expr) -> Option<i64>
-    ensures { MatchOption result (stays_in_range fluents.now expr.now ≡ false) (λ v. (stays_in_range fluents.now expr.now ≡ true) × (in_range v ≡ true) × (v ≡ value_of fluents.now expr.now)) }
+    ensures value { Judges result (stays_in_range fluents.now expr.now) (value_of fluents.now expr.now) }
+    ensures in_range { IfSome result (λ v. in_range v ≡ true) }
 {
     match expr {
         Expr::Number(v) => judged(Some(*v)),

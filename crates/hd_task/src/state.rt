@@ -1,4 +1,7 @@
-use hd_list::Sequence;
+ghost use Rattle.std.specs.Prelude.{◌≡◌, IfOk};
+
+use hd_list::{NoMemory, Sequence};
+use std::alloc::Global;
 
 /// Which atoms of a task are true, and the value of each of its fluents, all by number.
 #[derive(Debug, PartialEq, Eq, Drop)]
@@ -7,4 +10,21 @@ pub struct State {
     pub atoms: Sequence<bool>,
     /// The value of the fluent of this number.
     pub fluents: Sequence<i64>,
+}
+
+impl State {
+    /// A copy of the state.
+    ///
+    /// # Errors
+    /// `NoMemory` where there is no room for it.
+    pub fn copied(&self, alloc: Global) -> Result<State, NoMemory>
+        ensures { IfOk result (λ s. s ≡ self.now) }
+    {
+        let atoms = Vec::from_slice(alloc, self.atoms.as_slice())?;
+        let fluents = Vec::from_slice(alloc, self.fluents.as_slice())?;
+        Ok(State {
+            atoms: Sequence::from_vec(atoms),
+            fluents: Sequence::from_vec(fluents),
+        })
+    }
 }

@@ -358,3 +358,11 @@ fn a_plan_keeps_its_actions_in_order(rt: HostRuntime) -> Result<(), Fail> {
     assert_eq!(rt; plan.as_slice(), [ActionId(2), ActionId(0)].as_slice());
     Ok(())
 }
+
+#[test]
+fn a_copy_is_equal(rt: HostRuntime) -> Result<(), Fail> {
+    let alloc = rt.alloc();
+    let state = state(alloc, &[true, false], &[7, -7])?;
+    assert_eq!(rt; state.copied(alloc)?, state);
+    Ok(())
+}

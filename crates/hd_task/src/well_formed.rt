@@ -1,6 +1,7 @@
-ghost use Rattle.std.specs.Prelude.{◌≡◌, ◌+ℤ◌, ◌≤ℤ◌, pos, neg_ℤ, [], true, false, map, nat_lt, IfSome, MatchOption};
+ghost use Rattle.std.specs.Prelude.{◌≡◌, ◌+ℤ◌, ◌≤ℤ◌, pos, neg_ℤ, [], map, nat_lt, IfSome};
 ghost use Rattle.std.specs.List.{list_all};
 ghost use Rattle.hd_task.specs.Expressions.{in_range, value_of};
+ghost use Rattle.hd_task.specs.Judging.{Judges};
 ghost use Rattle.hd_task.specs.Sums.{IsNear};
 ghost use Rattle.hd_task.specs.WellFormed.{within_limits, is_named, are_named, reads_below, comparison_reads_below, term_reads_below, change_reads_below, effect_fits, is_rising, action_fits, goal_fits, is_number, fixed_sum, cost_is_fixed};
 
@@ -182,7 +183,7 @@ pub(crate) fn goal_fits(goal: &Condition, atoms: usize, fluents: usize) -> bool
 fn plus_number(sum: i128, cost: &Expr) -> Option<i128>
     requires low { neg_ℤ (pos 170141183460469231722463931679029329920) ≤ℤ sum }
     requires high { sum ≤ℤ pos 170141183460469231722463931679029329920 }
-    ensures value { MatchOption result (is_number cost.now ≡ false) (λ r. (is_number cost.now ≡ true) × (r ≡ sum +ℤ value_of [] cost.now)) }
+    ensures value { Judges result (is_number cost.now) (sum +ℤ value_of [] cost.now) }
     ensures near { IfSome result (IsNear 9223372036854775808 sum) }
 {
     match cost {
@@ -193,7 +194,7 @@ fn plus_number(sum: i128, cost: &Expr) -> Option<i128>
 
 /// The sum of the amounts, if each is a number.
 fn fixed_sum(costs: &[Expr]) -> Option<i128>
-    ensures { MatchOption result (list_all is_number costs.now ≡ false) (λ sum. (list_all is_number costs.now ≡ true) × (sum ≡ fixed_sum costs.now)) }
+    ensures { Judges result (list_all is_number costs.now) (fixed_sum costs.now) }
 {
     let mut sum = 0;
     for cost in costs {

@@ -1,0 +1,4 @@
+pub mod Kids
+pub mod Marks
+pub mod Refusal
+pub mod Settling

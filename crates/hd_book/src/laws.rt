@@ -1,0 +1,43 @@
+//! Laws over the definitions of a book. Each function does nothing: its contract is the law.
+ghost use Rattle.std.specs.Prelude.{◌≡◌, ℕ, ◌<◌, ◌++◌, false, true, [], ◌∷◌, List, All, Some, None, map, length, flat_map};
+ghost use Rattle.std.specs.List.{AllByRecursion};
+ghost use Rattle.hd_task.specs.declared.task.Task.{Task};
+ghost use Rattle.hd_task.specs.declared.plan.TheConstants.{ROOT};
+ghost use Rattle.hd_task.specs.Plans.{exec};
+ghost use Rattle.hd_task.specs.Expansions.{generated, goal_cost, bound_of, departures_of};
+ghost use Rattle.hd_task.specs.Entries.{plan_of};
+ghost use Rattle.hd_task.specs.Covers.{IsCovered, zero_estimate};
+ghost use Rattle.hd_task.specs.Verdicts.{IsTrueVerdict, Optimal, NoPlan};
+ghost use Rattle.hd_node.specs.declared.batch.Outcome.{Outcome};
+ghost use Rattle.hd_book.specs.Kids.{posted_by};
+ghost use Rattle.hd_book.specs.Settling.{BookState, expansions, IsKept, IsOf, entry_of, first_refusal, all_settled};
+
+/// What a book posts names what its expansions generate, in order: a kid is a place in both.
+pub fn kids_name_plans()
+    ensures names { (t : Task) (expanded : List (List ℕ))
+        → length expanded < ROOT → map (plan_of expanded) (posted_by t expanded) ≡ map Some (generated t expanded) }
+    ensures count { (t : Task) (expanded : List (List ℕ))
+        → length expanded < ROOT → length (posted_by t expanded) ≡ length (generated t expanded) }
+{}
+
+/// A book without entries is kept, and so is each book after a batch that is not refused: no batch can make a book hold what
+/// is not justified.
+pub fn books_are_kept()
+    ensures first { (t : Task) → IsKept (record { task = t; entries = []; marks = false ∷ [] }) }
+    ensures batch { (b : BookState) (outcomes : List Outcome)
+        → IsKept b → AllByRecursion (IsOf b.task) outcomes → first_refusal b [] outcomes ≡ None
+        → length (all_settled b outcomes).entries < ROOT → IsKept (all_settled b outcomes) }
+    ensures entries { (b : BookState) (outcomes : List Outcome)
+        → (all_settled b outcomes).entries ≡ b.entries ++ flat_map entry_of outcomes }
+{}
+
+/// A kept book in which all kids are marked is covered; where nothing departs, it has the last word.
+pub fn full_books_decide()
+    ensures covered { (b : BookState) → IsKept b → All (λ m. m ≡ true) b.marks → IsCovered b.task zero_estimate (expansions b) }
+    ensures optimal { (b : BookState) (c : ℕ) → IsKept b → All (λ m. m ≡ true) b.marks
+        → departures_of b.task (expansions b) ≡ [] → bound_of b.task (expansions b) ≡ Some c
+        → (p : List ℕ) → goal_cost b.task (exec b.task p) ≡ Some c → IsTrueVerdict b.task (Optimal p) }
+    ensures no_plan { (b : BookState) → IsKept b → All (λ m. m ≡ true) b.marks
+        → departures_of b.task (expansions b) ≡ [] → bound_of b.task (expansions b) ≡ None
+        → IsTrueVerdict b.task NoPlan }
+{}

@@ -1,0 +1,89 @@
+//! The tokens of a whole text.
+
+ghost use Rattle.std.specs.Prelude.{◌≡◌, ◌⊎◌, ℕ, ◌+◌, ◌<◌, ◌≤◌, ◌^◌, All, List, length, take, drop, IfOk, IfErr, MatchResult};
+ghost use Rattle.hd_lex.specs.Reading.{Gives, token_of, IsRefusal, IsReadTo};
+ghost use Rattle.hd_lex.specs.Text.{AreTokens, IsFault, AreInOrder, IsAtItsBytes};
+ghost use Rattle.hd_lex.specs.declared.error.LexError.{LexError};
+ghost use Rattle.hd_lex.specs.declared.token.Token.{Token};
+
+use crate::byte::{Class, class_of, line_len, word_len};
+use crate::error::LexError;
+use crate::token::Token;
+use crate::word::word_of;
+use std::alloc::Global;
+
+/// The token of the first `len` bytes, of which the first stands at this place.
+fn token_of(alloc: Global, text: &[u8], at: usize, len: usize) -> Result<Token, LexError>
+    requires within { len ≤ length text.now }
+    requires place { at + len < 2 ^ 64 }
+    ensures { Gives result (token_of (record { at = at; bytes = take len text.now })) }
+{
+    let word = word_of(alloc, &text[..len], at)?;
+    Ok(Token {
+        from: at,
+        to: at + len,
+        word,
+    })
+}
+
+/// Reads what stands at the front of a text whose first byte stands at this place, and answers how many bytes it has.
+/// A blank or a comment adds no token, and a word adds its token.
+fn read_front(
+    alloc: Global,
+    tokens: &mut Vec<Token>,
+    text: &[u8],
+    at: usize,
+) -> Result<usize, LexError>
+    requires some { 0 < length text.now }
+    requires place { at + length text.now < 2 ^ 64 }
+    ensures read { IfOk result (λ len. (start : ℕ) (whole : List ℕ)
+        → IsReadTo start whole tokens.old.items at text.now
+        → IsReadTo start whole tokens.new.items (at + len) (drop len text.now)) }
+    ensures progress { IfOk result (λ len. (0 < len) × (len ≤ length text.now)) }
+    ensures refused { IfErr result (IsRefusal at text.now) }
+{
+    match class_of(text[0]) {
+        Class::Blank => Ok(1),
+        Class::Semicolon => Ok(line_len(text)),
+        Class::Parenthesis => {
+            let token = token_of(alloc, text, at, 1)?;
+            tokens.push(token)?;
+            Ok(1)
+        }
+        Class::Word => {
+            let len = word_len(text);
+            let token = token_of(alloc, text, at, len)?;
+            tokens.push(token)?;
+            Ok(len)
+        }
+    }
+}
+
+/// The tokens of a text in order, or the fault of its first bad word.
+///
+/// Any bytes may come. The only error that a good text meets is want of memory.
+pub fn tokens(alloc: Global, text: &[u8]) -> Result<Vec<Token>, LexError>
+    // What is answered: the tokens of the text's words, one each, in order, and where they stand.
+    ensures answer { IfOk result (λ found. AreTokens text.now found.items) }
+    ensures spans_in_order { IfOk result (λ found. AreInOrder 0 found.items (length text.now)) }
+    ensures spans_at_words { IfOk result (λ found. All (IsAtItsBytes text.now) found.items) }
+
+    // What is told: the fault of the text's first bad word, or want of memory.
+    ensures refusal { IfErr result (λ error. (error ≡ LexError.NoMemory) ⊎ IsFault text.now error) }
+
+    // A text with no bad word is answered, and one with a bad word is refused, unless memory ran out.
+    ensures good_text { (tokens : List Token) → AreTokens text.now tokens
+        → MatchResult result (λ found. found.items ≡ tokens) (λ error. error ≡ LexError.NoMemory) }
+    ensures bad_text { (fault : LexError) → IsFault text.now fault
+        → MatchResult result (λ _. ⊥) (λ error. (error ≡ LexError.NoMemory) ⊎ (error ≡ fault)) }
+{
+    let mut tokens = Vec::new(alloc);
+    let mut rest = text;
+    let mut at = 0;
+    while !rest.is_empty() {
+        let len = read_front(alloc, &mut tokens, rest, at)?;
+        rest = &rest[len..];
+        at += len;
+    }
+    Ok(tokens)
+}

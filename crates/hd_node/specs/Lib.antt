@@ -1,0 +1,3 @@
+pub mod Children
+pub mod EstimateValue
+pub mod Outcome

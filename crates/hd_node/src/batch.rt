@@ -1,0 +1,64 @@
+ghost use Rattle.std.specs.Prelude.{◌≡◌, ◌≤◌, length};
+ghost use Rattle.hd_node.specs.Outcome.{kid_of};
+
+use crate::{Estimate, Expansion};
+use hd_task::{Kid, Sequence};
+
+/// The greatest number of outcomes in a batch.
+pub const MAX_OUTCOMES: usize = 1024;
+
+/// What has a kid's state at no greater cost.
+#[derive(Clone, Copy, Debug, PartialEq, Eq, Hash)]
+pub enum By {
+    /// The entry of this number.
+    Entry(u64),
+    /// The outcome at this place of the same batch, from 0, which is an expansion.
+    Here(usize),
+}
+
+/// How a kid is settled.
+#[derive(Debug, Drop)]
+pub enum Outcome<'t> {
+    /// It is expanded.
+    Expanded(Expansion<'t>),
+    /// An expansion has its state at no greater cost.
+    Duplicate(Kid, By),
+    /// Its cost and its estimate reach the bound, or its estimate is infinite.
+    Bounded(Kid, Estimate<'t>),
+}
+
+impl<'t> Outcome<'t> {
+    /// The kid that it settles.
+    pub fn kid(&self) -> Kid
+        ensures { result ≡ kid_of self.now }
+    {
+        match self {
+            Outcome::Expanded(expansion) => expansion.kid,
+            Outcome::Duplicate(kid, _) => *kid,
+            Outcome::Bounded(kid, _) => *kid,
+        }
+    }
+}
+
+/// Outcomes that are committed together: from 1 to [`MAX_OUTCOMES`].
+#[derive(Debug, Drop)]
+pub struct Batch<'t> {
+    pub outcomes: Sequence<Outcome<'t>>,
+    // There is one at least.
+    ghost some: { 1 ≤ length outcomes },
+    // There are 1,024 at most.
+    ghost few: { length outcomes ≤ 1024 },
+}
+
+impl<'t> Batch<'t> {
+    /// The batch of these outcomes, in their order.
+    pub fn of(outcomes: Vec<Outcome<'t>>) -> Batch<'t>
+        requires some { 1 ≤ length outcomes.items }
+        requires few { length outcomes.items ≤ 1024 }
+        ensures { result.outcomes ≡ outcomes.entry.items }
+    {
+        Batch {
+            outcomes: Sequence::from_vec(outcomes),
+        }
+    }
+}

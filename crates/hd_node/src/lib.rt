@@ -1,0 +1,17 @@
+//! What travels between the parts of a search: parcels that wait to be expanded, expansions, and the outcomes that a
+//! worker hands to the book in a batch.
+#![tactic(auto)]
+
+mod batch;
+mod estimate;
+mod expansion;
+pub mod laws;
+mod parcel;
+
+pub use batch::{Batch, By, MAX_OUTCOMES, Outcome};
+pub use estimate::{Estimate, EstimateValue};
+pub use expansion::{Child, Expansion};
+pub use parcel::Parcel;
+
+#[cfg(test)]
+mod tests;
