@@ -1,0 +1,12 @@
+pub mod Written
+pub mod OneForm
+pub mod Inverting
+pub mod Complete
+pub mod CompleteDomain
+pub mod CompleteProblem
+pub mod Sound
+pub mod SoundDomain
+pub mod SoundProblem
+pub mod Whole
+pub mod Domains
+pub mod Problems

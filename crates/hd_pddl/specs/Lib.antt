@@ -1,0 +1,9 @@
+pub mod Error
+pub mod Word
+pub mod Forms
+pub mod View
+pub mod Nesting
+pub mod Grammar
+pub mod Text
+pub mod Reading
+pub mod Parts

@@ -1,0 +1,100 @@
+//! What domains and problems share.
+
+ghost use Rattle.std.specs.Prelude.{◌≡◌};
+ghost use Rattle.hd_pddl.specs.Grammar.{is_requirement};
+ghost use Rattle.hd_pddl.specs.Reading.{Gives, head_at, section_at, requirements_of, behind_requirements};
+ghost use Rattle.hd_pddl.specs.View.{forms_view};
+
+use crate::error::ReadError;
+use crate::forms::Form;
+use crate::names::{behind_keyword, behind_name, end_of, find_keyword, group_of, name_of};
+use crate::refusal::requirement_refusal;
+use crate::tree::NameAt;
+use crate::word::Word;
+use std::alloc::Global;
+
+/// The name in the head of a definition of this kind, which ends at the place `to`, and what follows the head.
+#[tactic(auto, unfolding(crate::specs::Reading::head_at))]
+pub fn head_of<'a>(
+    alloc: Global,
+    kind: &str,
+    inside: &'a [Form],
+    to: usize,
+) -> Result<(NameAt, &'a [Form]), ReadError>
+    ensures { Gives (λ x. (x.0, forms_view x.1.now)) result (head_at kind.now (forms_view inside.now)) }
+{
+    let rest = behind_name(alloc, "define", inside, to)?;
+    let (title, title_to, rest) = group_of(alloc, rest, to)?;
+    let title = behind_name(alloc, kind, title, title_to)?;
+    let (name, more) = name_of(alloc, title, title_to)?;
+    end_of(alloc, more)?;
+    Ok((name, rest))
+}
+
+/// What stands behind this keyword in the first form, the place of the form's closing parenthesis, and what follows it.
+#[tactic(auto, unfolding(crate::specs::Reading::section_at))]
+pub fn section_of<'a>(
+    alloc: Global,
+    keyword: &str,
+    forms: &'a [Form],
+    end: usize,
+) -> Result<(&'a [Form], usize, &'a [Form]), ReadError>
+    ensures { Gives (λ x. (forms_view x.0.now, forms_view x.2.now)) result (section_at keyword.now (forms_view forms.now)) }
+{
+    let (inside, to, rest) = group_of(alloc, forms, end)?;
+    let inside = behind_keyword(alloc, keyword, inside, to)?;
+    Ok((inside, to, rest))
+}
+
+/// Whether the keyword, without its `:`, is one of the seven requirements.
+fn is_requirement(keyword: &str) -> bool
+    ensures { result ≡ is_requirement keyword.now }
+{
+    keyword == "strips"
+        || keyword == "typing"
+        || keyword == "negative-preconditions"
+        || keyword == "equality"
+        || keyword == "fluents"
+        || keyword == "numeric-fluents"
+        || keyword == "action-costs"
+}
+
+/// Asks that these forms are requirements, which say nothing.
+#[tactic(auto, unfolding(crate::specs::Reading::requirements_of))]
+fn requirements_of(alloc: Global, forms: &[Form]) -> Result<(), ReadError>
+    ensures { Gives (λ _. tt) result (requirements_of (forms_view forms.now)) }
+{
+    let mut rest = forms;
+    while let [first, after @ ..] = rest {
+        match first {
+            Form::Word {
+                word: Word::Keyword(name),
+                ..
+            } => {
+                if !is_requirement(name.as_str()) {
+                    return Err(requirement_refusal(alloc, first));
+                }
+            }
+            _ => return Err(requirement_refusal(alloc, first)),
+        }
+        rest = after;
+    }
+    Ok(())
+}
+
+/// What follows the list of requirements, if it stands first.
+#[tactic(auto, unfolding(crate::specs::Reading::behind_requirements))]
+pub fn behind_requirements(alloc: Global, forms: &[Form]) -> Result<&[Form], ReadError>
+    ensures { Gives (λ x. forms_view x.now) result (behind_requirements (forms_view forms.now)) }
+{
+    match forms {
+        [Form::List { inside, .. }, rest @ ..] => match find_keyword("requirements", inside) {
+            Some(words) => {
+                requirements_of(alloc, words)?;
+                Ok(rest)
+            }
+            None => Ok(forms),
+        },
+        _ => Ok(forms),
+    }
+}
