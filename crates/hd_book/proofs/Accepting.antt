@@ -1,5 +1,5 @@
 -- A batch that is not refused keeps the book: outcome by outcome, beside the book before the batch.
-use Rattle.std.proofs.Common.{◌≡◌, ◌≢◌, ℕ, zero, suc, ◌+◌, ◌<◌, ◌≤◌, ◌==◌, nat_le, Bool, true, false, cond, not, ◌||◌, Option, Some, None, List, [], ◌∷◌, ◌++◌, set, replicate, length, get_or, slice_get, Contains, ◌⊎◌, inl, inr, refl, sym, ap, ap₂, ◌∙◌, subst, arith, length-append, length-set, append_assoc, append-nil, get_or-set_other, true≢false, ℤ}
+use Rattle.std.proofs.Common.{◌≡◌, ◌≢◌, ℕ, zero, suc, ◌+◌, ◌-◌, ◌<◌, ◌≤◌, ◌==◌, nat_le, Bool, true, false, cond, not, ◌||◌, Option, Some, None, List, [], ◌∷◌, ◌++◌, map, set, replicate, length, get_or, slice_get, Contains, ◌⊎◌, inl, inr, refl, sym, ap, ap₂, ◌∙◌, subst, arith, length-append, length-set, append_assoc, append-nil, get_or-set_other, get_or-set_same, true≢false, ℤ}
 use Rattle.std.specs.Prelude.{flat_map, option_and_then, unwrap_or}
 use Rattle.std.specs.List.{position_or_len, AllByRecursion}
 use Rattle.std.specs.Option.{option_or}
@@ -7,11 +7,11 @@ use Rattle.std.specs.Bool.{beq}
 use Rattle.std.specs.Ordering.{int_eq}
 use Rattle.std.specs.Cmp.Lexicographic.{pointwise}
 use Rattle.std.specs.Cmp.{booleans_Decides}
-use Rattle.std.proofs.lemmas.Bool.{and_parts, and_from, or_parts, eqb-true, eq-eqb, ltb-true, lt-ltb, leb-true}
+use Rattle.std.proofs.lemmas.Bool.{cases_lt, cases_eq, and_parts, and_from, or_parts, eqb-true, eq-eqb, ltb-true, lt-ltb, leb-true}
 use Rattle.std.proofs.lemmas.Bool.Decides.{Decides-int_eq}
 use Rattle.std.proofs.lemmas.Slice.Eq.{slice_eq-Decides}
 use Rattle.std.proofs.lemmas.Option.{none-some, same_Some, slice_get_within, get_or_from_slice_get}
-use Rattle.std.proofs.lemmas.List.{get_or_append_left, get_or-map, length-map}
+use Rattle.std.proofs.lemmas.List.{get_or_append_left, get_or-append_right, get_or-replicate, length-replicate, get_or-map, length-map, map-append}
 use Rattle.std.proofs.lemmas.List.Sums.{position_or_len_is, fails_before_first, passes_at_first}
 use Rattle.std.proofs.lemmas.List.Folds.{list_any-append}
 use Rattle.std.proofs.lemmas.List.Elements.{Contains-append_left, Contains-push, Contains-get_or}
@@ -40,17 +40,20 @@ use Rattle.hd_book.specs.declared.refusal.Refusal.TheVariants.{UnknownParent, No
 use Rattle.hd_book.specs.Kids.{root, kids_from, posted_by}
 use Rattle.hd_book.specs.Marks.{IsMarked}
 use Rattle.hd_book.specs.Settling.{BookState, expansions, IsKept, same_kid, knows_parent, place_of, is_posted, is_marked, node_of, same_state, has_state, is_node, dominates, expanded_node, node_by, reaches, refusal_by, is_settled_by, refusal_of, first_refusal, settled, all_settled, entry_of, IsOf}
-use Rattle.hd_book.proofs.Marking.{expanded_marks, settled_marks, none_marked}
+use Rattle.hd_book.specs.Holding.{node_at}
+use Rattle.hd_book.specs.Growing.{entered, entered_by, kids_in}
+use Rattle.hd_book.proofs.Adding.{entered_nothing, no_kids, entered_by-push, kids_in-push, count, count-set, count-append, count-unset}
+use Rattle.hd_book.proofs.Marking.{apart, expanded_marks, settled_marks, none_marked}
 use Rattle.hd_book.proofs.Naming.{plans_of-push, posted_named, posted_by-append, generated-append, posted_count, length-plans_of}
 
 -- ---- tests
 
-same_kid-true : (k q : Kid) → same_kid k q ≡ true → k ≡ q
+pub same_kid-true : (k q : Kid) → same_kid k q ≡ true → k ≡ q
 same_kid-true k q e =
     let parts = and_parts (k.parent == q.parent) (k.action == q.action) e in
     ap₂ (λ (p a : ℕ). let kid : Kid = record { parent = p; action = a } in kid) (eqb-true k.parent q.parent parts.0) (eqb-true k.action q.action parts.1)
 
-same_kid-refl : (k : Kid) → same_kid k k ≡ true
+pub same_kid-refl : (k : Kid) → same_kid k k ≡ true
 same_kid-refl k = and_from (k.parent == k.parent) (k.action == k.action) (eq-eqb k.parent k.parent refl) (eq-eqb k.action k.action refl)
 
 same_state-true : (s u : State) → same_state s u ≡ true → s ≡ u
@@ -224,6 +227,25 @@ all_entries (o ∷ outcomes) b =
 entries_grow : (outcomes : List Outcome) (b : BookState) → length b.entries ≤ length (all_settled b outcomes).entries
 entries_grow outcomes b = omega (arith, ap length (all_entries outcomes b), length-append b.entries (flat_map entry_of outcomes))
 
+-- ---- truth values
+
+or_false : (b : Bool) → b ≡ (b || false)
+or_false true = refl
+or_false false = refl
+
+or_yes : (a b c : Bool) → c ≡ true → true ≡ (a || (b || (c || false)))
+or_yes true b c e = refl
+or_yes false true c e = refl
+or_yes false false c e = sym e ∙ or_false c
+
+or_no : (a b c : Bool) → c ≡ false → (a || b) ≡ (a || (b || (c || false)))
+or_no true b c e = refl
+or_no false true c e = refl
+or_no false false c e = sym e ∙ or_false c
+
+only : (b : Bool) → (b || false) ≡ true → b ≡ true
+only b e = or_false b ∙ e
+
 -- ---- the book after earlier outcomes of a batch, beside the book before it
 
 module _ (t : Task) (entries0 : List Kid) (marks0 : List Bool) (kept0 : IsKept (record { task = t; entries = entries0; marks = marks0 })) where
@@ -234,13 +256,30 @@ module _ (t : Task) (entries0 : List Kid) (marks0 : List Bool) (kept0 : IsKept (
   abbrev old : List (List ℕ)
   old = expansions before
 
+  -- two places of the old kids have different ones
+  posted_apart : (i j : ℕ) → i < length (generated t old) → j < length (generated t old) → get_or (posted_by t old) i root ≡ get_or (posted_by t old) j root → i ≢ j → ⊥
+  posted_apart i j hi hj e ne =
+      let short : length old < ROOT = omega (arith, count-entries before kept0, kept0.short) in
+      let count : length (posted_by t old) ≡ length (generated t old) = posted_count t old short in
+      let at : (n : ℕ) → n < length (generated t old) → plan_of old (get_or (posted_by t old) n root) ≡ Some (get_or (generated t old) n []) = λ n lt.
+      sym (get_or-map (plan_of old) (posted_by t old) n root None (omega (arith, count)))
+      ∙ (ap (λ (xs : List (Option (List ℕ))). get_or xs n None) (posted_named t old short) ∙ get_or-map Some (generated t old) n [] None lt)
+      in
+      apart t old i j kept0.marked.legal ne hi hj (same_Some _ _ (sym (at i hi) ∙ (ap (plan_of old) e ∙ at j hj)))
+
   -- the book after some outcomes: it is kept, goes on from the old plans, has left the marks of other kids, and has the nodes
-  -- of the outcomes that are expansions
+  -- of the outcomes that are expansions; its further plans lead where those do, and the kids that they post are not marked
   pub record Follows (earlier : List Outcome) (entries : List Kid) (marks : List Bool) : Type 0 where
     pub kept : IsKept (record { task = t; entries = entries; marks = marks })
     pub more : List (List ℕ)
     pub tail : expansions (record { task = t; entries = entries; marks = marks }) ≡ old ++ more
     pub opens : (k : Kid) → is_posted before k ≡ true → is_marked before k ≡ false → is_settled_by earlier k ≡ false → get_or marks (place_of before k) true ≡ false
+    pub leads : map (exec t) more ≡ map (λ e. Some (node_at e)) (entered_by earlier)
+    pub grown : length marks ≡ length marks0 + kids_in earlier
+    pub counted : count marks ≡ count marks0 + length earlier
+    pub known : (q : Kid) → is_settled_by earlier q ≡ true → is_posted before q ≡ true
+    pub olds : (j : ℕ) → j < length marks0 → get_or marks j true ≡ (get_or marks0 j true || is_settled_by earlier (get_or (posted_by t old) j root))
+    pub news : (j : ℕ) → length marks0 ≤ j → j < length marks → get_or marks j true ≡ false
     pub nodes : (i : ℕ) (r : Node) → expanded_node (slice_get earlier i) ≡ Some r → (p : List ℕ) × Contains (expansions (record { task = t; entries = entries; marks = marks })) p × (exec t p ≡ Some r)
 
   module _ (earlier : List Outcome) (entries : List Kid) (marks : List Bool) (f : Follows earlier entries marks) (k : Kid) (posted : is_posted before k ≡ true) where
@@ -305,6 +344,52 @@ module _ (t : Task) (entries0 : List Kid) (marks0 : List Bool) (kept0 : IsKept (
     open_now : is_marked before k ≡ false → is_settled_by earlier k ≡ false → get_or marks (place_of now k) true ≡ false
     open_now unmarked other = ap (λ n. get_or marks n true) same_place ∙ f.opens k posted unmarked other
 
+    -- another old place has another kid
+    other_place : (j : ℕ) → j < length marks0 → j ≢ place_of now k → same_kid (get_or (posted_by t old) j root) k ≡ false
+    other_place j lt ne =
+        elim (same_kid (get_or (posted_by t old) j root) k) as (λ b. same_kid (get_or (posted_by t old) j root) k ≡ b → b ≡ false) [
+          | true ↦ λ e. absurd (posted_apart j (place_of before k) (omega (arith, kept0.marked.one_each)) at_old.within
+              (same_kid-true (get_or (posted_by t old) j root) k e ∙ sym at_old.kid) (λ same. ne (same ∙ sym same_place)))
+          | false ↦ λ e. refl
+        ] refl
+
+    -- the old marks, with that of the kid
+    old_marks : (o : Outcome) → kid_of o ≡ k → (j : ℕ) → j < length marks0 → get_or (set marks (place_of now k) true) j true ≡ (get_or marks0 j true || is_settled_by (earlier ++ o ∷ []) (get_or (posted_by t old) j root))
+    old_marks o is_k j lt =
+        let q = get_or (posted_by t old) j root in
+        let settled_q : is_settled_by (earlier ++ o ∷ []) q ≡ (is_settled_by earlier q || (same_kid q k || false)) =
+        list_any-append (λ o. same_kid q (kid_of o)) earlier (o ∷ []) ∙ ap (λ (x : Kid). is_settled_by earlier q || (same_kid q x || false)) is_k
+        in
+        elim (cases_eq j (place_of now k)) [
+          | inl e ↦
+              let same : q ≡ k = ap (λ n. get_or (posted_by t old) n root) (e ∙ same_place) ∙ at_old.kid in
+              ap (λ n. get_or (set marks (place_of now k) true) n true) e
+              ∙ (get_or-set_same marks (place_of now k) true true within_marks
+              ∙ (or_yes (get_or marks0 j true) (is_settled_by earlier q) (same_kid q k) (subst (λ x. same_kid x k ≡ true) (sym same) (same_kid-refl k))
+              ∙ ap (λ b. get_or marks0 j true || b) (sym settled_q)))
+          | inr ne ↦
+              get_or-set_other marks (place_of now k) j true true ne
+              ∙ (f.olds j lt
+              ∙ (or_no (get_or marks0 j true) (is_settled_by earlier q) (same_kid q k) (other_place j lt ne)
+              ∙ ap (λ b. get_or marks0 j true || b) (sym settled_q)))
+        ]
+
+    new_marks_unset : (j : ℕ) → length marks0 ≤ j → j < length (set marks (place_of now k) true) → get_or (set marks (place_of now k) true) j true ≡ false
+    new_marks_unset j le lt =
+        get_or-set_other marks (place_of now k) j true true (λ e. omega (arith, same_place, at_old.within, kept0.marked.one_each))
+        ∙ f.news j le (omega (arith, length-set marks (place_of now k) true))
+
+    known_now : (o : Outcome) → kid_of o ≡ k → (q : Kid) → is_settled_by (earlier ++ o ∷ []) q ≡ true → is_posted before q ≡ true
+    known_now o is_k q e =
+        elim (is_settled_by earlier q) as (λ b. is_settled_by earlier q ≡ b → is_posted before q ≡ true) [
+          | true ↦ λ b. f.known q b
+          | false ↦ λ b.
+              let last : (same_kid q (kid_of o) || false) ≡ true =
+              ap (λ x. x || (same_kid q (kid_of o) || false)) (sym b) ∙ (sym (list_any-append (λ o. same_kid q (kid_of o)) earlier (o ∷ [])) ∙ e)
+              in
+              subst (λ (x : Kid). is_posted before x ≡ true) (sym (same_kid-true q k (only (same_kid q k) (ap (λ (x : Kid). same_kid q x || false) (sym is_k) ∙ last)))) posted
+        ] refl
+
     -- ---- the kid is settled without an entry
 
     abbrev p : List ℕ
@@ -323,6 +408,15 @@ module _ (t : Task) (entries0 : List Kid) (marks0 : List Bool) (kept0 : IsKept (
           let parts = other_kid earlier o q free in
           get_or-set_other marks (place_of now k) (place_of before q) true true (elsewhere q posted_q (ap (same_kid q) (sym is_k) ∙ parts.1))
           ∙ f.opens q posted_q unmarked_q parts.0;
+      leads =
+          f.leads
+          ∙ ap (map (λ e. Some (node_at e)))
+          (sym (append-nil (entered_by earlier)) ∙ (ap (λ xs. entered_by earlier ++ xs) (sym (entered_nothing o no_node)) ∙ sym (entered_by-push earlier o)));
+      grown = omega (arith, length-set marks (place_of now k) true, f.grown, kids_in-push earlier o, no_kids o no_node);
+      counted = omega (arith, count-set marks (place_of now k) within_marks (open_now unmarked other), f.counted, length-append earlier (o ∷ []));
+      known = known_now o is_k;
+      olds = old_marks o is_k;
+      news = new_marks_unset;
       nodes = λ i r e.
           elim (expanded_cases earlier o i r e) [
             | inl old_node ↦ f.nodes i r old_node
@@ -373,8 +467,8 @@ module _ (t : Task) (entries0 : List Kid) (marks0 : List Bool) (kept0 : IsKept (
       executes_p : exec t p ≡ Some (node e.state e.cost)
       executes_p = sym leads ∙ is_node-true (node_of before k) e.state e.cost right
 
-      count : length (children t p) ≡ length e.children
-      count =
+      as_many : length (children t p) ≡ length e.children
+      as_many =
           length-map (applicable_at t (exec t p)) (followed_by p)
           ∙ (ap (λ r. length (applicable_at t r)) executes_p
           ∙ (ap length (sym (children-actions t (node e.state e.cost)))
@@ -393,7 +487,7 @@ module _ (t : Task) (entries0 : List Kid) (marks0 : List Bool) (kept0 : IsKept (
       new_marks : IsMarked t zero_estimate (expansions after) after.marks
       new_marks =
           subst (λ xs. IsMarked t zero_estimate xs after.marks) (sym new_plans)
-          (subst (λ n. IsMarked t zero_estimate (E ++ p ∷ []) (set marks (place_of now k) true ++ replicate n false)) count
+          (subst (λ n. IsMarked t zero_estimate (E ++ p ∷ []) (set marks (place_of now k) true ++ replicate n false)) as_many
           (expanded_marks t zero_estimate E marks (place_of now k) f.kept.marked within_marks (open_now unmarked other)))
 
       expanded_follows : Follows (earlier ++ o ∷ []) (entries ++ k ∷ []) (set marks (place_of now k) true ++ replicate (length e.children) false)
@@ -414,6 +508,30 @@ module _ (t : Task) (entries0 : List Kid) (marks0 : List Bool) (kept0 : IsKept (
             get_or_append_left (set marks (place_of now k) true) (replicate (length e.children) false) true (place_of before q) within_q
             ∙ (get_or-set_other marks (place_of now k) (place_of before q) true true (elsewhere q posted_q (ap (same_kid q) (sym is_k) ∙ parts.1))
             ∙ f.opens q posted_q unmarked_q parts.0);
+        leads =
+            map-append (exec t) f.more (p ∷ [])
+            ∙ (ap₂ (λ xs (ys : Option Node). xs ++ ys ∷ []) f.leads executes_p
+            ∙ (sym (map-append (λ x. Some (node_at x)) (entered_by earlier) (entered o))
+            ∙ ap (map (λ x. Some (node_at x))) (sym (entered_by-push earlier o))));
+        grown =
+            omega (arith, length-append (set marks (place_of now k) true) (replicate (length e.children) false), length-set marks (place_of now k) true, length-replicate (length e.children) false, f.grown, kids_in-push earlier o);
+        counted =
+            omega (arith, count-append (set marks (place_of now k) true) (replicate (length e.children) false), count-unset (length e.children), count-set marks (place_of now k) within_marks (open_now unmarked other), f.counted, length-append earlier (o ∷ []));
+        known = known_now o is_k;
+        olds = λ j lt.
+            get_or_append_left (set marks (place_of now k) true) (replicate (length e.children) false) true j
+            (omega (arith, length-set marks (place_of now k) true, f.grown))
+            ∙ old_marks o is_k j lt;
+        news = λ j le lt.
+            elim (cases_lt j (length (set marks (place_of now k) true))) [
+              | inl lt' ↦
+                  get_or_append_left (set marks (place_of now k) true) (replicate (length e.children) false) true j lt'
+                  ∙ new_marks_unset j le lt'
+              | inr ge ↦
+                  get_or-append_right (set marks (place_of now k) true) (replicate (length e.children) false) (length (set marks (place_of now k) true)) j true refl ge
+                  ∙ get_or-replicate (length e.children) (j - length (set marks (place_of now k) true)) false true
+                  (omega (arith, length-append (set marks (place_of now k) true) (replicate (length e.children) false), length-replicate (length e.children) false))
+            ];
         nodes = λ i r at.
             elim (expanded_cases earlier o i r at) [
               | inl old_node ↦
@@ -425,12 +543,18 @@ module _ (t : Task) (entries0 : List Kid) (marks0 : List Bool) (kept0 : IsKept (
 
   -- ---- a whole batch
 
-  at_first : Follows [] entries0 marks0
+  pub at_first : Follows [] entries0 marks0
   at_first = record {
     kept = kept0;
     more = [];
     tail = sym (append-nil old);
     opens = λ k posted unmarked free. unmarked;
+    leads = refl;
+    grown = omega arith;
+    counted = omega arith;
+    known = λ q e. absurd (true≢false (sym e));
+    olds = λ j lt. or_false (get_or marks0 j true);
+    news = λ j le lt. absurd (omega arith);
     nodes = λ i r e. absurd (none-some r (sym (no_outcome i) ∙ e));
   }
     where
@@ -484,6 +608,30 @@ module _ (t : Task) (entries0 : List Kid) (marks0 : List Bool) (kept0 : IsKept (
       subst (λ b. IsKeptOf (all_settled b later)) (sym (same_task o entries marks))
       (batch_kept (earlier ++ o ∷ []) later next.entries next.marks step parts.1 own.1
       (subst (λ b. length (all_settled b later).entries < ROOT) (same_task o entries marks) room))
+
+  -- the book after a whole batch, beside the book before it
+  pub batch_follows :
+      (earlier later : List Outcome) (entries : List Kid) (marks : List Bool) → Follows earlier entries marks → first_refusal before earlier later ≡ None → AllByRecursion (IsOf t) later
+      → length (all_settled (record { task = t; entries = entries; marks = marks }) later).entries < ROOT
+      → Follows (earlier ++ later) (all_settled (record { task = t; entries = entries; marks = marks }) later).entries (all_settled (record { task = t; entries = entries; marks = marks }) later).marks
+  batch_follows earlier [] entries marks f free own room = subst (λ os. Follows os entries marks) (sym (append-nil earlier)) f
+  batch_follows earlier (o ∷ later) entries marks f free own room =
+      let parts = neither (refusal_of before earlier o) (first_refusal before (earlier ++ o ∷ []) later) free in
+      let next = settled (record { task = t; entries = entries; marks = marks }) o in
+      let short : length next.entries < ROOT = omega (arith, entries_grow later next, room) in
+      let step = one_follows earlier o entries marks f parts.0 own.0 short in
+      let then =
+      batch_follows (earlier ++ o ∷ []) later next.entries next.marks step parts.1 own.1
+      (subst (λ b. length (all_settled b later).entries < ROOT) (same_task o entries marks) room)
+      in
+      subst (λ b. Follows (earlier ++ o ∷ later) (all_settled b later).entries (all_settled b later).marks) (sym (same_task o entries marks))
+      (subst (λ os. Follows os (all_settled (record { task = t; entries = next.entries; marks = next.marks }) later).entries (all_settled (record { task = t; entries = next.entries; marks = next.marks }) later).marks)
+      (append_assoc earlier (o ∷ []) later) then)
+
+  pub batch_task :
+      (outcomes : List Outcome) → first_refusal before [] outcomes ≡ None → AllByRecursion (IsOf t) outcomes → length (all_settled before outcomes).entries < ROOT
+      → (all_settled before outcomes).task ≡ t
+  batch_task outcomes free own room = (batch_kept [] outcomes entries0 marks0 at_first free own room).task
 
 -- a batch that is not refused leaves a kept book
 pub accepted_kept : (b : BookState) (outcomes : List Outcome) → IsKept b → AllByRecursion (IsOf b.task) outcomes → first_refusal b [] outcomes ≡ None → length (all_settled b outcomes).entries < ROOT → IsKept (all_settled b outcomes)

@@ -1,3 +1,12 @@
 pub mod Accepting
+pub mod Adding
+pub mod After
+pub mod Best
+pub mod Children
+pub mod Counting
+pub mod Deciding
+pub mod Held
 pub mod Marking
 pub mod Naming
+pub mod Spending
+pub mod Walking

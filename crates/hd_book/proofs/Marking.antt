@@ -26,7 +26,7 @@ longer : (p : List ℕ) (a : ℕ) → p ≡ p ++ a ∷ [] → ⊥
 longer p a e = omega (arith, ap length e, length-append p (a ∷ []))
 
 -- two places of a legal list's generated plans hold two plans
-apart : (t : Task) (expanded : List (List ℕ)) (i j : ℕ) → IsLegal t expanded → i ≢ j → i < length (generated t expanded) → j < length (generated t expanded) → get_or (generated t expanded) i [] ≢ get_or (generated t expanded) j []
+pub apart : (t : Task) (expanded : List (List ℕ)) (i j : ℕ) → IsLegal t expanded → i ≢ j → i < length (generated t expanded) → j < length (generated t expanded) → get_or (generated t expanded) i [] ≢ get_or (generated t expanded) j []
 apart t expanded i j legal ne hi hj e =
     elim (cases_lt i j) [
       | inl lt ↦ generated_once t expanded legal i j [] lt hj e

@@ -1,4 +1,9 @@
+pub mod Answers
+pub mod Growing
+pub mod Holding
 pub mod Kids
 pub mod Marks
 pub mod Refusal
+pub mod Refusing
+pub mod Releasing
 pub mod Settling

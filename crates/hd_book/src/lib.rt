@@ -5,10 +5,25 @@
 //! whose kids are all settled decides the task.
 #![tactic(auto)]
 
+mod admission;
+mod answering;
+mod book;
+mod commit;
+mod content;
+mod counts;
+mod entry;
 pub mod laws;
+mod redeeming;
 mod refusal;
+mod settling;
+mod ticket;
+mod verdict;
 
+pub use book::Book;
+pub use counts::Counts;
 pub use refusal::Refusal;
+pub use ticket::{Receipt, Redeemed, Ticket};
+pub use verdict::Verdict;
 
 #[cfg(test)]
 mod tests;

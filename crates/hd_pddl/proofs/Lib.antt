@@ -1,12 +1,8 @@
-pub mod Written
-pub mod OneForm
-pub mod Inverting
-pub mod Complete
+pub mod CompleteSections
 pub mod CompleteDomain
 pub mod CompleteProblem
-pub mod Sound
+pub mod SoundSections
 pub mod SoundDomain
 pub mod SoundProblem
-pub mod Whole
 pub mod Domains
 pub mod Problems

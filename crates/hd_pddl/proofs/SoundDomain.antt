@@ -1,92 +1,257 @@
 -- What is read of domains is in the grammar.
-use Rattle.std.proofs.Common.{◌≡◌, ℕ, List, [], ◌∷◌, ◌++◌, Option, Some, None, refl, sym, ap, subst, ◌∙◌, append_assoc}
+use Rattle.std.proofs.Common.{◌≡◌, ℕ, Bool, true, false, ◌&&◌, cond, List, [], ◌∷◌, ◌++◌, Option, Some, None, refl, sym, ap, subst, ◌∙◌, append_assoc}
 use Rattle.std.proofs.lemmas.List.{append-nil}
 use Rattle.std.specs.Prelude.{codes}
-use Rattle.hd_pddl.specs.declared.tree.NameAt.{NameAt}
-use Rattle.hd_pddl.specs.declared.tree.Literal.{Literal}
+use Rattle.std.specs.Str.{bytes_eq}
+use Rattle.hd_lex.specs.declared.token.Operator.TheVariants.{Minus}
+use Rattle.hd_forms.specs.declared.names.NameAt.{NameAt}
+use Rattle.hd_forms.specs.declared.word.Word.{Word}
+use Rattle.hd_forms.specs.declared.word.Word.TheVariants.{Name, Keyword, Operator}
+use Rattle.hd_forms.specs.Forms.{Forms, none, word, list}
+use Rattle.hd_forms.specs.Reading.{◌>>=◌, name_in, name_at, group_at, end_at, behind_keyword}
+use Rattle.hd_forms.proofs.Inverting.{bind_some, some_is, tested, end_says, group_says, name_says, name_word_says, same_bytes, behind_keyword_says}
+use Rattle.hd_terms.specs.declared.tree.Condition.{Condition}
+use Rattle.hd_terms.specs.declared.tree.Effect.{Effect}
+use Rattle.hd_terms.specs.declared.tree.Typed.{Typed}
+use Rattle.hd_terms.specs.declared.typed.ItemKind.TheVariants as kinds
+use Rattle.hd_terms.specs.Typed.{AreTyped}
+use Rattle.hd_terms.specs.Conditions.{AreConditions}
+use Rattle.hd_terms.specs.Effects.{AreEffects}
+use Rattle.hd_terms.specs.Reading.{is_minus, typed_after}
+use Rattle.hd_terms.proofs.SoundTyped.{typed_says, both, minus_says}
+use Rattle.hd_terms.proofs.SoundLists.{condition_at_says, effect_at_says}
 use Rattle.hd_pddl.specs.declared.tree.Action.{Action}
 use Rattle.hd_pddl.specs.declared.tree.DomainAst.{DomainAst}
-use Rattle.hd_pddl.specs.declared.word.Word.TheVariants.{Name, Keyword}
-use Rattle.hd_pddl.specs.Forms.{Forms, none, word, list}
-use Rattle.hd_pddl.specs.Grammar as g
-use Rattle.hd_pddl.specs.Grammar.{named, is_requirement, IsAtom, IsLiteral, AreConditions, IsOptional, IsAction, AreActions, AreRequirements, SkipsRequirements, ArePredicates, HasPredicates, IsDefinition, IsDomain}
-use Rattle.hd_pddl.specs.Reading.{◌>>=◌, name_at, group_at, end_at, behind_keyword, atom_of, optional_at, action_of, actions_after, behind_requirements, predicates_after, predicates_or, predicates_at, head_at, domain_in, domain_of}
-use Rattle.hd_pddl.proofs.Inverting.{bind_some, some_is, end_says, group_says, name_says, behind_keyword_says}
-use Rattle.hd_pddl.proofs.Sound.{atom_says, optional_says, head_says, skip_says}
+use Rattle.hd_pddl.specs.declared.tree.Signature.{Signature}
+use Rattle.hd_pddl.specs.Sections as x
+use Rattle.hd_pddl.specs.Sections.{HasItems, HasPart}
+use Rattle.hd_pddl.specs.Domain as g
+use Rattle.hd_pddl.specs.Domain.{made_signature, IsSignature, AreSignatures, AreFunctions, made_action, IsAction, AreActions, made_domain, IsDomain}
+use Rattle.hd_pddl.specs.Reading.{section_at, behind_requirements, head_at, names_at, signature_of, signatures_after, signatures_of, predicates_at, functions_after, numbers_after, functions_of, functions_at, condition_or, precondition_at, effect_or, action_effect_at, action_head_at, action_of, actions_after, domain_in, domain_of}
+use Rattle.hd_pddl.proofs.SoundSections.{items_say, names_at_says, skip_says, head_says}
+
+-- ---- predicates and functions
+
+signature_says : (f : Forms) (t : Signature) → signature_of f ≡ Some t → IsSignature f t
+unfolding signature_of
+signature_says f t e =
+    let s = bind_some (name_at f) (λ n. typed_after kinds.Variable n.1 [] [] >>= λ ps. Some (made_signature n.0 ps)) t e in
+    let u = bind_some (typed_after kinds.Variable s.0.1 [] []) (λ ps. Some (made_signature s.0.0 ps)) t s.2 in
+    let made : IsSignature (word s.0.0.at (Name s.0.0.name) s.0.1) (made_signature s.0.0 u.0) =
+    g.signature (typed_says kinds.Variable s.0.1 u.0 u.1) in
+    subst (IsSignature f) (some_is (made_signature s.0.0 u.0) t u.2)
+    (subst (λ (y : Forms). IsSignature y (made_signature s.0.0 u.0)) (sym (name_says f s.0 s.1)) made)
+
+signatures_after_say : (f : Forms) (found ts : List Signature) → signatures_after f found ≡ Some ts
+    → (ms : List Signature) × AreSignatures f ms × (ts ≡ found ++ ms)
+unfolding signatures_after
+signatures_after_say none found ts e = ([], g.end, sym (some_is found ts e) ∙ sym (append-nil found))
+signatures_after_say (word at w rest) found ts e = absurd cc
+signatures_after_say (list a inside b rest) found ts e =
+    let s = bind_some (signature_of inside) (λ t. signatures_after rest (found ++ t ∷ [])) ts e in
+    let q = signatures_after_say rest (found ++ s.0 ∷ []) ts s.2 in
+    (s.0 ∷ q.0, g.one (signature_says inside s.0 s.1) q.1, q.2 ∙ append_assoc found (s.0 ∷ []) q.0)
+
+signatures_say : (f : Forms) (ts : List Signature) → signatures_of f ≡ Some ts → AreSignatures f ts
+unfolding signatures_of
+signatures_say f ts e = let q = signatures_after_say f [] ts e in subst (AreSignatures f) (sym q.2) q.1
+
+predicates_say : (f : Forms) (y : List Signature × Forms) → predicates_at f ≡ Some y
+    → HasItems AreSignatures (codes "predicates") f y.0 y.1
+unfolding predicates_at
+predicates_say f y e =
+    items_say signatures_of signatures_say (codes "predicates") f y (section_at (codes "predicates") f) refl e
+
+-- more functions, behind `- number` where it may stand
+data AreMore : Bool → Forms → List Signature → Type 0 where
+  plain : {behind : Bool} {f : Forms} {ts : List Signature} → AreFunctions f ts → AreMore behind f ts
+  numbers : {c d : ℕ} {rest : Forms} {ts : List Signature}
+      → AreFunctions rest ts
+      → AreMore true (word c (Operator Minus) (word d (Name (codes "number")) rest)) ts
+
+-- a function before more
+before_more : (a b : ℕ) (inside rest : Forms) (s : Signature) (ts : List Signature) → IsSignature inside s
+    → AreMore true rest ts → AreFunctions (list a inside b rest) (s ∷ ts)
+before_more a b inside rest s ts p (plain r) = g.one p r
+before_more a b inside rest s ts p (numbers r) = g.numbers p r
+
+-- where no number may stand, there is none
+no_number : (f : Forms) (ts : List Signature) → AreMore false f ts → AreFunctions f ts
+no_number f ts (plain r) = r
+
+record ReadsMore (behind : Bool) (f : Forms) (found ts : List Signature) : Type 0 where
+  own : List Signature
+  are : AreMore behind f own
+  all : ts ≡ found ++ own
+
+-- from what is read behind `- number`
+numbers_say : (at b : ℕ) (w v : Word) (rest : Forms) (found ts : List Signature) (n : List ℕ)
+    → w ≡ Operator Minus → v ≡ Name n → n ≡ codes "number" → ReadsMore false rest found ts
+    → ReadsMore true (word at w (word b v rest)) found ts
+numbers_say at b w v rest found ts n minus name number q =
+    let whole : word at (Operator Minus) (word b (Name (codes "number")) rest) ≡ word at w (word b v rest) = cc in
+    record {
+      own = q.own;
+      are = subst (λ (y : Forms). AreMore true y q.own) whole (numbers (no_number rest q.own q.are));
+      all = q.all;
+    }
+
+functions_after_say : (behind : Bool) (f : Forms) (found ts : List Signature) → functions_after behind f found ≡ Some ts
+    → ReadsMore behind f found ts
+unfolding functions_after
+functions_after_say behind none found ts e =
+    record { own = []; are = plain g.end; all = sym (some_is found ts e) ∙ sym (append-nil found) }
+functions_after_say behind (list a inside b rest) found ts e =
+    let s = bind_some (signature_of inside) (λ t. functions_after true rest (found ++ t ∷ [])) ts e in
+    let q = functions_after_say true rest (found ++ s.0 ∷ []) ts s.2 in
+    record {
+      own = s.0 ∷ q.own;
+      are = plain (before_more a b inside rest s.0 q.own (signature_says inside s.0 s.1) q.are);
+      all = q.all ∙ append_assoc found (s.0 ∷ []) q.own;
+    }
+functions_after_say behind (word at w none) found ts e =
+    let t = tested (is_minus w && behind) (numbers_after none found) ts e in
+    let wrong = t.1 in
+    absurd cc
+functions_after_say behind (word at w (list a inside b rest)) found ts e =
+    let t = tested (is_minus w && behind) (numbers_after (list a inside b rest) found) ts e in
+    let wrong = t.1 in
+    absurd cc
+functions_after_say behind (word at w (word b v rest)) found ts e =
+    let t = tested (is_minus w && behind) (numbers_after (word b v rest) found) ts e in
+    let two = both (is_minus w) behind t.0 in
+    let s =
+    bind_some (name_in v) (λ n. cond (bytes_eq n (codes "number")) (functions_after false rest found) None) ts t.1 in
+    let u = tested (bytes_eq s.0 (codes "number")) (functions_after false rest found) ts s.2 in
+    let q = functions_after_say false rest found ts u.1 in
+    let made = numbers_say at b w v rest found ts s.0 (minus_says w two.0) (name_word_says v s.0 s.1)
+    (same_bytes s.0 (codes "number") u.0) q in
+    subst (λ (c : Bool). ReadsMore c (word at w (word b v rest)) found ts) (sym two.1) made
+
+functions_say : (f : Forms) (ts : List Signature) → functions_of f ≡ Some ts → AreFunctions f ts
+unfolding functions_of
+functions_say f ts e =
+    let q = functions_after_say false f [] ts e in
+    subst (AreFunctions f) (sym q.all) (no_number f q.own q.are)
+
+functions_at_says : (f : Forms) (y : List Signature × Forms) → functions_at f ≡ Some y
+    → HasItems AreFunctions (codes "functions") f y.0 y.1
+unfolding functions_at
+functions_at_says f y e =
+    items_say functions_of functions_say (codes "functions") f y (section_at (codes "functions") f) refl e
 
 -- ---- actions
 
-abbrev made_action : NameAt → List Literal → List Literal → Action
-made_action n ps es = record { name = n; precondition = ps; effect = es }
+condition_or_says : (f : Forms) (r : Option Forms) (y : List Condition × Forms)
+    → behind_keyword (codes "precondition") f ≡ r → condition_or r f ≡ Some y
+    → HasPart AreConditions (codes "precondition") f y.0 y.1
+condition_or_says f (Some rest) y is e =
+    let k = behind_keyword_says (codes "precondition") f rest is in
+    let c = condition_at_says rest y e in
+    let whole : word k.0 (Keyword (codes "precondition")) (list c.from c.inside c.to y.1) ≡ f =
+    ap (word k.0 (Keyword (codes "precondition"))) c.whole ∙ sym k.1 in
+    let made : HasPart AreConditions (codes "precondition")
+    (word k.0 (Keyword (codes "precondition")) (list c.from c.inside c.to y.1)) y.0 y.1 = x.present c.are in
+    subst (λ (z : Forms). HasPart AreConditions (codes "precondition") z y.0 y.1) whole made
+condition_or_says f None y is e =
+    subst (λ (z : List Condition × Forms). HasPart AreConditions (codes "precondition") f z.0 z.1) (some_is ([], f) y e) x.absent
+
+precondition_says : (f : Forms) (y : List Condition × Forms) → precondition_at f ≡ Some y
+    → HasPart AreConditions (codes "precondition") f y.0 y.1
+unfolding precondition_at
+precondition_says f y e = condition_or_says f (behind_keyword (codes "precondition") f) y refl e
+
+effect_or_says : (f : Forms) (r : Option Forms) (y : List Effect × Forms)
+    → behind_keyword (codes "effect") f ≡ r → effect_or r f ≡ Some y
+    → HasPart AreEffects (codes "effect") f y.0 y.1
+effect_or_says f (Some rest) y is e =
+    let k = behind_keyword_says (codes "effect") f rest is in
+    let c = effect_at_says rest y e in
+    let whole : word k.0 (Keyword (codes "effect")) (list c.from c.inside c.to y.1) ≡ f =
+    ap (word k.0 (Keyword (codes "effect"))) c.whole ∙ sym k.1 in
+    let made : HasPart AreEffects (codes "effect")
+    (word k.0 (Keyword (codes "effect")) (list c.from c.inside c.to y.1)) y.0 y.1 = x.present c.are in
+    subst (λ (z : Forms). HasPart AreEffects (codes "effect") z y.0 y.1) whole made
+effect_or_says f None y is e =
+    subst (λ (z : List Effect × Forms). HasPart AreEffects (codes "effect") f z.0 z.1) (some_is ([], f) y e) x.absent
+
+effect_says : (f : Forms) (y : List Effect × Forms) → action_effect_at f ≡ Some y
+    → HasPart AreEffects (codes "effect") f y.0 y.1
+unfolding action_effect_at
+effect_says f y e = effect_or_says f (behind_keyword (codes "effect") f) y refl e
 
 -- an action's forms, up to what stands behind its parameters
-abbrev action_forms : ℕ → NameAt → ℕ → ℕ → ℕ → Forms → Forms
-action_forms a n b c d more =
-    word a (Keyword (codes "action")) (word n.at (Name n.name) (word b (Keyword (codes "parameters")) (list c none d more)))
+abbrev action_forms : ℕ → NameAt → ℕ → ℕ → Forms → ℕ → Forms → Forms
+action_forms a n b c parameters d more =
+    word a (Keyword (codes "action")) (word n.at (Name n.name) (word b (Keyword (codes "parameters")) (list c parameters d more)))
 
--- the parts of an action behind its parameters
-record IsTail (n : NameAt) (f : Forms) (t : Action) : Type 0 where
-  pre : List Literal
-  eff : List Literal
-  last : Forms
-  precondition : IsOptional (codes "precondition") f pre last
-  effect : IsOptional (codes "effect") last eff none
-  whole : made_action n pre eff ≡ t
+-- the head of an action
+record IsHead (f : Forms) (n : NameAt) (vs : List Typed) (more : Forms) : Type 0 where
+  a : ℕ
+  b : ℕ
+  c : ℕ
+  d : ℕ
+  parameters : Forms
+  whole : action_forms a n b c parameters d more ≡ f
+  are : AreTyped kinds.Variable parameters vs
 
-abbrev t1 : NameAt → List Literal → List Literal × Forms → Option Action
-t1 n pre eff = end_at eff.1 >>= λ _. Some (made_action n pre eff.0)
+abbrev a3 : NameAt → Forms × Forms → Option (NameAt × List Typed × Forms)
+a3 n y = typed_after kinds.Variable y.0 [] [] >>= λ vs. Some (n, vs, y.1)
 
-abbrev t0 : NameAt → List Literal × Forms → Option Action
-t0 n pre = optional_at (codes "effect") pre.1 >>= t1 n pre.0
+abbrev a2 : NameAt → Forms → Option (NameAt × List Typed × Forms)
+a2 n f = group_at f >>= a3 n
 
-abbrev tail_of : NameAt → Forms → Option Action
-tail_of n f = optional_at (codes "precondition") f >>= t0 n
+abbrev a1 : NameAt × Forms → Option (NameAt × List Typed × Forms)
+a1 y = behind_keyword (codes "parameters") y.1 >>= a2 y.0
 
-tail_says : (n : NameAt) (f : Forms) (t : Action) → tail_of n f ≡ Some t → IsTail n f t
-tail_says n f t e =
-    let p = bind_some (optional_at (codes "precondition") f) (t0 n) t e in
-    let q = bind_some (optional_at (codes "effect") p.0.1) (t1 n p.0.0) t p.2 in
-    let r = bind_some (end_at q.0.1) (λ _. Some (made_action n p.0.0 q.0.0)) t q.2 in
-    record {
-      pre = p.0.0;
-      eff = q.0.0;
-      last = p.0.1;
-      precondition = optional_says (codes "precondition") f p.0 p.1;
-      effect =
-          subst (IsOptional (codes "effect") p.0.1 q.0.0) (end_says q.0.1 r.0 r.1) (optional_says (codes "effect") p.0.1 q.0 q.1);
-      whole = some_is (made_action n p.0.0 q.0.0) t r.2;
-    }
+abbrev a0 : Forms → Option (NameAt × List Typed × Forms)
+a0 f = name_at f >>= a1
 
-abbrev a4 : NameAt → Forms × Forms → Option Action
-a4 n x = end_at x.0 >>= λ _. tail_of n x.1
-
-abbrev a3 : NameAt → Forms → Option Action
-a3 n f = group_at f >>= a4 n
-
-abbrev a2 : NameAt × Forms → Option Action
-a2 x = behind_keyword (codes "parameters") x.1 >>= a3 x.0
-
-abbrev a1 : Forms → Option Action
-a1 f = name_at f >>= a2
-
-pub action_says : (f : Forms) (t : Action) → action_of f ≡ Some t → IsAction f t
-unfolding action_of
-action_says f t e =
-    let s0 = bind_some (behind_keyword (codes "action") f) a1 t e in
-    let s1 = bind_some (name_at s0.0) a2 t s0.2 in
-    let s2 = bind_some (behind_keyword (codes "parameters") s1.0.1) (a3 s1.0.0) t s1.2 in
-    let s3 = bind_some (group_at s2.0) (a4 s1.0.0) t s2.2 in
-    let s4 = bind_some (end_at s3.0.0) (λ _. tail_of s1.0.0 s3.0.1) t s3.2 in
-    let last = tail_says s1.0.0 s3.0.1 t s4.2 in
+action_head_says : (f : Forms) (y : NameAt × List Typed × Forms) → action_head_at f ≡ Some y → IsHead f y.0 y.1 y.2
+unfolding action_head_at
+action_head_says f y e =
+    let s0 = bind_some (behind_keyword (codes "action") f) a0 y e in
+    let s1 = bind_some (name_at s0.0) a1 y s0.2 in
+    let s2 = bind_some (behind_keyword (codes "parameters") s1.0.1) (a2 s1.0.0) y s1.2 in
+    let s3 = bind_some (group_at s2.0) (a3 s1.0.0) y s2.2 in
+    let s4 = bind_some (typed_after kinds.Variable s3.0.0 [] []) (λ vs. Some (s1.0.0, vs, s3.0.1)) y s3.2 in
     let head = behind_keyword_says (codes "action") f s0.0 s0.1 in
     let its_name = name_says s0.0 s1.0 s1.1 in
     let parameters = behind_keyword_says (codes "parameters") s1.0.1 s2.0 s2.1 in
     let group = group_says s2.0 s3.0 s3.1 in
-    let ends = end_says s3.0.0 s4.0 s4.1 in
-    let whole : action_forms head.0 s1.0.0 parameters.0 group.0 group.1 s3.0.1 ≡ f = cc in
-    let is : IsAction (action_forms head.0 s1.0.0 parameters.0 group.0 group.1 s3.0.1) (made_action s1.0.0 last.pre last.eff) =
-    g.action last.precondition last.effect in
-    subst (IsAction f) last.whole (subst (λ (x : Forms). IsAction x (made_action s1.0.0 last.pre last.eff)) whole is)
+    let whole : action_forms head.0 s1.0.0 parameters.0 group.0 s3.0.0 group.1 s3.0.1 ≡ f = cc in
+    let made : IsHead f s1.0.0 s4.0 s3.0.1 =
+    record {
+      a = head.0;
+      b = parameters.0;
+      c = group.0;
+      d = group.1;
+      parameters = s3.0.0;
+      whole = whole;
+      are = typed_says kinds.Variable s3.0.0 s4.0 s4.1;
+    } in
+    subst (λ (z : NameAt × List Typed × Forms). IsHead f z.0 z.1 z.2) (some_is (s1.0.0, s4.0, s3.0.1) y s4.2) made
+
+abbrev t1 : NameAt → List Typed → List Condition → List Effect × Forms → Option Action
+t1 n vs pre eff = end_at eff.1 >>= λ _. Some (made_action n vs pre eff.0)
+
+abbrev t0 : NameAt → List Typed → List Condition × Forms → Option Action
+t0 n vs pre = action_effect_at pre.1 >>= t1 n vs pre.0
+
+action_says : (f : Forms) (t : Action) → action_of f ≡ Some t → IsAction f t
+unfolding action_of
+action_says f t e =
+    let h = bind_some (action_head_at f) (λ y. precondition_at y.2 >>= t0 y.0 y.1) t e in
+    let p = bind_some (precondition_at h.0.2) (t0 h.0.0 h.0.1) t h.2 in
+    let q = bind_some (action_effect_at p.0.1) (t1 h.0.0 h.0.1 p.0.0) t p.2 in
+    let r = bind_some (end_at q.0.1) (λ _. Some (made_action h.0.0 h.0.1 p.0.0 q.0.0)) t q.2 in
+    let head = action_head_says f h.0 h.1 in
+    let its = made_action h.0.0 h.0.1 p.0.0 q.0.0 in
+    let effect : HasPart AreEffects (codes "effect") p.0.1 q.0.0 none =
+    subst (HasPart AreEffects (codes "effect") p.0.1 q.0.0) (end_says q.0.1 r.0 r.1) (effect_says p.0.1 q.0 q.1) in
+    let made : IsAction (action_forms head.a h.0.0 head.b head.c head.parameters head.d h.0.2) its =
+    g.action head.are (precondition_says h.0.2 p.0 p.1) effect in
+    subst (IsAction f) (some_is its t r.2) (subst (λ (y : Forms). IsAction y its) head.whole made)
 
 actions_say : (f : Forms) (found ts : List Action) → actions_after f found ≡ Some ts
     → (ms : List Action) × AreActions f ms × (ts ≡ found ++ ms)
@@ -98,52 +263,22 @@ actions_say (list a inside b rest) found ts e =
     let q = actions_say rest (found ++ s.0 ∷ []) ts s.2 in
     (s.0 ∷ q.0, g.one (action_says inside s.0 s.1) q.1, q.2 ∙ append_assoc found (s.0 ∷ []) q.0)
 
--- ---- predicates
-
-predicates_say : (f : Forms) (found ns : List NameAt) → predicates_after f found ≡ Some ns
-    → (ms : List NameAt) × ArePredicates f ms × (ns ≡ found ++ ms)
-unfolding predicates_after
-predicates_say none found ns e = ([], g.end, sym (some_is found ns e) ∙ sym (append-nil found))
-predicates_say (word at w rest) found ns e = absurd cc
-predicates_say (list a inside b rest) found ns e =
-    let s = bind_some (atom_of inside) (λ n. predicates_after rest (found ++ n ∷ [])) ns e in
-    let q = predicates_say rest (found ++ s.0 ∷ []) ns s.2 in
-    (s.0 ∷ q.0, g.one (atom_says inside s.0 s.1) q.1, q.2 ∙ append_assoc found (s.0 ∷ []) q.0)
-
-predicates_or_say : (a b : ℕ) (inside rest : Forms) (x : List NameAt × Forms) (r : Option Forms)
-    → behind_keyword (codes "predicates") inside ≡ r
-    → predicates_or r rest (list a inside b rest) ≡ Some x → HasPredicates (list a inside b rest) x.0 x.1
-predicates_or_say a b inside rest x (Some words) is e =
-    let k = behind_keyword_says (codes "predicates") inside words is in
-    let s = bind_some (predicates_after words []) (λ ns. Some (ns, rest)) x e in
-    let p = predicates_say words [] s.0 s.1 in
-    let made : HasPredicates (list a (word k.0 (Keyword (codes "predicates")) words) b rest) s.0 rest =
-    g.present (subst (ArePredicates words) (sym p.2) p.1) in
-    subst (λ (y : List NameAt × Forms). HasPredicates (list a inside b rest) y.0 y.1) (some_is (s.0, rest) x s.2)
-    (subst (λ (y : Forms). HasPredicates (list a y b rest) s.0 rest) (sym k.1) made)
-predicates_or_say a b inside rest x None is e =
-    subst (λ (y : List NameAt × Forms). HasPredicates (list a inside b rest) y.0 y.1)
-    (some_is ([], list a inside b rest) x e) g.absent
-
-has_predicates_says : (f : Forms) (x : List NameAt × Forms) → predicates_at f ≡ Some x → HasPredicates f x.0 x.1
-unfolding predicates_at
-has_predicates_says (list a inside b rest) x e =
-    predicates_or_say a b inside rest x (behind_keyword (codes "predicates") inside) refl e
-has_predicates_says none x e =
-    subst (λ (y : List NameAt × Forms). HasPredicates none y.0 y.1) (some_is ([], none) x e) g.absent
-has_predicates_says (word at w rest) x e =
-    subst (λ (y : List NameAt × Forms). HasPredicates (word at w rest) y.0 y.1) (some_is ([], word at w rest) x e) g.absent
-
 -- ---- domains
 
-abbrev made_domain : NameAt → List NameAt → List Action → DomainAst
-made_domain n ns ts = record { name = n; predicates = ns; actions = ts }
+abbrev d5 : NameAt → List Typed → List Typed → List Signature → List Signature × Forms → Option DomainAst
+d5 n ts cs ps fs = actions_after fs.1 [] >>= λ acts. Some (made_domain n ts cs ps fs.0 acts)
 
-abbrev d2 : NameAt → List NameAt × Forms → Option DomainAst
-d2 n preds = actions_after preds.1 [] >>= λ acts. Some (made_domain n preds.0 acts)
+abbrev d4 : NameAt → List Typed → List Typed → List Signature × Forms → Option DomainAst
+d4 n ts cs ps = functions_at ps.1 >>= d5 n ts cs ps.0
+
+abbrev d3 : NameAt → List Typed → List Typed × Forms → Option DomainAst
+d3 n ts cs = predicates_at cs.1 >>= d4 n ts cs.0
+
+abbrev d2 : NameAt → List Typed × Forms → Option DomainAst
+d2 n ts = names_at (codes "constants") ts.1 >>= d3 n ts.0
 
 abbrev d1 : NameAt → Forms → Option DomainAst
-d1 n f = predicates_at f >>= d2 n
+d1 n f = names_at (codes "types") f >>= d2 n
 
 abbrev d0 : NameAt × Forms → Option DomainAst
 d0 head = behind_requirements head.1 >>= d1 head.0
@@ -154,18 +289,25 @@ unfolding domain_in
 domain_in_says f inside t a b outer e =
     let s0 = bind_some (head_at (codes "domain") inside) d0 t e in
     let s1 = bind_some (behind_requirements s0.0.1) (d1 s0.0.0) t s0.2 in
-    let s2 = bind_some (predicates_at s1.0) (d2 s0.0.0) t s1.2 in
-    let s3 = bind_some (actions_after s2.0.1 []) (λ acts. Some (made_domain s0.0.0 s2.0.0 acts)) t s2.2 in
-    let acts = actions_say s2.0.1 [] s3.0 s3.1 in
-    let is : IsDomain f (made_domain s0.0.0 s2.0.0 s3.0) =
+    let s2 = bind_some (names_at (codes "types") s1.0) (d2 s0.0.0) t s1.2 in
+    let s3 = bind_some (names_at (codes "constants") s2.0.1) (d3 s0.0.0 s2.0.0) t s2.2 in
+    let s4 = bind_some (predicates_at s3.0.1) (d4 s0.0.0 s2.0.0 s3.0.0) t s3.2 in
+    let s5 = bind_some (functions_at s4.0.1) (d5 s0.0.0 s2.0.0 s3.0.0 s4.0.0) t s4.2 in
+    let s6 =
+    bind_some (actions_after s5.0.1 []) (λ acts. Some (made_domain s0.0.0 s2.0.0 s3.0.0 s4.0.0 s5.0.0 acts)) t s5.2 in
+    let acts = actions_say s5.0.1 [] s6.0 s6.1 in
+    let its = made_domain s0.0.0 s2.0.0 s3.0.0 s4.0.0 s5.0.0 s6.0 in
+    let is : IsDomain f its =
     g.domain (head_says (codes "domain") f inside s0.0 a b outer s0.1) (skip_says s0.0.1 s1.0 s1.1)
-    (has_predicates_says s1.0 s2.0 s2.1) (subst (AreActions s2.0.1) (sym acts.2) acts.1) in
-    subst (IsDomain f) (some_is (made_domain s0.0.0 s2.0.0 s3.0) t s3.2) is
+    (names_at_says (codes "types") s1.0 s2.0 s2.1) (names_at_says (codes "constants") s2.0.1 s3.0 s3.1)
+    (predicates_say s3.0.1 s4.0 s4.1) (functions_at_says s4.0.1 s5.0 s5.1)
+    (subst (AreActions s5.0.1) (sym acts.2) acts.1) in
+    subst (IsDomain f) (some_is its t s6.2) is
 
 pub domain_says : (f : Forms) (t : DomainAst) → domain_of f ≡ Some t → IsDomain f t
 unfolding domain_of
 domain_says f t e =
-    let s0 = bind_some (group_at f) (λ x. domain_in x.0 >>= λ tree. end_at x.1 >>= λ _. Some tree) t e in
+    let s0 = bind_some (group_at f) (λ y. domain_in y.0 >>= λ tree. end_at y.1 >>= λ _. Some tree) t e in
     let s1 = bind_some (domain_in s0.0.0) (λ tree. end_at s0.0.1 >>= λ _. Some tree) t s0.2 in
     let s2 = bind_some (end_at s0.0.1) (λ _. Some s1.0) t s1.2 in
     let p = group_says f s0.0 s0.1 in

@@ -1,112 +1,201 @@
 -- What is read of problems is in the grammar.
-use Rattle.std.proofs.Common.{◌≡◌, ℕ, List, [], ◌∷◌, ◌++◌, Option, Some, sym, ap, subst, ◌∙◌, append_assoc}
+use Rattle.std.proofs.Common.{◌≡◌, ℕ, ℤ, cond, List, [], ◌∷◌, ◌++◌, Option, Some, None, sym, ap, subst, ◌∙◌, append_assoc}
 use Rattle.std.proofs.lemmas.List.{append-nil}
 use Rattle.std.specs.Prelude.{codes}
-use Rattle.hd_pddl.specs.declared.tree.NameAt.{NameAt}
-use Rattle.hd_pddl.specs.declared.tree.Literal.{Literal}
+use Rattle.hd_lex.specs.declared.token.Operator as signs
+use Rattle.hd_lex.specs.declared.token.Operator.TheVariants.{Equal}
+use Rattle.hd_forms.specs.declared.names.NameAt.{NameAt}
+use Rattle.hd_forms.specs.declared.word.Word.TheVariants.{Not, Name, Keyword, Operator, Number}
+use Rattle.hd_forms.specs.Forms.{Forms, none, word, list}
+use Rattle.hd_forms.specs.Reading.{◌>>=◌, name_at, number_at, group_at, end_at, behind_name, behind_keyword}
+use Rattle.hd_forms.proofs.Inverting.{bind_some, some_is, tested, end_says, group_says, name_says, number_says, behind_name_says, behind_keyword_says}
+use Rattle.hd_terms.specs.declared.tree.Atom.{Atom}
+use Rattle.hd_terms.specs.declared.tree.Condition.{Condition}
+use Rattle.hd_terms.specs.declared.tree.Typed.{Typed}
+use Rattle.hd_terms.specs.Reading.{is_equal, atom_of, negated_atom, condition_at}
+use Rattle.hd_terms.proofs.SoundParts.{atom_says}
+use Rattle.hd_terms.proofs.SoundLists.{negated_says, equal_says, condition_at_says}
+use Rattle.hd_pddl.specs.declared.tree.Init.{Init}
+use Rattle.hd_pddl.specs.declared.tree.Init.TheVariants as inits
 use Rattle.hd_pddl.specs.declared.tree.ProblemAst.{ProblemAst}
-use Rattle.hd_pddl.specs.declared.word.Word.TheVariants.{Name, Keyword}
-use Rattle.hd_pddl.specs.Forms.{Forms, none, word, list}
-use Rattle.hd_pddl.specs.Grammar as g
-use Rattle.hd_pddl.specs.Grammar.{named, AreConditions, HasDomainName, AreInitial, HasInit, IsGoal, IsProblem}
-use Rattle.hd_pddl.specs.Reading.{◌>>=◌, name_at, group_at, end_at, behind_keyword, literal_of, condition_at, section_at, behind_requirements, head_at, problem_domain_at, initial_after, init_at, goal_of, problem_in, problem_of}
-use Rattle.hd_pddl.proofs.Inverting.{bind_some, some_is, end_says, group_says, name_says, behind_keyword_says}
-use Rattle.hd_pddl.proofs.Sound.{literal_says, condition_at_says, head_says, skip_says}
+use Rattle.hd_pddl.specs.Sections as x
+use Rattle.hd_pddl.specs.Sections.{IsSection}
+use Rattle.hd_pddl.specs.Problem as g
+use Rattle.hd_pddl.specs.Problem.{HasDomainName, valued, IsInitial, AreInitial, HasInit, HasGoal, IsMetric, made_problem, IsProblem}
+use Rattle.hd_pddl.specs.Reading.{section_at, behind_requirements, head_at, names_at, problem_domain_at, value_of, initial_of, initial_after, init_at, goal_at, metric_in, metric_of, problem_in, problem_of}
+use Rattle.hd_pddl.proofs.SoundSections.{section_says, names_at_says, skip_says, head_says}
 
--- the forms of a section: its keyword, what stands behind it, and what follows
-abbrev section_forms : List ℕ → ℕ → ℕ → ℕ → Forms → Forms → Forms
-section_forms text a b c inside more = list a (word b (Keyword text) inside) c more
-
--- a section of these forms
-record IsSection (text : List ℕ) (f inside more : Forms) : Type 0 where
-  from : ℕ
-  at : ℕ
-  to : ℕ
-  whole : section_forms text from at to inside more ≡ f
-
-section_says : (text : List ℕ) (f : Forms) (x : Forms × Forms) → section_at text f ≡ Some x → IsSection text f x.0 x.1
-unfolding section_at
-section_says text f x e =
-    let s = bind_some (group_at f) (λ y. behind_keyword text y.0 >>= λ inside. Some (inside, y.1)) x e in
-    let t = bind_some (behind_keyword text s.0.0) (λ inside. Some (inside, s.0.1)) x s.2 in
-    let p = group_says f s.0 s.1 in
-    let k = behind_keyword_says text s.0.0 t.0 t.1 in
-    let made : IsSection text f t.0 s.0.1 =
-    record { from = p.0; at = k.0; to = p.1; whole = sym (p.2 ∙ ap (λ (y : Forms). list p.0 y p.1 s.0.1) k.1) } in
-    subst (λ (y : Forms × Forms). IsSection text f y.0 y.1) (some_is (t.0, s.0.1) x t.2) made
-
-problem_domain_says : (f : Forms) (x : NameAt × Forms) → problem_domain_at f ≡ Some x → HasDomainName f x.0 x.1
+problem_domain_says : (f : Forms) (y : NameAt × Forms) → problem_domain_at f ≡ Some y → HasDomainName f y.0 y.1
 unfolding problem_domain_at
-problem_domain_says f x e =
+problem_domain_says f y e =
     let s =
-    bind_some (section_at (codes "domain") f) (λ y. name_at y.0 >>= λ n. end_at n.1 >>= λ _. Some (n.0, y.1)) x e in
-    let t = bind_some (name_at s.0.0) (λ n. end_at n.1 >>= λ _. Some (n.0, s.0.1)) x s.2 in
-    let u = bind_some (end_at t.0.1) (λ _. Some (t.0.0, s.0.1)) x t.2 in
-    let p = section_says (codes "domain") f s.0 s.1 in
+    bind_some (section_at (codes "domain") f) (λ z. name_at z.0 >>= λ n. end_at n.1 >>= λ _. Some (n.0, z.1)) y e in
+    let t = bind_some (name_at s.0.0) (λ n. end_at n.1 >>= λ _. Some (n.0, s.0.1)) y s.2 in
+    let u = bind_some (end_at t.0.1) (λ _. Some (t.0.0, s.0.1)) y t.2 in
     let inside : s.0.0 ≡ word t.0.0.at (Name t.0.0.name) none =
     name_says s.0.0 t.0 t.1 ∙ ap (word t.0.0.at (Name t.0.0.name)) (end_says t.0.1 u.0 u.1) in
-    let one = word t.0.0.at (Name t.0.0.name) none in
-    let whole : section_forms (codes "domain") p.from p.at p.to one s.0.1 ≡ f =
-    ap (λ (y : Forms). section_forms (codes "domain") p.from p.at p.to y s.0.1) (sym inside) ∙ p.whole in
-    let made : HasDomainName (section_forms (codes "domain") p.from p.at p.to one s.0.1) t.0.0 s.0.1 = g.domain in
-    subst (λ (y : NameAt × Forms). HasDomainName f y.0 y.1) (some_is (t.0.0, s.0.1) x u.2)
-    (subst (λ (y : Forms). HasDomainName y t.0.0 s.0.1) whole made)
+    let section : IsSection (codes "domain") f (word t.0.0.at (Name t.0.0.name) none) s.0.1 =
+    subst (λ (z : Forms). IsSection (codes "domain") f z s.0.1) inside (section_says (codes "domain") f s.0 s.1) in
+    subst (λ (z : NameAt × Forms). HasDomainName f z.0 z.1) (some_is (t.0.0, s.0.1) y u.2) (g.domain section)
 
-initial_say : (f : Forms) (found ls : List Literal) → initial_after f found ≡ Some ls
-    → (ms : List Literal) × AreInitial f ms × (ls ≡ found ++ ms)
+-- ---- initial facts
+
+not_atom_says : (at : ℕ) (f : Forms) (i : Init) → (negated_atom f >>= λ t. Some (inits.NotAtom t)) ≡ Some i
+    → IsInitial (word at Not f) i
+not_atom_says at f i e =
+    let s = bind_some (negated_atom f) (λ t. Some (inits.NotAtom t)) i e in
+    let p = negated_says f s.0 s.1 in
+    let made : IsInitial (word at Not (list p.alone.from p.inside p.alone.to none)) (inits.NotAtom s.0) = g.not_atom p.atom in
+    subst (IsInitial (word at Not f)) (some_is (inits.NotAtom s.0) i s.2)
+    (subst (λ (z : Forms). IsInitial (word at Not z) (inits.NotAtom s.0)) p.alone.whole made)
+
+abbrev v1 : Atom → ℤ × ℕ × Forms → Option Init
+v1 t v = end_at v.2 >>= λ _. Some (valued t v.0 v.1)
+
+abbrev v0 : Forms × Forms → Option Init
+v0 z = atom_of z.0 >>= λ t. number_at z.1 >>= v1 t
+
+value_says : (a : ℕ) (f : Forms) (i : Init) → value_of f ≡ Some i → IsInitial (word a (Operator Equal) f) i
+unfolding value_of
+value_says a f i e =
+    let s = bind_some (group_at f) v0 i e in
+    let t = bind_some (atom_of s.0.0) (λ t. number_at s.0.1 >>= v1 t) i s.2 in
+    let u = bind_some (number_at s.0.1) (v1 t.0) i t.2 in
+    let v = bind_some (end_at u.0.2) (λ _. Some (valued t.0 u.0.0 u.0.1)) i u.2 in
+    let p = group_says f s.0 s.1 in
+    let its = valued t.0 u.0.0 u.0.1 in
+    let number : s.0.1 ≡ word u.0.1 (Number u.0.0) none =
+    number_says s.0.1 u.0 u.1 ∙ ap (word u.0.1 (Number u.0.0)) (end_says u.0.2 v.0 v.1) in
+    let whole : list p.0 s.0.0 p.1 (word u.0.1 (Number u.0.0) none) ≡ f = ap (list p.0 s.0.0 p.1) (sym number) ∙ sym p.2 in
+    let made : IsInitial (word a (Operator Equal) (list p.0 s.0.0 p.1 (word u.0.1 (Number u.0.0) none))) its =
+    g.value (atom_says s.0.0 t.0 t.1) in
+    subst (IsInitial (word a (Operator Equal) f)) (some_is its i v.2)
+    (subst (λ (z : Forms). IsInitial (word a (Operator Equal) z) its) whole made)
+
+operator_says : (a : ℕ) (o : signs.Operator) (f : Forms) (i : Init) → cond (is_equal o) (value_of f) None ≡ Some i
+    → IsInitial (word a (Operator o) f) i
+operator_says a o f i e =
+    let t = tested (is_equal o) (value_of f) i e in
+    subst (λ (q : signs.Operator). IsInitial (word a (Operator q) f) i) (sym (equal_says o t.0)) (value_says a f i t.1)
+
+initial_atom_says : (f : Forms) (i : Init) → (atom_of f >>= λ t. Some (inits.Atom t)) ≡ Some i → IsInitial f i
+initial_atom_says f i e =
+    let s = bind_some (atom_of f) (λ t. Some (inits.Atom t)) i e in
+    subst (IsInitial f) (some_is (inits.Atom s.0) i s.2) (g.atom (atom_says f s.0 s.1))
+
+initial_says : (f : Forms) (i : Init) → initial_of f ≡ Some i → IsInitial f i
+unfolding initial_of
+initial_says (word at Not rest) i e = not_atom_says at rest i e
+initial_says (word at (Operator o) rest) i e = operator_says at o rest i e
+initial_says f i e = initial_atom_says f i e
+
+initials_say : (f : Forms) (found is : List Init) → initial_after f found ≡ Some is
+    → (ms : List Init) × AreInitial f ms × (is ≡ found ++ ms)
 unfolding initial_after
-initial_say none found ls e = ([], g.end, sym (some_is found ls e) ∙ sym (append-nil found))
-initial_say (word at w rest) found ls e = absurd cc
-initial_say (list a inside b rest) found ls e =
-    let s = bind_some (literal_of inside) (λ l. initial_after rest (found ++ l ∷ [])) ls e in
-    let q = initial_say rest (found ++ s.0 ∷ []) ls s.2 in
-    (s.0 ∷ q.0, g.one (literal_says inside s.0 s.1) q.1, q.2 ∙ append_assoc found (s.0 ∷ []) q.0)
+initials_say none found is e = ([], g.end, sym (some_is found is e) ∙ sym (append-nil found))
+initials_say (word at w rest) found is e = absurd cc
+initials_say (list a inside b rest) found is e =
+    let s = bind_some (initial_of inside) (λ i. initial_after rest (found ++ i ∷ [])) is e in
+    let q = initials_say rest (found ++ s.0 ∷ []) is s.2 in
+    (s.0 ∷ q.0, g.one (initial_says inside s.0 s.1) q.1, q.2 ∙ append_assoc found (s.0 ∷ []) q.0)
 
-init_says : (f : Forms) (x : List Literal × Forms) → init_at f ≡ Some x → HasInit f x.0 x.1
+init_says : (f : Forms) (y : List Init × Forms) → init_at f ≡ Some y → HasInit f y.0 y.1
 unfolding init_at
-init_says f x e =
-    let s = bind_some (section_at (codes "init") f) (λ y. initial_after y.0 [] >>= λ ls. Some (ls, y.1)) x e in
-    let t = bind_some (initial_after s.0.0 []) (λ ls. Some (ls, s.0.1)) x s.2 in
-    let p = section_says (codes "init") f s.0 s.1 in
-    let q = initial_say s.0.0 [] t.0 t.1 in
-    let made : HasInit (list p.from (word p.at (Keyword (codes "init")) s.0.0) p.to s.0.1) t.0 s.0.1 =
-    g.init (subst (AreInitial s.0.0) (sym q.2) q.1) in
-    subst (λ (y : List Literal × Forms). HasInit f y.0 y.1) (some_is (t.0, s.0.1) x t.2)
-    (subst (λ (y : Forms). HasInit y t.0 s.0.1) p.whole made)
+init_says f y e =
+    let s = bind_some (section_at (codes "init") f) (λ z. initial_after z.0 [] >>= λ is. Some (is, z.1)) y e in
+    let t = bind_some (initial_after s.0.0 []) (λ is. Some (is, s.0.1)) y s.2 in
+    let q = initials_say s.0.0 [] t.0 t.1 in
+    let made : HasInit f t.0 s.0.1 =
+    g.init (section_says (codes "init") f s.0 s.1) (subst (AreInitial s.0.0) (sym q.2) q.1) in
+    subst (λ (z : List Init × Forms). HasInit f z.0 z.1) (some_is (t.0, s.0.1) y t.2) made
 
-abbrev g1 : Forms → List Literal × Forms → Option (List Literal)
-g1 last c = end_at c.1 >>= λ _. end_at last >>= λ _. Some c.0
+-- ---- goal and metric
 
-abbrev g0 : Forms × Forms → Option (List Literal)
-g0 s = condition_at s.0 >>= g1 s.1
-
-goal_says : (f : Forms) (ls : List Literal) → goal_of f ≡ Some ls → IsGoal f ls
-unfolding goal_of
-goal_says f ls e =
-    let s = bind_some (section_at (codes "goal") f) g0 ls e in
-    let t = bind_some (condition_at s.0.0) (g1 s.0.1) ls s.2 in
-    let u = bind_some (end_at t.0.1) (λ _. end_at s.0.1 >>= λ _. Some t.0.0) ls t.2 in
-    let v = bind_some (end_at s.0.1) (λ _. Some t.0.0) ls u.2 in
-    let p = section_says (codes "goal") f s.0 s.1 in
+goal_says : (f : Forms) (y : List Condition × Forms) → goal_at f ≡ Some y → HasGoal f y.0 y.1
+unfolding goal_at
+goal_says f y e =
+    let s =
+    bind_some (section_at (codes "goal") f) (λ z. condition_at z.0 >>= λ c. end_at c.1 >>= λ _. Some (c.0, z.1)) y e in
+    let t = bind_some (condition_at s.0.0) (λ c. end_at c.1 >>= λ _. Some (c.0, s.0.1)) y s.2 in
+    let u = bind_some (end_at t.0.1) (λ _. Some (t.0.0, s.0.1)) y t.2 in
     let c = condition_at_says s.0.0 t.0 t.1 in
-    let alone = end_says t.0.1 u.0 u.1 in
-    let last = end_says s.0.1 v.0 v.1 in
-    let inside : list c.from c.inside c.to none ≡ s.0.0 = ap (list c.from c.inside c.to) (sym alone) ∙ c.whole in
-    let one = list c.from c.inside c.to none in
-    let whole : section_forms (codes "goal") p.from p.at p.to one none ≡ f =
-    ap (λ (y : Forms). section_forms (codes "goal") p.from p.at p.to y none) inside
-    ∙ ap (section_forms (codes "goal") p.from p.at p.to s.0.0) (sym last) ∙ p.whole in
-    let made : IsGoal (section_forms (codes "goal") p.from p.at p.to one none) t.0.0 = g.goal c.are in
-    subst (IsGoal f) (some_is t.0.0 ls v.2) (subst (λ (y : Forms). IsGoal y t.0.0) whole made)
+    let inside : s.0.0 ≡ list c.from c.inside c.to none = sym c.whole ∙ ap (list c.from c.inside c.to) (end_says t.0.1 u.0 u.1) in
+    let section : IsSection (codes "goal") f (list c.from c.inside c.to none) s.0.1 =
+    subst (λ (z : Forms). IsSection (codes "goal") f z s.0.1) inside (section_says (codes "goal") f s.0 s.1) in
+    subst (λ (z : List Condition × Forms). HasGoal f z.0 z.1) (some_is (t.0.0, s.0.1) y u.2) (g.goal section c.are)
 
-abbrev made_problem : NameAt → NameAt → List Literal → List Literal → ProblemAst
-made_problem n m is gs = record { name = n; domain = m; init = is; goal = gs }
+-- what stands in a metric, its closing parentheses left out
+abbrev metric_forms : ℕ → ℕ → ℕ → NameAt → ℕ → Forms
+metric_forms k m b n c =
+    word k (Keyword (codes "metric")) (word m (Name (codes "minimize")) (list b (word n.at (Name n.name) none) c none))
 
-abbrev p3 : NameAt → NameAt → List Literal × Forms → Option ProblemAst
-p3 n m init = goal_of init.1 >>= λ goal. Some (made_problem n m init.0 goal)
+-- these forms stand in a metric
+record IsMetricOf (f : Forms) (n : NameAt) : Type 0 where
+  k : ℕ
+  m : ℕ
+  b : ℕ
+  c : ℕ
+  whole : metric_forms k m b n c ≡ f
+
+abbrev m3 : Forms → NameAt × Forms → Option NameAt
+m3 more n = end_at n.1 >>= λ _. end_at more >>= λ _. Some n.0
+
+abbrev m2 : Forms × Forms → Option NameAt
+m2 z = name_at z.0 >>= m3 z.1
+
+abbrev m1 : Forms → Option NameAt
+m1 f = group_at f >>= m2
+
+abbrev m0 : Forms → Option NameAt
+m0 f = behind_name (codes "minimize") f >>= m1
+
+metric_in_says : (f : Forms) (n : NameAt) → metric_in f ≡ Some n → IsMetricOf f n
+unfolding metric_in
+metric_in_says f n e =
+    let s0 = bind_some (behind_keyword (codes "metric") f) m0 n e in
+    let s1 = bind_some (behind_name (codes "minimize") s0.0) m1 n s0.2 in
+    let s2 = bind_some (group_at s1.0) m2 n s1.2 in
+    let s3 = bind_some (name_at s2.0.0) (m3 s2.0.1) n s2.2 in
+    let s4 = bind_some (end_at s3.0.1) (λ _. end_at s2.0.1 >>= λ _. Some s3.0.0) n s3.2 in
+    let s5 = bind_some (end_at s2.0.1) (λ _. Some s3.0.0) n s4.2 in
+    let keyword = behind_keyword_says (codes "metric") f s0.0 s0.1 in
+    let minimize = behind_name_says (codes "minimize") s0.0 s1.0 s1.1 in
+    let group = group_says s1.0 s2.0 s2.1 in
+    let its_name = name_says s2.0.0 s3.0 s3.1 in
+    let alone = end_says s3.0.1 s4.0 s4.1 in
+    let last = end_says s2.0.1 s5.0 s5.1 in
+    let whole : metric_forms keyword.0 minimize.0 group.0 s3.0.0 group.1 ≡ f = cc in
+    subst (IsMetricOf f) (some_is s3.0.0 n s5.2)
+    (record { k = keyword.0; m = minimize.0; b = group.0; c = group.1; whole = whole })
+
+metric_says : (f : Forms) (m : Option NameAt) → metric_of f ≡ Some m → IsMetric f m
+unfolding metric_of
+metric_says none m e = subst (IsMetric none) (some_is None m e) g.absent
+metric_says (word at w rest) m e = absurd cc
+metric_says (list a inside b rest) m e =
+    let s = bind_some (metric_in inside) (λ n. end_at rest >>= λ _. Some (Some n)) m e in
+    let t = bind_some (end_at rest) (λ _. Some (Some s.0)) m s.2 in
+    let p = metric_in_says inside s.0 s.1 in
+    let last = end_says rest t.0 t.1 in
+    let whole : list a (metric_forms p.k p.m p.b s.0 p.c) b none ≡ list a inside b rest =
+    ap (λ (z : Forms). list a z b none) p.whole ∙ ap (list a inside b) (sym last) in
+    let made : IsMetric (list a (metric_forms p.k p.m p.b s.0 p.c) b none) (Some s.0) = g.present x.section in
+    subst (IsMetric (list a inside b rest)) (some_is (Some s.0) m t.2)
+    (subst (λ (z : Forms). IsMetric z (Some s.0)) whole made)
+
+-- ---- problems
+
+abbrev p5 : NameAt → NameAt → List Typed → List Init → List Condition × Forms → Option ProblemAst
+p5 n d os is goal = metric_of goal.1 >>= λ m. Some (made_problem n d os is goal.0 m)
+
+abbrev p4 : NameAt → NameAt → List Typed → List Init × Forms → Option ProblemAst
+p4 n d os is = goal_at is.1 >>= p5 n d os is.0
+
+abbrev p3 : NameAt → NameAt → List Typed × Forms → Option ProblemAst
+p3 n d os = init_at os.1 >>= p4 n d os.0
 
 abbrev p2 : NameAt → NameAt → Forms → Option ProblemAst
-p2 n m later = init_at later >>= p3 n m
+p2 n d later = names_at (codes "objects") later >>= p3 n d
 
 abbrev p1 : NameAt → NameAt × Forms → Option ProblemAst
 p1 n its = behind_requirements its.1 >>= p2 n its.0
@@ -121,12 +210,17 @@ problem_in_says f inside t a b outer e =
     let s0 = bind_some (head_at (codes "problem") inside) p0 t e in
     let s1 = bind_some (problem_domain_at s0.0.1) (p1 s0.0.0) t s0.2 in
     let s2 = bind_some (behind_requirements s1.0.1) (p2 s0.0.0 s1.0.0) t s1.2 in
-    let s3 = bind_some (init_at s2.0) (p3 s0.0.0 s1.0.0) t s2.2 in
-    let s4 = bind_some (goal_of s3.0.1) (λ goal. Some (made_problem s0.0.0 s1.0.0 s3.0.0 goal)) t s3.2 in
-    let is : IsProblem f (made_problem s0.0.0 s1.0.0 s3.0.0 s4.0) =
+    let s3 = bind_some (names_at (codes "objects") s2.0) (p3 s0.0.0 s1.0.0) t s2.2 in
+    let s4 = bind_some (init_at s3.0.1) (p4 s0.0.0 s1.0.0 s3.0.0) t s3.2 in
+    let s5 = bind_some (goal_at s4.0.1) (p5 s0.0.0 s1.0.0 s3.0.0 s4.0.0) t s4.2 in
+    let s6 =
+    bind_some (metric_of s5.0.1) (λ m. Some (made_problem s0.0.0 s1.0.0 s3.0.0 s4.0.0 s5.0.0 m)) t s5.2 in
+    let its = made_problem s0.0.0 s1.0.0 s3.0.0 s4.0.0 s5.0.0 s6.0 in
+    let is : IsProblem f its =
     g.problem (head_says (codes "problem") f inside s0.0 a b outer s0.1) (problem_domain_says s0.0.1 s1.0 s1.1)
-    (skip_says s1.0.1 s2.0 s2.1) (init_says s2.0 s3.0 s3.1) (goal_says s3.0.1 s4.0 s4.1) in
-    subst (IsProblem f) (some_is (made_problem s0.0.0 s1.0.0 s3.0.0 s4.0) t s4.2) is
+    (skip_says s1.0.1 s2.0 s2.1) (names_at_says (codes "objects") s2.0 s3.0 s3.1) (init_says s3.0.1 s4.0 s4.1)
+    (goal_says s4.0.1 s5.0 s5.1) (metric_says s5.0.1 s6.0 s6.1) in
+    subst (IsProblem f) (some_is its t s6.2) is
 
 pub problem_says : (f : Forms) (t : ProblemAst) → problem_of f ≡ Some t → IsProblem f t
 unfolding problem_of

@@ -1,9 +1,5 @@
-pub mod Error
-pub mod Word
-pub mod Forms
-pub mod View
-pub mod Nesting
-pub mod Grammar
+pub mod Sections
+pub mod Domain
+pub mod Problem
 pub mod Text
 pub mod Reading
-pub mod Parts

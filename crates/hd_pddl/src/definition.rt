@@ -1,16 +1,15 @@
 //! What domains and problems share.
 
-ghost use Rattle.std.specs.Prelude.{◌≡◌};
-ghost use Rattle.hd_pddl.specs.Grammar.{is_requirement};
-ghost use Rattle.hd_pddl.specs.Reading.{Gives, head_at, section_at, requirements_of, behind_requirements};
-ghost use Rattle.hd_pddl.specs.View.{forms_view};
+ghost use Rattle.std.specs.Prelude.{◌≡◌, Some, None, MatchOption};
+ghost use Rattle.hd_forms.specs.Reading.{Gives, IsOfGrammar};
+ghost use Rattle.hd_forms.specs.View.{forms_view};
+ghost use Rattle.hd_pddl.specs.Sections.{is_requirement};
+ghost use Rattle.hd_pddl.specs.Reading.{head_at, section_at, requirements_of, behind_requirements};
 
-use crate::error::ReadError;
-use crate::forms::Form;
-use crate::names::{behind_keyword, behind_name, end_of, find_keyword, group_of, name_of};
-use crate::refusal::requirement_refusal;
-use crate::tree::NameAt;
-use crate::word::Word;
+use hd_forms::{
+    Form, NameAt, ReadError, Word, behind_keyword, behind_name, end_of, find_keyword, form_refusal,
+    group_of, name_of,
+};
 use std::alloc::Global;
 
 /// The name in the head of a definition of this kind, which ends at the place `to`, and what follows the head.
@@ -46,6 +45,22 @@ pub fn section_of<'a>(
     Ok((inside, to, rest))
 }
 
+/// The same, if such a section stands first.
+#[tactic(auto, unfolding(crate::specs::Reading::section_at))]
+pub fn find_section<'a>(keyword: &str, forms: &'a [Form]) -> Option<(&'a [Form], usize, &'a [Form])>
+    ensures { MatchOption result
+        (section_at keyword.now (forms_view forms.now) ≡ None)
+        (λ x. section_at keyword.now (forms_view forms.now) ≡ Some (forms_view x.0.now, forms_view x.2.now)) }
+{
+    match forms {
+        [Form::List { inside, to, .. }, rest @ ..] => match find_keyword(keyword, inside) {
+            Some(inside) => Some((inside, *to, rest)),
+            None => None,
+        },
+        _ => None,
+    }
+}
+
 /// Whether the keyword, without its `:`, is one of the seven requirements.
 fn is_requirement(keyword: &str) -> bool
     ensures { result ≡ is_requirement keyword.now }
@@ -57,6 +72,22 @@ fn is_requirement(keyword: &str) -> bool
         || keyword == "fluents"
         || keyword == "numeric-fluents"
         || keyword == "action-costs"
+}
+
+/// Refuses a form in the list of requirements that is none. A keyword is to blame itself.
+fn requirement_refusal(alloc: Global, form: &Form) -> ReadError
+    ensures { IsOfGrammar result }
+{
+    match form {
+        Form::Word {
+            at,
+            word: Word::Keyword(name),
+        } => match format!(in alloc; ":{name}") {
+            Ok(text) => ReadError::Unsupported(text, *at),
+            Err(_) => ReadError::NoMemory,
+        },
+        _ => form_refusal(alloc, form),
+    }
 }
 
 /// Asks that these forms are requirements, which say nothing.
@@ -87,14 +118,11 @@ fn requirements_of(alloc: Global, forms: &[Form]) -> Result<(), ReadError>
 pub fn behind_requirements(alloc: Global, forms: &[Form]) -> Result<&[Form], ReadError>
     ensures { Gives (λ x. forms_view x.now) result (behind_requirements (forms_view forms.now)) }
 {
-    match forms {
-        [Form::List { inside, .. }, rest @ ..] => match find_keyword("requirements", inside) {
-            Some(words) => {
-                requirements_of(alloc, words)?;
-                Ok(rest)
-            }
-            None => Ok(forms),
-        },
-        _ => Ok(forms),
+    match find_section("requirements", forms) {
+        Some((words, _, rest)) => {
+            requirements_of(alloc, words)?;
+            Ok(rest)
+        }
+        None => Ok(forms),
     }
 }

@@ -3,94 +3,21 @@
 ghost use Rattle.std.specs.Prelude.{◌≡◌, ◌⊎◌, [], IfOk, IfErr, MatchResult};
 ghost use Rattle.hd_lex.specs.Text.{IsFault};
 ghost use Rattle.hd_lex.specs.declared.error.LexError.{LexError};
-ghost use Rattle.hd_pddl.specs.Grammar.{IsDomain};
-ghost use Rattle.hd_pddl.specs.Reading.{Gives, action_of, actions_after, predicates_after, predicates_at, domain_in, domain_of};
-ghost use Rattle.hd_pddl.specs.Text.{IsDomainText, IsUnbalanced, Explains};
-ghost use Rattle.hd_pddl.specs.View.{forms_view};
-ghost use Rattle.hd_pddl.specs.declared.error.ReadError.{ReadError};
+ghost use Rattle.hd_forms.specs.Reading.{Gives};
+ghost use Rattle.hd_forms.specs.Text.{IsUnbalanced, Explains};
+ghost use Rattle.hd_forms.specs.View.{forms_view};
+ghost use Rattle.hd_forms.specs.declared.error.ReadError.{ReadError};
+ghost use Rattle.hd_pddl.specs.Domain.{IsDomain};
+ghost use Rattle.hd_pddl.specs.Reading.{domain_in, domain_of};
+ghost use Rattle.hd_pddl.specs.Text.{IsDomainText};
 ghost use Rattle.hd_pddl.specs.declared.tree.DomainAst.{DomainAst};
 
-use crate::conditions::{atom_of, optional_of};
+use crate::actions::actions_of;
 use crate::definition::{behind_requirements, head_of};
-use crate::error::ReadError;
-use crate::forms::Form;
-use crate::names::{behind_keyword, end_of, find_keyword, group_of, name_of};
-use crate::refusal::form_refusal;
-use crate::text::text_forms;
-use crate::tree::{Action, DomainAst, NameAt};
-use hd_list::Sequence;
+use crate::sections::{functions_at, names_at, predicates_at};
+use crate::tree::DomainAst;
+use hd_forms::{Form, ReadError, end_of, group_of, text_forms};
 use std::alloc::Global;
-
-/// The action that stands in a form which ends at the place `to`.
-#[tactic(auto, unfolding(crate::specs::Reading::action_of))]
-fn action_of(alloc: Global, inside: &[Form], to: usize) -> Result<Action, ReadError>
-    ensures { Gives (λ x. x) result (action_of (forms_view inside.now)) }
-{
-    let rest = behind_keyword(alloc, "action", inside, to)?;
-    let (name, rest) = name_of(alloc, rest, to)?;
-    let rest = behind_keyword(alloc, "parameters", rest, to)?;
-    let (parameters, _, rest) = group_of(alloc, rest, to)?;
-    end_of(alloc, parameters)?;
-    let (precondition, rest) = optional_of(alloc, "precondition", rest, to)?;
-    let (effect, rest) = optional_of(alloc, "effect", rest, to)?;
-    end_of(alloc, rest)?;
-    Ok(Action {
-        name,
-        precondition,
-        effect,
-    })
-}
-
-/// The actions that these forms are, one each.
-#[tactic(auto, unfolding(crate::specs::Reading::actions_after))]
-fn actions_of(alloc: Global, forms: &[Form]) -> Result<Sequence<Action>, ReadError>
-    ensures { Gives (λ x. x) result (actions_after (forms_view forms.now) []) }
-{
-    let mut actions = Vec::new(alloc);
-    let mut rest = forms;
-    while let [first, after @ ..] = rest {
-        match first {
-            Form::Word { .. } => return Err(form_refusal(alloc, first)),
-            Form::List { inside, to, .. } => actions.push(action_of(alloc, inside, *to)?)?,
-        }
-        rest = after;
-    }
-    Ok(Sequence::from_vec(actions))
-}
-
-/// The predicates that these forms declare, one each.
-#[tactic(auto, unfolding(crate::specs::Reading::predicates_after))]
-fn predicates_in(alloc: Global, forms: &[Form]) -> Result<Sequence<NameAt>, ReadError>
-    ensures { Gives (λ x. x) result (predicates_after (forms_view forms.now) []) }
-{
-    let mut names = Vec::new(alloc);
-    let mut rest = forms;
-    while let [first, after @ ..] = rest {
-        match first {
-            Form::Word { .. } => return Err(form_refusal(alloc, first)),
-            Form::List { inside, to, .. } => names.push(atom_of(alloc, inside, *to)?)?,
-        }
-        rest = after;
-    }
-    Ok(Sequence::from_vec(names))
-}
-
-/// The predicates, none where their list is absent, and what follows.
-#[tactic(auto, unfolding(crate::specs::Reading::predicates_at))]
-fn predicates_of(alloc: Global, forms: &[Form]) -> Result<(Sequence<NameAt>, &[Form]), ReadError>
-    ensures { Gives (λ x. (x.0, forms_view x.1.now)) result (predicates_at (forms_view forms.now)) }
-{
-    match forms {
-        [Form::List { inside, .. }, rest @ ..] => match find_keyword("predicates", inside) {
-            Some(signatures) => {
-                let names = predicates_in(alloc, signatures)?;
-                Ok((names, rest))
-            }
-            None => Ok((Sequence::empty(alloc), forms)),
-        },
-        _ => Ok((Sequence::empty(alloc), forms)),
-    }
-}
 
 /// The domain that stands in a form which ends at the place `to`.
 #[tactic(auto, unfolding(crate::specs::Reading::domain_in))]
@@ -99,11 +26,17 @@ fn domain_in(alloc: Global, inside: &[Form], to: usize) -> Result<DomainAst, Rea
 {
     let (name, rest) = head_of(alloc, "domain", inside, to)?;
     let rest = behind_requirements(alloc, rest)?;
-    let (predicates, rest) = predicates_of(alloc, rest)?;
+    let (types, rest) = names_at(alloc, "types", rest)?;
+    let (constants, rest) = names_at(alloc, "constants", rest)?;
+    let (predicates, rest) = predicates_at(alloc, rest)?;
+    let (functions, rest) = functions_at(alloc, rest)?;
     let actions = actions_of(alloc, rest)?;
     Ok(DomainAst {
         name,
+        types,
+        constants,
         predicates,
+        functions,
         actions,
     })
 }

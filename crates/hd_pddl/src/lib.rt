@@ -1,28 +1,31 @@
 //! Reads tasks written in PDDL: a domain and a problem, each a text of its own.
 //!
-//! A text is cut into words (hd_lex), the words are nested by their parentheses, and the grammar is read over the nested
-//! forms. So far the language is the propositional one: atoms without terms, and no numbers.
+//! A text is cut into words (hd_lex), the words are nested by their parentheses (hd_forms), and the grammar is read over
+//! the nested forms: terms, expressions, conditions and effects in hd_terms, domains and problems here. The language is
+//! PDDL 2.1, level 2 (Fox and Long, JAIR 20, 2003), with whole numbers and without quantifiers, disjunctions, conditional
+//! effects and division.
 #![tactic(auto)]
 
-mod conditions;
+mod actions;
 mod definition;
 mod domain;
-mod error;
-mod forms;
 mod law;
-mod names;
 mod problem;
-mod refusal;
-mod text;
+mod sections;
 mod tree;
-mod word;
 
 pub use domain::read_domain;
-pub use error::ReadError;
+pub use hd_forms::{Change, NameAt, ReadError};
+pub use hd_terms::{
+    Atom, Comparison, Condition, Effect, Expr, ExprParts, FluentChange, Operation, Relation, Term,
+    Typed,
+};
 pub use law::{each_text_says_one_domain, each_text_says_one_problem};
 pub use problem::read_problem;
-pub use tree::{Action, DomainAst, Literal, NameAt, ProblemAst};
+pub use tree::{Action, DomainAst, Init, InitialValue, ProblemAst, Signature};
 
+#[cfg(test)]
+mod rendering;
 #[cfg(test)]
 mod samples;
 #[cfg(test)]

@@ -3,22 +3,24 @@
 ghost use Rattle.std.specs.Prelude.{◌≡◌, ◌⊎◌, [], IfOk, IfErr, MatchResult};
 ghost use Rattle.hd_lex.specs.Text.{IsFault};
 ghost use Rattle.hd_lex.specs.declared.error.LexError.{LexError};
-ghost use Rattle.hd_pddl.specs.Grammar.{IsProblem};
-ghost use Rattle.hd_pddl.specs.Reading.{Gives, problem_domain_at, initial_after, init_at, goal_of, problem_in, problem_of};
-ghost use Rattle.hd_pddl.specs.Text.{IsProblemText, IsUnbalanced, Explains};
-ghost use Rattle.hd_pddl.specs.View.{forms_view};
-ghost use Rattle.hd_pddl.specs.declared.error.ReadError.{ReadError};
+ghost use Rattle.hd_forms.specs.Reading.{Gives};
+ghost use Rattle.hd_forms.specs.Text.{IsUnbalanced, Explains};
+ghost use Rattle.hd_forms.specs.View.{forms_view};
+ghost use Rattle.hd_forms.specs.declared.error.ReadError.{ReadError};
+ghost use Rattle.hd_pddl.specs.Problem.{IsProblem};
+ghost use Rattle.hd_pddl.specs.Reading.{problem_domain_at, value_of, initial_of, initial_after, init_at, goal_at, metric_in, metric_of, problem_in, problem_of};
+ghost use Rattle.hd_pddl.specs.Text.{IsProblemText};
 ghost use Rattle.hd_pddl.specs.declared.tree.ProblemAst.{ProblemAst};
 
-use crate::conditions::{condition_of, literal_of};
 use crate::definition::{behind_requirements, head_of, section_of};
-use crate::error::ReadError;
-use crate::forms::Form;
-use crate::names::{end_of, group_of, name_of};
-use crate::refusal::form_refusal;
-use crate::text::text_forms;
-use crate::tree::{Literal, NameAt, ProblemAst};
+use crate::sections::names_at;
+use crate::tree::{Init, InitialValue, ProblemAst};
+use hd_forms::{
+    Form, NameAt, ReadError, Word, behind_keyword, behind_name, end_of, first_refusal,
+    form_refusal, group_of, name_of, number_of, text_forms,
+};
 use hd_list::Sequence;
+use hd_terms::{Condition, atom_of, condition_of, is_equal, negated_atom_of};
 use std::alloc::Global;
 
 /// The name of the problem's domain, and what follows. The place `end` is that behind the forms.
@@ -36,47 +38,122 @@ fn problem_domain_of(
     Ok((name, rest))
 }
 
-/// The initial literals that these forms are, one each.
+/// A fluent and its first value, in a form that ends at the place `to`.
+#[tactic(auto, unfolding(crate::specs::Reading::value_of))]
+fn value_of(alloc: Global, rest: &[Form], to: usize) -> Result<Init, ReadError>
+    ensures { Gives (λ x. x) result (value_of (forms_view rest.now)) }
+{
+    let (inside, inside_to, rest) = group_of(alloc, rest, to)?;
+    let fluent = atom_of(alloc, inside, inside_to)?;
+    let (value, at, rest) = number_of(alloc, rest, to)?;
+    end_of(alloc, rest)?;
+    Ok(Init::Value(InitialValue { fluent, value, at }))
+}
+
+/// The initial fact that stands in a form which ends at the place `to`.
+#[tactic(auto, unfolding(crate::specs::Reading::initial_of))]
+fn initial_of(alloc: Global, inside: &[Form], to: usize) -> Result<Init, ReadError>
+    ensures { Gives (λ x. x) result (initial_of (forms_view inside.now)) }
+{
+    match inside {
+        [
+            Form::Word {
+                at,
+                word: Word::Not,
+            },
+            rest @ ..,
+        ] => Ok(Init::NotAtom(negated_atom_of(alloc, *at, rest, to)?)),
+        [
+            Form::Word {
+                word: Word::Operator(operator),
+                ..
+            },
+            rest @ ..,
+        ] => {
+            if is_equal(*operator) {
+                value_of(alloc, rest, to)
+            } else {
+                Err(first_refusal(alloc, inside, to))
+            }
+        }
+        _ => Ok(Init::Atom(atom_of(alloc, inside, to)?)),
+    }
+}
+
+/// The initial facts that these forms are, one each.
 #[tactic(auto, unfolding(crate::specs::Reading::initial_after))]
-fn initial_in(alloc: Global, forms: &[Form]) -> Result<Sequence<Literal>, ReadError>
+fn initial_in(alloc: Global, forms: &[Form]) -> Result<Sequence<Init>, ReadError>
     ensures { Gives (λ x. x) result (initial_after (forms_view forms.now) []) }
 {
-    let mut literals = Vec::new(alloc);
+    let mut facts = Vec::new(alloc);
     let mut rest = forms;
     while let [first, after @ ..] = rest {
         match first {
             Form::Word { .. } => return Err(form_refusal(alloc, first)),
-            Form::List { inside, to, .. } => literals.push(literal_of(alloc, inside, *to)?)?,
+            Form::List { inside, to, .. } => facts.push(initial_of(alloc, inside, *to)?)?,
         }
         rest = after;
     }
-    Ok(Sequence::from_vec(literals))
+    Ok(Sequence::from_vec(facts))
 }
 
-/// The initial literals, and what follows.
+/// The initial facts, and what follows. The place `end` is that behind the forms.
 #[tactic(auto, unfolding(crate::specs::Reading::init_at))]
 fn init_of(
     alloc: Global,
     forms: &[Form],
     end: usize,
-) -> Result<(Sequence<Literal>, &[Form]), ReadError>
+) -> Result<(Sequence<Init>, &[Form]), ReadError>
     ensures { Gives (λ x. (x.0, forms_view x.1.now)) result (init_at (forms_view forms.now)) }
 {
     let (inside, _, rest) = section_of(alloc, "init", forms, end)?;
-    let literals = initial_in(alloc, inside)?;
-    Ok((literals, rest))
+    let facts = initial_in(alloc, inside)?;
+    Ok((facts, rest))
 }
 
-/// The goal's literals. The goal is the last of the problem, which ends at the place `end`.
-#[tactic(auto, unfolding(crate::specs::Reading::goal_of))]
-fn goal_of(alloc: Global, forms: &[Form], end: usize) -> Result<Sequence<Literal>, ReadError>
-    ensures { Gives (λ x. x) result (goal_of (forms_view forms.now)) }
+/// The parts of the goal, and what follows. The place `end` is that behind the forms.
+#[tactic(auto, unfolding(crate::specs::Reading::goal_at))]
+fn goal_of(
+    alloc: Global,
+    forms: &[Form],
+    end: usize,
+) -> Result<(Sequence<Condition>, &[Form]), ReadError>
+    ensures { Gives (λ x. (x.0, forms_view x.1.now)) result (goal_at (forms_view forms.now)) }
 {
     let (inside, to, rest) = section_of(alloc, "goal", forms, end)?;
-    let (literals, more) = condition_of(alloc, inside, to)?;
+    let (goal, more) = condition_of(alloc, inside, to)?;
+    end_of(alloc, more)?;
+    Ok((goal, rest))
+}
+
+/// The function of the metric that stands in a form which ends at the place `to`.
+#[tactic(auto, unfolding(crate::specs::Reading::metric_in))]
+fn metric_in(alloc: Global, inside: &[Form], to: usize) -> Result<NameAt, ReadError>
+    ensures { Gives (λ x. x) result (metric_in (forms_view inside.now)) }
+{
+    let rest = behind_keyword(alloc, "metric", inside, to)?;
+    let rest = behind_name(alloc, "minimize", rest, to)?;
+    let (group, group_to, rest) = group_of(alloc, rest, to)?;
+    let (name, more) = name_of(alloc, group, group_to)?;
     end_of(alloc, more)?;
     end_of(alloc, rest)?;
-    Ok(literals)
+    Ok(name)
+}
+
+/// The function of the metric, if these forms are one and not none.
+#[tactic(auto, unfolding(crate::specs::Reading::metric_of))]
+fn metric_of(alloc: Global, forms: &[Form]) -> Result<Option<NameAt>, ReadError>
+    ensures { Gives (λ x. x) result (metric_of (forms_view forms.now)) }
+{
+    match forms {
+        [] => Ok(None),
+        [form @ Form::Word { .. }, ..] => Err(form_refusal(alloc, form)),
+        [Form::List { inside, to, .. }, rest @ ..] => {
+            let name = metric_in(alloc, inside, *to)?;
+            end_of(alloc, rest)?;
+            Ok(Some(name))
+        }
+    }
 }
 
 /// The problem that stands in a form which ends at the place `to`.
@@ -87,13 +164,17 @@ fn problem_in(alloc: Global, inside: &[Form], to: usize) -> Result<ProblemAst, R
     let (name, rest) = head_of(alloc, "problem", inside, to)?;
     let (domain, rest) = problem_domain_of(alloc, rest, to)?;
     let rest = behind_requirements(alloc, rest)?;
+    let (objects, rest) = names_at(alloc, "objects", rest)?;
     let (init, rest) = init_of(alloc, rest, to)?;
-    let goal = goal_of(alloc, rest, to)?;
+    let (goal, rest) = goal_of(alloc, rest, to)?;
+    let metric = metric_of(alloc, rest)?;
     Ok(ProblemAst {
         name,
         domain,
+        objects,
         init,
         goal,
+        metric,
     })
 }
 

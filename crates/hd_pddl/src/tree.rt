@@ -1,43 +1,63 @@
-//! What texts say.
+//! What texts say, each list in the text's order. A place is that of a first byte in the text, counted from 0.
 
-use hd_list::{Name, Sequence};
+use hd_forms::NameAt;
+use hd_list::Sequence;
+use hd_terms::{Atom, Condition, Effect, Typed};
 
-/// A name in lower case, and the place of its first byte in the text, counted from 0.
-#[derive(Debug, PartialEq, Eq, Drop)]
-pub struct NameAt {
-    pub name: Name,
-    pub at: usize,
+/// A predicate or a function that is declared. Its parameters are variables, without their `?`.
+#[derive(Debug, Drop)]
+pub struct Signature {
+    pub name: NameAt,
+    pub parameters: Sequence<Typed>,
 }
 
-/// An atom, or `not` and an atom.
-#[derive(Debug, PartialEq, Eq, Drop)]
-pub enum Literal {
-    Positive(NameAt),
-    Negative(NameAt),
-}
-
-/// An action. Its condition and its effect are all of their literals in the text's order, with each `and` opened.
-#[derive(Debug, PartialEq, Eq, Drop)]
+/// An action. Its condition and its effect are all of their parts, with each `and` opened.
+#[derive(Debug, Drop)]
 pub struct Action {
     pub name: NameAt,
-    pub precondition: Sequence<Literal>,
-    pub effect: Sequence<Literal>,
+    pub parameters: Sequence<Typed>,
+    pub precondition: Sequence<Condition>,
+    pub effect: Sequence<Effect>,
 }
 
-/// What the text of a domain says, in the text's order.
-#[derive(Debug, PartialEq, Eq, Drop)]
+/// What the text of a domain says.
+#[derive(Debug, Drop)]
 pub struct DomainAst {
     pub name: NameAt,
-    pub predicates: Sequence<NameAt>,
+    pub types: Sequence<Typed>,
+    pub constants: Sequence<Typed>,
+    pub predicates: Sequence<Signature>,
+    pub functions: Sequence<Signature>,
     pub actions: Sequence<Action>,
 }
 
-/// What the text of a problem says, in the text's order. The goal is all of its literals, as a condition is.
-#[derive(Debug, PartialEq, Eq, Drop)]
+/// The value that a fluent has at first.
+#[derive(Debug, Drop)]
+pub struct InitialValue {
+    pub fluent: Atom,
+    pub value: i64,
+    /// The place of the number.
+    pub at: usize,
+}
+
+/// What holds at first.
+#[derive(Debug, Drop)]
+pub enum Init {
+    Atom(Atom),
+    /// `not` and an atom.
+    NotAtom(Atom),
+    Value(InitialValue),
+}
+
+/// What the text of a problem says. The goal is all of its parts, as a condition is.
+#[derive(Debug, Drop)]
 pub struct ProblemAst {
     pub name: NameAt,
     /// The name of the domain that the problem belongs to.
     pub domain: NameAt,
-    pub init: Sequence<Literal>,
-    pub goal: Sequence<Literal>,
+    pub objects: Sequence<Typed>,
+    pub init: Sequence<Init>,
+    pub goal: Sequence<Condition>,
+    /// The function, without parameters, whose value at the end is to be least.
+    pub metric: Option<NameAt>,
 }

@@ -1,5 +1,5 @@
 use Rattle.std.proofs.Common.{◌≡◌, length}
-use Rattle.hd_pddl.specs.View.{forms_view}
+use Rattle.hd_forms.specs.View.{forms_view}
 use Rattle.hd_pddl.specs.Reading.{requirements_of}
 use Rattle.hd_pddl.proofs.definition.requirements_of.Given as goal
 

@@ -1,9 +1,9 @@
 use Rattle.std.proofs.Common.{Err}
 use Rattle.std.proofs.lemmas.Result.{err_from_is_err_and}
-use Rattle.hd_pddl.specs.Grammar.{IsDomain}
-use Rattle.hd_pddl.specs.View.{forms_view}
+use Rattle.hd_pddl.specs.Domain.{IsDomain}
+use Rattle.hd_forms.specs.View.{forms_view}
 use Rattle.hd_pddl.proofs.Domains.{domains_read}
-use Rattle.hd_pddl.proofs.Whole.{found_of, refusal_of, explained, only_of, bad_word_of, bad_parentheses_of}
+use Rattle.hd_forms.proofs.Whole.{found_of, refusal_of, explained, only_of, bad_word_of, bad_parentheses_of}
 use Rattle.hd_pddl.proofs.domain.read_domain.Goals as goal
 
 pub returns-in_err-forms-clause-only : goal.returns-in_err-forms-clause-only

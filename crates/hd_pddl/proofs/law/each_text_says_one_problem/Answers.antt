@@ -1,5 +1,5 @@
 use Rattle.hd_pddl.proofs.Problems.{problems_read}
-use Rattle.hd_pddl.proofs.Whole.{one_tree}
+use Rattle.hd_forms.proofs.Whole.{one_tree}
 use Rattle.hd_pddl.proofs.law.each_text_says_one_problem.Goals as goal
 
 pub returns : goal.returns

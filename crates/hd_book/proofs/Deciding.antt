@@ -1,0 +1,41 @@
+-- Where all is settled, the answer is true.
+use Rattle.std.proofs.Common.{◌≡◌, ℕ, Bool, true, false, cond, Some, None, List, [], ◌∷◌, length, All, refl, sym, ap, ◌∙◌, arith}
+use Rattle.std.proofs.lemmas.List.Sums.{sum_by-cons, count_by-le-length}
+use Rattle.std.proofs.lemmas.List.Elements.{All-nil, All-cons}
+use Rattle.hd_task.specs.declared.task.Task.{Task}
+use Rattle.hd_task.specs.Expansions.{generated}
+use Rattle.hd_task.specs.Covers.{IsCovered, zero_estimate}
+use Rattle.hd_task.proofs.Optimal.{each_optimal, no_plan, zero_admissible, goal_plan_valid}
+use Rattle.hd_book.specs.declared.content.Content.{Content}
+use Rattle.hd_book.specs.declared.verdict.Verdict.{Verdict}
+use Rattle.hd_book.specs.declared.verdict.Verdict.TheVariants.{Optimal, NoPlan, RangeLeft}
+use Rattle.hd_book.specs.Settling.{expansions}
+use Rattle.hd_book.specs.Holding.{settled_count, state_of, IsHeld}
+use Rattle.hd_book.specs.Answers.{IsAnswer, IsTrueAnswer}
+use Rattle.hd_book.proofs.Adding.{count}
+use Rattle.hd_book.proofs.Marking.{all_marked}
+
+-- where as many marks are set as there are, all are
+all_set : (marks : List Bool) → count marks ≡ length marks → All (λ m. m ≡ true) marks
+all_set [] e = All-nil (λ m. m ≡ true)
+all_set (m ∷ marks) e =
+    let sum = sum_by-cons (λ (m : Bool). let n : ℕ = cond m 1 0 in n) m marks in
+    let few = count_by-le-length (λ m. m) marks in
+    elim m as (λ b. m ≡ b → All (λ m. m ≡ true) (m ∷ marks)) [
+      | true ↦ λ is.
+          let one = ap (λ (b : Bool). let n : ℕ = cond b 1 0 in n) is in
+          All-cons (λ m. m ≡ true) m marks is (all_set marks (omega (arith, e, sum, one)))
+      | false ↦ λ is. let none = ap (λ (b : Bool). let n : ℕ = cond b 1 0 in n) is in absurd (omega (arith, e, sum, none, few))
+    ] refl
+
+pub covered_when_full : (c : Content) → IsHeld c → settled_count (state_of c) ≡ length (generated c.task.now (expansions (state_of c))) → IsCovered c.task.now zero_estimate (expansions (state_of c))
+covered_when_full c h e =
+    all_marked c.task.now zero_estimate (expansions (state_of c)) (state_of c).marks h.kept.marked (all_set (state_of c).marks (e ∙ sym h.kept.marked.one_each))
+
+pub answer_true : (t : Task) (expanded : List (List ℕ)) (v : Verdict) → IsCovered t zero_estimate expanded → IsAnswer t expanded v → IsTrueAnswer t v
+answer_true t expanded (Optimal p) covered a =
+    each_optimal t zero_estimate (zero_admissible t) expanded a.0 covered a.1.cost a.1.bound p a.1.meets
+answer_true t expanded NoPlan covered a =
+    no_plan t zero_estimate (zero_admissible t) expanded a.0 covered a.1
+answer_true t expanded (RangeLeft d None) covered a = tt
+answer_true t expanded (RangeLeft d (Some p)) covered a = (a.1.cost, goal_plan_valid t p a.1.cost a.1.meets)

@@ -1,0 +1,267 @@
+-- What the parts of a book say of a kid: whether it is posted, and where it leads.
+use Rattle.std.proofs.Common.{◌≡◌, ◌≢◌, ℕ, suc, ◌+◌, ◌-◌, ◌<◌, ◌≤◌, ◌==◌, nat_lt, Bool, true, false, cond, not, ◌&&◌, ◌||◌, Option, Some, None, is_some, List, [], ◌∷◌, filter, length, get_or, slice_get, Contains, ◌⊎◌, inl, inr, refl, sym, ap, ap₂, ◌∙◌, subst, arith, true≢false}
+use Rattle.std.specs.Prelude.{option_and_then}
+use Rattle.std.specs.List.{list_any, position_or_len, range_with_len}
+use Rattle.std.proofs.lemmas.Bool.{cases_eq, cases_lt, and_parts, cond-false, eq-eqb, ne_eqb, lt-ltb, le-ltb, ltb-true}
+use Rattle.std.proofs.lemmas.Option.{none-some, same_Some, slice_get-get_or, slice_get_past}
+use Rattle.std.proofs.lemmas.List.{get_or-map, length-map}
+use Rattle.std.proofs.lemmas.List.Sums.{passes_at_first}
+use Rattle.std.proofs.lemmas.List.Folds.{list_any-append, list_any_at, list_any_none}
+use Rattle.std.proofs.lemmas.List.Elements.{Contains-get_or}
+use Rattle.hd_list.proofs.Members.{Contains-filter, Contains-range, filter_test}
+use Rattle.hd_task.specs.declared.task.Task.{Task}
+use Rattle.hd_task.specs.declared.plan.Kid.{Kid}
+use Rattle.hd_task.specs.declared.plan.TheConstants.{ROOT}
+use Rattle.hd_task.specs.Plans.{Node, IsStateOf, step_by, step_of, start, exec}
+use Rattle.hd_task.specs.Departures.{action_departs}
+use Rattle.hd_task.specs.Expansions.{is_applicable, applicable_at}
+use Rattle.hd_task.proofs.Runs.{exec-push, exec-state, step_within}
+use Rattle.hd_node.specs.declared.expansion.Child.{Child}
+use Rattle.hd_node.specs.Children.{node, child_to, child_at}
+use Rattle.hd_book.specs.declared.entry.Entry.{Entry}
+use Rattle.hd_book.specs.declared.content.Content.{Content}
+use Rattle.hd_book.specs.declared.refusal.Refusal.{Refusal}
+use Rattle.hd_book.specs.declared.refusal.Refusal.TheVariants.{UnknownParent, NotAKid, SettledBefore}
+use Rattle.hd_book.specs.Kids.{root, kids_of, kids_from, posted_by}
+use Rattle.hd_book.specs.Settling.{expansions, same_kid, knows_parent, place_of, is_posted, is_marked, node_of}
+use Rattle.hd_book.specs.Holding.{kid_at, node_at, has, state_of, IsHeld}
+use Rattle.hd_book.proofs.Accepting.{same_kid-true}
+use Rattle.hd_book.proofs.Naming.{plan_of-kid, length-plans_of}
+
+-- ---- lists
+
+ltb_suc : (a b : ℕ) → nat_lt (suc a) (suc b) ≡ nat_lt a b
+ltb_suc a b =
+    elim (cases_lt a b) [
+      | inl lt ↦ lt-ltb (suc a) (suc b) (omega arith) ∙ sym (lt-ltb a b lt)
+      | inr le ↦ le-ltb (suc a) (suc b) (omega arith) ∙ sym (le-ltb a b le)
+    ]
+
+-- a test that some element passes, by the place of the first
+pub place-any : {X : Type 0} (p : X → Bool) (xs : List X) → nat_lt (position_or_len p xs) (length xs) ≡ list_any p xs
+place-any p [] = refl
+place-any p (x ∷ xs) =
+    elim (p x) as (λ b. nat_lt (cond (not b) (1 + position_or_len p xs) 0) (length (x ∷ xs)) ≡ (b || list_any p xs)) [
+      | true ↦ lt-ltb 0 (suc (length xs)) (omega arith)
+      | false ↦
+          let next : 1 + position_or_len p xs ≡ suc (position_or_len p xs) = omega arith in
+          ap (λ n. nat_lt n (suc (length xs))) next ∙ (ltb_suc (position_or_len p xs) (length xs) ∙ place-any p xs)
+    ]
+
+any_among : {X : Type 0} (p : X → Bool) (xs : List X) (x : X) → Contains xs x → p x ≡ true → list_any p xs ≡ true
+any_among p xs x c e = list_any_at p xs c.0 x c.1 (ap p c.2 ∙ e)
+
+-- ---- the kids of an entry
+
+any_of : (k : Kid) (n : ℕ) (actions : List ℕ) → k.parent ≡ n → list_any (same_kid k) (kids_of n actions) ≡ list_any (λ a. k.action == a) actions
+any_of k n [] e = refl
+any_of k n (a ∷ actions) e =
+    ap₂ (λ x y. x || y) (ap (λ b. b && (k.action == a)) (eq-eqb k.parent n e)) (any_of k n actions e)
+
+none_of : (k : Kid) (n : ℕ) (actions : List ℕ) → k.parent ≢ n → list_any (same_kid k) (kids_of n actions) ≡ false
+none_of k n [] ne = refl
+none_of k n (a ∷ actions) ne =
+    ap₂ (λ x y. x || y) (ap (λ b. b && (k.action == a)) (ne_eqb k.parent n ne)) (none_of k n actions ne)
+
+-- the kids of entries that are numbered from a greater number on are others
+pub none_below : (t : Task) (k : Kid) (n : ℕ) (expanded : List (List ℕ)) → k.parent < n → list_any (same_kid k) (kids_from t n expanded) ≡ false
+none_below t k n [] lt = refl
+none_below t k n (p ∷ expanded) lt =
+    list_any-append (same_kid k) (kids_of n (applicable_at t (exec t p))) (kids_from t (n + 1) expanded)
+    ∙ ap₂ (λ x y. x || y) (none_of k n (applicable_at t (exec t p)) (λ e. omega arith)) (none_below t k (n + 1) expanded (omega arith))
+
+-- and so are those of entries up to it
+pub none_above : (t : Task) (k : Kid) (n : ℕ) (expanded : List (List ℕ)) → n + length expanded ≤ k.parent → list_any (same_kid k) (kids_from t n expanded) ≡ false
+none_above t k n [] le = refl
+none_above t k n (p ∷ expanded) le =
+    list_any-append (same_kid k) (kids_of n (applicable_at t (exec t p))) (kids_from t (n + 1) expanded)
+    ∙ ap₂ (λ x y. x || y) (none_of k n (applicable_at t (exec t p)) (λ e. omega arith)) (none_above t k (n + 1) expanded (omega arith))
+
+at_entry : (t : Task) (k : Kid) (n : ℕ) (expanded : List (List ℕ)) → n ≤ k.parent → k.parent < n + length expanded → list_any (same_kid k) (kids_from t n expanded) ≡ list_any (λ a. k.action == a) (applicable_at t (exec t (get_or expanded (k.parent - n) [])))
+at_entry t k n [] le lt = absurd (omega arith)
+at_entry t k n (p ∷ expanded) le lt =
+    let whole = list_any-append (same_kid k) (kids_of n (applicable_at t (exec t p))) (kids_from t (n + 1) expanded) in
+    elim (cases_eq k.parent n) [
+      | inl e ↦
+          let first : k.parent - n ≡ 0 = omega arith in
+          whole
+          ∙ (ap₂ (λ x y. x || y) (any_of k n (applicable_at t (exec t p)) e) (none_below t k (n + 1) expanded (omega arith))
+          ∙ (or_false (list_any (λ a. k.action == a) (applicable_at t (exec t p)))
+          ∙ ap (λ i. list_any (λ a. k.action == a) (applicable_at t (exec t (get_or (p ∷ expanded) i [])))) (sym first)))
+      | inr ne ↦
+          let next : k.parent - n ≡ suc (k.parent - (n + 1)) = omega arith in
+          whole
+          ∙ (ap₂ (λ x y. x || y) (none_of k n (applicable_at t (exec t p)) ne) (at_entry t k (n + 1) expanded (omega arith) (omega arith))
+          ∙ ap (λ i. list_any (λ a. k.action == a) (applicable_at t (exec t (get_or (p ∷ expanded) i [])))) (sym next))
+    ]
+  where
+    or_false : (b : Bool) → (b || false) ≡ b
+    or_false true = refl
+    or_false false = refl
+
+-- ---- actions
+
+step_of_none : (t : Task) (r : Node) (n : ℕ) → length t.actions ≤ n → step_by t r n ≡ None
+unfolding step_by
+step_of_none t r n le = ap (step_of t r) (slice_get_past t.actions n le)
+
+-- an action that the task does not have leads nowhere
+pub no_action : (t : Task) (r : Node) (n : ℕ) → length t.actions ≤ n → child_at t r n ≡ None
+no_action t r n le =
+    cond-false (is_applicable t (Some r) n) (child_to n (step_by t r n)) None
+    (ap (λ o. is_some o && not (action_departs t r n)) (step_of_none t r n le))
+
+-- an action leads somewhere exactly where it is applicable
+child_some : (t : Task) (r : Node) (n : ℕ) → is_some (child_at t r n) ≡ is_applicable t (Some r) n
+child_some t r n =
+    elim (is_applicable t (Some r) n) as (λ b. is_applicable t (Some r) n ≡ b → is_some (cond b (child_to n (step_by t r n)) None) ≡ b) [
+      | true ↦ λ e.
+          elim (step_by t r n) as (λ o. is_some o ≡ true → is_some (child_to n o) ≡ true) [
+            | None ↦ λ d. d
+            | Some to ↦ λ d. refl
+          ] (and_parts (is_some (step_by t r n)) (not (action_departs t r n)) e).0
+      | false ↦ λ e. refl
+    ] refl
+
+leads_to : (n : ℕ) (b : Bool) (o : Option Node) (child : Child) → cond b (child_to n o) None ≡ Some child → o ≡ Some (node child.state child.cost)
+leads_to n true None child e = absurd (none-some child e)
+leads_to n true (Some r) child e = ap (λ (x : Child). Some (node x.state x.cost)) (same_Some _ child e)
+leads_to n false o child e = absurd (none-some child e)
+
+some_within : (t : Task) (r : Node) (n : ℕ) (o : Option Node) → step_by t r n ≡ o → is_some o ≡ true → n < length t.actions
+some_within t r n None e d = absurd (true≢false (sym d))
+some_within t r n (Some to) e d = step_within t r n to e
+
+-- an action is among the applicable ones exactly where it is applicable
+applicable-any : (t : Task) (r : Node) (a : ℕ) → list_any (λ b. a == b) (applicable_at t (Some r)) ≡ is_applicable t (Some r) a
+unfolding applicable_at
+applicable-any t r a =
+    elim (is_applicable t (Some r) a) as (λ b. is_applicable t (Some r) a ≡ b → list_any (λ b. a == b) (filter (is_applicable t (Some r)) (range_with_len 0 (length t.actions))) ≡ b) [
+      | true ↦ λ e.
+          let lt = some_within t r a (step_by t r a) refl (and_parts (is_some (step_by t r a)) (not (action_departs t r a)) e).0 in
+          any_among (λ b. a == b) (filter (is_applicable t (Some r)) (range_with_len 0 (length t.actions))) a
+          (Contains-filter (is_applicable t (Some r)) (range_with_len 0 (length t.actions)) a (Contains-range (length t.actions) a lt) e)
+          (eq-eqb a a refl)
+      | false ↦ λ e.
+          list_any_none (λ b. a == b) (filter (is_applicable t (Some r)) (range_with_len 0 (length t.actions)))
+          (λ i d lt.
+          let xs = filter (is_applicable t (Some r)) (range_with_len 0 (length t.actions)) in
+          ne_eqb a (get_or xs i d) (λ same.
+          true≢false (sym (subst (λ x. is_applicable t (Some r) x ≡ true) (sym same)
+          (filter_test (is_applicable t (Some r)) (range_with_len 0 (length t.actions)) (get_or xs i d) (Contains-get_or xs i d lt))) ∙ e)))
+    ] refl
+
+-- ---- a book
+
+module _ (c : Content) (h : IsHeld c) where
+  abbrev t : Task
+  t = c.task.now
+
+  abbrev E : List (List ℕ)
+  E = expansions (state_of c)
+
+  pub count : length E ≡ length c.entries.items
+  count =
+      sym (length-map E (exec t))
+      ∙ (ap length h.nodes ∙ length-map c.entries.items (λ e. Some (node_at e)))
+
+  pub short : length E < ROOT
+  short = omega (arith, h.kept.short, length-plans_of (state_of c).entries E h.kept.named)
+
+  runs : (n : ℕ) (e d : Entry) → n < length c.entries.items → e ≡ get_or c.entries.items n d → exec t (get_or E n []) ≡ Some (node_at e)
+  runs n e d lt is =
+      let lt' : n < length E = omega (arith, count) in
+      sym (get_or-map (exec t) E n [] None lt')
+      ∙ (ap (λ xs. get_or xs n None) h.nodes
+      ∙ (get_or-map (λ e. Some (node_at e)) c.entries.items n d None lt ∙ ap (λ x. Some (node_at x)) (sym is)))
+
+  -- the node of an entry
+  pub entry_node : (n : ℕ) (e d : Entry) → n < length c.entries.items → e ≡ get_or c.entries.items n d → option_and_then (exec t) (slice_get E n) ≡ Some (node_at e)
+  entry_node n e d lt is =
+      let lt' : n < length E = omega (arith, count) in
+      ap (option_and_then (exec t)) (slice_get-get_or E n [] lt') ∙ runs n e d lt is
+
+  pub no_entry : (n : ℕ) → length c.entries.items ≤ n → option_and_then (exec t) (slice_get E n) ≡ None
+  no_entry n le = ap (option_and_then (exec t)) (slice_get_past E n (omega (arith, count)))
+
+  pub entry_state : (n : ℕ) (e d : Entry) → n < length c.entries.items → e ≡ get_or c.entries.items n d → IsStateOf t e.state
+  entry_state n e d lt is = exec-state t (get_or E n []) (node_at e) (runs n e d lt is)
+
+  pub posted-any : (k : Kid) → is_posted (state_of c) k ≡ list_any (same_kid k) (posted_by t E)
+  posted-any k = place-any (same_kid k) (posted_by t E)
+
+  -- a kid of an entry is posted where its action leads somewhere
+  pub entry_posted : (k : Kid) (e d : Entry) → k.parent < length c.entries.items → e ≡ get_or c.entries.items k.parent d → is_some (child_at t (node_at e) k.action) ≡ is_posted (state_of c) k
+  entry_posted k e d lt is =
+      let lt' : k.parent < length E = omega (arith, count) in
+      let other : same_kid k root ≡ false = ap (λ b. b && (k.action == ROOT)) (ne_eqb k.parent ROOT (λ e. omega (arith, short))) in
+      let first : k.parent - 0 ≡ k.parent = omega arith in
+      child_some t (node_at e) k.action
+      ∙ (sym (applicable-any t (node_at e) k.action)
+      ∙ (ap (λ r. list_any (λ a. k.action == a) (applicable_at t r)) (sym (runs k.parent e d lt is))
+      ∙ (ap (λ i. list_any (λ a. k.action == a) (applicable_at t (exec t (get_or E i [])))) (sym first)
+      ∙ (sym (at_entry t k 0 E (omega arith) (omega arith))
+      ∙ (ap (λ b. b || list_any (same_kid k) (kids_from t 0 E)) (sym other) ∙ sym (posted-any k))))))
+
+  -- and leads where the action does
+  pub entry_leads : (k : Kid) (e d : Entry) (child : Child) → k.parent < length c.entries.items → e ≡ get_or c.entries.items k.parent d → child_at t (node_at e) k.action ≡ Some child → node_of (state_of c) k ≡ Some (node child.state child.cost)
+  entry_leads k e d child lt is at =
+      let lt' : k.parent < length E = omega (arith, count) in
+      let r = node_at e in
+      ap (option_and_then (exec t)) (plan_of-kid E k.parent k.action (get_or E k.parent []) lt' short refl)
+      ∙ (exec-push t (get_or E k.parent []) r k.action (runs k.parent e d lt is)
+      ∙ leads_to k.action (is_applicable t (Some r) k.action) (step_by t r k.action) child at)
+
+  -- a kid whose parent is known is the root, or of an entry
+  pub parent_known : (k : Kid) → knows_parent (state_of c) k ≡ true → (same_kid k root ≡ true) ⊎ (k.parent < length c.entries.items)
+  parent_known k e =
+      elim (same_kid k root) as (λ b. (b || nat_lt k.parent (length (state_of c).entries)) ≡ true → (b ≡ true) ⊎ (k.parent < length c.entries.items)) [
+        | true ↦ λ e. inl refl
+        | false ↦ λ e. inr (omega (arith, ltb-true k.parent (length (state_of c).entries) e, length-map c.entries.items kid_at))
+      ] e
+
+  pub root_kid : (k : Kid) → knows_parent (state_of c) k ≡ true → k.parent ≡ ROOT → same_kid k root ≡ true
+  root_kid k e is =
+      elim (parent_known k e) [
+        | inl same ↦ same
+        | inr lt ↦ absurd (omega (arith, short, count))
+      ]
+
+  pub entry_kid : (k : Kid) → knows_parent (state_of c) k ≡ true → k.parent ≢ ROOT → k.parent < length c.entries.items
+  entry_kid k e ne =
+      elim (parent_known k e) [
+        | inl same ↦ absurd (ne (ap (λ (q : Kid). q.parent) (same_kid-true k root same)))
+        | inr lt ↦ lt
+      ]
+
+  pub root_leads : (k : Kid) → same_kid k root ≡ true → node_of (state_of c) k ≡ Some (node t.initial 0)
+  unfolding start
+  root_leads k e = ap (node_of (state_of c)) (same_kid-true k root e)
+
+  -- the root is posted, and leads to the start
+  pub root_posted : (k : Kid) → same_kid k root ≡ true → is_posted (state_of c) k ≡ true
+  root_posted k e = posted-any k ∙ ap (λ b. b || list_any (same_kid k) (kids_from t 0 E)) e
+
+  -- a posted kid is marked where it is among the settled ones
+  pub marked_is : (k : Kid) → is_posted (state_of c) k ≡ true → is_marked (state_of c) k ≡ has c.settled.keys k
+  marked_is k e =
+      let P = posted_by t E in
+      let lt : place_of (state_of c) k < length P = ltb-true (place_of (state_of c) k) (length P) e in
+      let same : k ≡ get_or P (place_of (state_of c) k) root =
+      same_kid-true k (get_or P (place_of (state_of c) k) root) (passes_at_first (same_kid k) P root lt)
+      in
+      get_or-map (has c.settled.keys) P (place_of (state_of c) k) root true lt ∙ ap (has c.settled.keys) (sym same)
+
+-- ---- the order of refusals
+
+pub late : (known posted settled : Bool) (why : Option Refusal) → known ≡ true → posted ≡ true → settled ≡ false → why ≡ cond (not known) (Some UnknownParent) (cond (not posted) (Some NotAKid) (cond settled (Some SettledBefore) why))
+late true true false why k p m = refl
+late true true true why k p m = absurd (true≢false m)
+late true false settled why k p m = absurd (true≢false (sym p))
+late false posted settled why k p m = absurd (true≢false (sym k))
+
+pub settled_before : (known posted settled : Bool) (why : Option Refusal) → known ≡ true → posted ≡ true → settled ≡ true → Some SettledBefore ≡ cond (not known) (Some UnknownParent) (cond (not posted) (Some NotAKid) (cond settled (Some SettledBefore) why))
+settled_before true true true why k p m = refl
+settled_before true true false why k p m = absurd (true≢false (sym m))
+settled_before true false settled why k p m = absurd (true≢false (sym p))
+settled_before false posted settled why k p m = absurd (true≢false (sym k))

@@ -1,0 +1,68 @@
+-- What a batch of outcomes adds to the parts of a book. (Our own.)
+use Rattle.std.specs.Prelude.{◌≡◌, ℕ, ◌+◌, if◌then◌else◌, nat_lt, List, [], ◌∷◌, ◌++◌, map, Option, Some, None, flat_map, length, slice_get, option_map}
+use Rattle.std.specs.Option.{option_or}
+use Rattle.std.specs.List.{AllByRecursion}
+use Rattle.hd_task.specs.declared.task.Task.{Task}
+use Rattle.hd_task.specs.declared.departure.Departure.{Departure}
+use Rattle.hd_task.specs.Expansions.{goal_cost, departure_at}
+use Rattle.hd_node.specs.declared.batch.Outcome.{Outcome}
+use Rattle.hd_node.specs.declared.batch.Outcome.TheVariants.{Expanded, Duplicate, Bounded}
+use Rattle.hd_node.specs.Children.{node}
+use Rattle.hd_book.specs.declared.entry.Entry.{Entry}
+use Rattle.hd_book.specs.declared.entry.Best.{Best}
+use Rattle.hd_book.specs.declared.entry.Outgoing.{Outgoing}
+use Rattle.hd_book.specs.Holding.{parcel_of, released_by, IsParcelOf}
+
+-- the entry that an outcome adds, if it is an expansion
+abbrev pub entered : Outcome → List Entry
+entered (Expanded e) = record { kid = e.kid; state = e.state; cost = e.cost } ∷ []
+entered (Duplicate k by) = []
+entered (Bounded k h) = []
+
+-- the entries that outcomes add
+abbrev pub entered_by : List Outcome → List Entry
+entered_by outcomes = flat_map entered outcomes
+
+-- an entry of a number, at a cost
+abbrev pub best_at : ℕ → ℕ → Best
+best_at n c = record { cost = c; entry = n }
+
+-- the better one of what is best so far and a later entry that meets the goal at some cost, if it does
+abbrev pub better : Option Best → ℕ → Option ℕ → Option Best
+better best n None = best
+better None n (Some c) = Some (best_at n c)
+better (Some b) n (Some c) = if nat_lt c b.cost then Some (best_at n c) else Some b
+
+-- the best after outcomes, where the next entry is numbered n
+abbrev pub best_by : Option Best → ℕ → List Outcome → Option Best
+best_by best n [] = best
+best_by best n (Expanded e ∷ outcomes) = best_by (better best n (goal_cost e.task.now (Some (node e.state e.cost)))) (n + 1) outcomes
+best_by best n (Duplicate k by ∷ outcomes) = best_by best n outcomes
+best_by best n (Bounded k h ∷ outcomes) = best_by best n outcomes
+
+-- the first departure after outcomes, where the next entry is numbered n
+abbrev pub departure_by : Option Departure → ℕ → List Outcome → Option Departure
+departure_by first n [] = first
+departure_by first n (Expanded e ∷ outcomes) = departure_by (option_or first (option_map (departure_at n) (slice_get e.departures 0))) (n + 1) outcomes
+departure_by first n (Duplicate k by ∷ outcomes) = departure_by first n outcomes
+departure_by first n (Bounded k h ∷ outcomes) = departure_by first n outcomes
+
+-- how many kids an outcome has, if it is an expansion
+abbrev pub kids_at : Outcome → ℕ
+kids_at (Expanded e) = length e.children
+kids_at (Duplicate k by) = 0
+kids_at (Bounded k h) = 0
+
+-- how many kids outcomes have
+abbrev pub kids_in : List Outcome → ℕ
+kids_in [] = 0
+kids_in (o ∷ outcomes) = kids_at o + kids_in outcomes
+
+-- a batch whose entries are numbered from n on adds a ticket, which releases the kids of its expansions
+pub record Releases (t : Task) (n : ℕ) (outcomes : List Outcome) (before after : List (Option Outgoing)) : Type 0 where
+  pub out : Outgoing
+  pub first : out.first ≡ n
+  pub end : out.end ≡ n + length (entered_by outcomes)
+  pub released : map parcel_of out.parcels ≡ released_by n outcomes
+  pub of_task : AllByRecursion (IsParcelOf t) out.parcels
+  pub added : after ≡ before ++ Some out ∷ []

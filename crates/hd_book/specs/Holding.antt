@@ -1,0 +1,166 @@
+-- What a book holds, as its parts keep it and as contracts see it. (Our own.)
+use Rattle.std.specs.Prelude.{◌≡◌, ℕ, ◌+◌, ◌<◌, ◌≤◌, ◌≢◌, Bool, true, List, [], ◌∷◌, ◌++◌, map, length, slice_index_or, Option, Some, None, option_map, slice_get, slice_set, unwrap_or, ◌==◌, ◌&&◌, if◌then◌else◌}
+use Rattle.std.specs.List.{list_any, count_by, AllByRecursion}
+use Rattle.std.specs.Option.{option_flatten}
+use Rattle.hd_task.specs.declared.state.State.{State}
+use Rattle.hd_task.specs.declared.task.Task.{Task}
+use Rattle.hd_task.specs.declared.plan.Kid.{Kid}
+use Rattle.hd_task.specs.declared.departure.Departure.{Departure}
+use Rattle.hd_task.specs.Plans.{Node, exec}
+use Rattle.hd_task.specs.Expansions.{generated, goal_cost, bound_of, departures_of}
+use Rattle.hd_task.specs.Entries.{plans_of}
+use Rattle.hd_node.specs.declared.expansion.Child.{Child}
+use Rattle.hd_node.specs.declared.parcel.Parcel.{Parcel}
+use Rattle.hd_node.specs.declared.batch.Outcome.{Outcome}
+use Rattle.hd_node.specs.declared.batch.Outcome.TheVariants.{Expanded, Duplicate, Bounded}
+use Rattle.hd_node.specs.Children.{node}
+use Rattle.hd_book.specs.declared.entry.Entry.{Entry}
+use Rattle.hd_book.specs.declared.entry.Best.{Best}
+use Rattle.hd_book.specs.declared.entry.Outgoing.{Outgoing}
+use Rattle.hd_book.specs.declared.content.Content.{Content}
+use Rattle.hd_book.specs.Kids.{kid_from, posted_by}
+use Rattle.hd_book.specs.Settling.{BookState, IsKept, same_kid, is_posted, entry_of}
+
+-- ---- what contracts see
+
+-- a kid that is released, and where it leads
+pub record Released : Type 0 where
+  pub kid : Kid
+  pub state : State
+  pub cost : ℕ
+
+-- a ticket that is out: the numbers of its entries, and what it releases
+pub record Out : Type 0 where
+  pub first : ℕ
+  pub end : ℕ
+  pub released : List Released
+
+-- a book: what it holds of the search, its tickets by the number of their commit, none where one is spent, and whether it
+-- is halted
+pub record BookView : Type 0 where
+  pub state : BookState
+  pub tickets : List (Option Out)
+  pub halted : Bool
+
+-- what an entry's child is released as
+abbrev pub released_from : ℕ → Child → Released
+released_from n c = record { kid = kid_from n c.action; state = c.state; cost = c.cost }
+
+-- what an outcome releases, if it is an expansion: the kids of the entry that is numbered n
+abbrev pub released_at : ℕ → Outcome → List Released
+released_at n (Expanded e) = map (released_from n) e.children
+released_at n (Duplicate k by) = []
+released_at n (Bounded k h) = []
+
+-- what outcomes release, where their entries are numbered from n on
+abbrev pub released_by : ℕ → List Outcome → List Released
+released_by n [] = []
+released_by n (o ∷ outcomes) = released_at n o ++ released_by (n + length (entry_of o)) outcomes
+
+-- what a parcel releases
+abbrev pub parcel_of : Parcel → Released
+parcel_of p = record { kid = p.kid; state = p.state; cost = p.cost }
+
+-- ---- how the parts of a book show it
+
+abbrev pub kid_at : Entry → Kid
+kid_at e = e.kid
+
+abbrev pub node_at : Entry → Node
+node_at e = node e.state e.cost
+
+abbrev pub out_of : Outgoing → Out
+out_of o = record { first = o.first; end = o.end; released = map parcel_of o.parcels }
+
+-- a kid is among some
+abbrev pub has : List Kid → Kid → Bool
+has kids k = list_any (same_kid k) kids
+
+-- the plans that some entries name
+abbrev pub plans_at : List Kid → List (List ℕ)
+plans_at entries = unwrap_or (plans_of entries) []
+
+-- a mark for each kid that entries post: whether it is settled
+abbrev pub marks_by : Task → List Kid → List Kid → List Bool
+marks_by t entries settled = map (has settled) (posted_by t (plans_at entries))
+
+-- how many kids are settled
+abbrev pub settled_count : BookState → ℕ
+settled_count b = count_by (λ m. m) b.marks
+
+-- the state of the book whose entries and settled kids these are
+abbrev pub state_by : Task → List Kid → List Kid → BookState
+state_by t entries settled = record { task = t; entries = entries; marks = marks_by t entries settled }
+
+abbrev pub state_of : Content → BookState
+state_of c = state_by c.task.now (map kid_at c.entries.items) c.settled.keys
+
+abbrev pub view_of : Content → BookView
+view_of c = record { state = state_of c; tickets = map (option_map out_of) c.tickets.items; halted = c.halted }
+
+-- ---- what the parts keep
+
+-- the bound is here, with the least number of a plan at it
+pub record IsAt (t : Task) (expanded : List (List ℕ)) (b : Best) : Type 0 where
+  pub bound : bound_of t expanded ≡ Some b.cost
+  pub among : b.entry < length expanded
+  pub meets : goal_cost t (exec t (slice_index_or expanded b.entry [])) ≡ Some b.cost
+  pub first : (n : ℕ) → n < b.entry → goal_cost t (exec t (slice_index_or expanded n [])) ≢ Some b.cost
+
+-- the bound, if there is one, is where it is said to be
+abbrev pub IsBestOf : Task → List (List ℕ) → Option Best → Type 0
+IsBestOf t expanded None = bound_of t expanded ≡ None
+IsBestOf t expanded (Some b) = IsAt t expanded b
+
+-- a parcel is of a task
+abbrev pub IsParcelOf : Task → Parcel → Type 0
+IsParcelOf t p = p.task.now ≡ t
+
+-- what a ticket releases is of a task
+abbrev pub IsOutgoingOf : Task → Option Outgoing → Type 0
+IsOutgoingOf t None = Unit {0}
+IsOutgoingOf t (Some o) = AllByRecursion (IsParcelOf t) o.parcels
+
+-- the kid is posted
+abbrev pub IsPosted : BookState → Kid → Type 0
+IsPosted b k = is_posted b k ≡ true
+
+-- what the parts of every book keep
+pub record IsHeldBy (t : Task) (entries : List Entry) (settled : List Kid) (posted : ℕ) (best : Option Best) (departure : Option Departure) (tickets : List (Option Outgoing)) : Type 0 where
+  pub kept : IsKept (state_by t (map kid_at entries) settled)
+  pub nodes : map (exec t) (plans_at (map kid_at entries)) ≡ map (λ e. Some (node_at e)) entries
+  pub known : AllByRecursion (IsPosted (state_by t (map kid_at entries) settled)) settled
+  pub posted_is : posted ≡ length (generated t (plans_at (map kid_at entries)))
+  pub best_is : IsBestOf t (plans_at (map kid_at entries)) best
+  pub departure_is : departure ≡ slice_get (departures_of t (plans_at (map kid_at entries))) 0
+  pub of_task : AllByRecursion (IsOutgoingOf t) tickets
+  pub commits : length tickets ≤ settled_count (state_by t (map kid_at entries) settled)
+
+abbrev pub IsHeld : Content → Type 0
+IsHeld c = IsHeldBy c.task.now c.entries.items c.settled.keys c.posted c.best c.departure c.tickets.items
+
+-- ---- tickets
+
+-- a ticket: the number of its commit, and those of its entries
+pub record TicketView : Type 0 where
+  pub number : ℕ
+  pub first : ℕ
+  pub end : ℕ
+
+-- the numbers of a receipt's entries
+pub record ReceiptView : Type 0 where
+  pub first : ℕ
+  pub end : ℕ
+
+-- a ticket that is out has these entries
+abbrev pub if_its : TicketView → Option Out → Option Out
+if_its k None = None
+if_its k (Some o) = if (o.first == k.first) && (o.end == k.end) then Some o else None
+
+-- what a ticket releases, if the book has such a ticket out
+abbrev pub out_at : BookView → TicketView → Option Out
+out_at b k = if_its k (option_flatten (slice_get b.tickets k.number))
+
+-- the book without a ticket
+abbrev pub without : BookView → ℕ → BookView
+without b n = record { state = b.state; tickets = slice_set b.tickets n None; halted = b.halted }

@@ -1,0 +1,23 @@
+-- When a batch is refused. (Our own.)
+use Rattle.std.specs.Prelude.{◌≡◌, ◌+◌, Bool, not, nat_lt, if◌then◌else◌, List, [], flat_map, length, Option, Some, ◌⊎◌}
+use Rattle.hd_task.specs.declared.plan.TheConstants.{ROOT}
+use Rattle.hd_node.specs.declared.batch.Outcome.{Outcome}
+use Rattle.hd_book.specs.declared.refusal.Refusal.{Refusal}
+use Rattle.hd_book.specs.declared.refusal.Refusal.TheVariants.{Halted, Full, NoMemory}
+use Rattle.hd_book.specs.Settling.{entry_of, first_refusal}
+use Rattle.hd_book.specs.Holding.{BookView}
+
+-- a book has room for the entries of outcomes: there may be 2^32 - 2 of them
+abbrev pub has_room : BookView → List Outcome → Bool
+has_room b outcomes = nat_lt (length b.state.entries + length (flat_map entry_of outcomes)) ROOT
+
+-- why a batch is refused, memory aside
+abbrev pub refusal_to : BookView → List Outcome → Option Refusal
+refusal_to b outcomes =
+    if b.halted then Some Halted
+    else if not (has_room b outcomes) then Some Full
+    else first_refusal b.state [] outcomes
+
+-- a refusal is the one of the batch, or want of memory
+abbrev pub IsRefusalTo : BookView → List Outcome → Refusal → Type 0
+IsRefusalTo b outcomes r = (r ≡ NoMemory) ⊎ (refusal_to b outcomes ≡ Some r)

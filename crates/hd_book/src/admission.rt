@@ -1,0 +1,219 @@
+//! Whether a batch is refused: the book is only read.
+ghost use Rattle.std.specs.Prelude.{◌≡◌, ◌+◌, ◌<◌, ◌^◌, ◌||◌, true, false, Some, None, nat_le, is_some, length, [], IfOk, IfSome, MatchOption};
+ghost use Rattle.hd_task.specs.Plans.{IsStateOf};
+ghost use Rattle.hd_node.specs.Children.{node, child_at};
+ghost use Rattle.hd_node.specs.Outcome.{kid_of};
+ghost use Rattle.hd_book.specs.Settling.{expansions, knows_parent, is_posted, is_marked, node_of, node_by, dominates, reaches, refusal_by, is_settled_by, refusal_of, first_refusal};
+ghost use Rattle.hd_task.specs.Expansions.{bound_of};
+ghost use Rattle.hd_task.specs.declared.plan.Kid.{Kid};
+ghost use Rattle.hd_node.specs.EstimateValue.{estimated};
+ghost use Rattle.hd_book.specs.Holding.{has, state_of, IsHeld};
+
+use crate::Refusal;
+use crate::content::Content;
+use crate::entry::Best;
+use hd_node::{By, Child, EstimateValue, Outcome};
+use hd_task::{ActionId, Applied, Kid, NoMemory, RANGE_END, ROOT, State, Task, apply};
+use std::alloc::Global;
+use std::collections::HashSet;
+
+/// A cost with a step's, if it is in the range.
+fn total(cost: u64, step: u128) -> Option<u64>
+    ensures { MatchOption result (nat_le (cost + step) (10 ^ 15) ≡ false) (λ c. (nat_le (cost + step) (10 ^ 15) ≡ true) × (c ≡ cost + step)) }
+{
+    if cost <= RANGE_END && step <= u128::from(RANGE_END - cost) {
+        Some(cost + step as u64)
+    } else {
+        None
+    }
+}
+
+/// Where an action leads from a node, if it is applicable there.
+fn child(
+    alloc: Global,
+    task: &Task,
+    state: &State,
+    cost: u64,
+    action: u32,
+) -> Result<Option<Child>, NoMemory>
+    requires of_task { IsStateOf task.now state.now }
+    ensures { IfOk result (λ r. r ≡ child_at task.now (node state.now cost) action) }
+{
+    if action as usize >= task.actions.len() {
+        return Ok(None);
+    }
+    match apply(alloc, task, state, ActionId(action))? {
+        Applied::No => Ok(None),
+        Applied::Departs => Ok(None),
+        Applied::Next(state, step) => match total(cost, step) {
+            Some(cost) => Ok(Some(Child {
+                action,
+                state,
+                cost,
+            })),
+            None => Ok(None),
+        },
+    }
+}
+
+/// Whether a node has a child's state at no greater cost.
+fn is_no_dearer(state: &State, cost: u64, reached: &Child) -> bool
+    ensures { result ≡ dominates (Some (node state.now cost)) (Some (node reached.now.state reached.now.cost)) }
+{
+    *state == reached.state && cost <= reached.cost
+}
+
+impl<'t> Content<'t> {
+    /// Whether a kid is the root, or its parent is an entry.
+    fn knows_parent(&self, kid: Kid) -> bool
+        ensures { result ≡ knows_parent (state_of self.now) kid }
+    {
+        (kid.parent == ROOT && kid.action == ROOT) || (kid.parent as usize) < self.entries.len()
+    }
+
+    /// Where a kid leads, by the book's own application; `None` where its action is not applicable at its parent.
+    fn reach(&self, alloc: Global, kid: Kid) -> Result<Option<Child>, NoMemory>
+        requires held { IsHeld self.now }
+        requires known { knows_parent (state_of self.now) kid ≡ true }
+        ensures posted { IfOk result (λ r. is_some r ≡ is_posted (state_of self.now) kid) }
+        ensures leads { IfOk result (λ r. IfSome r (λ c. node_of (state_of self.now) kid ≡ Some (node c.state c.cost))) }
+    {
+        if kid.parent == ROOT {
+            let state = self.task.initial.copied(alloc)?;
+            return Ok(Some(Child {
+                action: ROOT,
+                state,
+                cost: 0,
+            }));
+        }
+        let parent = &self.entries[kid.parent as usize];
+        child(alloc, self.task, &parent.state, parent.cost, kid.action)
+    }
+
+    /// Whether what a duplicate names has a state at no greater cost.
+    fn dominates(&self, earlier: &[Outcome<'t>], by: By, reached: &Child) -> bool
+        requires held { IsHeld self.now }
+        ensures { result ≡ dominates (node_by (state_of self.now) earlier.now by) (Some (node reached.now.state reached.now.cost)) }
+    {
+        match by {
+            By::Entry(number) => match self.entries.get(number as usize) {
+                Some(entry) => is_no_dearer(&entry.state, entry.cost, reached),
+                None => false,
+            },
+            By::Here(place) => match earlier.get(place) {
+                Some(Outcome::Expanded(better)) => {
+                    is_no_dearer(&better.state, better.cost, reached)
+                }
+                Some(Outcome::Duplicate(_, _)) => false,
+                Some(Outcome::Bounded(_, _)) => false,
+                None => false,
+            },
+        }
+    }
+
+    /// Whether a cost and an estimate reach the bound, or the estimate is infinite.
+    fn reaches(&self, reached: &Child, estimate: EstimateValue) -> bool
+        requires held { IsHeld self.now }
+        ensures { result ≡ reaches (bound_of self.now.task.now (expansions (state_of self.now))) (Some (node reached.now.state reached.now.cost)) (estimated estimate) }
+    {
+        match (self.best, estimate) {
+            (_, EstimateValue::Dead) => true,
+            (None, EstimateValue::Cost(_)) => false,
+            (Some(Best { cost: bound, .. }), EstimateValue::Cost(value)) => {
+                u128::from(bound) <= u128::from(reached.cost).saturating_add(value)
+            }
+        }
+    }
+
+    /// Why an outcome is refused by what it says of where its kid leads.
+    fn refusal_by(
+        &self,
+        earlier: &[Outcome<'t>],
+        outcome: &Outcome<'t>,
+        reached: &Child,
+    ) -> Option<Refusal>
+        requires held { IsHeld self.now }
+        requires leads { node_of (state_of self.now) (kid_of outcome.now) ≡ Some (node reached.now.state reached.now.cost) }
+        ensures { result ≡ refusal_by (state_of self.now) earlier.now outcome.now }
+    {
+        match outcome {
+            Outcome::Expanded(expansion) => {
+                if reached.state == expansion.state && reached.cost == expansion.cost {
+                    None
+                } else {
+                    Some(Refusal::StateDiffers)
+                }
+            }
+            Outcome::Duplicate(_, by) => {
+                if self.dominates(earlier, *by, reached) {
+                    None
+                } else {
+                    Some(Refusal::NotDominated)
+                }
+            }
+            Outcome::Bounded(_, estimate) => {
+                if reached.state != estimate.state {
+                    Some(Refusal::StateDiffers)
+                } else if self.reaches(reached, estimate.value) {
+                    None
+                } else {
+                    Some(Refusal::BelowBound)
+                }
+            }
+        }
+    }
+
+    /// Whether a posted kid is settled, by the book or among the kids that are seen.
+    fn is_settled(&self, seen: &HashSet<Kid>, kid: Kid) -> bool
+        requires held { IsHeld self.now }
+        requires posted { is_posted (state_of self.now) kid ≡ true }
+        ensures { result ≡ (is_marked (state_of self.now) kid || has seen.now.keys kid) }
+    {
+        self.settled.contains(&kid) || seen.contains(&kid)
+    }
+
+    /// Why an outcome is refused, where `seen` has the kids of the outcomes before it in its batch.
+    fn refusal_of(
+        &self,
+        alloc: Global,
+        seen: &HashSet<Kid>,
+        earlier: &[Outcome<'t>],
+        outcome: &Outcome<'t>,
+    ) -> Result<Option<Refusal>, NoMemory>
+        requires held { IsHeld self.now }
+        requires seen { (k : Kid) → has seen.now.keys k ≡ is_settled_by earlier.now k }
+        ensures { IfOk result (λ r. r ≡ refusal_of (state_of self.now) earlier.now outcome.now) }
+    {
+        let kid = outcome.kid();
+        if !self.knows_parent(kid) {
+            return Ok(Some(Refusal::UnknownParent));
+        }
+        let Some(reached) = self.reach(alloc, kid)? else {
+            return Ok(Some(Refusal::NotAKid));
+        };
+        if self.is_settled(seen, kid) {
+            return Ok(Some(Refusal::SettledBefore));
+        }
+        Ok(self.refusal_by(earlier, outcome, &reached))
+    }
+
+    /// The first refusal of the outcomes of a batch.
+    pub(crate) fn first_refusal(
+        &self,
+        alloc: Global,
+        outcomes: &[Outcome<'t>],
+    ) -> Result<Option<Refusal>, NoMemory>
+        requires held { IsHeld self.now }
+        ensures { IfOk result (λ r. r ≡ first_refusal (state_of self.now) [] outcomes.now) }
+    {
+        let mut seen = HashSet::new(alloc);
+        for (place, outcome) in outcomes.iter().enumerate() {
+            let earlier = &outcomes[..place];
+            if let Some(refusal) = self.refusal_of(alloc, &seen, earlier, outcome)? {
+                return Ok(Some(refusal));
+            }
+            seen.insert(outcome.kid())?;
+        }
+        Ok(None)
+    }
+}

@@ -1,0 +1,169 @@
+use crate::content::Content;
+use crate::{Counts, Receipt, Redeemed, Refusal, Ticket, Verdict};
+use hd_node::Batch;
+use hd_task::{Kid, NoMemory, Task};
+use std::alloc::Global;
+use std::marker::Model;
+use std::ops::Range;
+
+/// The book of a search: it takes batches of outcomes, and accepts none that is not justified.
+#[derive(Debug, Drop)]
+pub struct Book<'t> {
+    content: Box<Content<'t>>,
+}
+
+impl<'t> Model for Book<'t> {
+    ghost use Rattle.hd_book.specs.Holding.{BookView, view_of, IsHeld};
+    ghost use Rattle.hd_task.specs.contracts.expression.Expr as e;
+    ghost use Rattle.std.specs.Coded.{codes};
+
+    ghost Value = { BookView };
+
+    ghost coded = { Prim.hlevel (codes, e.the_row.coded) };
+
+    ghost view = { λ b. view_of b.content.value };
+
+    ghost invariant = { λ b. IsHeld b.content.value };
+}
+
+impl<'t> Book<'t> {
+    ghost use Rattle.std.specs.Prelude.{◌≡◌, ◌==◌, ◌<◌, ◌≤◌, ◌^◌, ◌||◌, ◌++◌, [], ◌∷◌, Some, None, true, false, nat_le, length, flat_map, slice_get, is_some, IfOk, IfErr, IfSome, OnOk, OnErr};
+    ghost use Rattle.std.specs.Result.{is_ok};
+    ghost use Rattle.hd_task.specs.Expansions.{generated, bound_of};
+    ghost use Rattle.hd_task.specs.Covers.{IsCovered, zero_estimate};
+    ghost use Rattle.hd_book.specs.declared.refusal.Refusal.TheVariants as Refusal;
+    ghost use Rattle.std.specs.List.{AllByRecursion};
+    ghost use Rattle.hd_book.specs.Settling.{IsOf, entry_of, all_settled, expansions, IsKept};
+    ghost use Rattle.hd_book.specs.Holding.{released_by, settled_count, out_at, without};
+    ghost use Rattle.hd_book.specs.Refusing.{refusal_to, IsRefusalTo};
+    ghost use Rattle.hd_book.specs.Releasing.{IsReleased};
+    ghost use Rattle.hd_book.specs.Answers.{IsAnswer, IsTrueAnswer};
+
+    /// The book of a search that has not begun: the root is posted.
+    ///
+    /// # Errors
+    /// `NoMemory` where there is no room for it.
+    pub fn new(alloc: Global, task: &'t Task) -> Result<Book<'t>, NoMemory>
+        ensures { IfOk result (λ b. b ≡ record { state = record { task = task.now; entries = []; marks = false ∷ [] }; tickets = []; halted = false }) }
+    {
+        Ok(Book {
+            content: Box::new(alloc, Content::new(alloc, task))?,
+        })
+    }
+
+    /// Takes a batch: its expansions become entries, its kids are settled, and the ticket is redeemed for the kids of its
+    /// expansions.
+    ///
+    /// # Errors
+    /// The batch, and why it is refused: it is as it was, and so is the book. In this order: `Halted`, `Full`, then for each
+    /// outcome in order `UnknownParent`, `NotAKid`, `SettledBefore`, `StateDiffers`, `NotDominated`, `BelowBound`. `NoMemory`
+    /// may come in place of each, and of the ticket.
+    pub fn commit(
+        &mut self,
+        alloc: Global,
+        batch: Batch<'t>,
+    ) -> Result<Ticket, (Batch<'t>, Refusal)>
+        requires of_task { AllByRecursion (IsOf self.old.state.task) batch.outcomes }
+        ensures task { self.new.state.task ≡ self.old.state.task }
+        ensures grown { OnOk result (self.new.state.entries ≡ self.old.state.entries ++ flat_map entry_of batch.entry.outcomes) }
+        ensures accepted { OnOk result (refusal_to self.old batch.entry.outcomes ≡ None) }
+        ensures state { OnOk result (self.new.state ≡ all_settled self.old.state batch.entry.outcomes) }
+        ensures tickets { OnOk result (self.new.tickets ≡ self.old.tickets ++ Some (record { first = length self.old.state.entries; end = length self.new.state.entries; released = released_by (length self.old.state.entries) batch.entry.outcomes }) ∷ []) }
+        ensures halted { self.new.halted ≡ self.old.halted }
+        ensures ticket { IfOk result (λ k. k ≡ record { number = length self.old.tickets; first = length self.old.state.entries; end = length self.new.state.entries }) }
+        ensures refused { IfErr result (λ e. IsRefusalTo self.old batch.entry.outcomes e.1) }
+        ensures batch { IfErr result (λ e. e.0 ≡ batch.entry) }
+        ensures err { OnErr result (self.new ≡ self.old) }
+    {
+        self.content.commit(alloc, batch)
+    }
+
+    /// Spends a ticket: what its batch releases, with a receipt of its entries. It takes no memory.
+    ///
+    /// # Errors
+    /// `NotOut` where the book has no such ticket out; the ticket is spent, and the book is as it was.
+    pub fn redeem(&mut self, ticket: Ticket) -> Result<Redeemed<'t>, Refusal>
+        ensures out { is_ok result ≡ is_some (out_at self.old ticket) }
+        ensures released { IfOk result (IsReleased self.old.state.task (out_at self.old ticket)) }
+        ensures refused { IfErr result (λ r. r ≡ Refusal.NotOut) }
+        ensures spent { OnOk result (self.new ≡ without self.old ticket.number) }
+        ensures err { OnErr result (self.new ≡ self.old) }
+    {
+        self.content.redeem(ticket)
+    }
+
+    /// Spends a receipt: the numbers of its entries. It takes no memory.
+    ///
+    /// # Errors
+    /// `NotOut` where these are not acknowledged; a receipt of no entries always is. The receipt is spent.
+    pub fn present(&self, receipt: Receipt) -> Result<Range<u64>, Refusal>
+        ensures acknowledged { is_ok result ≡ ((receipt.first == receipt.end) || nat_le receipt.end (length self.now.state.entries)) }
+        ensures range { IfOk result (λ r. (r.start ≡ receipt.first) × (r.end ≡ receipt.end)) }
+        ensures refused { IfErr result (λ r. r ≡ Refusal.NotOut) }
+    {
+        let range = receipt.into_range();
+        if range.start == range.end || range.end <= self.counts().acknowledged {
+            Ok(range)
+        } else {
+            Err(Refusal::NotOut)
+        }
+    }
+
+    /// From now on each commit is refused.
+    pub fn halt(&mut self)
+        ensures state { self.new.state ≡ self.old.state }
+        ensures tickets { self.new.tickets ≡ self.old.tickets }
+        ensures halted { self.new.halted ≡ true }
+    {
+        self.content.halted = true;
+    }
+
+    /// How far the search has come. It takes no memory.
+    pub fn counts(&self) -> Counts
+        ensures kept { IsKept self.now.state }
+        ensures entries { result.entries ≡ length self.now.state.entries }
+        ensures posted { result.posted ≡ length (generated self.now.state.task (expansions self.now.state)) }
+        ensures settled { result.settled ≡ settled_count self.now.state }
+        ensures acknowledged { result.acknowledged ≡ result.entries }
+        ensures commits { result.commits ≡ length self.now.tickets }
+        ensures commits_few { result.commits ≤ result.settled }
+        ensures settled_few { result.settled ≤ result.posted }
+        ensures posted_few { result.posted < 2 ^ 61 }
+    {
+        self.content.counts()
+    }
+
+    /// The kid of the entry with this number, if there is such an entry.
+    pub fn entry(&self, number: u64) -> Option<Kid>
+        ensures { result ≡ slice_get self.now.state.entries number }
+    {
+        match self.content.entries.get(number as usize) {
+            Some(entry) => Some(entry.kid),
+            None => None,
+        }
+    }
+
+    /// The least cost of an entry at which the goal holds, if there is one.
+    pub fn bound(&self) -> Option<u64>
+        ensures { result ≡ bound_of self.now.state.task (expansions self.now.state) }
+    {
+        match self.content.best {
+            Some(best) => Some(best.cost),
+            None => None,
+        }
+    }
+
+    /// The answer, once all is settled.
+    ///
+    /// # Errors
+    /// `NoMemory` where there is no room for a plan.
+    pub fn verdict(&self, alloc: Global) -> Result<Option<Verdict>, NoMemory>
+        ensures over { IfOk result (λ v. is_some v ≡ (settled_count self.now.state == length (generated self.now.state.task (expansions self.now.state)))) }
+        ensures kept { IsKept self.now.state }
+        ensures covered { IfOk result (λ v. IfSome v (λ _. IsCovered self.now.state.task zero_estimate (expansions self.now.state))) }
+        ensures answer { IfOk result (λ v. IfSome v (IsAnswer self.now.state.task (expansions self.now.state))) }
+        ensures is_true { IfOk result (λ v. IfSome v (IsTrueAnswer self.now.state.task)) }
+    {
+        self.content.verdict(alloc)
+    }
+}

@@ -1,0 +1,25 @@
+use hd_node::Parcel;
+use hd_task::{Kid, Sequence, State};
+
+/// An expanded plan: the kid that names it, and where it leads.
+#[derive(Debug, Drop)]
+pub(crate) struct Entry {
+    pub(crate) kid: Kid,
+    pub(crate) state: State,
+    pub(crate) cost: u64,
+}
+
+/// The bound, and the least-numbered entry at it.
+#[derive(Clone, Copy, Debug)]
+pub(crate) struct Best {
+    pub(crate) cost: u64,
+    pub(crate) entry: usize,
+}
+
+/// What a ticket that is out releases, with the numbers of its entries.
+#[derive(Debug, Drop)]
+pub(crate) struct Outgoing<'t> {
+    pub(crate) first: u64,
+    pub(crate) end: u64,
+    pub(crate) parcels: Sequence<Parcel<'t>>,
+}

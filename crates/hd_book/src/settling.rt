@@ -1,0 +1,239 @@
+//! What an accepted batch does to the parts of a book. Nothing here asks for memory: the room was made before.
+ghost use Rattle.std.specs.Prelude.{◌≡◌, ℕ, ◌+◌, ◌<◌, ◌≤◌, ◌^◌, ◌++◌, ◌||◌, if◌then◌else◌, [], ◌∷◌, List, Some, vec_len, vec_capacity, length, map, slice_get, option_map, IfSome};
+ghost use Rattle.std.specs.List.{AllByRecursion};
+ghost use Rattle.std.specs.HashSet.{spare};
+ghost use Rattle.hd_task.specs.declared.plan.Kid.{Kid};
+ghost use Rattle.hd_task.specs.Applying.{says_yes};
+ghost use Rattle.hd_task.specs.Expansions.{goal_cost, departure_at};
+ghost use Rattle.hd_task.specs.Plans.{IsStateOf};
+ghost use Rattle.hd_node.specs.declared.expansion.Child.{Child};
+ghost use Rattle.hd_node.specs.Children.{node};
+ghost use Rattle.hd_book.specs.Settling.{is_settled_by, entry_of, IsOf};
+ghost use Rattle.hd_book.specs.Holding.{has, parcel_of, released_from, released_at, released_by, IsParcelOf};
+ghost use Rattle.hd_book.specs.Growing.{entered, entered_by, better, best_by, departure_by, kids_at, kids_in};
+
+use crate::content::Content;
+use crate::entry::{Best, Entry};
+use hd_node::{Child, Expansion, Outcome, Parcel};
+use hd_task::{Departure, GoalTest, Kid, Task, goal};
+use std::collections::HashSet;
+
+/// How many kids the expansions among outcomes have, if a `usize` holds the number.
+pub(crate) fn kids_of(outcomes: &[Outcome]) -> Option<usize>
+    ensures { IfSome result (λ n. n ≡ kids_in outcomes.now) }
+{
+    let mut count = 0usize;
+    for outcome in outcomes {
+        if let Outcome::Expanded(expansion) = outcome {
+            count = count.checked_add(expansion.children.len())?;
+        }
+    }
+    Some(count)
+}
+
+/// What an expansion costs, if it meets the goal.
+fn goal_cost(expansion: &Expansion) -> Option<u64>
+    ensures { result ≡ goal_cost expansion.now.task.now (Some (node expansion.now.state expansion.now.cost)) }
+{
+    match goal(expansion.task, &expansion.state) {
+        GoalTest::Yes => Some(expansion.cost),
+        GoalTest::No => None,
+        GoalTest::Departs => None,
+    }
+}
+
+/// The better one of what is best so far and a later entry.
+fn better(best: Option<Best>, entry: usize, cost: Option<u64>) -> Option<Best>
+    ensures { result ≡ better best entry cost }
+{
+    match (best, cost) {
+        (best, None) => best,
+        (None, Some(cost)) => Some(Best { cost, entry }),
+        (Some(best), Some(cost)) => {
+            if cost < best.cost {
+                Some(Best { cost, entry })
+            } else {
+                Some(best)
+            }
+        }
+    }
+}
+
+/// The best after outcomes, where the next entry has the number `first`.
+pub(crate) fn best_after(best: Option<Best>, first: usize, outcomes: &[Outcome]) -> Option<Best>
+    requires fits { first + length outcomes.now < 2 ^ 64 }
+    ensures { result ≡ best_by best first outcomes.now }
+{
+    let mut best = best;
+    let mut entry = first;
+    for outcome in outcomes {
+        if let Outcome::Expanded(expansion) = outcome {
+            best = better(best, entry, goal_cost(expansion));
+            entry += 1;
+        }
+    }
+    best
+}
+
+/// The first departure after outcomes, where the next entry has the number `first`.
+pub(crate) fn departure_after(
+    departure: Option<Departure>,
+    first: usize,
+    outcomes: &[Outcome],
+) -> Option<Departure>
+    requires fits { first + length outcomes.now < 2 ^ 64 }
+    ensures { result ≡ departure_by departure first outcomes.now }
+{
+    let mut departure = departure;
+    let mut entry = first;
+    for outcome in outcomes {
+        if let Outcome::Expanded(expansion) = outcome {
+            if departure.is_none() {
+                departure = first_departure(expansion, entry as u64);
+            }
+            entry += 1;
+        }
+    }
+    departure
+}
+
+/// The first departure of an expansion that is the entry of this number.
+fn first_departure(expansion: &Expansion, entry: u64) -> Option<Departure>
+    ensures { result ≡ option_map (departure_at entry) (slice_get expansion.now.departures 0) }
+{
+    match expansion.departures.as_slice().first() {
+        Some(by) => Some(Departure { entry, by: *by }),
+        None => None,
+    }
+}
+
+/// Adds the kids of outcomes to those that are settled.
+pub(crate) fn settle(settled: &mut HashSet<Kid>, outcomes: &[Outcome])
+    requires room { length outcomes.now ≤ spare settled.old }
+    ensures { (k : Kid) → has settled.new.keys k ≡ (has settled.old.keys k || is_settled_by outcomes.now k) }
+{
+    for outcome in outcomes {
+        match settled.insert(outcome.kid()) {
+            Ok(_) => {}
+            Err(_) => unreachable!(),
+        }
+    }
+}
+
+/// Pushes to a `Vec` that has room.
+pub(crate) fn push_reserved<T: Drop>(items: &mut Vec<T>, item: T)
+    requires { vec_len items.old < vec_capacity items.old }
+    ensures items { items.new.items ≡ items.old.items ++ item ∷ [] }
+    ensures capacity { vec_capacity items.old ≤ vec_capacity items.new }
+{
+    match items.push(item) {
+        Ok(()) => {}
+        Err(_) => unreachable!(),
+    }
+}
+
+/// Pushes the kids of an entry as parcels.
+fn release<'t>(parcels: &mut Vec<Parcel<'t>>, task: &'t Task, entry: u32, children: Vec<Child>)
+    requires room { vec_len parcels.old + length children.items ≤ vec_capacity parcels.old }
+    requires of_task { AllByRecursion (λ (c : Child). IsStateOf task.now c.state) children.items }
+    requires tasks { AllByRecursion (IsParcelOf task.now) parcels.old.items }
+    ensures released { map parcel_of parcels.new.items ≡ map parcel_of parcels.old.items ++ map (released_from entry) children.items }
+    ensures len { vec_len parcels.new ≡ vec_len parcels.old + length children.items }
+    ensures capacity { vec_capacity parcels.old ≤ vec_capacity parcels.new }
+    ensures tasks { AllByRecursion (IsParcelOf task.now) parcels.new.items }
+{
+    for child in children {
+        let kid = Kid {
+            parent: entry,
+            action: child.action,
+        };
+        push_reserved(
+            parcels,
+            Parcel {
+                task,
+                kid,
+                state: child.state,
+                cost: child.cost,
+            },
+        );
+    }
+}
+
+/// Adds an expansion to the entries, and its kids to the parcels.
+fn enter_expansion<'t>(
+    entries: &mut Vec<Entry>,
+    parcels: &mut Vec<Parcel<'t>>,
+    expansion: Expansion<'t>,
+)
+    requires room { vec_len entries.old < vec_capacity entries.old }
+    requires fits { vec_len entries.old < 2 ^ 32 }
+    requires parcels { vec_len parcels.old + length expansion.children ≤ vec_capacity parcels.old }
+    requires tasks { AllByRecursion (IsParcelOf expansion.task.now) parcels.old.items }
+    ensures entries { entries.new.items ≡ entries.old.items ++ record { kid = expansion.entry.kid; state = expansion.entry.state; cost = expansion.entry.cost } ∷ [] }
+    ensures entries_capacity { vec_capacity entries.old ≤ vec_capacity entries.new }
+    ensures released { map parcel_of parcels.new.items ≡ map parcel_of parcels.old.items ++ map (released_from (vec_len entries.old)) expansion.entry.children }
+    ensures len { vec_len parcels.new ≡ vec_len parcels.old + length expansion.entry.children }
+    ensures capacity { vec_capacity parcels.old ≤ vec_capacity parcels.new }
+    ensures tasks { AllByRecursion (IsParcelOf expansion.entry.task.now) parcels.new.items }
+{
+    let Expansion {
+        task,
+        kid,
+        state,
+        cost,
+        children,
+        ..
+    } = expansion;
+    let entry = entries.len() as u32;
+    release(parcels, task, entry, children.into_vec());
+    push_reserved(entries, Entry { kid, state, cost });
+}
+
+/// Adds an outcome to the entries, if it is an expansion, and its kids to the parcels.
+fn enter_outcome<'t>(
+    task: &'t Task,
+    entries: &mut Vec<Entry>,
+    parcels: &mut Vec<Parcel<'t>>,
+    outcome: Outcome<'t>,
+)
+    requires of_task { IsOf task.now outcome }
+    requires room { vec_len entries.old + length (entered outcome) ≤ vec_capacity entries.old }
+    requires fits { vec_len entries.old + length (entered outcome) ≤ 2 ^ 32 }
+    requires parcels { vec_len parcels.old + kids_at outcome ≤ vec_capacity parcels.old }
+    requires tasks { AllByRecursion (IsParcelOf task.now) parcels.old.items }
+    ensures entries { entries.new.items ≡ entries.old.items ++ entered outcome.entry }
+    ensures count { vec_len entries.new ≡ vec_len entries.old + length (entry_of outcome.entry) }
+    ensures entries_capacity { vec_capacity entries.old ≤ vec_capacity entries.new }
+    ensures released { map parcel_of parcels.new.items ≡ map parcel_of parcels.old.items ++ released_at (vec_len entries.old) outcome.entry }
+    ensures kids { vec_len parcels.new ≡ vec_len parcels.old + kids_at outcome.entry }
+    ensures capacity { vec_capacity parcels.old ≤ vec_capacity parcels.new }
+    ensures tasks { AllByRecursion (IsParcelOf task.now) parcels.new.items }
+{
+    match outcome {
+        Outcome::Expanded(expansion) => enter_expansion(entries, parcels, expansion),
+        Outcome::Duplicate(_, _) => {}
+        Outcome::Bounded(_, _) => {}
+    }
+}
+
+/// Adds the expansions among outcomes of a task to the entries, and their kids to the parcels.
+pub(crate) fn enter<'t>(
+    task: &'t Task,
+    entries: &mut Vec<Entry>,
+    parcels: &mut Vec<Parcel<'t>>,
+    outcomes: Vec<Outcome<'t>>,
+)
+    requires of_task { AllByRecursion (IsOf task.now) outcomes.items }
+    requires room { vec_len entries.old + length (entered_by outcomes.items) ≤ vec_capacity entries.old }
+    requires fits { vec_len entries.old + length (entered_by outcomes.items) ≤ 2 ^ 32 }
+    requires parcels { vec_len parcels.old + kids_in outcomes.items ≤ vec_capacity parcels.old }
+    requires tasks { AllByRecursion (IsParcelOf task.now) parcels.old.items }
+    ensures entries { entries.new.items ≡ entries.old.items ++ entered_by outcomes.entry.items }
+    ensures released { map parcel_of parcels.new.items ≡ map parcel_of parcels.old.items ++ released_by (vec_len entries.old) outcomes.entry.items }
+    ensures kids { vec_len parcels.new ≡ vec_len parcels.old + kids_in outcomes.entry.items }
+    ensures tasks { AllByRecursion (IsParcelOf task.now) parcels.new.items }
+{
+    for outcome in outcomes {
+        enter_outcome(task, entries, parcels, outcome);
+    }
+}

@@ -1,0 +1,4 @@
+pub mod Written
+pub mod OneForm
+pub mod Inverting
+pub mod Whole

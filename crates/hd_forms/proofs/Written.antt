@@ -1,0 +1,105 @@
+-- The marks of forms that grow at their end.
+use Rattle.std.proofs.Common.{◌≡◌, ℕ, zero, suc, ◌<◌, length, Some, None, List, [], ◌∷◌, ◌++◌, Vec, Global, refl, sym, ap, ◌∙◌, append_assoc, rules, arith}
+use Rattle.std.proofs.lemmas.List.{append-nil, nil_from_length, map-append}
+use Rattle.std.proofs.lemmas.Grind.{flat_map-append}
+use Rattle.std.specs.List.{flat_map}
+use Rattle.hd_lex.specs.declared.token.Token.{Token}
+use Rattle.hd_forms.specs.declared.error.ReadError.TheVariants as errors
+use Rattle.hd_forms.specs.declared.forms.Form as forms
+use Rattle.hd_forms.specs.declared.forms.Form.{Form, the_lemmas}
+use Rattle.hd_forms.specs.declared.forms.OpenForm.{OpenForm}
+use Rattle.hd_forms.specs.declared.word.Word.{Word}
+use Rattle.hd_forms.specs.Forms.{Mark, opening, closing, symbol, Forms, none, word, list, append, marks_of, mark_of, marks_from, fault_from, parenthesis_fault}
+use Rattle.hd_forms.specs.View.{form_view, forms_view}
+use Rattle.hd_forms.specs.Nesting.{open_marks, written}
+
+-- ---- one form more
+
+view-word : (at : ℕ) (w : Word) → form_view (forms.Word at w) ≡ word at w none
+view-word at w = search (rules, the_lemmas)
+
+view-list : (from : ℕ) (inside : Vec Form Global) (to : ℕ)
+    → form_view (forms.List from inside to) ≡ list from (forms_view inside.items) to none
+view-list from inside to = search (rules, the_lemmas)
+
+append-assoc : (a b c : Forms) → append (append a b) c ≡ append a (append b c)
+append-assoc none b c = refl
+append-assoc (word at w rest) b c = ap (word at w) (append-assoc rest b c)
+append-assoc (list from inside to rest) b c = ap (list from inside to) (append-assoc rest b c)
+
+append-none : (a : Forms) → append a none ≡ a
+append-none none = refl
+append-none (word at w rest) = ap (word at w) (append-none rest)
+append-none (list from inside to rest) = ap (list from inside to) (append-none rest)
+
+-- forms one after the other are written one after the other
+marks-append : (a b : Forms) → marks_of (append a b) ≡ marks_of a ++ marks_of b
+marks-append none b = refl
+marks-append (word at w rest) b = ap (λ (ms : List Mark). symbol at w ∷ ms) (marks-append rest b)
+marks-append (list from inside to rest) b =
+    ap (λ (ms : List Mark). opening from ∷ (marks_of inside ++ (closing to ∷ ms))) (marks-append rest b)
+    ∙ ap (λ (ms : List Mark). opening from ∷ ms) (sym (append_assoc (marks_of inside) (closing to ∷ marks_of rest) (marks_of b)))
+
+view-push : (fs : List Form) (f : Form) → forms_view (fs ++ f ∷ []) ≡ append (forms_view fs) (form_view f)
+view-push [] f = append-none (form_view f)
+view-push (g ∷ gs) f =
+    ap (append (form_view g)) (view-push gs f) ∙ sym (append-assoc (form_view g) (forms_view gs) (form_view f))
+
+marks-push : (fs : List Form) (f : Form)
+    → marks_of (forms_view (fs ++ f ∷ [])) ≡ marks_of (forms_view fs) ++ marks_of (form_view f)
+marks-push fs f = ap marks_of (view-push fs f) ∙ marks-append (forms_view fs) (form_view f)
+
+-- a word behind what was read
+pub written-word : (os : List OpenForm) (fs : List Form) (at : ℕ) (w : Word)
+    → written os (fs ++ forms.Word at w ∷ []) ≡ written os fs ++ symbol at w ∷ []
+written-word os fs at w =
+    ap (λ (ms : List Mark). flat_map open_marks os ++ ms)
+    (marks-push fs (forms.Word at w) ∙ ap (λ (f : Forms). marks_of (forms_view fs) ++ marks_of f) (view-word at w))
+    ∙ sym (append_assoc (flat_map open_marks os) (marks_of (forms_view fs)) (symbol at w ∷ []))
+
+-- a form closed behind what was read
+pub written-finish : (os : List OpenForm) (o : OpenForm) (inside : Vec Form Global) (to : ℕ)
+    → written os (o.before.items ++ forms.List o.from inside to ∷ []) ≡ written (os ++ o ∷ []) inside.items ++ closing to ∷ []
+written-finish os o inside to =
+    let outer = flat_map open_marks os in
+    let front = marks_of (forms_view o.before.items) in
+    let within = marks_of (forms_view inside.items) in
+    let last = forms.List o.from inside to in
+    let made : marks_of (forms_view (o.before.items ++ last ∷ [])) ≡ front ++ (opening o.from ∷ (within ++ closing to ∷ [])) =
+    marks-push o.before.items (forms.List o.from inside to)
+    ∙ ap (λ (f : Forms). front ++ marks_of f) (view-list o.from inside to) in
+    let opened : flat_map open_marks (os ++ o ∷ []) ≡ outer ++ (front ++ opening o.from ∷ []) =
+    flat_map-append open_marks os (o ∷ []) ∙ ap (λ (ms : List Mark). outer ++ ms) (append-nil (open_marks o)) in
+    rw (made, opened) (simp append_assoc)
+
+-- ---- the loop over the tokens
+
+-- where nothing is left, all is done
+pub none_left : (done left all : List Token) → done ++ left ≡ all → length left ≡ 0 → done ≡ all
+none_left done left all whole empty =
+    sym (append-nil done) ∙ ap (λ (ts : List Token). done ++ ts) (sym (nil_from_length left empty)) ∙ whole
+
+-- where a token is left, its mark comes behind those that are done
+pub some_left : (done left more all : List Token) (t : Token) → done ++ left ≡ all → left ≡ t ∷ more
+    → marks_from all ≡ marks_from done ++ (mark_of t ∷ marks_from more)
+some_left done left more all t whole is =
+    ap marks_from (sym whole ∙ ap (λ (ts : List Token). done ++ ts) is) ∙ map-append mark_of done (t ∷ more)
+
+pub no_fault_at_end : (end depth : ℕ) (done all : List Token) → depth ≡ 0
+    → fault_from end depth [] ≡ parenthesis_fault end (marks_from done ++ []) → done ≡ all
+    → parenthesis_fault end (marks_from all) ≡ None
+no_fault_at_end end depth done all empty so_far same =
+    ap (λ (ts : List Token). parenthesis_fault end (marks_from ts)) (sym same)
+    ∙ ap (parenthesis_fault end) (sym (append-nil (marks_from done))) ∙ sym so_far
+    ∙ ap (λ (d : ℕ). fault_from end d []) empty
+
+open_at_end : (end depth : ℕ) → 0 < depth → fault_from end depth [] ≡ Some (errors.Unbalanced end)
+open_at_end end zero some = absurd (omega arith)
+open_at_end end (suc depth) some = refl
+
+pub fault_at_end : (end depth : ℕ) (done all : List Token) → 0 < depth
+    → fault_from end depth [] ≡ parenthesis_fault end (marks_from done ++ []) → done ≡ all
+    → parenthesis_fault end (marks_from all) ≡ Some (errors.Unbalanced end)
+fault_at_end end depth done all some so_far same =
+    ap (λ (ts : List Token). parenthesis_fault end (marks_from ts)) (sym same)
+    ∙ ap (parenthesis_fault end) (sym (append-nil (marks_from done))) ∙ sym so_far ∙ open_at_end end depth some

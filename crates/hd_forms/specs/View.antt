@@ -1,0 +1,23 @@
+-- The forms that values stand for (own).
+use Rattle.std.specs.Prelude.{List, [], ◌∷◌, map}
+use Rattle.hd_forms.specs.declared.forms.Form.{Form, fold-Form}
+use Rattle.hd_forms.specs.declared.forms.Form.TheOpen.{Form-F}
+use Rattle.hd_forms.specs.Forms.{Forms, none, word, list, append}
+
+-- one after the other (own)
+abbrev pub joined : List Forms → Forms
+joined [] = none
+joined (f ∷ fs) = append f (joined fs)
+
+-- a form alone, the forms in it already seen (own)
+abbrev pub form_step : Form-F Forms → Forms
+form_step (Form-F.Word at w) = word at w none
+form_step (Form-F.List from inside to) = list from (joined inside.items) to none
+
+-- a form alone (own)
+abbrev pub form_view : Form → Forms
+form_view = fold-Form Forms form_step
+
+-- forms, one after the other (own)
+abbrev pub forms_view : List Form → Forms
+forms_view fs = joined (map form_view fs)

@@ -1,0 +1,134 @@
+//! From tokens to nested forms.
+
+ghost use Rattle.std.specs.Prelude.{◌≡◌, ℕ, ◌+◌, ◌++◌, ◌∷◌, [], List, None, IfOk, IfErr, OnOk, vec_len};
+ghost use Rattle.hd_forms.specs.Forms.{Mark, marks_of, marks_from, mark_of, opening, closing, symbol, fault_from, parenthesis_fault, Tells};
+ghost use Rattle.hd_forms.specs.Nesting.{written};
+ghost use Rattle.hd_forms.specs.View.{forms_view};
+ghost use Rattle.hd_forms.specs.declared.forms.OpenForm.{OpenForm};
+
+use crate::error::ReadError;
+use crate::word::{Word, name_word};
+use hd_lex::Token;
+use std::alloc::Global;
+use std::mem;
+
+/// The most forms that may be open at once.
+const MOST_OPEN: usize = 64;
+
+/// A word, or a form in parentheses, with the places of its word or of its parentheses.
+#[derive(Drop)]
+pub enum Form {
+    Word {
+        at: usize,
+        word: Word,
+    },
+    List {
+        from: usize,
+        inside: Vec<Form>,
+        to: usize,
+    },
+}
+
+/// A form that is open: the place of its parenthesis, and what stands before it in the form around it.
+#[derive(Drop)]
+struct OpenForm {
+    from: usize,
+    before: Vec<Form>,
+}
+
+/// Opens a form at this place.
+fn begin(
+    alloc: Global,
+    around: &mut Vec<OpenForm>,
+    forms: &mut Vec<Form>,
+    at: usize,
+) -> Result<(), ReadError>
+    ensures written { OnOk result
+        (written around.new.items forms.new.items ≡ written around.old.items forms.old.items ++ opening at ∷ []) }
+    ensures depth { OnOk result (vec_len around.new ≡ vec_len around.old + 1) }
+    ensures no_memory { IfErr result (λ e. e ≡ ReadError.NoMemory) }
+{
+    let before = mem::replace(forms, Vec::new(alloc));
+    around.push(OpenForm { from: at, before })?;
+    Ok(())
+}
+
+/// Adds a word to the innermost form.
+fn add(forms: &mut Vec<Form>, at: usize, word: Word) -> Result<(), ReadError>
+    ensures written { OnOk result ((around : List OpenForm)
+        → written around forms.new.items ≡ written around forms.old.items ++ symbol at word ∷ []) }
+    ensures no_memory { IfErr result (λ e. e ≡ ReadError.NoMemory) }
+{
+    forms.push(Form::Word { at, word })?;
+    Ok(())
+}
+
+/// Closes the innermost form at this place.
+fn finish(last: OpenForm, forms: &mut Vec<Form>, at: usize) -> Result<(), ReadError>
+    ensures written { OnOk result ((around : List OpenForm)
+        → written around forms.new.items ≡ written (around ++ last ∷ []) forms.old.items ++ closing at ∷ []) }
+    ensures no_memory { IfErr result (λ e. e ≡ ReadError.NoMemory) }
+{
+    let OpenForm { from, before } = last;
+    let inside = mem::replace(forms, before);
+    forms.push(Form::List {
+        from,
+        inside,
+        to: at,
+    })?;
+    Ok(())
+}
+
+/// Takes the next token.
+fn take(
+    alloc: Global,
+    around: &mut Vec<OpenForm>,
+    forms: &mut Vec<Form>,
+    token: Token,
+) -> Result<(), ReadError>
+    ensures written { OnOk result
+        (written around.new.items forms.new.items ≡ written around.old.items forms.old.items ++ mark_of token ∷ []) }
+    // The fault of what follows stays the same.
+    ensures goes_on { OnOk result ((end : ℕ) (rest : List Mark)
+        → fault_from end (vec_len around.old) (mark_of token ∷ rest) ≡ fault_from end (vec_len around.new) rest) }
+    ensures fault { IfErr result (λ e. (end : ℕ) (rest : List Mark)
+        → Tells e (fault_from end (vec_len around.old) (mark_of token ∷ rest))) }
+{
+    let Token { from: at, word, .. } = token;
+    match word {
+        hd_lex::Word::OpenParenthesis => {
+            if around.len() == MOST_OPEN {
+                return Err(ReadError::TooDeep(at));
+            }
+            begin(alloc, around, forms, at)
+        }
+        hd_lex::Word::CloseParenthesis => match around.pop() {
+            Some(last) => finish(last, forms, at),
+            None => Err(ReadError::Unbalanced(at)),
+        },
+        hd_lex::Word::Name(name) => add(forms, at, name_word(name)),
+        hd_lex::Word::Variable(name) => add(forms, at, Word::Variable(name)),
+        hd_lex::Word::Keyword(name) => add(forms, at, Word::Keyword(name)),
+        hd_lex::Word::Number(number) => add(forms, at, Word::Number(number)),
+        hd_lex::Word::SignedNumber(number) => add(forms, at, Word::Number(number)),
+        hd_lex::Word::Operator(operator) => add(forms, at, Word::Operator(operator)),
+    }
+}
+
+/// The forms that these tokens write, or the first fault of their parentheses, in a text of this length in bytes.
+pub fn forms_of(alloc: Global, tokens: Vec<Token>, end: usize) -> Result<Vec<Form>, ReadError>
+    ensures written { IfOk result (λ forms. marks_of (forms_view forms.items) ≡ marks_from tokens.items) }
+    ensures balanced { OnOk result (parenthesis_fault end (marks_from tokens.items) ≡ None) }
+    ensures fault { IfErr result (λ e. Tells e (parenthesis_fault end (marks_from tokens.items))) }
+{
+    let mut around = Vec::new(alloc);
+    let mut forms = Vec::new(alloc);
+    for token in tokens {
+        take(alloc, &mut around, &mut forms, token)?;
+    }
+    if around.is_empty() {
+        Ok(forms)
+    } else {
+        Err(ReadError::Unbalanced(end))
+    }
+}

@@ -1,0 +1,157 @@
+//! What may stand first: a name, a keyword, a number, a form, or nothing.
+
+ghost use Rattle.std.specs.Prelude.{◌≡◌, Some, None, MatchOption, IfOk};
+ghost use Rattle.hd_forms.specs.Reading.{Gives, named, name_at, number_at, group_at, end_at, behind_name, behind_keyword};
+ghost use Rattle.hd_forms.specs.View.{forms_view};
+
+use crate::error::ReadError;
+use crate::forms::Form;
+use crate::refusal::{first_refusal, form_refusal};
+use crate::word::Word;
+use hd_list::Name;
+use std::alloc::{AllocError, Global};
+
+/// A name in lower case, and the place of its first byte in the text, counted from 0.
+#[derive(Debug, PartialEq, Eq, Drop)]
+pub struct NameAt {
+    pub name: Name,
+    pub at: usize,
+}
+
+/// The name at this place, in memory of its own.
+pub fn named(alloc: Global, name: &Name, at: usize) -> Result<NameAt, AllocError>
+    ensures { IfOk result (λ n. n ≡ named name.now at) }
+{
+    let name = Name::from_string(String::from_str(alloc, name.as_str())?);
+    Ok(NameAt { name, at })
+}
+
+/// The first name, and what follows it. The place `end` is that behind the forms.
+pub fn name_of(alloc: Global, forms: &[Form], end: usize) -> Result<(NameAt, &[Form]), ReadError>
+    ensures { Gives (λ x. (x.0, forms_view x.1.now)) result (name_at (forms_view forms.now)) }
+{
+    match forms {
+        [
+            Form::Word {
+                at,
+                word: Word::Name(name),
+            },
+            rest @ ..,
+        ] => {
+            let name = named(alloc, name, *at)?;
+            Ok((name, rest))
+        }
+        _ => Err(first_refusal(alloc, forms, end)),
+    }
+}
+
+/// The first number, its place, and what follows it. The place `end` is that behind the forms.
+pub fn number_of(
+    alloc: Global,
+    forms: &[Form],
+    end: usize,
+) -> Result<(i64, usize, &[Form]), ReadError>
+    ensures { Gives (λ x. (x.0, x.1, forms_view x.2.now)) result (number_at (forms_view forms.now)) }
+{
+    match forms {
+        [
+            Form::Word {
+                at,
+                word: Word::Number(number),
+            },
+            rest @ ..,
+        ] => Ok((*number, *at, rest)),
+        _ => Err(first_refusal(alloc, forms, end)),
+    }
+}
+
+/// What stands in the first form, the place of its closing parenthesis, and what follows it.
+pub fn group_of(
+    alloc: Global,
+    forms: &[Form],
+    end: usize,
+) -> Result<(&[Form], usize, &[Form]), ReadError>
+    ensures { Gives (λ x. (forms_view x.0.now, forms_view x.2.now)) result (group_at (forms_view forms.now)) }
+{
+    match forms {
+        [Form::List { inside, to, .. }, rest @ ..] => Ok((inside.as_slice(), *to, rest)),
+        _ => Err(first_refusal(alloc, forms, end)),
+    }
+}
+
+/// Asks that nothing follows.
+pub fn end_of(alloc: Global, forms: &[Form]) -> Result<(), ReadError>
+    ensures { Gives (λ _. tt) result (end_at (forms_view forms.now)) }
+{
+    match forms {
+        [] => Ok(()),
+        [form @ Form::Word { .. }, ..] => Err(form_refusal(alloc, form)),
+        [form @ Form::List { .. }, ..] => Err(form_refusal(alloc, form)),
+    }
+}
+
+/// What follows this name.
+pub fn behind_name<'a>(
+    alloc: Global,
+    text: &str,
+    forms: &'a [Form],
+    end: usize,
+) -> Result<&'a [Form], ReadError>
+    ensures { Gives (λ x. forms_view x.now) result (behind_name text.now (forms_view forms.now)) }
+{
+    match forms {
+        [
+            Form::Word {
+                word: Word::Name(name),
+                ..
+            },
+            rest @ ..,
+        ] => {
+            if name.as_str() == text {
+                Ok(rest)
+            } else {
+                Err(first_refusal(alloc, forms, end))
+            }
+        }
+        _ => Err(first_refusal(alloc, forms, end)),
+    }
+}
+
+/// What follows this keyword, if it stands first.
+pub fn find_keyword<'a>(text: &str, forms: &'a [Form]) -> Option<&'a [Form]>
+    ensures { MatchOption result
+        (behind_keyword text.now (forms_view forms.now) ≡ None)
+        (λ rest. behind_keyword text.now (forms_view forms.now) ≡ Some (forms_view rest.now)) }
+{
+    match forms {
+        [
+            Form::Word {
+                word: Word::Keyword(name),
+                ..
+            },
+            rest @ ..,
+        ] => {
+            if name.as_str() == text {
+                Some(rest)
+            } else {
+                None
+            }
+        }
+        _ => None,
+    }
+}
+
+/// What follows this keyword.
+pub fn behind_keyword<'a>(
+    alloc: Global,
+    text: &str,
+    forms: &'a [Form],
+    end: usize,
+) -> Result<&'a [Form], ReadError>
+    ensures { Gives (λ x. forms_view x.now) result (behind_keyword text.now (forms_view forms.now)) }
+{
+    match find_keyword(text, forms) {
+        Some(rest) => Ok(rest),
+        None => Err(first_refusal(alloc, forms, end)),
+    }
+}

@@ -1,0 +1,79 @@
+//! What words say to the grammar.
+
+ghost use Rattle.std.specs.Prelude.{◌≡◌};
+ghost use Rattle.hd_forms.specs.Word.{is_unsupported_name, name_word};
+
+use hd_lex::Operator;
+use hd_list::Name;
+
+/// How an effect changes a number.
+#[derive(Clone, Copy, Debug, PartialEq, Eq)]
+pub enum Change {
+    Assign,
+    Increase,
+    Decrease,
+    ScaleUp,
+}
+
+/// A word that is no parenthesis.
+#[derive(Drop)]
+pub enum Word {
+    And,
+    Not,
+    /// The word that begins an effect on a number.
+    Change(Change),
+    /// A word spelled as a name that belongs to a part of PDDL that is not read, so that nothing can be named by it.
+    Unsupported(Name),
+    Name(Name),
+    /// A name behind `:`, without it.
+    Keyword(Name),
+    /// A name behind `?`, without it.
+    Variable(Name),
+    Operator(Operator),
+    /// A number, with its sign.
+    Number(i64),
+}
+
+/// Whether the word, spelled as a name, belongs to a part of PDDL that is not read.
+fn is_unsupported_name(word: &str) -> bool
+    ensures { result ≡ is_unsupported_name word.now }
+{
+    word == "or"
+        || word == "imply"
+        || word == "forall"
+        || word == "exists"
+        || word == "when"
+        || word == "either"
+        || word == "preference"
+        || word == "scale-down"
+        || word == "maximize"
+        || word == "total-time"
+}
+
+/// Whether the keyword, without its `:`, belongs to a part of PDDL that is not read.
+pub fn is_unsupported_keyword(word: &str) -> bool {
+    word == "durative-action" || word == "derived" || word == "constraints"
+}
+
+/// What a word spelled as a name says.
+pub fn name_word(name: Name) -> Word
+    ensures { result ≡ name_word name }
+{
+    if name.as_str() == "and" {
+        Word::And
+    } else if name.as_str() == "not" {
+        Word::Not
+    } else if name.as_str() == "assign" {
+        Word::Change(Change::Assign)
+    } else if name.as_str() == "increase" {
+        Word::Change(Change::Increase)
+    } else if name.as_str() == "decrease" {
+        Word::Change(Change::Decrease)
+    } else if name.as_str() == "scale-up" {
+        Word::Change(Change::ScaleUp)
+    } else if is_unsupported_name(name.as_str()) {
+        Word::Unsupported(name)
+    } else {
+        Word::Name(name)
+    }
+}

@@ -1,0 +1,10 @@
+use Rattle.std.proofs.Common.{◌≡◌, [], length}
+use Rattle.hd_forms.specs.View.{forms_view}
+use Rattle.hd_pddl.specs.Reading.{actions_after}
+use Rattle.hd_pddl.proofs.actions.actions_of.Given as goal
+
+abbrev pub invariant-loop-rest : goal.invariant-loop-rest
+invariant-loop-rest l = actions_after (forms_view l.rest) l.actions.items ≡ actions_after (forms_view l.forms) []
+
+abbrev pub decreases-loop-rest : goal.decreases-loop-rest
+decreases-loop-rest l = length l.rest

@@ -1,5 +1,0 @@
-use Rattle.hd_pddl.proofs.Written.{written-word}
-use Rattle.hd_pddl.proofs.forms.add.Goals as goal
-
-pub returns-clause-written : goal.returns-clause-written
-returns-clause-written c = λ os. rw c.in_ok-push.ensures.items (written-word os c.args.forms.now.items c.args.at c.args.word)

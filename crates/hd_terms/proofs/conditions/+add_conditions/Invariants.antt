@@ -1,0 +1,17 @@
+use Rattle.std.proofs.Common.{◌≡◌, ◌≤◌, length}
+use Rattle.hd_forms.specs.Forms.{size}
+use Rattle.hd_forms.specs.View.{forms_view}
+use Rattle.hd_terms.specs.Reading.{conditions_after}
+use Rattle.hd_terms.proofs.conditions.+add_conditions.Given as goal
+
+abbrev pub decreases-add_conditions : goal.decreases-add_conditions
+decreases-add_conditions l = size (forms_view l.forms.now)
+
+abbrev pub invariant-loop-first : goal.invariant-loop-first
+invariant-loop-first l = record {
+  same : conditions_after (forms_view l.rest) l.found.items ≡ conditions_after (forms_view l.initial.forms) l.initial.found.items;
+  part : size (forms_view l.rest) ≤ size (forms_view l.initial.forms);
+}
+
+abbrev pub decreases-loop-first : goal.decreases-loop-first
+decreases-loop-first l = length l.rest

@@ -1,0 +1,11 @@
+use Rattle.std.proofs.Common.{◌≡◌, [], length}
+use Rattle.hd_forms.specs.View.{forms_view}
+use Rattle.hd_terms.specs.Reading.{typed_after}
+use Rattle.hd_terms.proofs.typed.typed_of.Given as goal
+
+abbrev pub invariant-loop-rest : goal.invariant-loop-rest
+invariant-loop-rest l =
+    typed_after l.kind (forms_view l.rest) l.found.items l.pending.items ≡ typed_after l.kind (forms_view l.forms) [] []
+
+abbrev pub decreases-loop-rest : goal.decreases-loop-rest
+decreases-loop-rest l = length l.rest

@@ -1,0 +1,12 @@
+pub mod Expression
+pub mod Code
+pub mod Node
+pub mod ExprParts
+pub mod Depth
+pub mod Typed
+pub mod Atoms
+pub mod Expressions
+pub mod Conditions
+pub mod Effects
+pub mod Reading
+pub mod Steps

@@ -1,0 +1,67 @@
+-- What one form says, and what is still to be read of it (all own).
+use Rattle.std.specs.Prelude.{ℕ, List, [], ◌∷◌, ◌++◌, Option, Some}
+use Rattle.hd_forms.specs.Forms.{Forms, size}
+use Rattle.hd_forms.specs.View.{forms_view}
+use Rattle.hd_forms.specs.Reading.{◌>>=◌}
+use Rattle.hd_terms.specs.declared.conditions.Part as condition
+use Rattle.hd_terms.specs.declared.conditions.Part.TheVariants as conditions
+use Rattle.hd_terms.specs.declared.effects.Part as effect
+use Rattle.hd_terms.specs.declared.effects.Part.TheVariants as effects
+use Rattle.hd_terms.specs.declared.expressions.Shape.{Shape}
+use Rattle.hd_terms.specs.declared.expressions.Shape.TheVariants as shapes
+use Rattle.hd_terms.specs.declared.tree.Condition.{Condition}
+use Rattle.hd_terms.specs.declared.tree.Effect.{Effect}
+use Rattle.hd_terms.specs.Expression.{Expression}
+use Rattle.hd_terms.specs.Reading.{exprs_after, operation_by, conditions_after, effects_after}
+
+-- ---- expressions
+
+-- the expression that a shape makes
+abbrev pub expression_by : Shape → Option Expression
+expression_by (shapes.Known e) = Some e
+expression_by (shapes.Operation o inside to) = exprs_after 2 (forms_view inside.now) [] >>= λ es. operation_by o es
+
+-- how many words and forms are still to be read
+abbrev pub size_in_shape : Shape → ℕ
+size_in_shape (shapes.Known e) = 0
+size_in_shape (shapes.Operation o inside to) = size (forms_view inside.now)
+
+-- the expressions found so far, this one, and those of the rest
+abbrev pub goes_on_with : Option Expression → ℕ → Forms → List Expression → Option (List Expression)
+goes_on_with read most rest found = read >>= λ e. exprs_after most rest (found ++ e ∷ [])
+
+-- ---- conditions
+
+-- the parts found so far, and those of this one
+abbrev pub conditions_by : condition.Part → List Condition → Option (List Condition)
+conditions_by conditions.Nothing found = Some found
+conditions_by (conditions.All inside) found = conditions_after (forms_view inside.now) found
+conditions_by (conditions.One c) found = Some (found ++ c ∷ [])
+
+-- how many words and forms are still to be read
+abbrev pub size_in_condition : condition.Part → ℕ
+size_in_condition conditions.Nothing = 0
+size_in_condition (conditions.All inside) = size (forms_view inside.now)
+size_in_condition (conditions.One c) = 0
+
+-- the parts found so far, and those of the rest
+abbrev pub conditions_go_on : Option (List Condition) → Forms → Option (List Condition)
+conditions_go_on read rest = read >>= λ found. conditions_after rest found
+
+-- ---- effects
+
+-- the parts found so far, and those of this one
+abbrev pub effects_by : effect.Part → List Effect → Option (List Effect)
+effects_by effects.Nothing found = Some found
+effects_by (effects.All inside) found = effects_after (forms_view inside.now) found
+effects_by (effects.One e) found = Some (found ++ e ∷ [])
+
+-- how many words and forms are still to be read
+abbrev pub size_in_effect : effect.Part → ℕ
+size_in_effect effects.Nothing = 0
+size_in_effect (effects.All inside) = size (forms_view inside.now)
+size_in_effect (effects.One e) = 0
+
+-- the parts found so far, and those of the rest
+abbrev pub effects_go_on : Option (List Effect) → Forms → Option (List Effect)
+effects_go_on read rest = read >>= λ found. effects_after rest found

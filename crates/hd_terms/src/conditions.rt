@@ -1,0 +1,218 @@
+//! How conditions are read.
+
+ghost use Rattle.std.specs.Prelude.{◌≡◌, ◌<◌, List, Some, None, MatchOption, IfOk, IfErr};
+ghost use Rattle.hd_forms.specs.Forms.{Forms, append, size};
+ghost use Rattle.hd_forms.specs.Reading.{Gives, Leaves, Refuses};
+ghost use Rattle.hd_forms.specs.View.{form_view, forms_view};
+ghost use Rattle.hd_terms.specs.Reading.{is_equal, relation_in, terms_of, related, denied, negated_condition, part_of_condition, conditions_after, condition_at};
+ghost use Rattle.hd_terms.specs.Steps.{conditions_by, conditions_go_on, size_in_condition};
+ghost use Rattle.hd_terms.specs.declared.tree.Condition.{Condition};
+
+use crate::atoms::{atom_of, term_of};
+use crate::expressions::pair_of;
+use crate::negations::{begins_with_term, negation_refusal};
+use crate::tree::{Comparison, Condition, Relation, Term};
+use hd_forms::{Form, ReadError, Word, end_of, first_refusal, form_refusal, group_of};
+use hd_lex::Operator;
+use hd_list::Sequence;
+use std::alloc::Global;
+use std::slice;
+
+/// Whether the operator is `=`.
+pub fn is_equal(operator: Operator) -> bool
+    ensures { result ≡ is_equal operator }
+{
+    match operator {
+        Operator::Equal => true,
+        _ => false,
+    }
+}
+
+/// The relation that the operator stands for, if it stands for one.
+fn relation_in(operator: Operator) -> Option<Relation>
+    ensures { result ≡ relation_in operator }
+{
+    match operator {
+        Operator::Less => Some(Relation::Less),
+        Operator::LessOrEqual => Some(Relation::LessOrEqual),
+        Operator::Equal => Some(Relation::Equal),
+        Operator::GreaterOrEqual => Some(Relation::GreaterOrEqual),
+        Operator::Greater => Some(Relation::Greater),
+        _ => None,
+    }
+}
+
+/// The two terms that these forms are, alone, in a form that ends at the place `to`.
+#[tactic(auto, unfolding(crate::specs::Reading::terms_of))]
+fn terms_of(alloc: Global, forms: &[Form], to: usize) -> Result<(Term, Term), ReadError>
+    ensures { Gives (λ x. x) result (terms_of (forms_view forms.now)) }
+{
+    let (left, rest) = term_of(alloc, forms, to)?;
+    let (right, rest) = term_of(alloc, rest, to)?;
+    end_of(alloc, rest)?;
+    Ok((left, right))
+}
+
+/// What the operator, the first of the forms `inside`, says of the rest of them, in a form that ends at the place `to`.
+#[tactic(auto, unfolding(crate::specs::Reading::related))]
+fn related(
+    alloc: Global,
+    operator: Operator,
+    inside: &[Form],
+    rest: &[Form],
+    to: usize,
+) -> Result<Condition, ReadError>
+    ensures { Gives (λ x. x) result (related operator (forms_view rest.now)) }
+{
+    if is_equal(operator) && begins_with_term(rest) {
+        let (left, right) = terms_of(alloc, rest, to)?;
+        return Ok(Condition::Equal(left, right));
+    }
+    let Some(relation) = relation_in(operator) else {
+        return Err(first_refusal(alloc, inside, to));
+    };
+    let (left, right) = pair_of(alloc, rest, to)?;
+    Ok(Condition::Compare(Comparison {
+        relation,
+        left,
+        right,
+    }))
+}
+
+/// What is denied in a form behind the `not` at the place `not`. The form ends at `to`.
+#[tactic(auto, unfolding(crate::specs::Reading::denied, crate::specs::Reading::atom_of))]
+fn denied(alloc: Global, not: usize, inside: &[Form], to: usize) -> Result<Condition, ReadError>
+    ensures { Gives (λ x. x) result (denied (forms_view inside.now)) }
+{
+    match inside {
+        [Form::Word { word, .. }, rest @ ..] => match word {
+            Word::Operator(operator) => {
+                if is_equal(*operator) && begins_with_term(rest) {
+                    let (left, right) = terms_of(alloc, rest, to)?;
+                    Ok(Condition::NotEqual(left, right))
+                } else {
+                    Err(negation_refusal(alloc, not))
+                }
+            }
+            Word::Name(_) => {
+                let atom = atom_of(alloc, inside, to)?;
+                Ok(Condition::NotAtom(atom))
+            }
+            _ => Err(negation_refusal(alloc, not)),
+        },
+        _ => Err(negation_refusal(alloc, not)),
+    }
+}
+
+/// What is denied behind the `not` at the place `not`, in a form that ends at `to`.
+#[tactic(auto, unfolding(crate::specs::Reading::negated_condition))]
+fn negated_condition(
+    alloc: Global,
+    not: usize,
+    rest: &[Form],
+    to: usize,
+) -> Result<Condition, ReadError>
+    ensures { Gives (λ x. x) result (negated_condition (forms_view rest.now)) }
+{
+    let (inside, inside_to, after) = group_of(alloc, rest, to)?;
+    let condition = denied(alloc, not, inside, inside_to)?;
+    end_of(alloc, after)?;
+    Ok(condition)
+}
+
+/// The part of a condition that stands in a form which ends at the place `to`.
+#[tactic(auto, unfolding(crate::specs::Reading::part_of_condition))]
+fn part_of_condition(alloc: Global, inside: &[Form], to: usize) -> Result<Condition, ReadError>
+    ensures { Gives (λ x. x) result (part_of_condition (forms_view inside.now)) }
+{
+    match inside {
+        [
+            Form::Word {
+                at,
+                word: Word::Not,
+            },
+            rest @ ..,
+        ] => negated_condition(alloc, *at, rest, to),
+        [
+            Form::Word {
+                word: Word::Operator(operator),
+                ..
+            },
+            rest @ ..,
+        ] => related(alloc, *operator, inside, rest, to),
+        _ => Ok(Condition::Atom(atom_of(alloc, inside, to)?)),
+    }
+}
+
+/// What one condition says: nothing, all of the conditions in it, or a part.
+#[derive(Drop)]
+enum Part<'a> {
+    Nothing,
+    All(&'a [Form]),
+    One(Condition),
+}
+
+/// What one condition says.
+#[tactic(auto, unfolding(crate::specs::Reading::conditions_after))]
+fn part_of(alloc: Global, form: &Form) -> Result<Part<'_>, ReadError>
+    ensures part { IfOk result (λ p. (rest : Forms) (found : List Condition)
+        → conditions_after (append (form_view form.now) rest) found ≡ conditions_go_on (conditions_by p found) rest) }
+    ensures smaller { IfOk result (λ p. size_in_condition p < size (form_view form.now)) }
+    ensures refused { IfErr result (λ e. (rest : Forms) (found : List Condition)
+        → Refuses e (conditions_after (append (form_view form.now) rest) found)) }
+{
+    let Form::List { inside, to, .. } = form else {
+        return Err(form_refusal(alloc, form));
+    };
+    match inside.as_slice() {
+        [] => Ok(Part::Nothing),
+        [
+            Form::Word {
+                word: Word::And,
+                ..
+            },
+            rest @ ..,
+        ] => Ok(Part::All(rest)),
+        _ => Ok(Part::One(part_of_condition(alloc, inside, *to)?)),
+    }
+}
+
+/// Adds the parts of these conditions, one after the other.
+#[tactic(auto, unfolding(crate::specs::Reading::conditions_after))]
+fn add_conditions(
+    alloc: Global,
+    forms: &[Form],
+    found: &mut Vec<Condition>,
+) -> Result<(), ReadError>
+    ensures { Leaves result found.new.items (conditions_after (forms_view forms.now) found.old.items) }
+{
+    let mut rest = forms;
+    while let Some((first, after)) = rest.split_first() {
+        match part_of(alloc, first)? {
+            Part::Nothing => {}
+            Part::All(inside) => add_conditions(alloc, inside, found)?,
+            Part::One(condition) => found.push(condition)?,
+        }
+        rest = after;
+    }
+    Ok(())
+}
+
+/// The parts of the first form, a condition, and what follows it. The place `end` is that behind the forms.
+#[tactic(auto, unfolding(crate::specs::Reading::condition_at))]
+pub fn condition_of(
+    alloc: Global,
+    forms: &[Form],
+    end: usize,
+) -> Result<(Sequence<Condition>, &[Form]), ReadError>
+    ensures { Gives (λ x. (x.0, forms_view x.1.now)) result (condition_at (forms_view forms.now)) }
+{
+    match forms {
+        [form @ Form::List { .. }, rest @ ..] => {
+            let mut found = Vec::new(alloc);
+            add_conditions(alloc, slice::from_ref(form), &mut found)?;
+            Ok((Sequence::from_vec(found), rest))
+        }
+        _ => Err(first_refusal(alloc, forms, end)),
+    }
+}

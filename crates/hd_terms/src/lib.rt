@@ -1,0 +1,25 @@
+//! What domains and problems are made of: typed names, atoms, expressions, conditions and effects, read from nested forms.
+//!
+//! The language is that of PDDL 2.1, level 2 (Fox and Long, JAIR 20, 2003), without disjunctions, quantifiers, conditional
+//! effects and division. Each call refuses the first token that its rule does not allow, by `Unexpected` or `Unsupported`
+//! with the token's place, and is `NoMemory` where memory runs out.
+#![tactic(auto)]
+
+mod atoms;
+mod conditions;
+mod effects;
+mod expression;
+mod expressions;
+mod negations;
+mod tree;
+mod typed;
+
+pub use atoms::atom_of;
+pub use conditions::{condition_of, is_equal};
+pub use effects::effect_of;
+pub use expression::{Expr, ExprParts};
+pub use negations::negated_atom_of;
+pub use tree::{
+    Atom, Comparison, Condition, Effect, FluentChange, Operation, Relation, Term, Typed,
+};
+pub use typed::{ItemKind, is_minus, typed_of};

@@ -1,0 +1,89 @@
+//! What may stand behind `not`.
+
+ghost use Rattle.std.specs.Prelude.{◌≡◌};
+ghost use Rattle.hd_forms.specs.Reading.{Gives, IsOfGrammar};
+ghost use Rattle.hd_forms.specs.View.{forms_view};
+ghost use Rattle.hd_terms.specs.Reading.{begins_with_term, atom_of, negated_atom};
+
+use crate::atoms::atom_of;
+use crate::tree::Atom;
+use hd_forms::{Form, ReadError, Word, end_of, first_refusal, group_of};
+use hd_lex::Operator;
+use std::alloc::Global;
+
+/// Whether a term stands first.
+pub fn begins_with_term(forms: &[Form]) -> bool
+    ensures { result ≡ begins_with_term (forms_view forms.now) }
+{
+    match forms {
+        [Form::Word { word, .. }, ..] => match word {
+            Word::Name(_) => true,
+            Word::Variable(_) => true,
+            _ => false,
+        },
+        _ => false,
+    }
+}
+
+/// Whether this begins as an equality of two objects.
+fn begins_as_equality(inside: &[Form]) -> bool {
+    match inside {
+        [
+            Form::Word {
+                word: Word::Operator(Operator::Equal),
+                ..
+            },
+            rest @ ..,
+        ] => begins_with_term(rest),
+        _ => false,
+    }
+}
+
+/// Refuses the `not` at the place `not`, since what stands behind it can't be denied.
+pub fn negation_refusal(alloc: Global, not: usize) -> ReadError
+    ensures { IsOfGrammar result }
+{
+    match String::from_str(alloc, "not") {
+        Ok(text) => ReadError::Unsupported(text, not),
+        Err(_) => ReadError::NoMemory,
+    }
+}
+
+/// The atom that stands in a form behind the `not` at the place `not`. The form ends at `to`.
+#[tactic(auto, unfolding(crate::specs::Reading::atom_of))]
+fn atom_behind(alloc: Global, not: usize, inside: &[Form], to: usize) -> Result<Atom, ReadError>
+    ensures { Gives (λ x. x) result (atom_of (forms_view inside.now)) }
+{
+    match inside {
+        [
+            Form::Word {
+                word: Word::Name(_),
+                ..
+            },
+            ..
+        ] => atom_of(alloc, inside, to),
+        _ => {
+            if begins_as_equality(inside) {
+                Err(first_refusal(alloc, inside, to))
+            } else {
+                Err(negation_refusal(alloc, not))
+            }
+        }
+    }
+}
+
+/// The atom behind the `not` at the place `not`, in a form that ends at `to`.
+#[tactic(auto, unfolding(crate::specs::Reading::negated_atom))]
+pub fn negated_atom_of(
+    alloc: Global,
+    not: usize,
+    rest: &[Form],
+    to: usize,
+) -> Result<Atom, ReadError>
+    ensures { Gives (λ x. x) result (negated_atom (forms_view rest.now)) }
+{
+    let (inside, inside_to, after) = group_of(alloc, rest, to)?;
+    let atom = atom_behind(alloc, not, inside, inside_to)?;
+    end_of(alloc, after)?;
+    Ok(atom)
+}

@@ -1,0 +1,85 @@
+//! What the parts of domains and problems say. A place is that of a first byte in the text, counted from 0.
+
+use crate::expression::Expr;
+use hd_forms::{Change, NameAt};
+use hd_list::Sequence;
+
+/// A declared name, and the name of its type if one is given: without one the type is `object`.
+#[derive(Debug, PartialEq, Eq, Drop)]
+pub struct Typed {
+    pub name: NameAt,
+    pub of: Option<NameAt>,
+}
+
+/// What stands for an object.
+#[derive(Debug, PartialEq, Eq, Drop)]
+pub enum Term {
+    Name(NameAt),
+    /// A variable, without its `?`. The place is that of the `?`.
+    Variable(NameAt),
+}
+
+/// A predicate or a function with its terms.
+#[derive(Debug, PartialEq, Eq, Drop)]
+pub struct Atom {
+    pub name: NameAt,
+    pub terms: Sequence<Term>,
+}
+
+/// What is made of two numbers.
+#[derive(Clone, Copy, Debug, PartialEq, Eq)]
+pub enum Operation {
+    Add,
+    Subtract,
+    Multiply,
+}
+
+/// How the two sides of a comparison compare.
+#[derive(Clone, Copy, Debug, PartialEq, Eq)]
+pub enum Relation {
+    Less,
+    LessOrEqual,
+    Equal,
+    GreaterOrEqual,
+    Greater,
+}
+
+/// A comparison of two numbers.
+#[derive(Debug, Drop)]
+pub struct Comparison {
+    pub relation: Relation,
+    pub left: Expr,
+    pub right: Expr,
+}
+
+/// A part of a condition, which is a list of them in the text's order, with each `and` opened.
+#[derive(Debug, Drop)]
+pub enum Condition {
+    Atom(Atom),
+    /// `not` and an atom.
+    NotAtom(Atom),
+    /// That both terms are the same object.
+    Equal(Term, Term),
+    /// `not` and an equality of objects.
+    NotEqual(Term, Term),
+    Compare(Comparison),
+}
+
+/// A change of a fluent by an amount.
+#[derive(Debug, Drop)]
+pub struct FluentChange {
+    pub change: Change,
+    pub fluent: Atom,
+    pub amount: Expr,
+    /// The place of the amount's first token.
+    pub at: usize,
+}
+
+/// A part of an effect, which is a list of them in the text's order, with each `and` opened.
+#[derive(Debug, Drop)]
+pub enum Effect {
+    Add(Atom),
+    /// `not` and an atom.
+    Delete(Atom),
+    Change(FluentChange),
+}

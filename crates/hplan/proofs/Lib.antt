@@ -1,0 +1,7 @@
+pub mod Committing
+pub mod Costs
+pub mod Explaining
+pub mod Legal
+pub mod NameLists
+pub mod Solving
+pub mod Telling

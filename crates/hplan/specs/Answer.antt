@@ -1,0 +1,64 @@
+-- What an answer of a search is, and what is written of it. (Our own.)
+use Rattle.std.specs.Prelude.{◌≡◌, ℕ, List, [], Option, Some, None, take}
+use Rattle.std.specs.Io.KnownBytes.{Appends}
+use Rattle.hd_task.specs.declared.task.Task.{Task}
+use Rattle.hd_task.specs.Expansions.{IsLegal}
+use Rattle.hd_task.specs.Covers.{IsCovered, zero_estimate}
+use Rattle.hd_book.specs.declared.verdict.Verdict.{Verdict}
+use Rattle.hd_book.specs.declared.verdict.Verdict.TheVariants.{Optimal, NoPlan, RangeLeft}
+use Rattle.hd_book.specs.Answers as book
+use Rattle.hplan.specs.declared.engine.Ending.{Ending}
+use Rattle.hplan.specs.Tasks.{IsTaskOf}
+use Rattle.hplan.specs.PlanText.{plan_text, departure_text}
+
+-- a verdict is the answer of a search: some legal list of expansions is covered, and this is what it answers
+pub record IsAnswer (t : Task) (v : Verdict) : Type 0 where
+  pub expanded : List (List ℕ)
+  pub legal : IsLegal t expanded
+  pub covered : IsCovered t zero_estimate expanded
+  pub answers : book.IsAnswer t expanded v
+
+-- the plan of a verdict, if it has one
+abbrev pub plan_in : Verdict → Option (List ℕ)
+plan_in (Optimal p) = Some p
+plan_in NoPlan = None
+plan_in (RangeLeft d p) = p
+
+-- the text of a plan that may be there
+abbrev pub text_if : Task → Option (List ℕ) → List ℕ
+text_if t None = []
+text_if t (Some p) = plan_text t p
+
+-- what is written of a verdict: the text of its plan, if it has one
+abbrev pub written_of : Task → Verdict → List ℕ
+written_of t v = text_if t (plan_in v)
+
+-- how the answer ends
+abbrev pub ending_of : Task → Verdict → Ending
+ending_of t (Optimal p) = Ending.Optimal
+ending_of t NoPlan = Ending.NoPlan
+ending_of t (RangeLeft d p) = Ending.RangeLeft (departure_text t d)
+
+-- two texts have this answer, which ends so and is written so
+pub record IsSolved (domain problem : List ℕ) (ending : Ending) (written : List ℕ) : Type 0 where
+  pub task : Task
+  pub verdict : Verdict
+  pub is_task : IsTaskOf domain problem task
+  pub is_answer : IsAnswer task verdict
+  pub is_true : book.IsTrueAnswer task verdict
+  pub ends : ending ≡ ending_of task verdict
+  pub text : written ≡ written_of task verdict
+
+-- the text of the answer is written, whole
+pub record Writes (domain problem : List ℕ) (old new : Option (List ℕ)) (ending : Ending) : Type 0 where
+  pub text : List ℕ
+  pub solved : IsSolved domain problem ending text
+  pub bytes : Appends old new text
+
+-- a beginning of the text of an answer is written, which may be nothing
+pub record WritesFront (domain problem : List ℕ) (old new : Option (List ℕ)) : Type 0 where
+  pub ending : Ending
+  pub text : List ℕ
+  pub count : ℕ
+  pub solved : IsSolved domain problem ending text
+  pub bytes : Appends old new (take count text)

@@ -1,0 +1,26 @@
+//! The planner hplan: `solve` from a command line to a plan.
+#![tactic(auto)]
+
+mod closed;
+mod cost;
+mod engine;
+mod fault;
+mod frontier;
+mod judging;
+mod naming;
+mod numbers;
+mod places;
+mod program;
+mod put;
+mod schemas;
+mod searching;
+mod tasks;
+mod text;
+
+pub use engine::{Ending, solve};
+pub use fault::{Fault, Source};
+pub use naming::NameFault;
+pub use places::{Places, Shelf, SystemFiles};
+pub use program::{command, start};
+pub use searching::{run, searched};
+pub use tasks::task_of;

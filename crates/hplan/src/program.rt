@@ -1,0 +1,153 @@
+//! The program: from the words of a command line to an exit status.
+
+use crate::engine::{Ending, solve};
+use crate::fault::{Fault, device_fault};
+use crate::places::{Places, SystemFiles};
+use crate::put::put;
+use hd_words::{Request, WordsError, read_words};
+use std::alloc::Global;
+use std::io::Write;
+use std::rt::{Env, Files};
+use std::{env, io};
+
+/// The exit status of an answer, and of help.
+const DONE: u8 = 0;
+
+/// The exit status of a refusal.
+const REFUSED: u8 = 1;
+
+/// The exit status of a faulty command line.
+const MISUSED: u8 = 2;
+
+/// The exit status where there is no plan.
+const NO_PLAN: u8 = 10;
+
+/// The exit status where a number left the range.
+const RANGE_LEFT: u8 = 11;
+
+/// Tells a fault, on one line.
+fn refuse<E: Write>(err: &mut E, fault: &Fault) -> u8 {
+    let _ = writeln!(err, "hplan: {fault}");
+    REFUSED
+}
+
+/// Tells how an answer ends.
+fn tell<E: Write>(err: &mut E, ending: &Ending) -> u8 {
+    match ending {
+        Ending::Optimal => DONE,
+        Ending::NoPlan => {
+            let _ = put(err, b"no plan\n");
+            NO_PLAN
+        }
+        Ending::RangeLeft(text) => {
+            let _ = put(err, text.as_slice());
+            let _ = put(err, b"\n");
+            RANGE_LEFT
+        }
+    }
+}
+
+/// Writes a text, whole.
+fn show<O: Write>(out: &mut O, text: &str) -> Result<(), Fault> {
+    match put(out, text.as_bytes()) {
+        Ok(()) => flush(out),
+        Err(error) => Err(device_fault(error)),
+    }
+}
+
+/// Has what was written reach its end.
+fn flush<O: Write>(out: &mut O) -> Result<(), Fault> {
+    match out.flush() {
+        Ok(()) => Ok(()),
+        Err(error) => Err(device_fault(error)),
+    }
+}
+
+/// The bytes of a file.
+fn read<P: Places>(alloc: Global, places: &mut P, name: &str) -> Result<Vec<u8>, Fault> {
+    match places.read(alloc, name) {
+        Ok(bytes) => Ok(bytes),
+        Err(error) => Err(device_fault(error)),
+    }
+}
+
+/// Reads two files, and writes the plan of their task.
+fn solve_files<P: Places, O: Write>(
+    alloc: Global,
+    places: &mut P,
+    domain: &str,
+    problem: &str,
+    out: &mut O,
+) -> Result<Ending, Fault> {
+    let domain = read(alloc, places, domain)?;
+    let problem = read(alloc, places, problem)?;
+    let ending = solve(alloc, &domain, &problem, out)?;
+    flush(out)?;
+    Ok(ending)
+}
+
+/// Does what a request asks.
+fn answer<P: Places, O: Write, E: Write>(
+    alloc: Global,
+    request: &Request,
+    places: &mut P,
+    out: &mut O,
+    err: &mut E,
+) -> u8 {
+    match request {
+        Request::Solve {
+            domain,
+            problem,
+            ..
+        } => match solve_files(alloc, places, domain.as_str(), problem.as_str(), out) {
+            Ok(ending) => tell(err, &ending),
+            Err(fault) => refuse(err, &fault),
+        },
+    }
+}
+
+/// Runs the words of a command line, of which the first is the program's name, and answers the exit status.
+///
+/// What was asked for goes to `out`, and everything else to `err`. Faults are looked for in this order: the command line;
+/// the domain's file, the problem's; the domain's text, the problem's, their names; the search.
+pub fn command<P: Places, O: Write, E: Write>(
+    alloc: Global,
+    words: &[String],
+    places: &mut P,
+    out: &mut O,
+    err: &mut E,
+) -> u8 {
+    match read_words(alloc, words) {
+        Ok(request) => answer(alloc, &request, places, out, err),
+        Err(WordsError::Shown(text)) => match show(out, text.as_str()) {
+            Ok(()) => DONE,
+            Err(fault) => refuse(err, &fault),
+        },
+        Err(WordsError::Fault(text)) => {
+            let _ = put(err, text.as_bytes());
+            MISUSED
+        }
+        Err(WordsError::NoMemory) => refuse(err, &Fault::NoMemory),
+    }
+}
+
+/// The words of the command line.
+fn words_of<R: Env + AllocGlobal>(rt: &R) -> io::Result<Vec<String>> {
+    Ok(env::args(rt)?.collect(rt.alloc())?)
+}
+
+/// Runs the program with the system's words and files, and answers the exit status.
+pub fn start<R: Env + Files + AllocGlobal, O: Write, E: Write>(
+    rt: &R,
+    out: &mut O,
+    err: &mut E,
+) -> u8 {
+    match words_of(rt) {
+        Ok(words) => command(rt.alloc(), &words, &mut SystemFiles::new(rt), out, err),
+        Err(error) if error.kind() == io::ErrorKind::InvalidData => {
+            let _ = put(err, b"error: the command line is not text\n");
+            MISUSED
+        }
+        Err(error) => refuse(err, &device_fault(error)),
+    }
+}

@@ -1,0 +1,1 @@
+(define (problem l1) (:domain l) (:init) (:goal (b)))

@@ -1,0 +1,1 @@
+(define (problem g1) (:domain g) (:init) (:goal (and (a) (b))))
