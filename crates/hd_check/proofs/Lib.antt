@@ -1,0 +1,4 @@
+pub mod NameLists
+pub mod Cycles
+pub mod Telling
+pub mod Standing

@@ -1,0 +1,90 @@
+-- What effects stand for, and their first faults. (The rules of names are those of PDDL 2.1.)
+use Rattle.std.specs.Prelude.{ℕ, ◌==◌, Bool, false, if◌then◌else◌, List, [], ◌∷◌, ◌++◌, Option, Some, None}
+use Rattle.hd_forms.specs.declared.word.Change as words
+use Rattle.hd_forms.specs.declared.word.Change.TheVariants as changes
+use Rattle.hd_terms.specs.declared.tree.Effect.{Effect}
+use Rattle.hd_terms.specs.declared.tree.Effect.TheVariants as effects
+use Rattle.hd_terms.specs.declared.tree.FluentChange.{FluentChange}
+use Rattle.hd_lifted.specs.declared.schema.Applied.{Applied}
+use Rattle.hd_lifted.specs.declared.schema.Change.{Change}
+use Rattle.hd_lifted.specs.declared.schema.Change.TheVariants.{Assign, ScaleUp, Increase, Decrease, Cost}
+use Rattle.hd_lifted.specs.declared.schema.NumericEffect.{NumericEffect}
+use Rattle.hd_check.specs.declared.effects.Effects.{Effects}
+use Rattle.hd_check.specs.declared.scope.Scope.{Scope}
+use Rattle.hd_check.specs.declared.table.Table.{Table}
+use Rattle.hd_check.specs.declared.fault.Fault.{Fault}
+use Rattle.hd_check.specs.Fault.{◌or◌}
+use Rattle.hd_check.specs.Names.{number_in}
+use Rattle.hd_check.specs.Terms.{applied_fault, lifted_applied, expression_fault, lifted_expression}
+
+-- the first fault of a change: of its fluent, then of its amount
+abbrev pub change_fault : Scope → Table ℕ → FluentChange → Option Fault
+change_fault s ps c = applied_fault s.functions s ps c.fluent or expression_fault s ps c.amount
+
+-- the first fault of a part
+abbrev pub effect_fault : Scope → Table ℕ → Effect → Option Fault
+effect_fault s ps (effects.Add a) = applied_fault s.predicates s ps a
+effect_fault s ps (effects.Delete a) = applied_fault s.predicates s ps a
+effect_fault s ps (effects.Change c) = change_fault s ps c
+
+-- the first fault of an effect
+abbrev pub effects_fault : Scope → Table ℕ → List Effect → Option Fault
+effects_fault s ps [] = None
+effects_fault s ps (e ∷ es) = effect_fault s ps e or effects_fault s ps es
+
+-- whether a function, by its number, is the metric's
+abbrev pub is_metric : Option ℕ → ℕ → Bool
+is_metric None f = false
+is_metric (Some m) f = m == f
+
+-- how a change changes its fluent: an increase of the metric's function is a part of the cost
+abbrev pub lifted_change : Bool → words.Change → Change
+lifted_change cost changes.Assign = Assign
+lifted_change cost changes.ScaleUp = ScaleUp
+lifted_change cost changes.Increase = if cost then Cost else Increase
+lifted_change cost changes.Decrease = Decrease
+
+-- what a change stands for
+abbrev pub lifted_effect : Scope → Table ℕ → FluentChange → NumericEffect
+lifted_effect s ps c = record {
+  change = lifted_change (is_metric s.metric (number_in s.functions.names c.fluent.name.name)) c.change;
+  fluent = lifted_applied s.functions s ps c.fluent;
+  amount = lifted_expression s ps c.amount;
+}
+
+-- the atom that a part adds, if it adds one
+abbrev pub adds_of : Scope → Table ℕ → Effect → List Applied
+adds_of s ps (effects.Add a) = lifted_applied s.predicates s ps a ∷ []
+adds_of s ps (effects.Delete a) = []
+adds_of s ps (effects.Change c) = []
+
+-- the atom that a part deletes, if it deletes one
+abbrev pub deletes_of : Scope → Table ℕ → Effect → List Applied
+deletes_of s ps (effects.Add a) = []
+deletes_of s ps (effects.Delete a) = lifted_applied s.predicates s ps a ∷ []
+deletes_of s ps (effects.Change c) = []
+
+-- the change of a number that a part is, if it is one
+abbrev pub changes_of : Scope → Table ℕ → Effect → List NumericEffect
+changes_of s ps (effects.Add a) = []
+changes_of s ps (effects.Delete a) = []
+changes_of s ps (effects.Change c) = lifted_effect s ps c ∷ []
+
+-- the atoms that an effect adds, in the text's order
+abbrev pub adds_in : Scope → Table ℕ → List Effect → List Applied
+adds_in s ps [] = []
+adds_in s ps (e ∷ es) = adds_of s ps e ++ adds_in s ps es
+
+-- the atoms that it deletes
+abbrev pub deletes_in : Scope → Table ℕ → List Effect → List Applied
+deletes_in s ps [] = []
+deletes_in s ps (e ∷ es) = deletes_of s ps e ++ deletes_in s ps es
+
+-- its changes of numbers
+abbrev pub changes_in : Scope → Table ℕ → List Effect → List NumericEffect
+changes_in s ps [] = []
+changes_in s ps (e ∷ es) = changes_of s ps e ++ changes_in s ps es
+
+-- what an effect stands for
+abbrev pub lifted_effects : Scope → Table ℕ → List Effect → Effects
+lifted_effects s ps es = record { deletes = deletes_in s ps es; adds = adds_in s ps es; changes = changes_in s ps es }

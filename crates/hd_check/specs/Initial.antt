@@ -1,0 +1,96 @@
+-- What holds at first, and its first faults. (The initial state is that of PDDL 2.1; the range is our own.)
+use Rattle.std.specs.Prelude.{ℕ, ◌^◌, if◌then◌else◌, List, [], ◌∷◌, ◌++◌, map, Option, Some, None, nat_abs, nat_le}
+use Rattle.std.specs.List.{list_any}
+use Rattle.std.specs.Str.{bytes_eq}
+use Rattle.hd_terms.specs.declared.tree.Atom.{Atom}
+use Rattle.hd_pddl.specs.declared.tree.Init.{Init}
+use Rattle.hd_pddl.specs.declared.tree.Init.TheVariants as inits
+use Rattle.hd_pddl.specs.declared.tree.InitialValue as trees
+use Rattle.hd_lifted.specs.declared.schema.Applied.{Applied}
+use Rattle.hd_lifted.specs.declared.schema.Argument.{Argument}
+use Rattle.hd_lifted.specs.declared.schema.Argument.TheVariants.{Parameter, Object}
+use Rattle.hd_lifted.specs.declared.schema.Ground.{Ground}
+use Rattle.hd_lifted.specs.declared.task.InitialValue.{InitialValue}
+use Rattle.hd_check.specs.declared.initial.Initial.{Initial}
+use Rattle.hd_check.specs.declared.scope.Scope.{Scope}
+use Rattle.hd_check.specs.declared.table.Table.{Table}
+use Rattle.hd_check.specs.declared.fault.Fault.{Fault}
+use Rattle.hd_check.specs.declared.fault.Fault.TheVariants.{Duplicate, InitOutOfRange}
+use Rattle.hd_check.specs.Fault.{◌or◌}
+use Rattle.hd_check.specs.Names.{number_in}
+use Rattle.hd_check.specs.Terms.{applied_fault, lifted_applied}
+use Rattle.hd_check.specs.Effects.{is_metric}
+
+-- outside of actions there are no parameters
+abbrev pub no_parameters : Table ℕ
+no_parameters = record { names = []; items = [] }
+
+-- the object of an argument: outside of actions each is one
+abbrev pub object_in : Argument → ℕ
+object_in (Object o) = o
+object_in (Parameter k) = 0
+
+-- an atom or a fluent of objects
+abbrev pub grounded : Applied → Ground
+grounded a = record { symbol = a.symbol; objects = map object_in a.arguments }
+
+-- what an atom, or a fluent, outside of actions stands for
+abbrev pub ground_of : Table (List ℕ) → Scope → Atom → Ground
+ground_of symbols s a = grounded (lifted_applied symbols s no_parameters a)
+
+-- a predicate or a function, and then its objects
+abbrev pub key_of : Ground → List ℕ
+key_of g = g.symbol ∷ g.objects
+
+-- the first value has to be in the range, from -10^15 to 10^15
+abbrev pub range_fault : trees.InitialValue → Option Fault
+range_fault v = if nat_le (nat_abs v.value) (10 ^ 15) then None else Some (InitOutOfRange v.at)
+
+-- a fluent can't be one of those that have a value
+abbrev pub second_value : List (List ℕ) → List ℕ → Atom → Option Fault
+second_value given key a = if list_any (bytes_eq key) given then Some (Duplicate a.name.name a.name.at) else None
+
+-- the fluent that has this first value
+abbrev pub valued : Scope → trees.InitialValue → Ground
+valued s v = ground_of s.functions s v.fluent
+
+-- the fluents that have a value, with that of this one
+abbrev pub with_value : Scope → List (List ℕ) → trees.InitialValue → List (List ℕ)
+with_value s given v = given ++ key_of (valued s v) ∷ []
+
+-- the first fault of a value: of its fluent, then that the fluent has a value already, then the range
+abbrev pub value_fault : Scope → List (List ℕ) → trees.InitialValue → Option Fault
+value_fault s given v =
+    applied_fault s.functions s no_parameters v.fluent or second_value given (key_of (valued s v)) v.fluent or range_fault v
+
+-- the first fault of what holds at first, behind values of these fluents
+abbrev pub initial_fault : Scope → List (List ℕ) → List Init → Option Fault
+initial_fault s given [] = None
+initial_fault s given (inits.Atom a ∷ is) = applied_fault s.predicates s no_parameters a or initial_fault s given is
+initial_fault s given (inits.NotAtom a ∷ is) = applied_fault s.predicates s no_parameters a or initial_fault s given is
+initial_fault s given (inits.Value v ∷ is) =
+    value_fault s given v or initial_fault s (with_value s given v) is
+
+-- the atoms that are true at first, as written
+abbrev pub atoms_in : Scope → List Init → List Ground
+atoms_in s [] = []
+atoms_in s (inits.Atom a ∷ is) = ground_of s.predicates s a ∷ atoms_in s is
+atoms_in s (inits.NotAtom a ∷ is) = atoms_in s is
+atoms_in s (inits.Value v ∷ is) = atoms_in s is
+
+-- the first value of a fluent; the metric's function is no part of a state
+abbrev pub value_in : Scope → trees.InitialValue → List InitialValue
+value_in s v =
+    if is_metric s.metric (number_in s.functions.names v.fluent.name.name) then []
+    else record { fluent = valued s v; value = v.value } ∷ []
+
+-- the first values of fluents
+abbrev pub values_in : Scope → List Init → List InitialValue
+values_in s [] = []
+values_in s (inits.Atom a ∷ is) = values_in s is
+values_in s (inits.NotAtom a ∷ is) = values_in s is
+values_in s (inits.Value v ∷ is) = value_in s v ++ values_in s is
+
+-- what holds at first
+abbrev pub lifted_initial : Scope → List Init → Initial
+lifted_initial s is = record { atoms = atoms_in s is; values = values_in s is }

@@ -1,0 +1,10 @@
+pub mod Fault
+pub mod Names
+pub mod Scope
+pub mod Terms
+pub mod Conditions
+pub mod Effects
+pub mod Schemas
+pub mod Initial
+pub mod Metric
+pub mod Whole

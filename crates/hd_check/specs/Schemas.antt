@@ -1,0 +1,46 @@
+-- What actions stand for, and their first faults. (Our own.)
+use Rattle.std.specs.Prelude.{ℕ, List, [], ◌∷◌, ◌++◌, map, Option, Some, None}
+use Rattle.hd_terms.specs.declared.typed.ItemKind.TheVariants as kinds
+use Rattle.hd_pddl.specs.declared.tree.Action.{Action}
+use Rattle.hd_lifted.specs.declared.schema.Schema.{Schema}
+use Rattle.hd_check.specs.declared.scope.Scope.{Scope}
+use Rattle.hd_check.specs.declared.table.Table.{Table}
+use Rattle.hd_check.specs.declared.fault.Fault.{Fault}
+use Rattle.hd_check.specs.Fault.{◌or◌}
+use Rattle.hd_check.specs.Names.{declared_fault, duplicate_in}
+use Rattle.hd_check.specs.Scope.{typed_table}
+use Rattle.hd_check.specs.Conditions.{condition_fault, lifted_condition}
+use Rattle.hd_check.specs.Effects.{effects_fault, adds_in, deletes_in, changes_in}
+
+-- the parameters of an action
+abbrev pub parameters_in : Scope → Action → Table ℕ
+parameters_in s a = typed_table s.types a.parameters
+
+-- the first fault of the precondition and the effect of an action with these parameters
+unfoldable pub body_fault : Scope → Table ℕ → Action → Option Fault
+body_fault s ps a = condition_fault s ps a.precondition or effects_fault s ps a.effect
+
+-- the first fault of an action: of the parameters, then of what stands in it
+unfoldable pub action_fault : Scope → Action → Option Fault
+action_fault s a = declared_fault kinds.Variable s.types [] a.parameters or body_fault s (parameters_in s a) a
+
+-- the first fault of actions behind others of these names: of each its name, then what stands in it
+abbrev pub actions_fault : Scope → List (List ℕ) → List Action → Option Fault
+actions_fault s names [] = None
+actions_fault s names (a ∷ as') =
+    duplicate_in kinds.Name names a.name or action_fault s a or actions_fault s (names ++ a.name.name ∷ []) as'
+
+-- what an action with these parameters stands for
+unfoldable pub schema_with : Scope → Table ℕ → Action → Schema
+schema_with s ps a = record {
+  name = a.name.name;
+  parameters = ps.items;
+  condition = lifted_condition s ps a.precondition;
+  deletes = deletes_in s ps a.effect;
+  adds = adds_in s ps a.effect;
+  effects = changes_in s ps a.effect;
+}
+
+-- what an action stands for
+unfoldable pub lifted_schema : Scope → Action → Schema
+lifted_schema s a = schema_with s (parameters_in s a) a

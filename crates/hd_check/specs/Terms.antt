@@ -1,0 +1,97 @@
+-- What terms, atoms and expressions stand for, and their first faults. (The rules of types are those of PDDL 2.1.)
+use Rattle.std.specs.Prelude.{ℕ, ◌==◌, Bool, if◌then◌else◌, List, [], ◌∷◌, map, length, slice_index_or, Option, Some, None}
+use Rattle.hd_forms.specs.declared.names.NameAt.{NameAt}
+use Rattle.hd_terms.specs.declared.typed.ItemKind.{ItemKind}
+use Rattle.hd_terms.specs.declared.typed.ItemKind.TheVariants as kinds
+use Rattle.hd_terms.specs.declared.tree.Term.{Term}
+use Rattle.hd_terms.specs.declared.tree.Term.TheVariants.{Name, Variable}
+use Rattle.hd_terms.specs.declared.tree.Atom.{Atom}
+use Rattle.hd_terms.specs.Expression as trees
+use Rattle.hd_lifted.specs.declared.schema.Argument.{Argument}
+use Rattle.hd_lifted.specs.declared.schema.Argument.TheVariants.{Parameter, Object}
+use Rattle.hd_lifted.specs.declared.schema.Applied.{Applied}
+use Rattle.hd_lifted.specs.declared.schema.Ground.{Ground}
+use Rattle.hd_lifted.specs.Expression.{Expression, number, fluent, negate, binary}
+use Rattle.hd_lifted.specs.Types.{is_subtype}
+use Rattle.hd_check.specs.declared.scope.Scope.{Scope}
+use Rattle.hd_check.specs.declared.table.Table.{Table}
+use Rattle.hd_check.specs.declared.fault.Fault.{Fault}
+use Rattle.hd_check.specs.declared.fault.Fault.TheVariants.{WrongArity, WrongType}
+use Rattle.hd_check.specs.Fault.{◌or◌}
+use Rattle.hd_check.specs.Names.{number_in, unknown_in, spelled}
+
+-- ---- terms, among these parameters
+
+-- a name stands for an object, a variable for a parameter
+abbrev pub lifted_term : Scope → Table ℕ → Term → Argument
+lifted_term s ps (Name n) = Object (number_in s.objects.names n.name)
+lifted_term s ps (Variable n) = Parameter (number_in ps.names n.name)
+
+-- the name has to be declared
+abbrev pub term_fault : Scope → Table ℕ → Term → Option Fault
+term_fault s ps (Name n) = unknown_in kinds.Name s.objects.names n
+term_fault s ps (Variable n) = unknown_in kinds.Variable ps.names n
+
+-- the type that is declared
+abbrev pub type_of_term : Scope → Table ℕ → Term → ℕ
+type_of_term s ps (Name n) = slice_index_or s.objects.items (number_in s.objects.names n.name) 0
+type_of_term s ps (Variable n) = slice_index_or ps.items (number_in ps.names n.name) 0
+
+-- the fault that a term's type is none below what is wanted
+abbrev pub wrong_type : Term → Fault
+wrong_type (Name n) = WrongType n.name n.at
+wrong_type (Variable n) = WrongType (spelled kinds.Variable n.name) n.at
+
+-- a term's type has to be the one that is wanted, or a subtype of it
+abbrev pub type_fault : Scope → Table ℕ → Term → ℕ → Option Fault
+type_fault s ps t wanted = if is_subtype s.hierarchy (type_of_term s ps t) wanted then None else Some (wrong_type t)
+
+-- the fault of an argument for a parameter of this type: its name, then its type
+abbrev pub argument_fault : Scope → Table ℕ → Term → ℕ → Option Fault
+argument_fault s ps t wanted = term_fault s ps t or type_fault s ps t wanted
+
+-- the first fault of arguments for parameters of these types
+abbrev pub arguments_fault : Scope → Table ℕ → List Term → List ℕ → Option Fault
+arguments_fault s ps [] wanted = None
+arguments_fault s ps (t ∷ ts) [] = None
+arguments_fault s ps (t ∷ ts) (u ∷ us) = argument_fault s ps t u or arguments_fault s ps ts us
+
+-- ---- atoms and fluents: of the predicates, or of the functions
+
+-- the types of a name's parameters
+abbrev pub parameters_of : Table (List ℕ) → NameAt → List ℕ
+parameters_of symbols n = slice_index_or symbols.items (number_in symbols.names n.name) []
+
+-- it has as many arguments as its name has parameters
+abbrev pub arity_fault : Table (List ℕ) → Atom → Option Fault
+arity_fault symbols a =
+    if length a.terms == length (parameters_of symbols a.name) then None else Some (WrongArity a.name.name a.name.at)
+
+-- the first fault: the name, then how many arguments there are, then the arguments
+abbrev pub applied_fault : Table (List ℕ) → Scope → Table ℕ → Atom → Option Fault
+applied_fault symbols s ps a =
+    unknown_in kinds.Name symbols.names a.name or arity_fault symbols a
+    or arguments_fault s ps a.terms (parameters_of symbols a.name)
+
+-- what it stands for
+abbrev pub lifted_applied : Table (List ℕ) → Scope → Table ℕ → Atom → Applied
+lifted_applied symbols s ps a = record {
+  symbol = number_in symbols.names a.name.name;
+  arguments = map (lifted_term s ps) a.terms;
+}
+
+-- ---- expressions
+
+-- the first fault, from the left
+abbrev pub expression_fault : Scope → Table ℕ → trees.Expression → Option Fault
+expression_fault s ps (trees.number v at) = None
+expression_fault s ps (trees.fluent a) = applied_fault s.functions s ps a
+expression_fault s ps (trees.negate x) = expression_fault s ps x
+expression_fault s ps (trees.binary o x y) = expression_fault s ps x or expression_fault s ps y
+
+-- what an expression stands for
+abbrev pub lifted_expression : Scope → Table ℕ → trees.Expression → Expression
+lifted_expression s ps (trees.number v at) = number v
+lifted_expression s ps (trees.fluent a) = fluent (lifted_applied s.functions s ps a)
+lifted_expression s ps (trees.negate x) = negate (lifted_expression s ps x)
+lifted_expression s ps (trees.binary o x y) = binary o (lifted_expression s ps x) (lifted_expression s ps y)

@@ -1,0 +1,180 @@
+-- What a domain and a problem stand for together, and what a check of them tells. (Our own.)
+use Rattle.std.specs.Prelude.{◌≡◌, ℕ, if◌then◌else◌, List, [], ◌∷◌, ◌++◌, map, Option, Some, None, Result, Ok, Err, codes}
+use Rattle.std.specs.Str.{bytes_eq}
+use Rattle.hd_forms.specs.declared.names.NameAt.{NameAt}
+use Rattle.hd_terms.specs.declared.tree.Typed.{Typed}
+use Rattle.hd_terms.specs.declared.typed.ItemKind.TheVariants as kinds
+use Rattle.hd_pddl.specs.declared.tree.DomainAst.{DomainAst}
+use Rattle.hd_pddl.specs.declared.tree.ProblemAst.{ProblemAst}
+use Rattle.hd_pddl.specs.declared.tree.Signature.{Signature}
+use Rattle.hd_lifted.specs.declared.schema.Schema.{Schema}
+use Rattle.hd_lifted.specs.declared.task.LiftedTask.{LiftedTask}
+use Rattle.hd_lifted.specs.declared.task.Object.{Object}
+use Rattle.hd_lifted.specs.declared.task.Signature as lifted
+use Rattle.hd_lifted.specs.Types.{IsAcyclic}
+use Rattle.hd_check.specs.declared.checking.DomainPart.{DomainPart}
+use Rattle.hd_check.specs.declared.checking.ProblemPart.{ProblemPart}
+use Rattle.hd_check.specs.declared.fault.Source.{Source}
+use Rattle.hd_check.specs.declared.fault.Source.TheVariants.{Domain, Problem}
+use Rattle.hd_check.specs.declared.fault.Fault.{Fault}
+use Rattle.hd_check.specs.declared.fault.Fault.TheVariants.{DomainMismatch}
+use Rattle.hd_check.specs.declared.fault.Stop.{Stop}
+use Rattle.hd_check.specs.declared.fault.CheckError.{CheckError}
+use Rattle.hd_check.specs.declared.fault.CheckError.TheVariants.{In, NoMemory}
+use Rattle.hd_check.specs.declared.scope.Scope.{Scope}
+use Rattle.hd_check.specs.Fault.{◌or◌, told_in}
+use Rattle.hd_check.specs.Names.{type_number, types_of, declared_fault}
+use Rattle.hd_check.specs.Scope.{type_names, types_fault, parents_of, TellsCycle, scope_fault, scope_of, with_objects}
+use Rattle.hd_check.specs.Schemas.{actions_fault, lifted_schema}
+use Rattle.hd_check.specs.Conditions.{condition_fault, lifted_condition}
+use Rattle.hd_check.specs.Initial.{no_parameters, initial_fault, lifted_initial}
+use Rattle.hd_check.specs.Metric.{metric_name_fault, bad_metric, misused_in_domain, misused_in_problem}
+
+-- ---- what they stand for
+
+-- an object of this name and type
+abbrev pub lifted_object : List (List ℕ) → Typed → Object
+lifted_object types t = record { name = t.name.name; of = type_number types t.of }
+
+-- a predicate or a function with the types of its parameters
+abbrev pub lifted_signature : List (List ℕ) → Signature → lifted.Signature
+lifted_signature types s = record { name = s.name.name; parameters = types_of types s.parameters }
+
+-- what a domain's actions stand for in this scope
+unfoldable pub domain_in : Scope → DomainAst → DomainPart
+domain_in s d = record { scope = s; schemas = map (lifted_schema s) d.actions }
+
+-- what a domain's part stands for, whose types have these names and parents
+unfoldable pub lifted_domain : List (List ℕ) → List ℕ → DomainAst → Option NameAt → DomainPart
+lifted_domain types parents d metric = domain_in (scope_of types parents d metric) d
+
+-- what a problem's part stands for in this scope, which has its objects
+unfoldable pub problem_in : Scope → ProblemAst → ProblemPart
+problem_in s p = record {
+  scope = s;
+  initial = lifted_initial s p.init;
+  goal = lifted_condition s no_parameters p.goal;
+}
+
+-- what a problem's part stands for, by the scope of its domain
+unfoldable pub lifted_problem : Scope → ProblemAst → ProblemPart
+lifted_problem s p = problem_in (with_objects s p.objects) p
+
+-- the lifted task whose parts stand for these
+unfoldable pub task_with : DomainAst → ProblemAst → List Schema → ProblemPart → LiftedTask
+task_with d p schemas part = record {
+  hierarchy = part.scope.hierarchy;
+  objects = map (lifted_object part.scope.types) d.constants ++ map (lifted_object part.scope.types) p.objects;
+  predicates = map (lifted_signature part.scope.types) d.predicates;
+  functions = map (lifted_signature part.scope.types) d.functions;
+  schemas = schemas;
+  atoms = part.initial.atoms;
+  values = part.initial.values;
+  goal = part.goal;
+  metric = part.scope.metric;
+}
+
+-- the lifted task of a problem whose domain's part stands for this
+unfoldable pub task_behind : DomainPart → DomainAst → ProblemAst → LiftedTask
+task_behind part d p = task_with d p part.schemas (lifted_problem part.scope p)
+
+-- the lifted task of a domain and a problem whose types have these names and parents
+unfoldable pub task_below : List (List ℕ) → List ℕ → DomainAst → ProblemAst → LiftedTask
+task_below types parents d p = task_behind (lifted_domain types parents d p.metric) d p
+
+-- the lifted task of a domain and a problem: what each name stands for, by its number
+abbrev pub lifted_task : DomainAst → ProblemAst → LiftedTask
+lifted_task d p = task_below (type_names d.types) (parents_of d.types) d p
+
+-- ---- the faults, in their order
+
+-- a fault of this text
+abbrev pub in_text : Source → Option Fault → Option CheckError
+in_text source None = None
+in_text source (Some f) = Some (In source f)
+
+-- the problem has to name its domain
+abbrev pub mismatch : DomainAst → ProblemAst → Option Fault
+mismatch d p = if bytes_eq p.domain.name d.name.name then None else Some (DomainMismatch p.domain.at)
+
+-- the first fault that comes before the cycles of types: the domain's name, and the names of types
+unfoldable pub fault_before_cycles : DomainAst → ProblemAst → Option CheckError
+fault_before_cycles d p = in_text Problem (mismatch d p) or in_text Domain (types_fault (codes "object" ∷ []) d.types)
+
+-- the first fault of the rest of the domain, the metric aside
+unfoldable pub domain_fault : List (List ℕ) → List ℕ → DomainAst → Option NameAt → Option Fault
+domain_fault types parents d metric = scope_fault types d or actions_fault (scope_of types parents d metric) [] d.actions
+
+-- the first fault of a problem in this scope, which has its objects
+unfoldable pub fault_in_problem : Scope → ProblemAst → Option Fault
+fault_in_problem s p =
+    initial_fault s [] p.init or condition_fault s no_parameters p.goal or metric_name_fault s.functions p.metric
+
+-- the first fault of a problem, up to the metric's name, by the scope of its domain
+unfoldable pub problem_fault : Scope → ProblemAst → Option Fault
+problem_fault s p =
+    declared_fault kinds.Name s.types s.objects.names p.objects or fault_in_problem (with_objects s p.objects) p
+
+-- the first misuse of the metric's function
+unfoldable pub metric_fault : DomainAst → ProblemAst → Option CheckError
+metric_fault d p =
+    in_text Domain (bad_metric (misused_in_domain p.metric d)) or in_text Problem (bad_metric (misused_in_problem p.metric p))
+
+-- the first fault of a problem whose domain's part stands for this, and of the metric
+unfoldable pub fault_behind : DomainPart → DomainAst → ProblemAst → Option CheckError
+fault_behind part d p = in_text Problem (problem_fault part.scope p) or metric_fault d p
+
+-- the first fault that comes behind the cycles of types, which have these names and parents
+unfoldable pub fault_below : List (List ℕ) → List ℕ → DomainAst → ProblemAst → Option CheckError
+fault_below types parents d p =
+    in_text Domain (domain_fault types parents d p.metric) or fault_behind (lifted_domain types parents d p.metric) d p
+
+-- the first fault that comes behind the cycles of types
+abbrev pub fault_behind_cycles : DomainAst → ProblemAst → Option CheckError
+fault_behind_cycles d p = fault_below (type_names d.types) (parents_of d.types) d p
+
+-- a fault stands in the texts, at the place that is told: it is the first, but for the cycles of types, of which any may be told
+pub data Stands (d : DomainAst) (p : ProblemAst) : CheckError → Type 0 where
+  before_cycles : (e : CheckError) → fault_before_cycles d p ≡ Some e → Stands d p e
+  on_cycle : (f : Fault) → fault_before_cycles d p ≡ None → TellsCycle d.types f → Stands d p (In Domain f)
+  behind_cycles :
+      (e : CheckError) → fault_before_cycles d p ≡ None → IsAcyclic (parents_of d.types) → fault_behind_cycles d p ≡ Some e
+      → Stands d p e
+
+-- no fault stands in the texts
+pub record IsFaultless (d : DomainAst) (p : ProblemAst) : Type 0 where
+  pub before_cycles : fault_before_cycles d p ≡ None
+  pub acyclic : IsAcyclic (parents_of d.types)
+  pub behind_cycles : fault_behind_cycles d p ≡ None
+
+-- the task is that of a domain and a problem in which no fault stands
+pub record IsOfTexts (task : LiftedTask) : Type 0 where
+  pub domain : DomainAst
+  pub problem : ProblemAst
+  pub faultless : IsFaultless domain problem
+  pub stands : task ≡ lifted_task domain problem
+
+-- ---- what a check answers
+
+-- the first fault, unless memory runs out; where there is none, what the part stands for
+abbrev pub ChecksTexts : {R : Type 0} → Result R CheckError → Option CheckError → R → Type 0
+ChecksTexts (Ok r) fault said = (fault ≡ None) × (r ≡ said)
+ChecksTexts (Err (In source f)) fault said = fault ≡ Some (In source f)
+ChecksTexts (Err NoMemory) fault said = Unit {0}
+
+-- the hierarchy of the types, or a type on a cycle, told of the domain; want of memory says nothing
+abbrev pub ClimbsText : Result (List ℕ) CheckError → List Typed → Type 0
+ClimbsText (Ok h) ts = (h ≡ parents_of ts) × IsAcyclic (parents_of ts)
+ClimbsText (Err (In source f)) ts = (source ≡ Domain) × TellsCycle ts f
+ClimbsText (Err NoMemory) ts = Unit {0}
+
+-- what a part answers, told of its text
+abbrev pub told : {R : Type 0} → Source → Result R Stop → Result R CheckError
+told source (Ok r) = Ok r
+told source (Err stop) = Err (told_in source stop)
+
+-- the lifted task where no fault stands, else a fault that does; want of memory says nothing
+abbrev pub Answers : DomainAst → ProblemAst → Result LiftedTask CheckError → Type 0
+Answers d p (Ok task) = IsFaultless d p × (task ≡ lifted_task d p)
+Answers d p (Err (In source fault)) = Stands d p (In source fault)
+Answers d p (Err NoMemory) = Unit {0}

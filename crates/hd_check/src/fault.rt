@@ -1,0 +1,136 @@
+//! What may be wrong with a domain and a problem that were read.
+ghost use Rattle.std.specs.Prelude.{◌≡◌, ◌⊎◌, Some};
+ghost use Rattle.hd_check.specs.Fault.{text_of, error_text, source_text, told_in};
+ghost use Rattle.hd_check.specs.Names.{spelled};
+ghost use Rattle.hd_check.specs.declared.fault.Stop.TheVariants as stops;
+ghost use Rattle.hd_check.specs.declared.fault.CheckError.TheVariants as errors;
+
+use hd_list::Name;
+use std::alloc::{AllocError, AllocFailed};
+use std::fmt;
+use thiserror::Error;
+
+/// Which text a fault is in.
+#[derive(Clone, Copy, Debug, PartialEq, Eq)]
+pub enum Source {
+    Domain,
+    Problem,
+}
+
+/// A fault of a text, with the place of its first byte there, counted from 0. A variable's name has its `?`.
+#[derive(Debug, PartialEq, Eq, Drop)]
+pub enum Fault {
+    /// A name that is used and not declared.
+    UnknownName(Name, usize),
+    /// A name that is declared twice, or a fluent that is given two values.
+    Duplicate(Name, usize),
+    /// A predicate or a function with more or fewer arguments than it has parameters.
+    WrongArity(Name, usize),
+    /// An argument whose type is not the parameter's and no subtype of it.
+    WrongType(Name, usize),
+    /// A type that is its own supertype, directly or by others.
+    TypeCycle(Name, usize),
+    /// A use of the metric's function that makes the costs of actions depend on the state.
+    BadMetric(usize),
+    /// The problem belongs to a domain of another name.
+    DomainMismatch(usize),
+    /// A first value out of the range from -10^15 to 10^15.
+    InitOutOfRange(usize),
+}
+
+/// Why a part could not be checked to its end.
+#[derive(Debug, PartialEq, Eq, Drop)]
+pub enum Stop {
+    At(Fault),
+    NoMemory,
+}
+
+/// Why a domain and a problem are not accepted.
+#[derive(Debug, PartialEq, Eq, Drop, Error)]
+pub enum CheckError {
+    /// A text is at fault.
+    In(Source, Fault),
+    /// Memory ran out; the texts are not to blame.
+    NoMemory,
+}
+
+impl fmt::Display for Source {
+    ghost output = { λ source. Some (source_text source) };
+
+    fn fmt<W: fmt::Write>(&self, f: &mut fmt::Formatter<W>) -> fmt::Result {
+        match self {
+            Source::Domain => write!(f, "domain: "),
+            Source::Problem => write!(f, "problem: "),
+        }
+    }
+}
+
+impl fmt::Display for Fault {
+    ghost output = { λ fault. Some (text_of fault) };
+
+    fn fmt<W: fmt::Write>(&self, f: &mut fmt::Formatter<W>) -> fmt::Result {
+        match self {
+            Fault::UnknownName(name, at) => write!(f, "8 UnknownName({name}, {at})"),
+            Fault::Duplicate(name, at) => write!(f, "9 Duplicate({name}, {at})"),
+            Fault::WrongArity(name, at) => write!(f, "10 WrongArity({name}, {at})"),
+            Fault::WrongType(name, at) => write!(f, "11 WrongType({name}, {at})"),
+            Fault::TypeCycle(name, at) => write!(f, "12 TypeCycle({name}, {at})"),
+            Fault::BadMetric(at) => write!(f, "13 BadMetric({at})"),
+            Fault::DomainMismatch(at) => write!(f, "14 DomainMismatch({at})"),
+            Fault::InitOutOfRange(at) => write!(f, "18 InitOutOfRange({at})"),
+        }
+    }
+}
+
+impl fmt::Display for CheckError {
+    ghost output = { λ error. Some (error_text error) };
+
+    fn fmt<W: fmt::Write>(&self, f: &mut fmt::Formatter<W>) -> fmt::Result {
+        match self {
+            CheckError::In(source, fault) => write!(f, "{source}{fault}"),
+            CheckError::NoMemory => write!(f, "NoMemory"),
+        }
+    }
+}
+
+impl From<AllocError> for Stop {
+    ghost from_gives = { λ _ stop. stop ≡ stops.NoMemory };
+
+    fn from(_error: AllocError) -> Stop {
+        Stop::NoMemory
+    }
+}
+
+impl<T: Drop> From<AllocFailed<T>> for Stop {
+    ghost from_gives = { λ _ stop. stop ≡ stops.NoMemory };
+
+    fn from(_error: AllocFailed<T>) -> Stop {
+        Stop::NoMemory
+    }
+}
+
+impl From<AllocError> for CheckError {
+    ghost from_gives = { λ _ error. error ≡ errors.NoMemory };
+
+    fn from(_error: AllocError) -> CheckError {
+        CheckError::NoMemory
+    }
+}
+
+impl<T: Drop> From<AllocFailed<T>> for CheckError {
+    ghost from_gives = { λ _ error. error ≡ errors.NoMemory };
+
+    fn from(_error: AllocFailed<T>) -> CheckError {
+        CheckError::NoMemory
+    }
+}
+
+/// What stopped the check of this text.
+pub fn told_in(source: Source, stop: Stop) -> CheckError
+    ensures { result ≡ told_in source stop }
+{
+    match stop {
+        Stop::At(fault) => CheckError::In(source, fault),
+        Stop::NoMemory => CheckError::NoMemory,
+    }
+}

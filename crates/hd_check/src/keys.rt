@@ -1,0 +1,61 @@
+//! Sets of fluents.
+ghost use Rattle.std.specs.Prelude.{◌≡◌, [], not, IfOk};
+ghost use Rattle.std.specs.List.{list_any};
+ghost use Rattle.std.specs.Str.{bytes_eq};
+ghost use Rattle.hd_check.specs.Initial.{key_of};
+ghost use Rattle.hd_check.specs.Names.{with_name};
+
+use hd_lifted::Ground;
+use indexmap::IndexSet;
+use smallvec::SmallVec;
+use std::alloc::{AllocError, Global};
+use std::marker::Model;
+
+/// A function, and then its objects, by number.
+type Key = SmallVec<usize, 4>;
+
+/// Fluents, each once, in the order in which they were added. Contracts see the list of their keys.
+#[derive(Debug, Drop)]
+pub struct Keys {
+    keys: IndexSet<Key>,
+}
+
+impl Model for Keys {
+    ghost use Rattle.std.specs.Prelude.{List, ℕ, map};
+
+    ghost Value = { List (List ℕ) };
+
+    ghost view = { λ k. map (λ key. key.items) k.keys.keys };
+}
+
+impl Keys {
+    /// No fluents.
+    pub fn none(alloc: Global) -> Keys
+        ensures { result ≡ [] }
+    {
+        Keys {
+            keys: IndexSet::new(alloc),
+        }
+    }
+
+    /// One fluent more, if it is none of them yet: whether it was none.
+    pub fn add(&mut self, alloc: Global, fluent: &Ground) -> Result<bool, AllocError>
+        ensures new { IfOk result (λ new. new ≡ not (list_any (bytes_eq (key_of fluent.now)) self.old)) }
+        ensures keys { IfOk result (λ _. self.new ≡ with_name self.old (key_of fluent.now)) }
+    {
+        let key = key_of(alloc, fluent)?;
+        Ok(self.keys.insert(key)?)
+    }
+}
+
+/// A function, and then its objects.
+fn key_of(alloc: Global, fluent: &Ground) -> Result<Key, AllocError>
+    ensures { IfOk result (λ key. key.items ≡ key_of fluent.now) }
+{
+    let mut key = SmallVec::new(alloc);
+    key.push(fluent.symbol)?;
+    for object in fluent.objects.as_slice() {
+        key.push(*object)?;
+    }
+    Ok(key)
+}

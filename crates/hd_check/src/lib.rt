@@ -1,0 +1,32 @@
+//! Names, types and the metric of a domain and a problem that were read.
+//!
+//! `check` answers the lifted task that they stand for, with each name by its number, or the first fault.
+#![tactic(auto)]
+
+mod checked;
+mod checking;
+mod conditions;
+mod declared;
+mod effects;
+mod expressions;
+mod fault;
+mod initial;
+mod keys;
+mod metric;
+mod names;
+mod schemas;
+mod scope;
+mod table;
+mod terms;
+mod types;
+
+pub use checked::Checked;
+pub use checking::check;
+pub use fault::{CheckError, Fault, Source};
+
+#[cfg(test)]
+mod rendering;
+#[cfg(test)]
+mod tests;
+#[cfg(test)]
+mod told;

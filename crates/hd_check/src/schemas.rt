@@ -1,0 +1,70 @@
+//! Actions.
+ghost use Rattle.std.specs.Prelude.{[], map};
+ghost use Rattle.hd_check.specs.Fault.{Checks};
+ghost use Rattle.hd_check.specs.Schemas.{parameters_in, body_fault, action_fault, actions_fault, schema_with, lifted_schema};
+
+use crate::conditions::condition_of;
+use crate::declared::table_of;
+use crate::effects::effects_of;
+use crate::fault::Stop;
+use crate::names::{Names, copied, declare};
+use crate::scope::Scope;
+use crate::table::Table;
+use hd_lifted::Schema;
+use hd_list::Sequence;
+use hd_pddl::Action;
+use hd_terms::ItemKind;
+use std::alloc::Global;
+
+/// What an action with these parameters stands for.
+#[tactic(auto, unfolding(crate::specs::Schemas::schema_with, crate::specs::Schemas::body_fault))]
+fn schema_with(
+    alloc: Global,
+    scope: &Scope,
+    parameters: Table<usize>,
+    action: &Action,
+) -> Result<Schema, Stop>
+    ensures { Checks result (body_fault scope.now parameters action.now) (schema_with scope.now parameters action.now) }
+{
+    let precondition = action.precondition.as_slice();
+    let condition = condition_of(alloc, scope, &parameters, precondition)?;
+    let effects = effects_of(alloc, scope, &parameters, action.effect.as_slice())?;
+    let name = copied(alloc, &action.name.name)?;
+    Ok(Schema {
+        name,
+        parameters: parameters.items,
+        condition,
+        deletes: effects.deletes,
+        adds: effects.adds,
+        effects: effects.changes,
+    })
+}
+
+/// What an action stands for.
+#[tactic(auto, unfolding(crate::specs::Schemas::lifted_schema, crate::specs::Schemas::action_fault))]
+fn schema_of(alloc: Global, scope: &Scope, action: &Action) -> Result<Schema, Stop>
+    ensures { Checks result (action_fault scope.now action.now) (lifted_schema scope.now action.now) }
+{
+    let declared = action.parameters.as_slice();
+    let parameters = table_of(alloc, ItemKind::Variable, &scope.types, declared)?;
+    schema_with(alloc, scope, parameters, action)
+}
+
+/// What actions stand for, in their order.
+pub fn schemas_of(
+    alloc: Global,
+    scope: &Scope,
+    actions: &[Action],
+) -> Result<Sequence<Schema>, Stop>
+    ensures { Checks result (actions_fault scope.now [] actions.now) (map (lifted_schema scope.now) actions.now) }
+{
+    let mut names = Names::none(alloc);
+    let mut schemas = Vec::new(alloc);
+    let mut rest = actions;
+    while let [first, after @ ..] = rest {
+        declare(alloc, ItemKind::Name, &mut names, &first.name)?;
+        schemas.push(schema_of(alloc, scope, first)?)?;
+        rest = after;
+    }
+    Ok(Sequence::from_vec(schemas))
+}

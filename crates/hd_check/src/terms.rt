@@ -1,0 +1,152 @@
+//! Terms, atoms and fluents.
+ghost use Rattle.std.specs.Prelude.{◌≡◌, Some, length, map};
+ghost use Rattle.hd_check.specs.Fault.{Checks, StopsAt};
+ghost use Rattle.hd_check.specs.Terms.{lifted_term, term_fault, type_of_term, wrong_type, type_fault, argument_fault, arguments_fault, parameters_of, arity_fault, applied_fault, lifted_applied};
+ghost use Rattle.hd_check.specs.declared.fault.Fault.TheVariants.{WrongArity};
+
+use crate::fault::{Fault, Stop};
+use crate::names::{known, spelled};
+use crate::scope::Scope;
+use crate::table::Table;
+use hd_forms::NameAt;
+use hd_lifted::{Applied, Argument, Tuple};
+use hd_list::Sequence;
+use hd_terms::{Atom, ItemKind, Term};
+use smallvec::SmallVec;
+use std::alloc::Global;
+
+/// What a term stands for.
+pub fn term_of(
+    alloc: Global,
+    scope: &Scope,
+    parameters: &Table<usize>,
+    term: &Term,
+) -> Result<Argument, Stop>
+    ensures { Checks result (term_fault scope.now parameters.now term.now) (lifted_term scope.now parameters.now term.now) }
+{
+    match term {
+        Term::Name(name) => {
+            let number = known(alloc, ItemKind::Name, &scope.objects.names, name)?;
+            Ok(Argument::Object(number))
+        }
+        Term::Variable(name) => {
+            let place = known(alloc, ItemKind::Variable, &parameters.names, name)?;
+            Ok(Argument::Parameter(place))
+        }
+    }
+}
+
+/// The declared type of a term.
+fn type_of_term(scope: &Scope, parameters: &Table<usize>, term: &Term) -> usize
+    ensures { result ≡ type_of_term scope.now parameters.now term.now }
+{
+    match term {
+        Term::Name(name) => {
+            let number = scope.objects.names.number_of(&name.name);
+            let types = scope.objects.items.as_slice();
+            types.get(number).copied().unwrap_or(0)
+        }
+        Term::Variable(name) => {
+            let place = parameters.names.number_of(&name.name);
+            let types = parameters.items.as_slice();
+            types.get(place).copied().unwrap_or(0)
+        }
+    }
+}
+
+/// Tells that a term's type is none of those that are wanted.
+fn wrong_type(alloc: Global, term: &Term) -> Stop
+    ensures { StopsAt result (Some (wrong_type term.now)) }
+{
+    let (kind, name) = match term {
+        Term::Name(name) => (ItemKind::Name, name),
+        Term::Variable(name) => (ItemKind::Variable, name),
+    };
+    match spelled(alloc, kind, &name.name) {
+        Ok(spelling) => Stop::At(Fault::WrongType(spelling, name.at)),
+        Err(_) => Stop::NoMemory,
+    }
+}
+
+/// What an argument for a parameter of this type stands for.
+fn argument_of(
+    alloc: Global,
+    scope: &Scope,
+    parameters: &Table<usize>,
+    term: &Term,
+    wanted: usize,
+) -> Result<Argument, Stop>
+    ensures { Checks result (argument_fault scope.now parameters.now term.now wanted) (lifted_term scope.now parameters.now term.now) }
+{
+    let argument = term_of(alloc, scope, parameters, term)?;
+    let declared = type_of_term(scope, parameters, term);
+    if scope.hierarchy.is_subtype(declared, wanted) {
+        Ok(argument)
+    } else {
+        Err(wrong_type(alloc, term))
+    }
+}
+
+/// What arguments for parameters of these types stand for.
+fn arguments_of(
+    alloc: Global,
+    scope: &Scope,
+    parameters: &Table<usize>,
+    terms: &[Term],
+    wanted: &[usize],
+) -> Result<Tuple<Argument>, Stop>
+    requires { length terms.now ≡ length wanted.now }
+    ensures { Checks result (arguments_fault scope.now parameters.now terms.now wanted.now) (map (lifted_term scope.now parameters.now) terms.now) }
+{
+    let mut arguments = SmallVec::new(alloc);
+    let mut rest = terms;
+    let mut types = wanted;
+    while let ([term, after @ ..], [first, others @ ..]) = (rest, types) {
+        let argument = argument_of(alloc, scope, parameters, term, *first)?;
+        arguments.push(argument)?;
+        rest = after;
+        types = others;
+    }
+    Ok(Tuple::from_small_vec(arguments))
+}
+
+/// The types of the parameters of a predicate or a function.
+pub fn parameters_of<'a>(symbols: &'a Table<Sequence<usize>>, name: &NameAt) -> &'a [usize]
+    ensures { result.now ≡ parameters_of symbols.now name.now }
+{
+    let number = symbols.names.number_of(&name.name);
+    match symbols.items.as_slice().get(number) {
+        Some(types) => types.as_slice(),
+        None => &[],
+    }
+}
+
+/// Tells that an atom has more or fewer arguments than its name has parameters.
+pub fn wrong_arity(alloc: Global, name: &NameAt) -> Stop
+    ensures { StopsAt result (Some (WrongArity name.now.name name.now.at)) }
+{
+    match spelled(alloc, ItemKind::Name, &name.name) {
+        Ok(spelling) => Stop::At(Fault::WrongArity(spelling, name.at)),
+        Err(_) => Stop::NoMemory,
+    }
+}
+
+/// What an atom, or a fluent, stands for, by the predicates or the functions.
+pub fn applied_of(
+    alloc: Global,
+    symbols: &Table<Sequence<usize>>,
+    scope: &Scope,
+    parameters: &Table<usize>,
+    atom: &Atom,
+) -> Result<Applied, Stop>
+    ensures { Checks result (applied_fault symbols.now scope.now parameters.now atom.now) (lifted_applied symbols.now scope.now parameters.now atom.now) }
+{
+    let symbol = known(alloc, ItemKind::Name, &symbols.names, &atom.name)?;
+    let types = parameters_of(symbols, &atom.name);
+    if atom.terms.len() != types.len() {
+        return Err(wrong_arity(alloc, &atom.name));
+    }
+    let terms = atom.terms.as_slice();
+    let arguments = arguments_of(alloc, scope, parameters, terms, types)?;
+    Ok(Applied { symbol, arguments })
+}

@@ -1,0 +1,3 @@
+pub mod Costs
+pub mod Types
+pub mod Walks

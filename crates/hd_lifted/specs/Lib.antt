@@ -1,0 +1,16 @@
+pub mod Expression
+pub mod Code
+pub mod Node
+pub mod ExprParts
+pub mod Depth
+pub mod Types
+pub mod Walks
+pub mod Objects
+pub mod States
+pub mod Expressions
+pub mod Conditions
+pub mod Effects
+pub mod Steps
+pub mod Plans
+pub mod Departures
+pub mod Example

@@ -1,0 +1,185 @@
+//! The hierarchy of types: which types stand below which.
+//!
+//! Type 0 is `object`. Each other type has a number from 1 on, and one parent.
+ghost use Rattle.std.specs.Prelude.{◌≡◌, ◌≢◌, ℕ, ◌+◌, ◌<◌, ◌≤◌, ◌↔◌, IsTrue, IfOk, IfErr, IfSome, MatchOption, None, length, replicate, min};
+ghost use Rattle.hd_lifted.specs.Types.{entry_of, IsSubtype, IsOnCycle, IsAcyclic, IsRooted, is_subtype};
+ghost use Rattle.hd_lifted.specs.Walks.{stamp_of, AreRootedBy, OnlyStamps, AreVisited};
+
+use hd_list::NoMemory;
+use std::alloc::Global;
+use std::marker::Model;
+
+/// The parents of the types 1, 2, .., of which none lies on a cycle. Contracts see their list.
+///
+/// A number beyond the list is a type whose parent is `object`, which is 0.
+#[derive(Debug, Drop)]
+pub struct Hierarchy {
+    parents: Vec<usize>,
+}
+
+impl Model for Hierarchy {
+    ghost use Rattle.std.specs.Prelude.{List, ℕ};
+    ghost use Rattle.hd_lifted.specs.Types.{IsRooted};
+
+    ghost Value = { List ℕ };
+
+    ghost view = { λ h. h.parents.items };
+
+    ghost invariant = { λ h. IsRooted h.parents.items };
+}
+
+impl Hierarchy {
+    /// The hierarchy of these parents, or the least type that lies on a cycle, in time linear in the number of parents.
+    ///
+    /// # Errors
+    ///
+    /// Want of memory.
+    pub fn new(alloc: Global, parents: Vec<usize>) -> Result<Result<Hierarchy, usize>, NoMemory>
+        ensures made { IfOk result (λ answer. IfOk answer (λ types. types ≡ parents.items)) }
+        ensures acyclic { IfOk result (λ answer. IfOk answer (λ _. IsAcyclic parents.items)) }
+        ensures on_cycle { IfOk result (λ answer. IfErr answer (IsOnCycle parents.items)) }
+    {
+        match least_on_cycles(alloc, parents.as_slice())? {
+            Some(on_cycle) => Ok(Err(on_cycle)),
+            None => Ok(Ok(Hierarchy { parents })),
+        }
+    }
+
+    /// The parents of the types 1, 2, ..
+    pub fn parents(&self) -> &[usize]
+        ensures value { result.now ≡ self.now }
+
+        // Steps lead from each type to `object`, so that none lies on a cycle.
+        ensures rooted { IsRooted self.now }
+    {
+        &self.parents
+    }
+
+    /// Whether each object of the type `lower` is one of the type `upper`.
+    pub fn is_subtype(&self, lower: usize, upper: usize) -> bool
+        ensures yes { IsTrue result → IsSubtype self.now lower upper }
+        ensures no { IsSubtype self.now lower upper → IsTrue result }
+        ensures test { result ≡ is_subtype self.now lower upper }
+    {
+        leads_to(self.parents.as_slice(), lower, upper)
+    }
+}
+
+/// What a list with an entry for each of the types 1, 2, .. has for a type, or 0.
+fn entry_of(entries: &[usize], kind: usize) -> usize
+    ensures { result ≡ entry_of entries.now kind }
+{
+    if kind > 0 && kind <= entries.len() {
+        entries[kind - 1]
+    } else {
+        0
+    }
+}
+
+/// Whether steps from a type to its parent lead from `lower` to `upper`.
+fn leads_to(parents: &[usize], lower: usize, upper: usize) -> bool
+    requires { IsRooted parents.now }
+    ensures yes { IsTrue result → IsSubtype parents.now lower upper }
+    ensures no { IsSubtype parents.now lower upper → IsTrue result }
+{
+    let mut kind = lower;
+    while kind != upper && kind != 0 {
+        kind = entry_of(parents, kind);
+    }
+    kind == upper
+}
+
+/// The least type that lies on a cycle, if there is one.
+fn least_on_cycles(alloc: Global, parents: &[usize]) -> Result<Option<usize>, NoMemory>
+    ensures { IfOk result (λ found. MatchOption found (IsRooted parents.now) (IsOnCycle parents.now)) }
+{
+    let mut stamps = vec![in alloc; 0; parents.len()]?;
+    Ok(walk_all(parents, stamps.as_mut_slice()))
+}
+
+/// Walks up from each type, and tells the least type on a cycle, if there is one. At first there are no stamps.
+fn walk_all(parents: &[usize], stamps: &mut [usize]) -> Option<usize>
+    requires { stamps.old ≡ replicate (length parents.now) 0 }
+    ensures { MatchOption result (IsRooted parents.now) (IsOnCycle parents.now) }
+{
+    let mut found = None;
+    for before in 0..parents.len() {
+        found = visit(parents, stamps, before + 1, found);
+    }
+    found
+}
+
+/// Walks up from a type. Where that closes a cycle, tells the lesser of the type found so far and the least of the cycle.
+fn visit(
+    parents: &[usize],
+    stamps: &mut [usize],
+    start: usize,
+    found: Option<usize>,
+) -> Option<usize>
+    requires start { (0 < start) × (start ≤ length parents.now) }
+    requires before { AreVisited parents.now stamps.old start found }
+    ensures { AreVisited parents.now stamps.new (start + 1) result }
+{
+    match walk(parents, stamps, start) {
+        Some(on_cycle) => Some(lesser(found, least_of_cycle(parents, on_cycle))),
+        None => found,
+    }
+}
+
+/// Walks up from a type, whose number is the walk's stamp, to `object` or to a type that was visited. Where this walk itself
+/// visited it, it lies on a cycle and is the answer.
+fn walk(parents: &[usize], stamps: &mut [usize], start: usize) -> Option<usize>
+    requires start { 0 < start }
+    requires len { length stamps.old ≡ length parents.now }
+    requires new_stamp { (t : ℕ) → stamp_of stamps.old t < start }
+    ensures stamps { OnlyStamps start stamps.old stamps.new }
+    ensures visited { start ≤ length parents.now → stamp_of stamps.new start ≢ 0 }
+    ensures ends { result ≡ None → AreRootedBy parents.now stamps.old → AreRootedBy parents.now stamps.new }
+    ensures closes { IfSome result (IsOnCycle parents.now) }
+{
+    let mut kind = start;
+    while is_unvisited(stamps, kind) {
+        stamps[kind - 1] = start;
+        kind = entry_of(parents, kind);
+    }
+    if entry_of(stamps, kind) == start {
+        Some(kind)
+    } else {
+        None
+    }
+}
+
+/// Whether a type other than `object` stands in the list and no walk came to it.
+fn is_unvisited(stamps: &[usize], kind: usize) -> bool
+    ensures { IsTrue result ↔ ((0 < kind) × (kind ≤ length stamps.now) × (stamp_of stamps.now kind ≡ 0)) }
+{
+    kind > 0 && kind <= stamps.len() && stamps[kind - 1] == 0
+}
+
+/// The least type of the cycle on which `first` lies.
+fn least_of_cycle(parents: &[usize], first: usize) -> usize
+    requires { IsOnCycle parents.now first }
+    ensures { IsOnCycle parents.now result }
+{
+    let mut least = first;
+    let mut kind = entry_of(parents, first);
+    // A cycle has no more types than there are.
+    for _ in 0..parents.len() {
+        if kind == first {
+            break;
+        }
+        least = least.min(kind);
+        kind = entry_of(parents, kind);
+    }
+    least
+}
+
+/// The lesser of two types, of which the first may be missing.
+fn lesser(found: Option<usize>, other: usize) -> usize
+    ensures { MatchOption found (result ≡ other) (λ t. result ≡ min t other) }
+{
+    match found {
+        Some(least) => least.min(other),
+        None => other,
+    }
+}

@@ -1,0 +1,174 @@
+//! Hierarchies and cycles, worked out by hand. Type 0 is `object`; the lists are the parents of the types 1, 2, ..
+use crate::Hierarchy;
+use std::alloc::Global;
+use std::test::Fail;
+
+/// The type that is told to lie on a cycle, or `None` where there is a hierarchy.
+fn cycle_in(alloc: Global, parents: &[usize]) -> Result<Option<usize>, Fail> {
+    match Hierarchy::new(alloc, Vec::from_slice(alloc, parents)?)? {
+        Ok(_) => Ok(None),
+        Err(on_cycle) => Ok(Some(on_cycle)),
+    }
+}
+
+/// Whether one type is below another, or `None` where a type lies on a cycle.
+fn is_below(
+    alloc: Global,
+    parents: &[usize],
+    lower: usize,
+    upper: usize,
+) -> Result<Option<bool>, Fail> {
+    match Hierarchy::new(alloc, Vec::from_slice(alloc, parents)?)? {
+        Ok(types) => Ok(Some(types.is_subtype(lower, upper))),
+        Err(_) => Ok(None),
+    }
+}
+
+/// A chain in which each type's parent is the next one.
+fn rising(alloc: Global, count: usize) -> Result<Vec<usize>, Fail> {
+    let mut parents = Vec::new(alloc);
+    for kind in 1..count {
+        parents.push(kind + 1)?;
+    }
+    parents.push(0)?;
+    Ok(parents)
+}
+
+/// A chain in which each type's parent is the one before.
+fn falling(alloc: Global, count: usize) -> Result<Vec<usize>, Fail> {
+    let mut parents = Vec::new(alloc);
+    for kind in 0..count {
+        parents.push(kind)?;
+    }
+    Ok(parents)
+}
+
+#[test]
+fn without_types_there_is_object_alone(rt: HostRuntime) -> Result<(), Fail> {
+    assert_eq!(rt; is_below(rt.alloc(), &[], 0, 0)?, Some(true));
+    assert_eq!(rt; is_below(rt.alloc(), &[], 7, 0)?, Some(true));
+    assert_eq!(rt; is_below(rt.alloc(), &[], 7, 7)?, Some(true));
+    assert_eq!(rt; is_below(rt.alloc(), &[], 0, 7)?, Some(false));
+    assert_eq!(rt; is_below(rt.alloc(), &[], 7, 8)?, Some(false));
+    Ok(())
+}
+
+#[test]
+fn in_a_rising_chain_later_types_are_above(rt: HostRuntime) -> Result<(), Fail> {
+    let chain = rising(rt.alloc(), 50)?;
+    for (lower, upper, answer) in [
+        (1, 50, true),
+        (1, 2, true),
+        (24, 25, true),
+        (13, 37, true),
+        (50, 0, true),
+        (31, 31, true),
+        (50, 1, false),
+        (2, 1, false),
+        (37, 13, false),
+        (0, 50, false),
+        (1, 51, false),
+    ] {
+        assert_eq!(rt;
+            is_below(rt.alloc(), &chain, lower, upper)?,
+            Some(answer),
+            "{lower} {upper}"
+        );
+    }
+    Ok(())
+}
+
+#[test]
+fn in_a_falling_chain_earlier_types_are_above(rt: HostRuntime) -> Result<(), Fail> {
+    let chain = falling(rt.alloc(), 50)?;
+    for (lower, upper, answer) in [
+        (50, 1, true),
+        (2, 1, true),
+        (37, 13, true),
+        (1, 0, true),
+        (31, 31, true),
+        (1, 50, false),
+        (24, 25, false),
+        (13, 37, false),
+        (0, 1, false),
+    ] {
+        assert_eq!(rt;
+            is_below(rt.alloc(), &chain, lower, upper)?,
+            Some(answer),
+            "{lower} {upper}"
+        );
+    }
+    Ok(())
+}
+
+#[test]
+fn two_types_under_one_are_not_below_each_other(rt: HostRuntime) -> Result<(), Fail> {
+    let parents = [3, 3, 0];
+    for (lower, upper, answer) in [
+        (1, 3, true),
+        (2, 3, true),
+        (1, 0, true),
+        (1, 2, false),
+        (2, 1, false),
+        (3, 1, false),
+        (3, 2, false),
+    ] {
+        assert_eq!(rt;
+            is_below(rt.alloc(), &parents, lower, upper)?,
+            Some(answer),
+            "{lower} {upper}"
+        );
+    }
+    Ok(())
+}
+
+#[test]
+fn a_parent_beyond_the_list_is_below_object(rt: HostRuntime) -> Result<(), Fail> {
+    let parents = [9];
+    assert_eq!(rt; is_below(rt.alloc(), &parents, 1, 9)?, Some(true));
+    assert_eq!(rt; is_below(rt.alloc(), &parents, 1, 0)?, Some(true));
+    assert_eq!(rt; is_below(rt.alloc(), &parents, 9, 1)?, Some(false));
+    assert_eq!(rt; is_below(rt.alloc(), &parents, 1, 8)?, Some(false));
+    Ok(())
+}
+
+#[test]
+fn the_least_type_on_a_cycle_is_told(rt: HostRuntime) -> Result<(), Fail> {
+    // A type that is its own parent, alone and behind another.
+    assert_eq!(rt; cycle_in(rt.alloc(), &[1])?, Some(1));
+    assert_eq!(rt; cycle_in(rt.alloc(), &[0, 2])?, Some(2));
+    // Two types, each the other's parent.
+    assert_eq!(rt; cycle_in(rt.alloc(), &[2, 1])?, Some(1));
+    // Type 1 leads to the cycle of 2 and 3, and lies on none.
+    assert_eq!(rt; cycle_in(rt.alloc(), &[2, 3, 2])?, Some(2));
+    // Type 1 leads to 4, from where 2 and 3 lead back to 4.
+    assert_eq!(rt; cycle_in(rt.alloc(), &[4, 3, 4, 2])?, Some(2));
+    // The walk from 1 comes to the cycle of 4 and 5 first; that of 2 and 3 has the lesser types.
+    assert_eq!(rt; cycle_in(rt.alloc(), &[4, 3, 2, 5, 4])?, Some(2));
+    // Type 1 is no cycle's, and comes to an earlier walk's types.
+    assert_eq!(rt; cycle_in(rt.alloc(), &[0, 1, 1])?, None);
+    Ok(())
+}
+
+#[test]
+fn a_million_types_take_linear_time(rt: HostRuntime) -> Result<(), Fail> {
+    let mut parents = rising(rt.alloc(), 1_000_000)?;
+    assert_eq!(rt; cycle_in(rt.alloc(), &parents)?, None);
+    assert_eq!(rt; is_below(rt.alloc(), &parents, 1, 1_000_000)?, Some(true));
+    // The last type's parent is now 500000, so that half of the types lie on a cycle.
+    parents.pop();
+    parents.push(500_000)?;
+    assert_eq!(rt; cycle_in(rt.alloc(), &parents)?, Some(500_000));
+    let falling = falling(rt.alloc(), 1_000_000)?;
+    assert_eq!(rt; is_below(rt.alloc(), &falling, 1_000_000, 1)?, Some(true));
+    Ok(())
+}
+
+#[test]
+fn a_hierarchy_has_its_parents(rt: HostRuntime) -> Result<(), Fail> {
+    match Hierarchy::new(rt.alloc(), falling(rt.alloc(), 3)?)? {
+        Ok(types) => assert_eq!(rt; types.parents(), [0, 1, 2].as_slice()),
+        Err(on_cycle) => assert_eq!(rt; on_cycle, 0),
+    }
+    Ok(())
+}

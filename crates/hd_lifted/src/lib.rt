@@ -1,0 +1,27 @@
+//! Lifted tasks: a domain and a problem after their names were resolved, everything by number, and what they mean.
+//!
+//! Types, objects, predicates, functions and actions are numbered from 0 in the order of the text. The definitions in
+//! `specs/` say what a plan of such a task is (PDDL 2.1, level 2, Fox and Long 2003), over the task as it stands here.
+#![tactic(auto)]
+
+pub mod examples;
+mod expression;
+mod hierarchy;
+pub mod laws;
+mod schema;
+mod task;
+mod tuple;
+
+pub use expression::{Expr, ExprParts};
+pub use hierarchy::Hierarchy;
+pub use schema::{
+    Applied, Argument, Change, Comparison, Condition, Equality, Ground, Literal, NumericEffect,
+    Schema,
+};
+pub use task::{InitialValue, LiftedTask, Object, Signature};
+pub use tuple::Tuple;
+
+#[cfg(test)]
+mod hierarchy_tests;
+#[cfg(test)]
+mod tests;

@@ -1,0 +1,103 @@
+//! Conditions, effects and action schemas, with arguments in the place of names.
+ghost use Rattle.std.specs.Prelude.{◌≡◌};
+ghost use Rattle.hd_lifted.specs.declared.schema.Argument.TheVariants.{Object};
+
+use crate::expression::Expr;
+use crate::tuple::Tuple;
+use hd_list::{Name, Sequence};
+use hd_terms::Relation;
+
+/// What stands for an object.
+#[derive(Clone, Copy, Debug, PartialEq, Eq)]
+pub enum Argument {
+    /// A parameter of the schema, by its place from 0.
+    Parameter(usize),
+    /// An object of the task, by its number.
+    Object(usize),
+}
+
+/// The first object: what a `SmallVec` of arguments keeps in its unused places.
+impl Default for Argument {
+    ghost is_default = { λ a. a ≡ Object 0 };
+
+    fn default() -> Argument {
+        Argument::Object(0)
+    }
+}
+
+/// A predicate or a function, by its number, with its arguments.
+#[derive(Debug, PartialEq, Eq, Drop)]
+pub struct Applied {
+    pub symbol: usize,
+    pub arguments: Tuple<Argument>,
+}
+
+/// A predicate or a function, by its number, with the numbers of objects: a ground atom or fluent.
+#[derive(Debug, PartialEq, Eq, Drop)]
+pub struct Ground {
+    pub symbol: usize,
+    pub objects: Tuple<usize>,
+}
+
+/// That an atom is true, or that it is false.
+#[derive(Debug, PartialEq, Eq, Drop)]
+pub struct Literal {
+    pub atom: Applied,
+    pub positive: bool,
+}
+
+/// That both arguments are the same object, or that they are not.
+#[derive(Clone, Copy, Debug, PartialEq, Eq)]
+pub struct Equality {
+    pub left: Argument,
+    pub right: Argument,
+    pub positive: bool,
+}
+
+/// A comparison of two numbers.
+#[derive(Debug, Drop)]
+pub struct Comparison {
+    pub relation: Relation,
+    pub left: Expr,
+    pub right: Expr,
+}
+
+/// A conjunction. Each list is in the text's order.
+#[derive(Debug, Drop)]
+pub struct Condition {
+    pub literals: Sequence<Literal>,
+    pub equalities: Sequence<Equality>,
+    pub comparisons: Sequence<Comparison>,
+}
+
+/// How a numeric effect changes its fluent.
+#[derive(Clone, Copy, Debug, PartialEq, Eq)]
+pub enum Change {
+    Assign,
+    ScaleUp,
+    Increase,
+    Decrease,
+    /// An increase of the metric's function: a part of the action's cost, which changes no fluent.
+    Cost,
+}
+
+/// A change of a fluent by an amount.
+#[derive(Debug, Drop)]
+pub struct NumericEffect {
+    pub change: Change,
+    pub fluent: Applied,
+    pub amount: Expr,
+}
+
+/// An action of the domain, with parameters.
+#[derive(Debug, Drop)]
+pub struct Schema {
+    pub name: Name,
+    /// The numbers of the parameters' types.
+    pub parameters: Sequence<usize>,
+    pub condition: Condition,
+    pub deletes: Sequence<Applied>,
+    pub adds: Sequence<Applied>,
+    /// The numeric effects, in the text's order.
+    pub effects: Sequence<NumericEffect>,
+}
