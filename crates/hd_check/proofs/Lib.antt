@@ -2,3 +2,10 @@ pub mod NameLists
 pub mod Cycles
 pub mod Telling
 pub mod Standing
+pub mod Arguments
+pub mod Bodies
+pub mod Faultless
+pub mod FirstValues
+pub mod MetricNames
+pub mod Changed
+pub mod MetricUse

@@ -8,3 +8,5 @@ pub mod Schemas
 pub mod Initial
 pub mod Metric
 pub mod Whole
+pub mod WellFormed
+pub mod MetricUse

@@ -1,5 +1,7 @@
 //! Lifted tasks in which no fault stands.
-ghost use Rattle.std.specs.Prelude.{◌≡◌};
+ghost use Rattle.std.specs.Prelude.{◌≡◌, ℕ, Some};
+ghost use Rattle.hd_check.specs.MetricUse.{IsCostFunction};
+ghost use Rattle.hd_check.specs.WellFormed.{IsWellFormed, AreOfDifferentFluents};
 ghost use Rattle.hd_check.specs.Whole.{IsOfTexts};
 
 use hd_lifted::LiftedTask;
@@ -40,6 +42,9 @@ impl Checked {
     pub fn task(&self) -> &LiftedTask
         ensures task { result.now ≡ self.now }
         ensures faultless { IsOfTexts result.now }
+        ensures well_formed { IsWellFormed result.now }
+        ensures values { AreOfDifferentFluents result.now.values }
+        ensures metric { (f : ℕ) → result.now.metric ≡ Some f → IsCostFunction result.now f }
     {
         &self.task
     }

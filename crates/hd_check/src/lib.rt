@@ -12,6 +12,7 @@ mod expressions;
 mod fault;
 mod initial;
 mod keys;
+pub mod laws;
 mod metric;
 mod names;
 mod schemas;

@@ -1,0 +1,182 @@
+-- What two texts without a fault stand for is well formed.
+use Rattle.std.proofs.Common.{◌≡◌, ℕ, Bool, true, false, List, [], ◌∷◌, ◌++◌, map, length, Option, Some, None, refl, sym, ap, ◌∙◌, arith}
+use Rattle.std.proofs.lemmas.List.{length-append, map-append, append-nil}
+use Rattle.std.proofs.lemmas.Option.{none-some}
+use Rattle.std.specs.Prelude.{slice_get, if◌then◌else◌, nat_abs, nat_le, ◌^◌}
+use Rattle.std.specs.List.{AllZip, AllByRecursion}
+use Rattle.hd_terms.specs.declared.typed.ItemKind.TheVariants as kinds
+use Rattle.hd_terms.specs.declared.tree.Atom.{Atom}
+use Rattle.hd_terms.specs.declared.tree.Typed.{Typed}
+use Rattle.hd_pddl.specs.declared.tree.DomainAst.{DomainAst}
+use Rattle.hd_pddl.specs.declared.tree.ProblemAst.{ProblemAst}
+use Rattle.hd_pddl.specs.declared.tree.Init.{Init}
+use Rattle.hd_pddl.specs.declared.tree.Init.TheVariants as inits
+use Rattle.hd_pddl.specs.declared.tree.Signature as trees_signature
+use Rattle.hd_lifted.specs.declared.schema.Argument.{Argument}
+use Rattle.hd_lifted.specs.declared.schema.Argument.TheVariants.{Parameter, Object}
+use Rattle.hd_lifted.specs.declared.schema.Applied.{Applied}
+use Rattle.hd_lifted.specs.declared.task.LiftedTask.{LiftedTask}
+use Rattle.hd_lifted.specs.declared.task.Object as objects
+use Rattle.hd_lifted.specs.declared.task.Signature.{Signature}
+use Rattle.hd_lifted.specs.Objects.{IsOfType}
+use Rattle.hd_check.specs.declared.fault.Source.{Source}
+use Rattle.hd_check.specs.declared.fault.Source.TheVariants.{Domain, Problem}
+use Rattle.hd_check.specs.declared.fault.Fault.{Fault}
+use Rattle.hd_check.specs.declared.fault.Fault.TheVariants.{InitOutOfRange}
+use Rattle.hd_check.specs.declared.fault.CheckError.TheVariants.{In}
+use Rattle.hd_check.specs.declared.scope.Scope.{Scope}
+use Rattle.hd_check.specs.declared.table.Table.{Table}
+use Rattle.hd_check.specs.Fault.{◌or◌}
+use Rattle.hd_check.specs.Names.{type_number, types_of, names_of, declared_fault, number_in}
+use Rattle.hd_check.specs.Scope.{scope_of, with_objects, scope_fault, signature_table, type_names, parents_of}
+use Rattle.hd_check.specs.Terms.{applied_fault, lifted_applied}
+use Rattle.hd_check.specs.Conditions.{condition_fault}
+use Rattle.hd_check.specs.Effects.{is_metric}
+use Rattle.hd_check.specs.Schemas.{actions_fault}
+use Rattle.hd_check.specs.Initial.{no_parameters, object_in, grounded, ground_of, key_of, range_fault, second_value, valued, with_value, value_fault, initial_fault, atoms_in, values_in}
+use Rattle.hd_check.specs.Metric.{metric_name_fault}
+use Rattle.hd_check.specs.Whole.{lifted_object, lifted_signature, domain_in, lifted_domain, problem_in, lifted_problem, task_with, task_behind, task_below, lifted_task, in_text, domain_fault, fault_in_problem, problem_fault, metric_fault, fault_behind, fault_below, IsFaultless}
+use Rattle.hd_check.specs.WellFormed.{IsArgumentOf, IsApplied, IsGround, IsFirstValue, IsWellFormed}
+use Rattle.hd_check.proofs.Arguments.{Agrees, Lists, or_none, if_none, some_and, applied}
+use Rattle.hd_check.proofs.Bodies.{maps_long, condition, schemas}
+
+-- ---- what holds at first
+
+ground_arguments : (t : LiftedTask) (as' : List Argument) (us : List ℕ) → AllZip (IsArgumentOf t []) as' us → AllZip (IsOfType t) (map object_in as') us
+ground_arguments t [] [] h = tt
+ground_arguments t [] (u ∷ us) h = absurd h
+ground_arguments t (a ∷ as') [] h = absurd h
+ground_arguments t (Parameter k ∷ as') (u ∷ us) (h, hs) = absurd h
+ground_arguments t (Object o ∷ as') (u ∷ us) (h, hs) = (h, ground_arguments t as' us hs)
+
+ground : (t : LiftedTask) (symbols : List Signature) (a : Applied) → IsApplied t symbols [] a → IsGround t symbols (grounded a)
+ground t symbols a h =
+    some_and (λ (s : Signature). AllZip (IsArgumentOf t []) a.arguments s.parameters) (λ (s : Signature). AllZip (IsOfType t) (map object_in a.arguments) s.parameters)
+    (slice_get symbols a.symbol) (λ s zipped. ground_arguments t a.arguments s.parameters zipped) h
+
+stated : (t : LiftedTask) (s : Scope) → Agrees t s → (symbols : List Signature) (table : Table (List ℕ)) → Lists symbols table → (a : Atom)
+    → applied_fault table s no_parameters a ≡ None → IsGround t symbols (ground_of table s a)
+stated t s g symbols table lists a e = ground t symbols (lifted_applied table s no_parameters a) (applied t s no_parameters g refl symbols table lists a e)
+
+-- a value may be left out
+left_out : {X : Type 0} (P : X → Type 0) (b : Bool) (x : X) (xs : List X) → P x → AllByRecursion P xs
+    → AllByRecursion P ((if b then [] else x ∷ []) ++ xs)
+left_out P true x xs h hs = hs
+left_out P false x xs h hs = (h, hs)
+
+-- what holds at first is well formed
+record AreInitial (t : LiftedTask) (s : Scope) (is : List Init) : Type 0 where
+  atoms : AllByRecursion (IsGround t t.predicates) (atoms_in s is)
+  values : AllByRecursion (IsFirstValue t) (values_in s is)
+
+initial : (t : LiftedTask) (s : Scope) → Agrees t s → (given : List (List ℕ)) (is : List Init) → initial_fault s given is ≡ None → AreInitial t s is
+initial t s g given [] e = record { atoms = tt; values = tt }
+initial t s g given (inits.Atom a ∷ is) e =
+    let parts = or_none (applied_fault s.predicates s no_parameters a) (initial_fault s given is) e in
+    let rest = initial t s g given is parts.1 in
+    record { atoms = (stated t s g t.predicates s.predicates g.predicates a parts.0, rest.atoms); values = rest.values }
+initial t s g given (inits.NotAtom a ∷ is) e =
+    let parts = or_none (applied_fault s.predicates s no_parameters a) (initial_fault s given is) e in
+    let rest = initial t s g given is parts.1 in
+    record { atoms = rest.atoms; values = rest.values }
+initial t s g given (inits.Value v ∷ is) e =
+    let parts = or_none (value_fault s given v) (initial_fault s (with_value s given v) is) e in
+    let rest = initial t s g (with_value s given v) is parts.1 in
+    let first = or_none (applied_fault s.functions s no_parameters v.fluent) (second_value given (key_of (valued s v)) v.fluent or range_fault v) parts.0 in
+    let later = or_none (second_value given (key_of (valued s v)) v.fluent) (range_fault v) first.1 in
+    let fits : nat_le (nat_abs v.value) (10 ^ 15) ≡ true = if_none (nat_le (nat_abs v.value) (10 ^ 15)) (InitOutOfRange v.at) later.1 in
+    let there = stated t s g t.functions s.functions g.functions v.fluent first.0 in
+    record {
+      atoms = rest.atoms;
+      values = left_out (IsFirstValue t) (is_metric s.metric (number_in s.functions.names v.fluent.name.name)) (record { fluent = valued s v; value = v.value })
+          (values_in s is) (there, fits) rest.values;
+    }
+
+-- ---- scopes
+
+objects_same : (types : List (List ℕ)) (ts : List Typed) → types_of types ts ≡ map (λ (o : objects.Object). o.of) (map (lifted_object types) ts)
+objects_same types [] = refl
+objects_same types (t ∷ ts) = ap (λ (us : List ℕ). type_number types t.of ∷ us) (objects_same types ts)
+
+signatures_same : (types : List (List ℕ)) (ss : List trees_signature.Signature)
+    → map (λ (s : trees_signature.Signature). types_of types s.parameters) ss ≡ map (λ (s : Signature). s.parameters) (map (lifted_signature types) ss)
+signatures_same types [] = refl
+signatures_same types (s ∷ ss) = ap (λ (us : List (List ℕ)). types_of types s.parameters ∷ us) (signatures_same types ss)
+
+lists : (types : List (List ℕ)) (ss : List trees_signature.Signature) → Lists (map (lifted_signature types) ss) (signature_table types ss)
+lists types ss = record {
+  long = maps_long (λ (s : trees_signature.Signature). types_of types s.parameters) (λ (s : trees_signature.Signature). s.name.name) ss;
+  same = signatures_same types ss;
+}
+
+typed_long : (types : List (List ℕ)) (ts : List Typed) → length (types_of types ts) ≡ length (names_of ts)
+typed_long types ts = maps_long (λ (t : Typed). type_number types t.of) (λ (t : Typed). t.name.name) ts
+
+-- the domain's names are those of the task
+pub domain_agrees : (types : List (List ℕ)) (parents : List ℕ) (d : DomainAst) (p : ProblemAst)
+    → Agrees (task_below types parents d p) (scope_of types parents d p.metric)
+unfolding scope_of with_objects lifted_domain domain_in lifted_problem problem_in task_with task_behind task_below
+domain_agrees types parents d p = record {
+  hierarchy = refl;
+  own = map (lifted_object types) d.constants;
+  more = map (lifted_object types) p.objects;
+  objects = refl;
+  long = typed_long types d.constants;
+  types = objects_same types d.constants;
+  predicates = lists types d.predicates;
+  functions = lists types d.functions;
+}
+
+-- the problem's names are those of the task
+pub problem_agrees : (types : List (List ℕ)) (parents : List ℕ) (d : DomainAst) (p : ProblemAst)
+    → Agrees (task_below types parents d p) (with_objects (scope_of types parents d p.metric) p.objects)
+unfolding scope_of with_objects lifted_domain domain_in lifted_problem problem_in task_with task_behind task_below
+problem_agrees types parents d p = record {
+  hierarchy = refl;
+  own = map (lifted_object types) d.constants ++ map (lifted_object types) p.objects;
+  more = [];
+  objects = sym (append-nil (map (lifted_object types) d.constants ++ map (lifted_object types) p.objects));
+  long =
+      let before = typed_long types d.constants in
+      let behind = typed_long types p.objects in
+      omega (arith, before, behind, length-append (types_of types d.constants) (types_of types p.objects), length-append (names_of d.constants) (names_of p.objects));
+  types =
+      ap (λ (us : List ℕ). us ++ types_of types p.objects) (objects_same types d.constants)
+      ∙ ap (λ (us : List ℕ). map (λ (o : objects.Object). o.of) (map (lifted_object types) d.constants) ++ us) (objects_same types p.objects)
+      ∙ sym (map-append (λ (o : objects.Object). o.of) (map (lifted_object types) d.constants) (map (lifted_object types) p.objects));
+  predicates = lists types d.predicates;
+  functions = lists types d.functions;
+}
+
+-- ---- the whole
+
+pub text_none : (source : Source) (f : Option Fault) → in_text source f ≡ None → f ≡ None
+text_none source None e = refl
+text_none source (Some f) e = absurd (none-some (In source f) (sym e))
+
+below : (types : List (List ℕ)) (parents : List ℕ) (d : DomainAst) (p : ProblemAst) → fault_below types parents d p ≡ None
+    → IsWellFormed (task_below types parents d p)
+unfolding fault_below fault_behind problem_fault fault_in_problem domain_fault lifted_domain domain_in lifted_problem problem_in task_with task_behind task_below
+below types parents d p e =
+    let parts = or_none (in_text Domain (domain_fault types parents d p.metric)) (fault_behind (lifted_domain types parents d p.metric) d p) e in
+    let domain = or_none (scope_fault types d) (actions_fault (scope_of types parents d p.metric) [] d.actions) (text_none Domain (domain_fault types parents d p.metric) parts.0) in
+    let behind = or_none (in_text Problem (problem_fault (scope_of types parents d p.metric) p)) (metric_fault d p) parts.1 in
+    let problem =
+    or_none (declared_fault kinds.Name (scope_of types parents d p.metric).types (scope_of types parents d p.metric).objects.names p.objects)
+    (fault_in_problem (with_objects (scope_of types parents d p.metric) p.objects) p) (text_none Problem (problem_fault (scope_of types parents d p.metric) p) behind.0) in
+    let inner =
+    or_none (initial_fault (with_objects (scope_of types parents d p.metric) p.objects) [] p.init)
+    (condition_fault (with_objects (scope_of types parents d p.metric) p.objects) no_parameters p.goal or metric_name_fault (with_objects (scope_of types parents d p.metric) p.objects).functions p.metric) problem.1 in
+    let last =
+    or_none (condition_fault (with_objects (scope_of types parents d p.metric) p.objects) no_parameters p.goal)
+    (metric_name_fault (with_objects (scope_of types parents d p.metric) p.objects).functions p.metric) inner.1 in
+    let first = initial (task_below types parents d p) (with_objects (scope_of types parents d p.metric) p.objects) (problem_agrees types parents d p) [] p.init inner.0 in
+    record {
+      schemas = schemas (task_below types parents d p) (scope_of types parents d p.metric) (domain_agrees types parents d p) [] d.actions domain.1;
+      goal = condition (task_below types parents d p) (with_objects (scope_of types parents d p.metric) p.objects) no_parameters (problem_agrees types parents d p) refl p.goal last.0;
+      atoms = first.atoms;
+      values = first.values;
+    }
+
+pub well_formed : (d : DomainAst) (p : ProblemAst) → IsFaultless d p → IsWellFormed (lifted_task d p)
+well_formed d p clean = below (type_names d.types) (parents_of d.types) d p clean.behind_cycles
