@@ -154,11 +154,11 @@ pub is_subtype-complete : (parents : List ℕ) (t u : ℕ) → IsRooted parents 
 is_subtype-complete parents t u r s = elim (above s) [
   | inl e ↦ meets-ancestor parents (length parents + 1) (length parents + 1) t u (omega arith) (r t ∙ sym e)
   | inr a ↦ elim (cases_lt (length parents + 1) a.steps) [
-      | inl lt ↦
-          let stays = ancestor-stays parents (length parents + 1) a.steps t (omega (arith, lt)) (r t) in
-          meets-ancestor parents (length parents + 1) (length parents + 1) t u (omega arith) (r t ∙ sym stays ∙ a.leads)
-      | inr le ↦ meets-ancestor parents a.steps (length parents + 1) t u le a.leads
-    ]
+    | inl lt ↦
+        let stays = ancestor-stays parents (length parents + 1) a.steps t (omega (arith, lt)) (r t) in
+        meets-ancestor parents (length parents + 1) (length parents + 1) t u (omega arith) (r t ∙ sym stays ∙ a.leads)
+    | inr le ↦ meets-ancestor parents a.steps (length parents + 1) t u le a.leads
+  ]
 ]
 
 -- the test's answer, by a test that decides the relation
