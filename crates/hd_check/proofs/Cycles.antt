@@ -3,7 +3,7 @@ use Rattle.std.proofs.Common.{◌≡◌, ◌≢◌, ℕ, zero, suc, ◌<◌, ◌
 use Rattle.std.proofs.lemmas.Bool.{cases_lt}
 use Rattle.std.proofs.lemmas.List.{length-map}
 use Rattle.hd_terms.specs.declared.tree.Typed.{Typed}
-use Rattle.hd_lifted.specs.Types.{parent_of, ancestor, IsOnCycle}
+use Rattle.hd_lifted.specs.Types.{ancestor, IsOnCycle}
 use Rattle.hd_lifted.proofs.Types.{ancestor-object, parent_beyond}
 use Rattle.hd_check.specs.Scope.{parents_of}
 

@@ -1,15 +1,13 @@
 -- What the parts of a check tell, as answers of the whole.
-use Rattle.std.proofs.Common.{◌≡◌, ℕ, List, Option, Some, None, Result, Ok, Err, refl, ap, ◌∙◌, sym, subst}
+use Rattle.std.proofs.Common.{◌≡◌, None, Result, Ok, Err, sym, subst}
 use Rattle.hd_pddl.specs.declared.tree.DomainAst.{DomainAst}
 use Rattle.hd_pddl.specs.declared.tree.ProblemAst.{ProblemAst}
 use Rattle.hd_lifted.specs.declared.task.LiftedTask.{LiftedTask}
 use Rattle.hd_lifted.specs.Types.{IsAcyclic}
-use Rattle.hd_check.specs.declared.fault.Source.{Source}
-use Rattle.hd_check.specs.declared.fault.Source.TheVariants.{Domain, Problem}
 use Rattle.hd_check.specs.declared.fault.CheckError.{CheckError}
 use Rattle.hd_check.specs.declared.fault.CheckError.TheVariants.{In, NoMemory}
 use Rattle.hd_check.specs.Scope.{type_names, parents_of}
-use Rattle.hd_check.specs.Whole.{ChecksTexts, ClimbsText, Answers, Stands, before_cycles, on_cycle, behind_cycles, fault_before_cycles, fault_below, fault_behind_cycles, task_below, lifted_task}
+use Rattle.hd_check.specs.Whole.{ChecksTexts, ClimbsText, Answers, Stands, before_cycles, on_cycle, behind_cycles, fault_before_cycles, fault_below, task_below}
 
 -- a fault before the cycles of types
 pub tells_before : {R : Type 0} (d : DomainAst) (p : ProblemAst) (e : CheckError) (said : R)

@@ -1,5 +1,5 @@
 -- What a part answers, told of its text.
-use Rattle.std.proofs.Common.{◌≡◌, List, Option, Some, None, Result, Ok, Err, refl, ap}
+use Rattle.std.proofs.Common.{Option, Result, Ok, Err, ap}
 use Rattle.hd_check.specs.declared.fault.Source.{Source}
 use Rattle.hd_check.specs.declared.fault.Fault.{Fault}
 use Rattle.hd_check.specs.declared.fault.Stop.{Stop}

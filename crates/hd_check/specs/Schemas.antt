@@ -1,5 +1,5 @@
 -- What actions stand for, and their first faults. (Our own.)
-use Rattle.std.specs.Prelude.{ℕ, List, [], ◌∷◌, ◌++◌, map, Option, Some, None}
+use Rattle.std.specs.Prelude.{ℕ, List, [], ◌∷◌, ◌++◌, Option, None}
 use Rattle.hd_terms.specs.declared.typed.ItemKind.TheVariants as kinds
 use Rattle.hd_pddl.specs.declared.tree.Action.{Action}
 use Rattle.hd_lifted.specs.declared.schema.Schema.{Schema}

@@ -6,7 +6,6 @@ use Rattle.hd_forms.specs.declared.names.NameAt.{NameAt}
 use Rattle.hd_terms.specs.declared.typed.ItemKind.TheVariants as kinds
 use Rattle.hd_terms.specs.declared.tree.Typed.{Typed}
 use Rattle.hd_pddl.specs.declared.tree.DomainAst.{DomainAst}
-use Rattle.hd_pddl.specs.declared.tree.ProblemAst.{ProblemAst}
 use Rattle.hd_pddl.specs.declared.tree.Signature.{Signature}
 use Rattle.hd_check.specs.declared.scope.Scope.{Scope}
 use Rattle.hd_check.specs.declared.table.Table.{Table}
@@ -16,7 +15,7 @@ use Rattle.hd_check.specs.declared.fault.Stop.{Stop}
 use Rattle.hd_check.specs.declared.fault.Stop.TheVariants as stops
 use Rattle.hd_lifted.specs.Types.{IsOnCycle, IsAcyclic}
 use Rattle.hd_check.specs.Fault.{◌or◌}
-use Rattle.hd_check.specs.Names.{with_name, type_number, names_of, types_of, declared_fault, duplicate_in}
+use Rattle.hd_check.specs.Names.{with_name, names_of, types_of, declared_fault, duplicate_in}
 
 -- ---- types
 

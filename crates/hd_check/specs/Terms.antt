@@ -1,7 +1,6 @@
 -- What terms, atoms and expressions stand for, and their first faults. (The rules of types are those of PDDL 2.1.)
-use Rattle.std.specs.Prelude.{ℕ, ◌==◌, Bool, if◌then◌else◌, List, [], ◌∷◌, map, length, slice_index_or, Option, Some, None}
+use Rattle.std.specs.Prelude.{ℕ, ◌==◌, if◌then◌else◌, List, [], ◌∷◌, map, length, slice_index_or, Option, Some, None}
 use Rattle.hd_forms.specs.declared.names.NameAt.{NameAt}
-use Rattle.hd_terms.specs.declared.typed.ItemKind.{ItemKind}
 use Rattle.hd_terms.specs.declared.typed.ItemKind.TheVariants as kinds
 use Rattle.hd_terms.specs.declared.tree.Term.{Term}
 use Rattle.hd_terms.specs.declared.tree.Term.TheVariants.{Name, Variable}
@@ -10,7 +9,6 @@ use Rattle.hd_terms.specs.Expression as trees
 use Rattle.hd_lifted.specs.declared.schema.Argument.{Argument}
 use Rattle.hd_lifted.specs.declared.schema.Argument.TheVariants.{Parameter, Object}
 use Rattle.hd_lifted.specs.declared.schema.Applied.{Applied}
-use Rattle.hd_lifted.specs.declared.schema.Ground.{Ground}
 use Rattle.hd_lifted.specs.Expression.{Expression, number, fluent, negate, binary}
 use Rattle.hd_lifted.specs.Types.{is_subtype}
 use Rattle.hd_check.specs.declared.scope.Scope.{Scope}

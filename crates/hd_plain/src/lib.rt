@@ -1,13 +1,15 @@
-//! Domains and problems without objects, types and numbers, which is all that the planner can search so far.
+//! Lifted tasks without objects, types, parameters and numbers, as tasks that can be searched.
 //!
-//! A stopgap: it goes when names and types are checked and schemas are grounded.
+//! A stopgap: it goes when schemas are grounded.
 #![tactic(auto)]
 
+mod error;
+mod parts;
 mod plain;
-mod tree;
+mod task;
 
-pub use plain::{plain_domain, plain_problem};
-pub use tree::{Action, Domain, Literal, Problem};
+pub use error::PlainError;
+pub use task::plain_task;
 
 #[cfg(test)]
 mod tests;

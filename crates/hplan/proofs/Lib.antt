@@ -2,6 +2,4 @@ pub mod Committing
 pub mod Costs
 pub mod Explaining
 pub mod Legal
-pub mod NameLists
 pub mod Solving
-pub mod Telling

@@ -1,9 +1,6 @@
 pub mod Answer
 pub mod Fault
 pub mod Frontier
-pub mod Naming
-pub mod Numbers
 pub mod Places
 pub mod PlanText
-pub mod Schemas
 pub mod Tasks

@@ -1,31 +1,26 @@
 //! Why there is no answer.
 ghost use Rattle.std.specs.Prelude.{◌≡◌, Some};
-ghost use Rattle.hplan.specs.Fault.{source_text, text_of, read_in, named_in};
+ghost use Rattle.hplan.specs.Fault.{text_of, read_in, checked_in, not_searched};
 ghost use Rattle.hplan.specs.declared.fault.Fault.TheVariants as faults;
 
-use crate::naming::NameFault;
 use hd_book::Refusal;
+use hd_check::CheckError;
+pub use hd_check::Source;
 use hd_forms::ReadError;
+use hd_plain::PlainError;
 use std::alloc::{AllocError, AllocFailed};
 use std::{fmt, io};
 use thiserror::Error;
-
-/// Which text a fault is in.
-#[derive(Clone, Copy, Debug, PartialEq, Eq)]
-pub enum Source {
-    Domain,
-    Problem,
-}
 
 /// Why there is no answer.
 #[derive(Debug, PartialEq, Eq, Drop, Error)]
 pub enum Fault {
     /// A text could not be read.
     Read(Source, ReadError),
-    /// The texts have objects, types or numbers, which can't be searched yet.
+    /// A text was read, and a name, a type or the metric is at fault in it.
+    Check(Source, hd_check::Fault),
+    /// The texts have objects, types, parameters or numbers, which can't be searched yet.
     NotYet,
-    /// A text's names are at fault.
-    Names(Source, NameFault),
     /// The task would have too many actions or atoms.
     TooMany,
     /// A file could not be opened, read or written.
@@ -36,25 +31,14 @@ pub enum Fault {
     NoMemory,
 }
 
-impl fmt::Display for Source {
-    ghost output = { λ source. Some (source_text source) };
-
-    fn fmt<W: fmt::Write>(&self, f: &mut fmt::Formatter<W>) -> fmt::Result {
-        match self {
-            Source::Domain => write!(f, "domain: "),
-            Source::Problem => write!(f, "problem: "),
-        }
-    }
-}
-
 impl fmt::Display for Fault {
     ghost output = { λ fault. Some (text_of fault) };
 
     fn fmt<W: fmt::Write>(&self, f: &mut fmt::Formatter<W>) -> fmt::Result {
         match self {
             Fault::Read(source, error) => write!(f, "{source}{error}"),
+            Fault::Check(source, fault) => write!(f, "{source}{fault}"),
             Fault::NotYet => write!(f, "NotYet"),
-            Fault::Names(source, fault) => write!(f, "{source}{fault}"),
             Fault::TooMany => write!(f, "17 TooMany"),
             Fault::Device => write!(f, "35 Device"),
             Fault::Refused(refusal) => write!(f, "{refusal}"),
@@ -93,15 +77,24 @@ pub fn read_in(source: Source, error: ReadError) -> Fault
     }
 }
 
-/// A fault of names in a text.
-pub fn named_in(source: Source, fault: NameFault) -> Fault
-    ensures { result ≡ named_in source fault }
+/// What a check tells.
+pub fn checked_in(error: CheckError) -> Fault
+    ensures { result ≡ checked_in error }
 {
-    match fault {
-        NameFault::NoMemory => Fault::NoMemory,
-        NameFault::TooMany => Fault::TooMany,
-        NameFault::UnknownName(_, _) | NameFault::Duplicate(_, _) | NameFault::DomainMismatch(_) =>
-            Fault::Names(source, fault),
+    match error {
+        CheckError::In(source, fault) => Fault::Check(source, fault),
+        CheckError::NoMemory => Fault::NoMemory,
+    }
+}
+
+/// Why a lifted task is not searched.
+pub fn not_searched(error: PlainError) -> Fault
+    ensures { result ≡ not_searched error }
+{
+    match error {
+        PlainError::NotYet => Fault::NotYet,
+        PlainError::TooLarge => Fault::TooMany,
+        PlainError::NoMemory => Fault::NoMemory,
     }
 }
 

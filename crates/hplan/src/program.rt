@@ -109,7 +109,7 @@ fn answer<P: Places, O: Write, E: Write>(
 /// Runs the words of a command line, of which the first is the program's name, and answers the exit status.
 ///
 /// What was asked for goes to `out`, and everything else to `err`. Faults are looked for in this order: the command line;
-/// the domain's file, the problem's; the domain's text, the problem's, their names; the search.
+/// the domain's file, the problem's; the domain's text, the problem's; their names, types and metric; the search.
 pub fn command<P: Places, O: Write, E: Write>(
     alloc: Global,
     words: &[String],

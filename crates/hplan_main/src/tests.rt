@@ -162,10 +162,9 @@ fn faults_of_the_domain_are_told(rt: HostRuntime) -> Result<(), Fail> {
             "(define (domain l) (:action s :parameters ()) (:action s :parameters ()))",
             "1||hplan: domain: 9 Duplicate(s, 55)\n",
         ),
-        ("(define (domain l) (:types t))", "1||hplan: NotYet\n"),
         (
-            "(define (domain l) (:predicates (a ?x)))",
-            "1||hplan: NotYet\n",
+            "(define (domain l) (:types a - b b - a))",
+            "1||hplan: domain: 12 TypeCycle(a, 27)\n",
         ),
     ] {
         assert_eq!(rt;
@@ -214,8 +213,58 @@ fn faults_of_the_problem_are_told(rt: HostRuntime) -> Result<(), Fail> {
             "(define (problem l1) (:domain m) (:init) (:goal (b)))",
             "1||hplan: problem: 14 DomainMismatch(30)\n",
         ),
+        (
+            "(define (problem l1) (:domain l) (:init) (:goal (b b)))",
+            "1||hplan: problem: 10 WrongArity(b, 49)\n",
+        ),
     ] {
         assert_eq!(rt; solved(alloc, L, problem)?.as_slice(), want.as_bytes());
+    }
+    Ok(())
+}
+
+/// A checked task that can't be searched yet is told as one.
+#[test]
+fn what_is_not_searched_yet_is_told(rt: HostRuntime) -> Result<(), Fail> {
+    let alloc = rt.alloc();
+    let not_yet = "1||hplan: NotYet\n";
+    for (domain, want) in [
+        ("(define (domain l) (:predicates (a ?x) (b)))", not_yet),
+        (
+            "(define (domain l) (:predicates (b)) (:functions (x)))",
+            not_yet,
+        ),
+        (
+            "(define (domain l) (:predicates (b)) (:action s :parameters (?x) :effect (b)))",
+            not_yet,
+        ),
+        ("(define (domain l) (:types t) (:predicates (b)))", not_yet),
+        ("(define (domain l) (:constants k) (:predicates (b)))", not_yet),
+    ] {
+        assert_eq!(rt;
+            solved(alloc, domain, L_PROBLEM)?.as_slice(),
+            want.as_bytes()
+        );
+    }
+    Ok(())
+}
+
+#[test]
+fn first_values_are_checked_before_the_search(rt: HostRuntime) -> Result<(), Fail> {
+    let alloc = rt.alloc();
+    let domain = "(define (domain u) (:predicates (b)) (:functions (x))
+  (:action up :parameters () :precondition (not (b)) :effect (and (b) (increase (x) 1))))";
+    for (problem, want) in [
+        (
+            "(define (problem u1) (:domain u) (:init (= (x) 1000000000000001)) (:goal (b)))",
+            "1||hplan: problem: 18 InitOutOfRange(47)\n",
+        ),
+        (
+            "(define (problem u1) (:domain u) (:init (= (x) 1000000000000000)) (:goal (b)))",
+            "1||hplan: NotYet\n",
+        ),
+    ] {
+        assert_eq!(rt; solved(alloc, domain, problem)?.as_slice(), want.as_bytes());
     }
     Ok(())
 }

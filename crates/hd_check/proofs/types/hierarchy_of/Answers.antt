@@ -1,4 +1,4 @@
-use Rattle.std.proofs.Common.{◌≡◌, ◌∙◌, ◌<◌, ◌≤◌, List, length, ap, subst, sym, IfOk, IfErr, Result, ℕ, arith}
+use Rattle.std.proofs.Common.{◌≡◌, ◌∙◌, ap, subst, IfOk, IfErr, arith}
 use Rattle.hd_lifted.specs.Types.{IsOnCycle, IsAcyclic}
 use Rattle.hd_check.specs.Names.{types_of}
 use Rattle.hd_check.specs.Scope.{parents_of}

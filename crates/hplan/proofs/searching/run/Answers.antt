@@ -1,4 +1,4 @@
-use Rattle.std.proofs.Common.{◌≡◌, subst}
+use Rattle.std.proofs.Common.{subst}
 use Rattle.std.specs.Prelude.{IfSome}
 use Rattle.hd_task.specs.Covers.{IsCovered, zero_estimate}
 use Rattle.hd_book.specs.Settling.{expansions}

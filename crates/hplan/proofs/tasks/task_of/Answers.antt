@@ -1,15 +1,17 @@
-use Rattle.std.proofs.lemmas.Result.{err_from_is_err_and}
-use Rattle.hplan.proofs.Explaining.{names_explained, task_explained}
+use Rattle.std.proofs.Common.{Ok, Err, subst}
+use Rattle.hd_plain.specs.Answers.{Answers}
+use Rattle.hplan.proofs.Explaining.{plain_explained}
 use Rattle.hplan.proofs.tasks.task_of.Goals as goal
 
-pub returns-in_err-resolved-clause-refusal : goal.returns-in_err-resolved-clause-refusal
-returns-in_err-resolved-clause-refusal c =
-    let p = err_from_is_err_and c.from_residual-in_err-resolved.result c.from_residual-in_err-resolved.ensures.1 in
-    rw (p.1, p.2)
-    (names_explained c.args.domain.now c.args.problem.now c.in_ok-domain.domain c.in_ok-domain.problem c.in_err-resolved.field-0.0
-    c.in_ok-domain.ensures.found c.in_err-resolved.ensures)
+pub returns-in-Ok-clause-found : goal.returns-in-Ok-clause-found
+returns-in-Ok-clause-found c =
+    let told : Answers c.in_ok-checked.checked (Ok c.in-Ok.task) =
+    subst (λ l. Answers l (Ok c.in-Ok.task)) c.task.ensures.task c.in-Ok.ensures in
+    record { lifted = c.in_ok-checked.checked; says = c.in_ok-checked.ensures.found; plain = told.0; parts = told.2 }
 
 pub returns-clause-refusal : goal.returns-clause-refusal
 returns-clause-refusal c =
-    task_explained c.args.domain.now c.args.problem.now c.in_ok-domain.domain c.in_ok-domain.problem c.in_ok-resolved.resolved
-    c.task_with.result c.in_ok-domain.ensures.found c.in_ok-resolved.ensures c.task_with.ensures.refusal
+    let told : Answers c.in_ok-checked.checked (Err c.in-Err.error) =
+    subst (λ l. Answers l (Err c.in-Err.error)) c.task.ensures.task c.in-Err.ensures in
+    rw c.not_searched.ensures
+    (plain_explained c.args.domain.now c.args.problem.now c.in_ok-checked.checked c.in-Err.error c.in_ok-checked.ensures.found told)

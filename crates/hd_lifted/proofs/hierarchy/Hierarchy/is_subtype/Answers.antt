@@ -1,4 +1,4 @@
-use Rattle.std.proofs.Common.{◌≡◌, ◌∙◌, ap, subst, sym}
+use Rattle.std.proofs.Common.{◌∙◌, ap, subst, sym}
 use Rattle.hd_lifted.specs.Types.{IsRooted, is_subtype}
 use Rattle.hd_lifted.proofs.Types.{is_subtype-decided}
 use Rattle.hd_lifted.proofs.hierarchy.Hierarchy.is_subtype.Goals as goal
