@@ -1,6 +1,6 @@
 #!/bin/sh
 # Times the check of a domain and a problem beside their reading: bench/check.sh [ATOMS], 100000 if ATOMS is not given.
-# The problem has 10000 objects, that many initial atoms, and a value for every ten of them. The crate `bench_check` is built
+# The problem has 10000 objects, ATOMS initial atoms, and a value for every ten of these. The crate `bench_check` is built
 # and proved as the gate does it.
 set -e
 folder=$(mktemp -d)

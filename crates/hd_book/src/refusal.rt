@@ -23,7 +23,7 @@ pub enum Refusal {
     BelowBound,
     /// The book is halted.
     Halted,
-    /// The entries would be more than the journal can number.
+    /// The entries would be more than can be numbered.
     Full,
     /// The book has no such ticket or receipt out.
     NotOut,

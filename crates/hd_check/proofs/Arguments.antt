@@ -16,11 +16,11 @@ use Rattle.hd_lifted.specs.declared.task.Signature.{Signature}
 use Rattle.hd_lifted.specs.Objects.{IsOfType}
 use Rattle.hd_lifted.specs.Types.{IsSubtype, is_subtype}
 use Rattle.hd_lifted.proofs.Types.{is_subtype-sound}
-use Rattle.hd_check.specs.declared.scope.Scope.{Scope}
-use Rattle.hd_check.specs.declared.table.Table.{Table}
-use Rattle.hd_check.specs.declared.fault.Fault.TheVariants.{UnknownName, WrongArity}
-use Rattle.hd_check.specs.Fault.{◌or◌}
-use Rattle.hd_check.specs.Names.{is_named, number_in, unknown_in, spelled}
+use Rattle.hd_names.specs.declared.scope.Scope.{Scope}
+use Rattle.hd_names.specs.declared.table.Table.{Table}
+use Rattle.hd_names.specs.declared.fault.Fault.TheVariants.{UnknownName, WrongArity}
+use Rattle.hd_names.specs.Fault.{◌or◌}
+use Rattle.hd_names.specs.Names.{is_named, number_in, unknown_in, spelled}
 use Rattle.hd_check.specs.Terms.{lifted_term, term_fault, type_of_term, type_fault, wrong_type, argument_fault, arguments_fault, parameters_of, arity_fault, applied_fault, lifted_applied}
 use Rattle.hd_check.specs.WellFormed.{IsArgumentOf, IsApplied}
 

@@ -14,10 +14,10 @@ use Rattle.hd_terms.specs.Expression as trees
 use Rattle.hd_pddl.specs.declared.tree.Action.{Action}
 use Rattle.hd_lifted.specs.declared.task.LiftedTask.{LiftedTask}
 use Rattle.hd_lifted.specs.Types.{object}
-use Rattle.hd_check.specs.declared.scope.Scope.{Scope}
-use Rattle.hd_check.specs.declared.table.Table.{Table}
-use Rattle.hd_check.specs.Fault.{◌or◌}
-use Rattle.hd_check.specs.Names.{duplicate_in, declared_fault, type_number}
+use Rattle.hd_names.specs.declared.scope.Scope.{Scope}
+use Rattle.hd_names.specs.declared.table.Table.{Table}
+use Rattle.hd_names.specs.Fault.{◌or◌}
+use Rattle.hd_names.specs.Names.{duplicate_in, declared_fault, type_number}
 use Rattle.hd_check.specs.Terms.{lifted_term, term_fault, type_of_term, applied_fault, expression_fault, lifted_expression}
 use Rattle.hd_check.specs.Conditions.{part_fault, condition_fault, comparison_fault, lifted_condition, lifted_equality, lifted_comparison}
 use Rattle.hd_check.specs.Effects.{effects_fault, change_fault, lifted_effect, adds_in, deletes_in, changes_in}

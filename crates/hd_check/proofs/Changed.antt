@@ -11,15 +11,15 @@ use Rattle.hd_terms.specs.declared.tree.Effect.{Effect}
 use Rattle.hd_terms.specs.declared.tree.Effect.TheVariants as effects
 use Rattle.hd_pddl.specs.declared.tree.Action.{Action}
 use Rattle.hd_lifted.specs.declared.schema.NumericEffect.{NumericEffect}
-use Rattle.hd_check.specs.declared.scope.Scope.{Scope}
-use Rattle.hd_check.specs.declared.table.Table.{Table}
-use Rattle.hd_check.specs.Fault.{◌or◌}
-use Rattle.hd_check.specs.Names.{is_named, with_name, number_in, duplicate_in, declared_fault}
+use Rattle.hd_names.specs.declared.scope.Scope.{Scope}
+use Rattle.hd_names.specs.declared.table.Table.{Table}
+use Rattle.hd_names.specs.Fault.{◌or◌}
+use Rattle.hd_names.specs.Names.{is_named, with_name, number_in, duplicate_in, declared_fault}
 use Rattle.hd_check.specs.Terms.{applied_fault, expression_fault}
 use Rattle.hd_check.specs.Conditions.{condition_fault}
 use Rattle.hd_check.specs.Effects.{effect_fault, effects_fault, change_fault, changes_in}
 use Rattle.hd_check.specs.Schemas.{parameters_in, body_fault, action_fault, actions_fault, schema_with, lifted_schema}
-use Rattle.hd_check.specs.Metric.{changed_in, changed_by}
+use Rattle.hd_metric.specs.Metric.{changed_in, changed_by}
 use Rattle.hd_check.specs.MetricUse.{LeavesAlone}
 use Rattle.hd_check.proofs.Arguments.{or_none}
 use Rattle.hd_check.proofs.MetricNames.{position-there, other_number, fluent_named}

@@ -21,20 +21,20 @@ use Rattle.hd_lifted.specs.declared.task.Signature.{Signature}
 use Rattle.hd_lifted.specs.Objects.{IsOfType}
 use Rattle.hd_check.specs.declared.fault.Source.{Source}
 use Rattle.hd_check.specs.declared.fault.Source.TheVariants.{Domain, Problem}
-use Rattle.hd_check.specs.declared.fault.Fault.{Fault}
-use Rattle.hd_check.specs.declared.fault.Fault.TheVariants.{InitOutOfRange}
+use Rattle.hd_names.specs.declared.fault.Fault.{Fault}
+use Rattle.hd_names.specs.declared.fault.Fault.TheVariants.{InitOutOfRange}
 use Rattle.hd_check.specs.declared.fault.CheckError.TheVariants.{In}
-use Rattle.hd_check.specs.declared.scope.Scope.{Scope}
-use Rattle.hd_check.specs.declared.table.Table.{Table}
-use Rattle.hd_check.specs.Fault.{◌or◌}
-use Rattle.hd_check.specs.Names.{type_number, types_of, names_of, declared_fault, number_in}
-use Rattle.hd_check.specs.Scope.{scope_of, with_objects, scope_fault, signature_table, type_names, parents_of}
+use Rattle.hd_names.specs.declared.scope.Scope.{Scope}
+use Rattle.hd_names.specs.declared.table.Table.{Table}
+use Rattle.hd_names.specs.Fault.{◌or◌}
+use Rattle.hd_names.specs.Names.{type_number, types_of, names_of, declared_fault, number_in}
+use Rattle.hd_names.specs.Scope.{scope_of, with_objects, scope_fault, signature_table, type_names, parents_of}
 use Rattle.hd_check.specs.Terms.{applied_fault, lifted_applied}
 use Rattle.hd_check.specs.Conditions.{condition_fault}
 use Rattle.hd_check.specs.Effects.{is_metric}
 use Rattle.hd_check.specs.Schemas.{actions_fault}
 use Rattle.hd_check.specs.Initial.{no_parameters, object_in, grounded, ground_of, key_of, range_fault, second_value, valued, with_value, value_fault, initial_fault, atoms_in, values_in}
-use Rattle.hd_check.specs.Metric.{metric_name_fault}
+use Rattle.hd_check.specs.MetricName.{metric_name_fault}
 use Rattle.hd_check.specs.Whole.{lifted_object, lifted_signature, domain_in, lifted_domain, problem_in, lifted_problem, task_with, task_behind, task_below, lifted_task, in_text, domain_fault, fault_in_problem, problem_fault, metric_fault, fault_behind, fault_below, IsFaultless}
 use Rattle.hd_check.specs.WellFormed.{IsArgumentOf, IsApplied, IsGround, IsFirstValue, IsWellFormed}
 use Rattle.hd_check.proofs.Arguments.{Agrees, Lists, or_none, if_none, some_and, applied}

@@ -13,17 +13,17 @@ use Rattle.hd_pddl.specs.declared.tree.Init.{Init}
 use Rattle.hd_pddl.specs.declared.tree.Init.TheVariants as inits
 use Rattle.hd_lifted.specs.declared.schema.Ground.{Ground}
 use Rattle.hd_lifted.specs.declared.task.InitialValue.{InitialValue}
-use Rattle.hd_check.specs.declared.fault.Fault.TheVariants.{Duplicate}
+use Rattle.hd_names.specs.declared.fault.Fault.TheVariants.{Duplicate}
 use Rattle.hd_check.specs.declared.fault.Source.TheVariants.{Domain, Problem}
-use Rattle.hd_check.specs.declared.scope.Scope.{Scope}
-use Rattle.hd_check.specs.Fault.{◌or◌}
-use Rattle.hd_check.specs.Names.{declared_fault, number_in}
-use Rattle.hd_check.specs.Scope.{scope_of, with_objects, type_names, parents_of}
+use Rattle.hd_names.specs.declared.scope.Scope.{Scope}
+use Rattle.hd_names.specs.Fault.{◌or◌}
+use Rattle.hd_names.specs.Names.{declared_fault, number_in}
+use Rattle.hd_names.specs.Scope.{scope_of, with_objects, type_names, parents_of}
 use Rattle.hd_check.specs.Terms.{applied_fault}
 use Rattle.hd_check.specs.Conditions.{condition_fault}
 use Rattle.hd_check.specs.Effects.{is_metric}
 use Rattle.hd_check.specs.Initial.{no_parameters, key_of, range_fault, second_value, valued, with_value, value_fault, initial_fault, values_in}
-use Rattle.hd_check.specs.Metric.{metric_name_fault}
+use Rattle.hd_check.specs.MetricName.{metric_name_fault}
 use Rattle.hd_check.specs.Whole.{domain_in, lifted_domain, problem_in, lifted_problem, task_with, task_behind, task_below, lifted_task, in_text, domain_fault, fault_in_problem, problem_fault, metric_fault, fault_behind, fault_below, IsFaultless}
 use Rattle.hd_check.specs.WellFormed.{AreOfDifferentFluents}
 use Rattle.hd_check.proofs.Arguments.{or_none, if_some}

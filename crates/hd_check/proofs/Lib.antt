@@ -1,11 +1,12 @@
-pub mod NameLists
-pub mod Cycles
-pub mod Telling
-pub mod Standing
+pub mod Apart
 pub mod Arguments
 pub mod Bodies
+pub mod Changed
 pub mod Faultless
 pub mod FirstValues
+pub mod FluentKeys
 pub mod MetricNames
-pub mod Changed
 pub mod MetricUse
+pub mod NoCosts
+pub mod Standing
+pub mod Telling

@@ -23,17 +23,17 @@ use Rattle.hd_pddl.specs.declared.tree.Init.TheVariants as inits
 use Rattle.hd_lifted.specs.declared.schema.Schema.{Schema}
 use Rattle.hd_lifted.specs.declared.task.InitialValue.{InitialValue}
 use Rattle.hd_lifted.specs.Effects.{is_cost}
-use Rattle.hd_check.specs.declared.fault.Fault.TheVariants.{UnknownName}
-use Rattle.hd_check.specs.declared.scope.Scope.{Scope}
-use Rattle.hd_check.specs.declared.table.Table.{Table}
-use Rattle.hd_check.specs.Fault.{◌or◌}
-use Rattle.hd_check.specs.Names.{is_named, number_in, or_zero, unknown_in, spelled, duplicate_in, declared_fault}
+use Rattle.hd_names.specs.declared.fault.Fault.TheVariants.{UnknownName}
+use Rattle.hd_names.specs.declared.scope.Scope.{Scope}
+use Rattle.hd_names.specs.declared.table.Table.{Table}
+use Rattle.hd_names.specs.Fault.{◌or◌}
+use Rattle.hd_names.specs.Names.{is_named, number_in, or_zero, unknown_in, spelled, duplicate_in, declared_fault}
 use Rattle.hd_check.specs.Terms.{parameters_of, arity_fault, arguments_fault, applied_fault, expression_fault, lifted_expression}
 use Rattle.hd_check.specs.Conditions.{part_fault, condition_fault, comparisons_in}
 use Rattle.hd_check.specs.Effects.{effect_fault, effects_fault, change_fault, is_metric, lifted_change, lifted_effect, changes_in}
 use Rattle.hd_check.specs.Schemas.{parameters_in, body_fault, action_fault, actions_fault, schema_with, lifted_schema}
 use Rattle.hd_check.specs.Initial.{valued, values_in}
-use Rattle.hd_check.specs.Metric.{read_in, read_by_part, read_by_condition, is_fixed, change_of_metric, misused_by_change, misused_by_effect, misused_by_action, misused_by_actions}
+use Rattle.hd_metric.specs.Metric.{read_in, read_by_part, read_by_condition, is_fixed, change_of_metric, misused_by_change, misused_by_effect, misused_by_action, misused_by_actions}
 use Rattle.hd_check.specs.MetricUse.{IsFreeOf, ComparesWithout, IsFixed, LeavesAlone, AmountFits, IsCostOf, CountsCost}
 use Rattle.hd_check.proofs.Arguments.{or_none, if_none, if_some, before_found}
 

@@ -12,16 +12,17 @@ use Rattle.hd_pddl.specs.declared.tree.DomainAst.{DomainAst}
 use Rattle.hd_pddl.specs.declared.tree.ProblemAst.{ProblemAst}
 use Rattle.hd_lifted.specs.declared.task.Signature.{Signature}
 use Rattle.hd_check.specs.declared.fault.Source.TheVariants.{Domain, Problem}
-use Rattle.hd_check.specs.declared.fault.Fault.TheVariants.{UnknownName, WrongArity, BadMetric}
-use Rattle.hd_check.specs.declared.table.Table.{Table}
-use Rattle.hd_check.specs.Fault.{◌or◌}
-use Rattle.hd_check.specs.Names.{is_named, number_in, or_zero, unknown_in, spelled, declared_fault}
-use Rattle.hd_check.specs.Scope.{scope_of, with_objects, scope_fault, metric_in, type_names, parents_of}
+use Rattle.hd_names.specs.declared.fault.Fault.TheVariants.{UnknownName, WrongArity, BadMetric}
+use Rattle.hd_names.specs.declared.table.Table.{Table}
+use Rattle.hd_names.specs.Fault.{◌or◌}
+use Rattle.hd_names.specs.Names.{is_named, number_in, or_zero, unknown_in, spelled, declared_fault}
+use Rattle.hd_names.specs.Scope.{scope_of, with_objects, scope_fault, metric_in, type_names, parents_of}
 use Rattle.hd_check.specs.Terms.{parameters_of}
 use Rattle.hd_check.specs.Conditions.{condition_fault}
 use Rattle.hd_check.specs.Schemas.{actions_fault}
 use Rattle.hd_check.specs.Initial.{no_parameters, initial_fault}
-use Rattle.hd_check.specs.Metric.{changed_by, read_by_condition, nonzero_in, missing_in, metric_name_fault, bad_metric, misused_in_domain, misused_in_problem, misused_by_actions}
+use Rattle.hd_metric.specs.Metric.{changed_by, read_by_condition, nonzero_in, missing_in, misused_in_domain, misused_in_problem, misused_by_actions}
+use Rattle.hd_check.specs.MetricName.{metric_name_fault, bad_metric}
 use Rattle.hd_check.specs.Whole.{domain_in, lifted_domain, problem_in, lifted_problem, task_with, task_behind, task_below, lifted_task, in_text, domain_fault, fault_in_problem, problem_fault, metric_fault, fault_behind, fault_below, IsFaultless}
 use Rattle.hd_check.specs.MetricUse.{IsCostFunction}
 use Rattle.hd_check.proofs.Arguments.{Lists, or_none, if_none, some_and, named-number, signature-there}

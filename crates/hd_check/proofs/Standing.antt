@@ -6,7 +6,7 @@ use Rattle.hd_lifted.specs.declared.task.LiftedTask.{LiftedTask}
 use Rattle.hd_lifted.specs.Types.{IsAcyclic}
 use Rattle.hd_check.specs.declared.fault.CheckError.{CheckError}
 use Rattle.hd_check.specs.declared.fault.CheckError.TheVariants.{In, NoMemory}
-use Rattle.hd_check.specs.Scope.{type_names, parents_of}
+use Rattle.hd_names.specs.Scope.{type_names, parents_of}
 use Rattle.hd_check.specs.Whole.{ChecksTexts, ClimbsText, Answers, Stands, before_cycles, on_cycle, behind_cycles, fault_before_cycles, fault_below, task_below}
 
 -- a fault before the cycles of types

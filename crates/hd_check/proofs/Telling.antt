@@ -1,10 +1,10 @@
 -- What a part answers, told of its text.
 use Rattle.std.proofs.Common.{Option, Result, Ok, Err, ap}
 use Rattle.hd_check.specs.declared.fault.Source.{Source}
-use Rattle.hd_check.specs.declared.fault.Fault.{Fault}
-use Rattle.hd_check.specs.declared.fault.Stop.{Stop}
-use Rattle.hd_check.specs.declared.fault.Stop.TheVariants.{At, NoMemory}
-use Rattle.hd_check.specs.Fault.{Checks}
+use Rattle.hd_names.specs.declared.fault.Fault.{Fault}
+use Rattle.hd_names.specs.declared.fault.Stop.{Stop}
+use Rattle.hd_names.specs.declared.fault.Stop.TheVariants.{At, NoMemory}
+use Rattle.hd_names.specs.Fault.{Checks}
 use Rattle.hd_check.specs.Whole.{ChecksTexts, told, in_text}
 
 -- a part that tells its first fault tells it of its text

@@ -9,10 +9,10 @@ use Rattle.hd_lifted.specs.declared.schema.Literal.{Literal}
 use Rattle.hd_lifted.specs.declared.schema.Equality.{Equality}
 use Rattle.hd_lifted.specs.declared.schema.Comparison.{Comparison}
 use Rattle.hd_lifted.specs.declared.schema.Condition.{Condition}
-use Rattle.hd_check.specs.declared.scope.Scope.{Scope}
-use Rattle.hd_check.specs.declared.table.Table.{Table}
-use Rattle.hd_check.specs.declared.fault.Fault.{Fault}
-use Rattle.hd_check.specs.Fault.{◌or◌}
+use Rattle.hd_names.specs.declared.scope.Scope.{Scope}
+use Rattle.hd_names.specs.declared.table.Table.{Table}
+use Rattle.hd_names.specs.declared.fault.Fault.{Fault}
+use Rattle.hd_names.specs.Fault.{◌or◌}
 use Rattle.hd_check.specs.Terms.{lifted_term, term_fault, applied_fault, lifted_applied, expression_fault, lifted_expression}
 
 -- the first fault of an equality of objects, which may be of any types

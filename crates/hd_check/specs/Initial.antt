@@ -12,12 +12,12 @@ use Rattle.hd_lifted.specs.declared.schema.Argument.TheVariants.{Parameter, Obje
 use Rattle.hd_lifted.specs.declared.schema.Ground.{Ground}
 use Rattle.hd_lifted.specs.declared.task.InitialValue.{InitialValue}
 use Rattle.hd_check.specs.declared.initial.Initial.{Initial}
-use Rattle.hd_check.specs.declared.scope.Scope.{Scope}
-use Rattle.hd_check.specs.declared.table.Table.{Table}
-use Rattle.hd_check.specs.declared.fault.Fault.{Fault}
-use Rattle.hd_check.specs.declared.fault.Fault.TheVariants.{Duplicate, InitOutOfRange}
-use Rattle.hd_check.specs.Fault.{◌or◌}
-use Rattle.hd_check.specs.Names.{number_in}
+use Rattle.hd_names.specs.declared.scope.Scope.{Scope}
+use Rattle.hd_names.specs.declared.table.Table.{Table}
+use Rattle.hd_names.specs.declared.fault.Fault.{Fault}
+use Rattle.hd_names.specs.declared.fault.Fault.TheVariants.{Duplicate, InitOutOfRange}
+use Rattle.hd_names.specs.Fault.{◌or◌}
+use Rattle.hd_names.specs.Names.{number_in}
 use Rattle.hd_check.specs.Terms.{applied_fault, lifted_applied}
 use Rattle.hd_check.specs.Effects.{is_metric}
 

@@ -26,6 +26,10 @@ ComparesWithout f c = IsFreeOf f c.left × IsFreeOf f c.right
 abbrev pub LeavesAlone : ℕ → Schema → Type 0
 LeavesAlone g a = AllByRecursion (λ (e : NumericEffect). e.fluent.symbol ≢ g) a.effects
 
+-- no effect of a schema is a cost
+abbrev pub HasNoCost : Schema → Type 0
+HasNoCost a = AllByRecursion (λ (e : NumericEffect). is_cost e.change ≡ false) a.effects
+
 -- an amount is a number, or a fluent of a function that no schema changes
 abbrev pub IsFixed : List Schema → Expression → Type 0
 IsFixed as' (number v) = Unit {0}

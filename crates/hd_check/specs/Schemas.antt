@@ -3,12 +3,12 @@ use Rattle.std.specs.Prelude.{ℕ, List, [], ◌∷◌, ◌++◌, Option, None}
 use Rattle.hd_terms.specs.declared.typed.ItemKind.TheVariants as kinds
 use Rattle.hd_pddl.specs.declared.tree.Action.{Action}
 use Rattle.hd_lifted.specs.declared.schema.Schema.{Schema}
-use Rattle.hd_check.specs.declared.scope.Scope.{Scope}
-use Rattle.hd_check.specs.declared.table.Table.{Table}
-use Rattle.hd_check.specs.declared.fault.Fault.{Fault}
-use Rattle.hd_check.specs.Fault.{◌or◌}
-use Rattle.hd_check.specs.Names.{declared_fault, duplicate_in}
-use Rattle.hd_check.specs.Scope.{typed_table}
+use Rattle.hd_names.specs.declared.scope.Scope.{Scope}
+use Rattle.hd_names.specs.declared.table.Table.{Table}
+use Rattle.hd_names.specs.declared.fault.Fault.{Fault}
+use Rattle.hd_names.specs.Fault.{◌or◌}
+use Rattle.hd_names.specs.Names.{declared_fault, duplicate_in}
+use Rattle.hd_names.specs.Scope.{typed_table}
 use Rattle.hd_check.specs.Conditions.{condition_fault, lifted_condition}
 use Rattle.hd_check.specs.Effects.{effects_fault, adds_in, deletes_in, changes_in}
 

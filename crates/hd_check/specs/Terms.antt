@@ -11,12 +11,12 @@ use Rattle.hd_lifted.specs.declared.schema.Argument.TheVariants.{Parameter, Obje
 use Rattle.hd_lifted.specs.declared.schema.Applied.{Applied}
 use Rattle.hd_lifted.specs.Expression.{Expression, number, fluent, negate, binary}
 use Rattle.hd_lifted.specs.Types.{is_subtype}
-use Rattle.hd_check.specs.declared.scope.Scope.{Scope}
-use Rattle.hd_check.specs.declared.table.Table.{Table}
-use Rattle.hd_check.specs.declared.fault.Fault.{Fault}
-use Rattle.hd_check.specs.declared.fault.Fault.TheVariants.{WrongArity, WrongType}
-use Rattle.hd_check.specs.Fault.{◌or◌}
-use Rattle.hd_check.specs.Names.{number_in, unknown_in, spelled}
+use Rattle.hd_names.specs.declared.scope.Scope.{Scope}
+use Rattle.hd_names.specs.declared.table.Table.{Table}
+use Rattle.hd_names.specs.declared.fault.Fault.{Fault}
+use Rattle.hd_names.specs.declared.fault.Fault.TheVariants.{WrongArity, WrongType}
+use Rattle.hd_names.specs.Fault.{◌or◌}
+use Rattle.hd_names.specs.Names.{number_in, unknown_in, spelled}
 
 -- ---- terms, among these parameters
 

@@ -1,6 +1,6 @@
--- When a lifted task is well formed: every number in it is that of something declared, which is of the type that is asked. (The
--- rules of names and types are those of PDDL 2.1.)
-use Rattle.std.specs.Prelude.{◌≡◌, ◌≢◌, ℕ, true, List, [], ◌∷◌, slice_get}
+-- When a lifted task is well formed: each number of a predicate, a function, a parameter or an object in it is that of one declared, and
+-- arguments are of the types asked; of the numbers of types nothing is said. (The rules of names and types are those of PDDL 2.1.)
+use Rattle.std.specs.Prelude.{◌≡◌, ◌≢◌, ℕ, true, false, List, [], ◌∷◌, ◌++◌, map, slice_get}
 use Rattle.std.specs.List.{AllZip, AllByRecursion}
 use Rattle.std.specs.Option.{IsSomeAnd}
 use Rattle.hd_lifted.specs.declared.schema.Argument.{Argument}
@@ -15,11 +15,13 @@ use Rattle.hd_lifted.specs.declared.schema.NumericEffect.{NumericEffect}
 use Rattle.hd_lifted.specs.declared.schema.Schema.{Schema}
 use Rattle.hd_lifted.specs.declared.task.InitialValue.{InitialValue}
 use Rattle.hd_lifted.specs.declared.task.LiftedTask.{LiftedTask}
+use Rattle.hd_lifted.specs.declared.task.Object as declared
 use Rattle.hd_lifted.specs.declared.task.Signature.{Signature}
 use Rattle.hd_lifted.specs.Expression.{Expression, number, fluent, negate, binary}
 use Rattle.hd_lifted.specs.Expressions.{in_range}
 use Rattle.hd_lifted.specs.Objects.{IsOfType, AreOfTypes}
 use Rattle.hd_lifted.specs.Types.{IsSubtype}
+use Rattle.hd_names.specs.Names.{is_named}
 
 -- ---- arguments, where the parameters are of these types
 
@@ -86,6 +88,24 @@ pub record IsSchema (t : LiftedTask) (a : Schema) : Type 0 where
 abbrev pub AreOfDifferentFluents : List InitialValue → Type 0
 AreOfDifferentFluents [] = Unit {0}
 AreOfDifferentFluents (v ∷ vs) = AllByRecursion (λ (w : InitialValue). v.fluent ≢ w.fluent) vs × AreOfDifferentFluents vs
+
+-- ---- names
+
+-- each of these names is none of those before it, and none of the given ones
+abbrev pub AreNew : List (List ℕ) → List (List ℕ) → Type 0
+AreNew given [] = Unit {0}
+AreNew given (n ∷ names) = (is_named given n ≡ false) × AreNew (given ++ n ∷ []) names
+
+-- no name stands twice
+abbrev pub AreDistinct : List (List ℕ) → Type 0
+AreDistinct names = AreNew [] names
+
+-- no two objects, no two predicates, no two functions and no two schemas have one name
+pub record HasDistinctNames (t : LiftedTask) : Type 0 where
+  pub objects : AreDistinct (map (λ (o : declared.Object). o.name) t.objects)
+  pub predicates : AreDistinct (map (λ (s : Signature). s.name) t.predicates)
+  pub functions : AreDistinct (map (λ (s : Signature). s.name) t.functions)
+  pub schemas : AreDistinct (map (λ (a : Schema). a.name) t.schemas)
 
 -- ---- the whole
 

@@ -16,19 +16,21 @@ use Rattle.hd_check.specs.declared.checking.DomainPart.{DomainPart}
 use Rattle.hd_check.specs.declared.checking.ProblemPart.{ProblemPart}
 use Rattle.hd_check.specs.declared.fault.Source.{Source}
 use Rattle.hd_check.specs.declared.fault.Source.TheVariants.{Domain, Problem}
-use Rattle.hd_check.specs.declared.fault.Fault.{Fault}
-use Rattle.hd_check.specs.declared.fault.Fault.TheVariants.{DomainMismatch}
-use Rattle.hd_check.specs.declared.fault.Stop.{Stop}
+use Rattle.hd_names.specs.declared.fault.Fault.{Fault}
+use Rattle.hd_names.specs.declared.fault.Fault.TheVariants.{DomainMismatch}
+use Rattle.hd_names.specs.declared.fault.Stop.{Stop}
 use Rattle.hd_check.specs.declared.fault.CheckError.{CheckError}
 use Rattle.hd_check.specs.declared.fault.CheckError.TheVariants.{In, NoMemory}
-use Rattle.hd_check.specs.declared.scope.Scope.{Scope}
-use Rattle.hd_check.specs.Fault.{◌or◌, told_in}
-use Rattle.hd_check.specs.Names.{type_number, types_of, declared_fault}
-use Rattle.hd_check.specs.Scope.{type_names, types_fault, parents_of, TellsCycle, scope_fault, scope_of, with_objects}
+use Rattle.hd_names.specs.declared.scope.Scope.{Scope}
+use Rattle.hd_names.specs.Fault.{◌or◌}
+use Rattle.hd_check.specs.Fault.{told_in}
+use Rattle.hd_names.specs.Names.{type_number, types_of, declared_fault}
+use Rattle.hd_names.specs.Scope.{type_names, types_fault, parents_of, TellsCycle, scope_fault, scope_of, with_objects}
 use Rattle.hd_check.specs.Schemas.{actions_fault, lifted_schema}
 use Rattle.hd_check.specs.Conditions.{condition_fault, lifted_condition}
 use Rattle.hd_check.specs.Initial.{no_parameters, initial_fault, lifted_initial}
-use Rattle.hd_check.specs.Metric.{metric_name_fault, bad_metric, misused_in_domain, misused_in_problem}
+use Rattle.hd_metric.specs.Metric.{misused_in_domain, misused_in_problem}
+use Rattle.hd_check.specs.MetricName.{metric_name_fault, bad_metric}
 
 -- ---- what they stand for
 

@@ -1,7 +1,8 @@
 //! Lifted tasks in which no fault stands.
-ghost use Rattle.std.specs.Prelude.{◌≡◌, ℕ, Some};
-ghost use Rattle.hd_check.specs.MetricUse.{IsCostFunction};
-ghost use Rattle.hd_check.specs.WellFormed.{IsWellFormed, AreOfDifferentFluents};
+ghost use Rattle.std.specs.Prelude.{◌≡◌, ℕ, None, Some};
+ghost use Rattle.std.specs.List.{AllByRecursion};
+ghost use Rattle.hd_check.specs.MetricUse.{HasNoCost, IsCostFunction};
+ghost use Rattle.hd_check.specs.WellFormed.{IsWellFormed, HasDistinctNames, AreOfDifferentFluents};
 ghost use Rattle.hd_check.specs.Whole.{IsOfTexts};
 
 use hd_lifted::LiftedTask;
@@ -43,8 +44,10 @@ impl Checked {
         ensures task { result.now ≡ self.now }
         ensures faultless { IsOfTexts result.now }
         ensures well_formed { IsWellFormed result.now }
+        ensures names { HasDistinctNames result.now }
         ensures values { AreOfDifferentFluents result.now.values }
         ensures metric { (f : ℕ) → result.now.metric ≡ Some f → IsCostFunction result.now f }
+        ensures no_metric { result.now.metric ≡ None → AllByRecursion HasNoCost result.now.schemas }
     {
         &self.task
     }

@@ -1,30 +1,28 @@
 //! The check of a domain and a problem.
 ghost use Rattle.std.specs.Prelude.{◌≡◌, ◌++◌, [], None, map, IfOk};
-ghost use Rattle.hd_terms.specs.declared.typed.ItemKind.TheVariants as kinds;
-ghost use Rattle.hd_check.specs.Fault.{Checks};
+ghost use Rattle.hd_names.specs.Fault.{Checks};
 ghost use Rattle.hd_check.specs.declared.fault.Source.TheVariants as sources;
-ghost use Rattle.hd_check.specs.Scope.{type_names, metric_in, scope_fault, scope_of, with_objects};
-ghost use Rattle.hd_check.specs.Names.{declared_fault};
-ghost use Rattle.hd_check.specs.Metric.{bad_metric};
+ghost use Rattle.hd_names.specs.Scope.{type_names, scope_fault, scope_of, with_objects};
+ghost use Rattle.hd_check.specs.MetricName.{bad_metric};
 ghost use Rattle.hd_check.specs.Schemas.{actions_fault};
 ghost use Rattle.hd_check.specs.Whole.{ChecksTexts, ClimbsText, told, in_text, lifted_object, lifted_signature, domain_in, lifted_domain, problem_in, lifted_problem, task_with, task_behind, task_below, fault_before_cycles, domain_fault, fault_in_problem, problem_fault, metric_fault, fault_behind, fault_below, Answers};
 
 use crate::checked::Checked;
 use crate::conditions::condition_of;
-use crate::declared::{declare_all, signatures_of, table_of};
-use crate::fault::{CheckError, Fault, Source, Stop, told_in};
+use crate::fault::{CheckError, Source, told_in};
 use crate::initial::{Initial, initial_of, no_parameters};
-use crate::metric::{check_metric_name, misused_in_domain, misused_in_problem};
-use crate::names::{Names, copied};
+use crate::metric::check_metric_name;
 use crate::schemas::schemas_of;
-use crate::scope::Scope;
-use crate::table::Table;
-use crate::types::{hierarchy_of, number_of_type, numbers_of_types, types_of};
 use hd_forms::NameAt;
 use hd_lifted::{Condition, Hierarchy, LiftedTask, Object, Schema, Signature};
 use hd_list::Sequence;
+use hd_metric::{misused_in_domain, misused_in_problem};
+use hd_names::{
+    Fault, Names, Scope, Stop, copied, hierarchy_of, number_of_type, numbers_of_types, scope_of,
+    types_of, with_objects,
+};
 use hd_pddl::{DomainAst, ProblemAst};
-use hd_terms::{ItemKind, Typed};
+use hd_terms::Typed;
 use std::alloc::{AllocError, Global};
 
 /// What a domain's constants, predicates, functions and actions stand for.
@@ -70,41 +68,6 @@ fn before_cycles(
     }
 }
 
-/// The number of the metric's function.
-fn metric_of(functions: &Names, metric: &Option<NameAt>) -> Option<usize>
-    ensures { result ≡ metric_in functions.now metric.now }
-{
-    match metric {
-        Some(name) => functions.place_of(&name.name),
-        None => None,
-    }
-}
-
-/// What names stand for in a domain whose types have these names and this hierarchy.
-#[tactic(auto, unfolding(crate::specs::Scope::scope_of, crate::specs::Scope::scope_fault))]
-fn scope_of(
-    alloc: Global,
-    types: Names,
-    hierarchy: Hierarchy,
-    domain: &DomainAst,
-    metric: &Option<NameAt>,
-) -> Result<Scope, Stop>
-    ensures { Checks result (scope_fault types domain.now) (scope_of types hierarchy domain.now metric.now) }
-{
-    let objects = table_of(alloc, ItemKind::Name, &types, domain.constants.as_slice())?;
-    let predicates = signatures_of(alloc, &types, domain.predicates.as_slice())?;
-    let functions = signatures_of(alloc, &types, domain.functions.as_slice())?;
-    let metric = metric_of(&functions.names, metric);
-    Ok(Scope {
-        types,
-        hierarchy,
-        objects,
-        predicates,
-        functions,
-        metric,
-    })
-}
-
 /// What a domain's actions stand for in this scope.
 #[tactic(auto, unfolding(crate::specs::Whole::domain_in))]
 fn domain_in(alloc: Global, scope: Scope, domain: &DomainAst) -> Result<DomainPart, Stop>
@@ -127,36 +90,6 @@ fn domain_part(
 {
     let scope = scope_of(alloc, types, hierarchy, domain, metric)?;
     domain_in(alloc, scope, domain)
-}
-
-/// A scope with objects behind those that are there.
-#[tactic(auto, unfolding(crate::specs::Scope::with_objects))]
-fn with_objects(alloc: Global, scope: Scope, declared: &[Typed]) -> Result<Scope, Stop>
-    ensures { Checks result (declared_fault kinds.Name scope.types scope.objects.names declared.now) (with_objects scope declared.now) }
-{
-    let Scope {
-        types,
-        hierarchy,
-        objects,
-        predicates,
-        functions,
-        metric,
-    } = scope;
-    let Table { mut names, items } = objects;
-    let mut numbers = items.into_vec();
-    let more = declare_all(alloc, ItemKind::Name, &types, &mut names, declared)?;
-    numbers.extend_from_slice(more.as_slice())?;
-    Ok(Scope {
-        types,
-        hierarchy,
-        objects: Table {
-            names,
-            items: Sequence::from_vec(numbers),
-        },
-        predicates,
-        functions,
-        metric,
-    })
 }
 
 /// What a problem's part stands for in this scope, which has its objects.
@@ -393,7 +326,8 @@ fn task_in(
 ///
 /// The first fault, in the order of the texts: that the problem names another domain, then the types, constants,
 /// predicates, functions and actions of the domain, then the objects, initial state, goal and metric of the problem.
-/// `NoMemory` where memory runs out.
+/// Of types on cycles any may be told by the contract; that it is the first listed is tested. `NoMemory` where memory runs
+/// out.
 pub fn check(alloc: Global, domain: DomainAst, problem: ProblemAst) -> Result<Checked, CheckError>
     ensures { Answers domain problem result }
 {

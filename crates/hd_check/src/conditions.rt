@@ -1,17 +1,15 @@
 //! Conditions.
 ghost use Rattle.std.specs.Prelude.{◌++◌};
-ghost use Rattle.hd_check.specs.Fault.{Checks, Leaves};
+ghost use Rattle.hd_names.specs.Fault.{Checks, Leaves};
 ghost use Rattle.hd_check.specs.Terms.{applied_fault};
 ghost use Rattle.hd_check.specs.Conditions.{equality_fault, comparison_fault, part_fault, condition_fault, lifted_literal, lifted_equality, lifted_comparison};
 ghost use Rattle.hd_check.specs.Conditions.{literals_of, equalities_of, comparisons_of, lifted_condition};
 
 use crate::expressions::expression_of;
-use crate::fault::Stop;
-use crate::scope::Scope;
-use crate::table::Table;
 use crate::terms::{applied_of, term_of};
 use hd_lifted::{Comparison, Condition, Equality, Literal};
 use hd_list::Sequence;
+use hd_names::{Scope, Stop, Table};
 use hd_terms::{Atom, Term};
 use std::alloc::Global;
 

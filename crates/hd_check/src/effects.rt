@@ -1,16 +1,14 @@
 //! Effects.
 ghost use Rattle.std.specs.Prelude.{◌≡◌, ◌++◌};
-ghost use Rattle.hd_check.specs.Fault.{Checks, Leaves};
+ghost use Rattle.hd_names.specs.Fault.{Checks, Leaves};
 ghost use Rattle.hd_check.specs.Effects.{is_metric, lifted_change, change_fault, effect_fault, effects_fault, lifted_effect};
 ghost use Rattle.hd_check.specs.Effects.{deletes_of, adds_of, changes_of, lifted_effects};
 
 use crate::expressions::expression_of;
-use crate::fault::Stop;
-use crate::scope::Scope;
-use crate::table::Table;
 use crate::terms::applied_of;
 use hd_lifted::{Applied, Change, NumericEffect};
 use hd_list::Sequence;
+use hd_names::{Scope, Stop, Table};
 use hd_terms::{Effect, FluentChange};
 use std::alloc::Global;
 

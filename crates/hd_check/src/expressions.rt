@@ -1,11 +1,9 @@
 //! Numeric expressions.
-ghost use Rattle.hd_check.specs.Fault.{Checks};
+ghost use Rattle.hd_names.specs.Fault.{Checks};
 ghost use Rattle.hd_check.specs.Terms.{expression_fault, lifted_expression};
 
-use crate::fault::Stop;
-use crate::scope::Scope;
-use crate::table::Table;
 use crate::terms::applied_of;
+use hd_names::{Scope, Stop, Table};
 use hd_terms::ExprParts;
 use std::alloc::Global;
 

@@ -1,18 +1,15 @@
 //! What holds at first.
 ghost use Rattle.std.specs.Prelude.{◌≡◌, ◌∷◌, ◌++◌, [], IfOk};
-ghost use Rattle.hd_check.specs.Fault.{Checks, Leaves};
+ghost use Rattle.hd_names.specs.Fault.{Checks, Leaves};
 ghost use Rattle.hd_check.specs.Terms.{applied_fault};
 ghost use Rattle.hd_check.specs.Initial.{no_parameters, object_in, grounded, ground_of, key_of, range_fault, second_value, valued, with_value, value_fault, value_in, initial_fault, lifted_initial};
 
 use crate::effects::is_metric;
-use crate::fault::{Fault, Stop};
 use crate::keys::Keys;
-use crate::names::{Names, duplicate};
-use crate::scope::Scope;
-use crate::table::Table;
 use crate::terms::applied_of;
 use hd_lifted::{Applied, Argument, Ground, InitialValue, Tuple};
 use hd_list::Sequence;
+use hd_names::{Fault, Names, Scope, Stop, Table, duplicate};
 use hd_pddl::Init;
 use hd_terms::{Atom, ItemKind};
 use smallvec::SmallVec;

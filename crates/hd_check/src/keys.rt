@@ -3,7 +3,7 @@ ghost use Rattle.std.specs.Prelude.{◌≡◌, [], not, IfOk};
 ghost use Rattle.std.specs.List.{list_any};
 ghost use Rattle.std.specs.Str.{bytes_eq};
 ghost use Rattle.hd_check.specs.Initial.{key_of};
-ghost use Rattle.hd_check.specs.Names.{with_name};
+ghost use Rattle.hd_names.specs.Names.{with_name};
 
 use hd_lifted::Ground;
 use indexmap::IndexSet;

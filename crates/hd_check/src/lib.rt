@@ -6,7 +6,6 @@
 mod checked;
 mod checking;
 mod conditions;
-mod declared;
 mod effects;
 mod expressions;
 mod fault;
@@ -14,16 +13,13 @@ mod initial;
 mod keys;
 pub mod laws;
 mod metric;
-mod names;
 mod schemas;
-mod scope;
-mod table;
 mod terms;
-mod types;
 
 pub use checked::Checked;
 pub use checking::check;
-pub use fault::{CheckError, Fault, Source};
+pub use fault::{CheckError, Source};
+pub use hd_names::Fault;
 
 #[cfg(test)]
 mod rendering;

@@ -1,17 +1,13 @@
 //! Actions.
 ghost use Rattle.std.specs.Prelude.{[], map};
-ghost use Rattle.hd_check.specs.Fault.{Checks};
+ghost use Rattle.hd_names.specs.Fault.{Checks};
 ghost use Rattle.hd_check.specs.Schemas.{parameters_in, body_fault, action_fault, actions_fault, schema_with, lifted_schema};
 
 use crate::conditions::condition_of;
-use crate::declared::table_of;
 use crate::effects::effects_of;
-use crate::fault::Stop;
-use crate::names::{Names, copied, declare};
-use crate::scope::Scope;
-use crate::table::Table;
 use hd_lifted::Schema;
 use hd_list::Sequence;
+use hd_names::{Names, Scope, Stop, Table, copied, declare, table_of};
 use hd_pddl::Action;
 use hd_terms::ItemKind;
 use std::alloc::Global;

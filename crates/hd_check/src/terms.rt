@@ -1,16 +1,13 @@
 //! Terms, atoms and fluents.
 ghost use Rattle.std.specs.Prelude.{◌≡◌, Some, length, map};
-ghost use Rattle.hd_check.specs.Fault.{Checks, StopsAt};
+ghost use Rattle.hd_names.specs.Fault.{Checks, StopsAt};
 ghost use Rattle.hd_check.specs.Terms.{lifted_term, term_fault, type_of_term, wrong_type, type_fault, argument_fault, arguments_fault, parameters_of, arity_fault, applied_fault, lifted_applied};
-ghost use Rattle.hd_check.specs.declared.fault.Fault.TheVariants.{WrongArity};
+ghost use Rattle.hd_names.specs.declared.fault.Fault.TheVariants.{WrongArity};
 
-use crate::fault::{Fault, Stop};
-use crate::names::{known, spelled};
-use crate::scope::Scope;
-use crate::table::Table;
 use hd_forms::NameAt;
 use hd_lifted::{Applied, Argument, Tuple};
 use hd_list::Sequence;
+use hd_names::{Fault, Scope, Stop, Table, known, spelled};
 use hd_terms::{Atom, ItemKind, Term};
 use smallvec::SmallVec;
 use std::alloc::Global;

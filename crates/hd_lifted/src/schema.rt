@@ -28,6 +28,7 @@ impl Default for Argument {
 /// A predicate or a function, by its number, with its arguments.
 #[derive(Debug, PartialEq, Eq, Drop)]
 pub struct Applied {
+    /// The number of the predicate or function.
     pub symbol: usize,
     pub arguments: Tuple<Argument>,
 }
@@ -35,7 +36,9 @@ pub struct Applied {
 /// A predicate or a function, by its number, with the numbers of objects: a ground atom or fluent.
 #[derive(Debug, PartialEq, Eq, Drop)]
 pub struct Ground {
+    /// The number of the predicate or function.
     pub symbol: usize,
+    /// The objects, by number.
     pub objects: Tuple<usize>,
 }
 
@@ -43,6 +46,7 @@ pub struct Ground {
 #[derive(Debug, PartialEq, Eq, Drop)]
 pub struct Literal {
     pub atom: Applied,
+    /// Whether it has to be true.
     pub positive: bool,
 }
 
@@ -51,6 +55,7 @@ pub struct Literal {
 pub struct Equality {
     pub left: Argument,
     pub right: Argument,
+    /// Whether they have to be the same.
     pub positive: bool,
 }
 
@@ -73,9 +78,13 @@ pub struct Condition {
 /// How a numeric effect changes its fluent.
 #[derive(Clone, Copy, Debug, PartialEq, Eq)]
 pub enum Change {
+    /// The amount is the value.
     Assign,
+    /// The value is multiplied by the amount.
     ScaleUp,
+    /// The amount is added.
     Increase,
+    /// The amount is taken away.
     Decrease,
     /// An increase of the metric's function: a part of the action's cost, which changes no fluent.
     Cost,

@@ -24,6 +24,7 @@ pub struct Signature {
 #[derive(Debug, Drop)]
 pub struct InitialValue {
     pub fluent: Ground,
+    /// From -10^15 to 10^15, where the task was checked.
     pub value: i64,
 }
 

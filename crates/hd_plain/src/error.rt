@@ -9,7 +9,8 @@ use std::alloc::{AllocError, AllocFailed};
 pub enum PlainError {
     /// The lifted task has objects, types, parameters or numbers, which can't be searched yet.
     NotYet,
-    /// The task would have too many actions or atoms.
+    /// The parts of the task do not fit together: there are too many actions or atoms, or an atom that is added or wanted is of
+    /// no predicate that is declared.
     TooLarge,
     /// Memory ran out.
     NoMemory,

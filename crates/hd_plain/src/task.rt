@@ -36,8 +36,9 @@ fn task_with(alloc: Global, lifted: &LiftedTask) -> Result<Task, PlainError>
 ///
 /// # Errors
 /// `NotYet` where there is a type beside `object`, an object or a function, a predicate or a schema with parameters, an
-/// equality, a comparison, a numeric effect or a metric; else `TooLarge` where the task has more than 2^20 atoms or actions, or a literal's predicate is not
-/// declared. `NoMemory` where memory runs out.
+/// equality, a comparison, a numeric effect or a metric; else `TooLarge` where there are more than 2^20 predicates or
+/// schemas, or an atom that a schema adds or the goal names is of a predicate that is not declared. `NoMemory` where memory
+/// runs out.
 pub fn plain_task(alloc: Global, lifted: &LiftedTask) -> Result<Task, PlainError>
     ensures { Answers lifted.now result }
 {

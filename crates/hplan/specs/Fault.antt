@@ -7,6 +7,7 @@ use Rattle.hd_check.specs.declared.fault.Source.{Source}
 use Rattle.hd_check.specs.declared.fault.CheckError.{CheckError}
 use Rattle.hd_check.specs.declared.fault.CheckError.TheVariants as checking
 use Rattle.hd_check.specs.Fault as checker
+use Rattle.hd_names.specs.Fault as names
 use Rattle.hd_plain.specs.declared.error.PlainError.{PlainError}
 use Rattle.hd_plain.specs.declared.error.PlainError.TheVariants as plain
 use Rattle.hd_book.specs.Refusal as book
@@ -16,7 +17,7 @@ use Rattle.hplan.specs.declared.fault.Fault.TheVariants.{Read, Check, NotYet, To
 -- the printed form: which text, where it is of one, then the fault's own form
 abbrev pub text_of : Fault → List ℕ
 text_of (Read source error) = checker.source_text source ++ reader.text_of error
-text_of (Check source fault) = checker.source_text source ++ checker.text_of fault
+text_of (Check source fault) = checker.source_text source ++ names.text_of fault
 text_of NotYet = codes "NotYet"
 text_of TooMany = codes "17 TooMany"
 text_of Device = codes "35 Device"

@@ -21,7 +21,7 @@ pub enum Fault {
     Check(Source, hd_check::Fault),
     /// The texts have objects, types, parameters or numbers, which can't be searched yet.
     NotYet,
-    /// The task would have too many actions or atoms.
+    /// The parts of the task do not fit together: there would be too many actions or atoms.
     TooMany,
     /// A file could not be opened, read or written.
     Device,
@@ -98,7 +98,7 @@ pub fn not_searched(error: PlainError) -> Fault
     }
 }
 
-/// A fault of a file, a reader or a writer.
+/// A fault of a file, a reader or a writer: `NoMemory` where memory ran out, else `Device`.
 pub fn device_fault(error: io::Error) -> Fault {
     if error.kind() == io::ErrorKind::OutOfMemory {
         Fault::NoMemory

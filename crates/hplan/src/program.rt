@@ -108,6 +108,9 @@ fn answer<P: Places, O: Write, E: Write>(
 
 /// Runs the words of a command line, of which the first is the program's name, and answers the exit status.
 ///
+/// The status is 0 for a plan, the help and the version, 1 for a fault, 2 for a faulty command line, 10 where there is no
+/// plan and 11 where a number left the range.
+///
 /// What was asked for goes to `out`, and everything else to `err`. Faults are looked for in this order: the command line;
 /// the domain's file, the problem's; the domain's text, the problem's; their names, types and metric; the search.
 pub fn command<P: Places, O: Write, E: Write>(

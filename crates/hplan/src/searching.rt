@@ -80,7 +80,7 @@ fn settle<'t>(
 /// duplicate, else as bounded, else expanded.
 ///
 /// # Errors
-/// Why the book refuses: `Full`, or `NoMemory`.
+/// Why the book refuses, or `NoMemory`. That no refusal but `Full` comes is tested, and not proved.
 pub fn searched<'t>(alloc: Global, task: &'t Task) -> Result<Book<'t>, Refusal>
     ensures { IfOk result (λ b. b.state.task ≡ task.now) }
 {
@@ -100,7 +100,8 @@ pub fn searched<'t>(alloc: Global, task: &'t Task) -> Result<Book<'t>, Refusal>
 /// Searches a task to the end, and answers its verdict.
 ///
 /// # Errors
-/// Why the book refuses: `Full`, or `NoMemory`.
+/// Why the book refuses, or `NoMemory`. That no refusal but `Full` comes is tested, and not proved; it would be `NotOut` where
+/// the search ended before all was settled.
 pub fn run(alloc: Global, task: &Task) -> Result<Verdict, Refusal>
     ensures answer { IfOk result (IsAnswer task.now) }
     ensures truth { IfOk result (IsTrueAnswer task.now) }

@@ -239,7 +239,10 @@ fn what_is_not_searched_yet_is_told(rt: HostRuntime) -> Result<(), Fail> {
             not_yet,
         ),
         ("(define (domain l) (:types t) (:predicates (b)))", not_yet),
-        ("(define (domain l) (:constants k) (:predicates (b)))", not_yet),
+        (
+            "(define (domain l) (:constants k) (:predicates (b)))",
+            not_yet,
+        ),
     ] {
         assert_eq!(rt;
             solved(alloc, domain, L_PROBLEM)?.as_slice(),

@@ -1,6 +1,7 @@
 //! What small domains and problems stand for.
 //!
-//! Types, objects, predicates, functions and actions are numbered from 0 in the order of the texts; type 0 is `object`.
+//! Objects, predicates, functions and actions are numbered from 0 in the order of the texts. Type 0 is `object`; then come the
+//! types as listed, then those that are only named as a supertype.
 
 use crate::told::stands_for;
 use std::test::Fail;

@@ -1,5 +1,5 @@
 use Rattle.std.proofs.Common.{subst}
-use Rattle.hd_check.specs.Scope.{parents_of}
+use Rattle.hd_names.specs.Scope.{parents_of}
 use Rattle.hd_check.specs.Whole.{ChecksTexts, ClimbsText, fault_below, task_below}
 use Rattle.hd_check.proofs.Standing.{tells_cycle, tells_behind}
 use Rattle.hd_check.proofs.checking.behind_names.Goals as goal

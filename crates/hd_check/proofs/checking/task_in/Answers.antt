@@ -1,5 +1,5 @@
 use Rattle.std.proofs.Common.{subst}
-use Rattle.hd_check.specs.Scope.{type_names}
+use Rattle.hd_names.specs.Scope.{type_names}
 use Rattle.hd_check.specs.Whole.{ChecksTexts, fault_before_cycles}
 use Rattle.hd_check.proofs.Standing.{tells_before}
 use Rattle.hd_check.proofs.checking.task_in.Goals as goal

@@ -1,9 +1,0 @@
-use Rattle.std.proofs.Common.{◌≡◌, length}
-use Rattle.hd_check.specs.Metric.{misused_by_effect}
-use Rattle.hd_check.proofs.metric.misused_by_effect.Given as goal
-
-abbrev pub invariant-loop-rest : goal.invariant-loop-rest
-invariant-loop-rest l = misused_by_effect l.changed l.function l.rest ≡ misused_by_effect l.changed l.function l.effect
-
-abbrev pub decreases-loop-rest : goal.decreases-loop-rest
-decreases-loop-rest l = length l.rest

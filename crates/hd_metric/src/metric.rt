@@ -1,0 +1,283 @@
+//! How a metric's function may be used.
+ghost use Rattle.std.specs.Prelude.{◌≡◌, [], IfOk};
+ghost use Rattle.std.specs.List.{list_any};
+ghost use Rattle.hd_metric.specs.Metric.{with_changed, changed_in, changed_by, read_in, read_by_part, read_by_condition, is_fixed, change_of_metric, misused_by_part, misused_by_effect, misused_by_action, misused_by_actions, is_value_of, nonzero_at, nonzero_in, missing_in, misused_in_domain, misused_in_problem};
+
+use hd_forms::{Change, NameAt};
+use hd_list::Name;
+use hd_names::Names;
+use hd_pddl::{Action, DomainAst, Init, ProblemAst};
+use hd_terms::{Condition, Effect, Expr, ExprParts, FluentChange};
+use std::alloc::{AllocError, Global};
+
+/// The function that a part of an effect changes, with others.
+fn add_changed(alloc: Global, names: &mut Names, part: &Effect) -> Result<(), AllocError>
+    ensures { IfOk result (λ _. names.new ≡ with_changed names.old part.now) }
+{
+    match part {
+        Effect::Add(_) => Ok(()),
+        Effect::Delete(_) => Ok(()),
+        Effect::Change(change) => names.add(alloc, &change.fluent.name.name),
+    }
+}
+
+/// The functions that an effect changes, with others.
+fn add_all_changed(alloc: Global, names: &mut Names, effect: &[Effect]) -> Result<(), AllocError>
+    ensures { IfOk result (λ _. names.new ≡ changed_in names.old effect.now) }
+{
+    let mut rest = effect;
+    while let [first, after @ ..] = rest {
+        add_changed(alloc, names, first)?;
+        rest = after;
+    }
+    Ok(())
+}
+
+/// The functions that actions change.
+fn changed_by(alloc: Global, actions: &[Action]) -> Result<Names, AllocError>
+    ensures { IfOk result (λ names. names ≡ changed_by [] actions.now) }
+{
+    let mut names = Names::none(alloc);
+    let mut rest = actions;
+    while let [first, after @ ..] = rest {
+        add_all_changed(alloc, &mut names, first.effect.as_slice())?;
+        rest = after;
+    }
+    Ok(names)
+}
+
+/// The first place where an expression reads a function.
+fn read_in(function: &Name, expression: &Expr) -> Option<usize>
+    ensures { result ≡ read_in function.now expression.now }
+{
+    match expression.parts() {
+        ExprParts::Number(_, _) => None,
+        ExprParts::Fluent(fluent) => {
+            if fluent.name.name == *function {
+                Some(fluent.name.at)
+            } else {
+                None
+            }
+        }
+        ExprParts::Negate(inner) => read_in(function, inner),
+        ExprParts::Binary(_, left, right) => match read_in(function, left) {
+            Some(at) => Some(at),
+            None => read_in(function, right),
+        },
+    }
+}
+
+/// The first place where a part of a condition reads a function.
+fn read_by_part(function: &Name, part: &Condition) -> Option<usize>
+    ensures { result ≡ read_by_part function.now part.now }
+{
+    match part {
+        Condition::Compare(comparison) => match read_in(function, &comparison.left) {
+            Some(at) => Some(at),
+            None => read_in(function, &comparison.right),
+        },
+        Condition::Atom(_) => None,
+        Condition::NotAtom(_) => None,
+        Condition::Equal(_, _) => None,
+        Condition::NotEqual(_, _) => None,
+    }
+}
+
+/// The first place where a condition reads a function.
+fn read_by_condition(function: &Name, condition: &[Condition]) -> Option<usize>
+    ensures { result ≡ read_by_condition function.now condition.now }
+{
+    let mut rest = condition;
+    while let [first, after @ ..] = rest {
+        if let Some(at) = read_by_part(function, first) {
+            return Some(at);
+        }
+        rest = after;
+    }
+    None
+}
+
+/// Whether an amount is the same in every state: a number, or a fluent of a function that no action changes.
+fn is_fixed(changed: &Names, amount: &Expr) -> bool
+    ensures { result ≡ is_fixed changed.now amount.now }
+{
+    match amount.parts() {
+        ExprParts::Number(_, _) => true,
+        ExprParts::Fluent(fluent) => !changed.has(&fluent.name.name),
+        ExprParts::Negate(_) => false,
+        ExprParts::Binary(_, _, _) => false,
+    }
+}
+
+/// The place where a change of the metric's function is none that it may have.
+fn change_of_metric(changed: &Names, change: &FluentChange) -> Option<usize>
+    ensures { result ≡ change_of_metric changed.now change.now change.now.change }
+{
+    match change.change {
+        Change::Increase => {
+            if is_fixed(changed, &change.amount) {
+                None
+            } else {
+                Some(change.at)
+            }
+        }
+        Change::Assign => Some(change.fluent.name.at),
+        Change::ScaleUp => Some(change.fluent.name.at),
+        Change::Decrease => Some(change.fluent.name.at),
+    }
+}
+
+/// The place where a part of an effect misuses the metric's function.
+fn misused_by_part(changed: &Names, function: &Name, part: &Effect) -> Option<usize>
+    ensures { result ≡ misused_by_part changed.now function.now part.now }
+{
+    match part {
+        Effect::Add(_) => None,
+        Effect::Delete(_) => None,
+        Effect::Change(change) => {
+            if change.fluent.name.name == *function {
+                change_of_metric(changed, change)
+            } else {
+                read_in(function, &change.amount)
+            }
+        }
+    }
+}
+
+/// The first place where an effect misuses the metric's function.
+fn misused_by_effect(changed: &Names, function: &Name, effect: &[Effect]) -> Option<usize>
+    ensures { result ≡ misused_by_effect changed.now function.now effect.now }
+{
+    let mut rest = effect;
+    while let [first, after @ ..] = rest {
+        if let Some(at) = misused_by_part(changed, function, first) {
+            return Some(at);
+        }
+        rest = after;
+    }
+    None
+}
+
+/// The place where an action misuses the metric's function.
+fn misused_by_action(changed: &Names, function: &Name, action: &Action) -> Option<usize>
+    ensures { result ≡ misused_by_action changed.now function.now action.now }
+{
+    match read_by_condition(function, action.precondition.as_slice()) {
+        Some(at) => Some(at),
+        None => misused_by_effect(changed, function, action.effect.as_slice()),
+    }
+}
+
+/// The first place where actions misuse the metric's function.
+fn misused_by_actions(changed: &Names, function: &Name, actions: &[Action]) -> Option<usize>
+    ensures { result ≡ misused_by_actions changed.now function.now actions.now }
+{
+    let mut rest = actions;
+    while let [first, after @ ..] = rest {
+        if let Some(at) = misused_by_action(changed, function, first) {
+            return Some(at);
+        }
+        rest = after;
+    }
+    None
+}
+
+/// Whether this is the function's first value.
+fn is_value_of(function: &Name, said: &Init) -> bool
+    ensures { result ≡ is_value_of function.now said.now }
+{
+    match said {
+        Init::Value(value) => value.fluent.name.name == *function,
+        Init::Atom(_) => false,
+        Init::NotAtom(_) => false,
+    }
+}
+
+/// The place of the function's first value, if that is not 0.
+fn nonzero_at(function: &Name, said: &Init) -> Option<usize>
+    ensures { result ≡ nonzero_at function.now said.now }
+{
+    match said {
+        Init::Value(value) => {
+            if value.fluent.name.name == *function && value.value.unsigned_abs() != 0 {
+                Some(value.at)
+            } else {
+                None
+            }
+        }
+        Init::Atom(_) => None,
+        Init::NotAtom(_) => None,
+    }
+}
+
+/// The first such place.
+fn nonzero_in(function: &Name, init: &[Init]) -> Option<usize>
+    ensures { result ≡ nonzero_in function.now init.now }
+{
+    let mut rest = init;
+    while let [first, after @ ..] = rest {
+        if let Some(at) = nonzero_at(function, first) {
+            return Some(at);
+        }
+        rest = after;
+    }
+    None
+}
+
+/// Whether the function has a first value.
+fn has_value(function: &Name, init: &[Init]) -> bool
+    ensures { result ≡ list_any (is_value_of function.now) init.now }
+{
+    let mut rest = init;
+    while let [first, after @ ..] = rest {
+        if is_value_of(function, first) {
+            return true;
+        }
+        rest = after;
+    }
+    false
+}
+
+/// The place of the metric's name, where its function has no first value.
+fn missing_in(metric: &NameAt, init: &[Init]) -> Option<usize>
+    ensures { result ≡ missing_in metric.now init.now }
+{
+    if has_value(&metric.name, init) {
+        None
+    } else {
+        Some(metric.at)
+    }
+}
+
+/// The first place in a domain where the metric's function is misused.
+pub fn misused_in_domain(
+    alloc: Global,
+    metric: &Option<NameAt>,
+    domain: &DomainAst,
+) -> Result<Option<usize>, AllocError>
+    ensures { IfOk result (λ at. at ≡ misused_in_domain metric.now domain.now) }
+{
+    let Some(name) = metric else {
+        return Ok(None);
+    };
+    let actions = domain.actions.as_slice();
+    let changed = changed_by(alloc, actions)?;
+    Ok(misused_by_actions(&changed, &name.name, actions))
+}
+
+/// The first such place in a problem.
+pub fn misused_in_problem(metric: &Option<NameAt>, problem: &ProblemAst) -> Option<usize>
+    ensures { result ≡ misused_in_problem metric.now problem.now }
+{
+    let Some(name) = metric else {
+        return None;
+    };
+    let init = problem.init.as_slice();
+    if let Some(at) = nonzero_in(&name.name, init) {
+        return Some(at);
+    }
+    if let Some(at) = read_by_condition(&name.name, problem.goal.as_slice()) {
+        return Some(at);
+    }
+    missing_in(name, init)
+}

@@ -1,0 +1,65 @@
+-- Names, each once, numbered in their order; and the faults of names. (Our own.)
+use Rattle.std.specs.Prelude.{ℕ, Bool, if◌then◌else◌, List, [], ◌∷◌, ◌++◌, map, Option, Some, None}
+use Rattle.std.specs.List.{list_any, position}
+use Rattle.std.specs.Str.{bytes_eq}
+use Rattle.hd_forms.specs.declared.names.NameAt.{NameAt}
+use Rattle.hd_terms.specs.declared.typed.ItemKind.{ItemKind}
+use Rattle.hd_terms.specs.declared.typed.ItemKind.TheVariants as kinds
+use Rattle.hd_terms.specs.declared.tree.Typed.{Typed}
+use Rattle.hd_names.specs.declared.fault.Fault.{Fault}
+use Rattle.hd_names.specs.declared.fault.Fault.TheVariants.{UnknownName, Duplicate}
+use Rattle.hd_names.specs.Fault.{◌or◌}
+
+-- whether a name is one of these
+abbrev pub is_named : List (List ℕ) → List ℕ → Bool
+is_named names n = list_any (bytes_eq n) names
+
+-- the names with one more, if it is none of them yet
+abbrev pub with_name : List (List ℕ) → List ℕ → List (List ℕ)
+with_name names n = if is_named names n then names else names ++ n ∷ []
+
+-- a number, 0 where there is none
+abbrev pub or_zero : Option ℕ → ℕ
+or_zero None = 0
+or_zero (Some i) = i
+
+-- the number of a name: its place among these
+abbrev pub number_in : List (List ℕ) → List ℕ → ℕ
+number_in names n = or_zero (position (bytes_eq n) names)
+
+-- a name as it is written: a variable's has a `?`, which is the byte 63
+abbrev pub spelled : ItemKind → List ℕ → List ℕ
+spelled kinds.Name n = n
+spelled kinds.Variable n = 63 ∷ n
+
+-- a name that is used has to be one of these
+abbrev pub unknown_in : ItemKind → List (List ℕ) → NameAt → Option Fault
+unknown_in k names n = if is_named names n.name then None else Some (UnknownName (spelled k n.name) n.at)
+
+-- a name that is declared can't be one of these
+abbrev pub duplicate_in : ItemKind → List (List ℕ) → NameAt → Option Fault
+duplicate_in k names n = if is_named names n.name then Some (Duplicate (spelled k n.name) n.at) else None
+
+-- a type, where one is given, has to be one of these
+abbrev pub unknown_type : List (List ℕ) → Option NameAt → Option Fault
+unknown_type types None = None
+unknown_type types (Some n) = unknown_in kinds.Name types n
+
+-- the number of a type: without one it is `object`, which is type 0
+abbrev pub type_number : List (List ℕ) → Option NameAt → ℕ
+type_number types None = 0
+type_number types (Some n) = number_in types n.name
+
+-- the first fault of declared names behind others: of each its name comes before its type
+abbrev pub declared_fault : ItemKind → List (List ℕ) → List (List ℕ) → List Typed → Option Fault
+declared_fault k types names [] = None
+declared_fault k types names (t ∷ ts) =
+    duplicate_in k names t.name or unknown_type types t.of or declared_fault k types (names ++ t.name.name ∷ []) ts
+
+-- the names that are declared
+abbrev pub names_of : List Typed → List (List ℕ)
+names_of ts = map (λ t. t.name.name) ts
+
+-- the numbers of their types
+abbrev pub types_of : List (List ℕ) → List Typed → List ℕ
+types_of types ts = map (λ t. type_number types t.of) ts

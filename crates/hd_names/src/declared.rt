@@ -1,0 +1,83 @@
+//! Declared names with their types: constants, objects, parameters, predicates and functions.
+ghost use Rattle.std.specs.Prelude.{◌++◌, []};
+ghost use Rattle.hd_terms.specs.declared.typed.ItemKind.TheVariants as kinds;
+ghost use Rattle.hd_names.specs.Fault.{Checks, Leaves};
+ghost use Rattle.hd_names.specs.Names.{declared_fault, types_of, names_of};
+ghost use Rattle.hd_names.specs.Scope.{typed_table, signatures_fault, signature_table};
+
+use crate::fault::Stop;
+use crate::names::{Names, declare, type_of};
+use crate::table::Table;
+use hd_list::Sequence;
+use hd_pddl::Signature;
+use hd_terms::{ItemKind, Typed};
+use std::alloc::Global;
+
+/// Declares names behind others, and gives the numbers of their types.
+pub fn declare_all(
+    alloc: Global,
+    kind: ItemKind,
+    types: &Names,
+    names: &mut Names,
+    declared: &[Typed],
+) -> Result<Sequence<usize>, Stop>
+    ensures names { Leaves result names.new (declared_fault kind types.now names.old declared.now) (names.old ++ names_of declared.now) }
+    ensures types { Checks result (declared_fault kind types.now names.old declared.now) (types_of types.now declared.now) }
+{
+    let mut numbers = Vec::new(alloc);
+    let mut rest = declared;
+    while let [first, after @ ..] = rest {
+        declare(alloc, kind, names, &first.name)?;
+        numbers.push(type_of(alloc, types, &first.of)?)?;
+        rest = after;
+    }
+    Ok(Sequence::from_vec(numbers))
+}
+
+/// The table of declared names, with the numbers of their types.
+pub fn table_of(
+    alloc: Global,
+    kind: ItemKind,
+    types: &Names,
+    declared: &[Typed],
+) -> Result<Table<usize>, Stop>
+    ensures { Checks result (declared_fault kind types.now [] declared.now) (typed_table types.now declared.now) }
+{
+    let mut names = Names::none(alloc);
+    let items = declare_all(alloc, kind, types, &mut names, declared)?;
+    Ok(Table { names, items })
+}
+
+/// The numbers of the types of a signature's parameters.
+fn parameter_types(
+    alloc: Global,
+    types: &Names,
+    declared: &[Typed],
+) -> Result<Sequence<usize>, Stop>
+    ensures { Checks result (declared_fault kinds.Variable types.now [] declared.now) (types_of types.now declared.now) }
+{
+    let mut names = Names::none(alloc);
+    declare_all(alloc, ItemKind::Variable, types, &mut names, declared)
+}
+
+/// The table of predicates, or of functions, with the types of their parameters.
+pub fn signatures_of(
+    alloc: Global,
+    types: &Names,
+    declared: &[Signature],
+) -> Result<Table<Sequence<usize>>, Stop>
+    ensures { Checks result (signatures_fault types.now [] declared.now) (signature_table types.now declared.now) }
+{
+    let mut names = Names::none(alloc);
+    let mut items = Vec::new(alloc);
+    let mut rest = declared;
+    while let [first, after @ ..] = rest {
+        declare(alloc, ItemKind::Name, &mut names, &first.name)?;
+        items.push(parameter_types(alloc, types, first.parameters.as_slice())?)?;
+        rest = after;
+    }
+    Ok(Table {
+        names,
+        items: Sequence::from_vec(items),
+    })
+}

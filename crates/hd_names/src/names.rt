@@ -1,0 +1,148 @@
+//! The numbers of names, and the faults of names.
+ghost use Rattle.std.specs.Prelude.{◌≡◌, ◌++◌, ◌∷◌, [], Some, IfOk};
+ghost use Rattle.std.specs.List.{position};
+ghost use Rattle.std.specs.Str.{bytes_eq};
+ghost use Rattle.hd_names.specs.Fault.{Checks, Leaves, StopsAt};
+ghost use Rattle.hd_names.specs.Names.{is_named, number_in, spelled, unknown_in, duplicate_in, unknown_type, type_number, with_name};
+ghost use Rattle.hd_names.specs.declared.fault.Fault.TheVariants.{UnknownName, Duplicate};
+
+use crate::fault::{Fault, Stop};
+use hd_forms::NameAt;
+use hd_list::Name;
+use hd_terms::ItemKind;
+use indexmap::IndexSet;
+use std::alloc::{AllocError, Global};
+use std::marker::Model;
+
+/// Names, each once, which contracts see as the list of their bytes. A name's number is its place.
+#[derive(Debug, Drop)]
+pub struct Names {
+    names: IndexSet<String>,
+}
+
+impl Model for Names {
+    ghost use Rattle.std.specs.Prelude.{List, ℕ, map, string_bytes};
+
+    ghost Value = { List (List ℕ) };
+
+    ghost view = { λ n. map string_bytes n.names.keys };
+}
+
+impl Names {
+    /// No names.
+    pub fn none(alloc: Global) -> Names
+        ensures { result ≡ [] }
+    {
+        Names {
+            names: IndexSet::new(alloc),
+        }
+    }
+
+    /// Whether a name is one of them.
+    pub fn has(&self, name: &Name) -> bool
+        ensures { result ≡ is_named self.now name.now }
+    {
+        self.names.contains(name.as_str())
+    }
+
+    /// The number of a name, if it is one of them.
+    pub fn place_of(&self, name: &Name) -> Option<usize>
+        ensures { result ≡ position (bytes_eq name.now) self.now }
+    {
+        self.names.get_index_of(name.as_str())
+    }
+
+    /// The number of a name, 0 if it is none of them.
+    pub fn number_of(&self, name: &Name) -> usize
+        ensures { result ≡ number_in self.now name.now }
+    {
+        match self.place_of(name) {
+            Some(number) => number,
+            None => 0,
+        }
+    }
+
+    /// One name more, if it is none of them yet.
+    pub fn add(&mut self, alloc: Global, name: &Name) -> Result<(), AllocError>
+        ensures { IfOk result (λ _. self.new ≡ with_name self.old name.now) }
+    {
+        if !self.names.contains(name.as_str()) {
+            let text = String::from_str(alloc, name.as_str())?;
+            self.names.insert(text)?;
+        }
+        Ok(())
+    }
+}
+
+/// A name as it is written, in memory of its own: a variable's has its `?`.
+pub fn spelled(alloc: Global, kind: ItemKind, name: &Name) -> Result<Name, AllocError>
+    ensures { IfOk result (λ n. n ≡ spelled kind name.now) }
+{
+    let mut text = String::new(alloc);
+    match kind {
+        ItemKind::Name => {}
+        ItemKind::Variable => text.push_str("?")?,
+    }
+    text.push_str(name.as_str())?;
+    Ok(Name::from_string(text))
+}
+
+/// A copy of a name.
+pub fn copied(alloc: Global, name: &Name) -> Result<Name, AllocError>
+    ensures { IfOk result (λ n. n ≡ name.now) }
+{
+    Ok(Name::from_string(String::from_str(alloc, name.as_str())?))
+}
+
+/// Tells that a name is not declared.
+fn unknown(alloc: Global, kind: ItemKind, name: &NameAt) -> Stop
+    ensures { StopsAt result (Some (UnknownName (spelled kind name.now.name) name.now.at)) }
+{
+    match spelled(alloc, kind, &name.name) {
+        Ok(spelling) => Stop::At(Fault::UnknownName(spelling, name.at)),
+        Err(_) => Stop::NoMemory,
+    }
+}
+
+/// Tells that a name is declared twice.
+pub fn duplicate(alloc: Global, kind: ItemKind, name: &NameAt) -> Stop
+    ensures { StopsAt result (Some (Duplicate (spelled kind name.now.name) name.now.at)) }
+{
+    match spelled(alloc, kind, &name.name) {
+        Ok(spelling) => Stop::At(Fault::Duplicate(spelling, name.at)),
+        Err(_) => Stop::NoMemory,
+    }
+}
+
+/// The number of a name that is used.
+pub fn known(alloc: Global, kind: ItemKind, names: &Names, name: &NameAt) -> Result<usize, Stop>
+    ensures { Checks result (unknown_in kind names.now name.now) (number_in names.now name.now.name) }
+{
+    if names.has(&name.name) {
+        Ok(names.number_of(&name.name))
+    } else {
+        Err(unknown(alloc, kind, name))
+    }
+}
+
+/// One name more, which can't be one of them yet.
+pub fn declare(alloc: Global, kind: ItemKind, names: &mut Names, name: &NameAt) -> Result<(), Stop>
+    ensures { Leaves result names.new (duplicate_in kind names.old name.now) (names.old ++ name.now.name ∷ []) }
+{
+    if names.has(&name.name) {
+        Err(duplicate(alloc, kind, name))
+    } else {
+        names.add(alloc, &name.name)?;
+        Ok(())
+    }
+}
+
+/// The number of a type that is named: `object`, which is 0, where none is.
+pub fn type_of(alloc: Global, types: &Names, of: &Option<NameAt>) -> Result<usize, Stop>
+    ensures { Checks result (unknown_type types.now of.now) (type_number types.now of.now) }
+{
+    match of {
+        None => Ok(0),
+        Some(name) => known(alloc, ItemKind::Name, types, name),
+    }
+}

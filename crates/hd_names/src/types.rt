@@ -1,0 +1,126 @@
+//! The types of a domain.
+ghost use Rattle.std.specs.Prelude.{◌≡◌, ◌<◌, ◌≤◌, ◌++◌, ◌∷◌, [], Some, codes, length, IfOk};
+ghost use Rattle.hd_lifted.specs.Types.{IsOnCycle};
+ghost use Rattle.hd_names.specs.Fault.{Checks, Leaves, StopsAt};
+ghost use Rattle.hd_names.specs.Names.{names_of, type_number, types_of};
+ghost use Rattle.hd_names.specs.Scope.{with_supertype, with_supertypes, type_names, types_fault, parents_of, StopsOnCycle, Climbs};
+ghost use Rattle.hd_names.specs.declared.fault.Fault.TheVariants.{TypeCycle};
+
+use crate::fault::{Fault, Stop};
+use crate::names::{Names, declare, spelled};
+use hd_forms::NameAt;
+use hd_lifted::Hierarchy;
+use hd_list::{Name, Sequence};
+use hd_terms::{ItemKind, Typed};
+use std::alloc::{AllocError, Global};
+
+/// The names that are there before any type is listed: `object` alone.
+fn object_alone(alloc: Global) -> Result<Names, AllocError>
+    ensures { IfOk result (λ names. names ≡ codes "object" ∷ []) }
+{
+    let mut names = Names::none(alloc);
+    let object = Name::from_string(String::from_str(alloc, "object")?);
+    names.add(alloc, &object)?;
+    Ok(names)
+}
+
+/// A type that is named as a supertype is known.
+fn add_supertype(alloc: Global, names: &mut Names, of: &Option<NameAt>) -> Result<(), AllocError>
+    ensures { IfOk result (λ _. names.new ≡ with_supertype names.old of.now) }
+{
+    match of {
+        None => Ok(()),
+        Some(name) => names.add(alloc, &name.name),
+    }
+}
+
+/// The supertypes, behind the names that are there.
+fn add_supertypes(alloc: Global, names: &mut Names, listed: &[Typed]) -> Result<(), AllocError>
+    ensures { IfOk result (λ _. names.new ≡ with_supertypes names.old listed.now) }
+{
+    let mut rest = listed;
+    while let [first, after @ ..] = rest {
+        add_supertype(alloc, names, &first.of)?;
+        rest = after;
+    }
+    Ok(())
+}
+
+/// The types that are listed, behind those that are there.
+fn declare_types(alloc: Global, names: &mut Names, listed: &[Typed]) -> Result<(), Stop>
+    ensures { Leaves result names.new (types_fault names.old listed.now) (names.old ++ names_of listed.now) }
+{
+    let mut rest = listed;
+    while let [first, after @ ..] = rest {
+        declare(alloc, ItemKind::Name, names, &first.name)?;
+        rest = after;
+    }
+    Ok(())
+}
+
+/// The names of all types, by number.
+pub fn types_of(alloc: Global, listed: &[Typed]) -> Result<Names, Stop>
+    ensures { Checks result (types_fault (codes "object" ∷ []) listed.now) (type_names listed.now) }
+{
+    let mut names = object_alone(alloc)?;
+    declare_types(alloc, &mut names, listed)?;
+    add_supertypes(alloc, &mut names, listed)?;
+    Ok(names)
+}
+
+/// The number of a type: `object`, which is 0, where none is named.
+pub fn number_of_type(types: &Names, of: &Option<NameAt>) -> usize
+    ensures { result ≡ type_number types.now of.now }
+{
+    match of {
+        None => 0,
+        Some(name) => types.number_of(&name.name),
+    }
+}
+
+/// The numbers of the types of declared names.
+pub fn numbers_of_types(
+    alloc: Global,
+    types: &Names,
+    declared: &[Typed],
+) -> Result<Sequence<usize>, AllocError>
+    ensures { IfOk result (λ numbers. numbers ≡ types_of types.now declared.now) }
+{
+    let mut numbers = Vec::new(alloc);
+    for item in declared {
+        numbers.push(number_of_type(types, &item.of))?;
+    }
+    Ok(Sequence::from_vec(numbers))
+}
+
+/// Tells that a type lies on a cycle.
+fn cycle_at(alloc: Global, name: &NameAt) -> Stop
+    ensures { StopsAt result (Some (TypeCycle name.now.name name.now.at)) }
+{
+    match spelled(alloc, ItemKind::Name, &name.name) {
+        Ok(spelling) => Stop::At(Fault::TypeCycle(spelling, name.at)),
+        Err(_) => Stop::NoMemory,
+    }
+}
+
+/// Tells that a listed type lies on a cycle, by its number.
+fn cycle_among(alloc: Global, listed: &[Typed], number: usize) -> Stop
+    requires on_cycle { IsOnCycle (parents_of listed.now) number }
+    requires listed { (0 < number) × (number ≤ length listed.now) }
+    ensures { StopsOnCycle result listed.now }
+{
+    let item = &listed[number - 1];
+    cycle_at(alloc, &item.name)
+}
+
+/// The hierarchy of the types that are listed, of which none may lie on a cycle.
+pub fn hierarchy_of(alloc: Global, types: &Names, listed: &[Typed]) -> Result<Hierarchy, Stop>
+    requires { types.now ≡ type_names listed.now }
+    ensures { Climbs result listed.now }
+{
+    let parents = numbers_of_types(alloc, types, listed)?;
+    match Hierarchy::new(alloc, parents.into_vec())? {
+        Ok(hierarchy) => Ok(hierarchy),
+        Err(number) => Err(cycle_among(alloc, listed, number)),
+    }
+}
