@@ -1,3 +1,4 @@
+//! The book of a search.
 use crate::content::Content;
 use crate::{Counts, Receipt, Redeemed, Refusal, Ticket, Verdict};
 use hd_node::Batch;

@@ -1,3 +1,4 @@
+//! The parts of a book.
 use crate::entry::{Best, Entry, Outgoing};
 use hd_task::{Departure, Kid, Task};
 use std::alloc::Global;

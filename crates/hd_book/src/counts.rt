@@ -1,3 +1,4 @@
+//! How far a search has come.
 /// How far a search has come.
 #[derive(Clone, Copy, Debug, PartialEq, Eq)]
 pub struct Counts {

@@ -1,3 +1,4 @@
+//! Expanded plans.
 use hd_node::Parcel;
 use hd_task::{Kid, Sequence, State};
 

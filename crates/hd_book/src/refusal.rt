@@ -1,3 +1,4 @@
+//! Why the book refuses.
 ghost use Rattle.std.specs.Prelude.{◌≡◌, Some};
 ghost use Rattle.hd_book.specs.Refusal.{text_of};
 ghost use Rattle.hd_book.specs.declared.refusal.Refusal.TheVariants.{NoMemory};

@@ -1,3 +1,4 @@
+//! Tickets and receipts, which must be spent.
 use hd_node::Parcel;
 use std::marker::Model;
 use std::ops::Range;

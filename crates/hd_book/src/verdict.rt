@@ -1,3 +1,4 @@
+//! What a book answers when all is settled.
 use hd_task::{Departure, Plan};
 
 /// What a book answers when all is settled.

@@ -1,5 +1,5 @@
 -- What two texts without a fault stand for is well formed.
-use Rattle.std.proofs.Common.{◌≡◌, ℕ, Bool, true, false, List, [], ◌∷◌, ◌++◌, map, length, Option, Some, None, refl, sym, ap, ◌∙◌, arith}
+use Rattle.std.proofs.Common.{◌≡◌, ℕ, ◌+◌, ◌≤◌, Bool, true, false, List, [], ◌∷◌, ◌++◌, map, length, Option, Some, None, refl, sym, ap, ◌∙◌, arith}
 use Rattle.std.proofs.lemmas.List.{length-append, map-append, append-nil}
 use Rattle.std.proofs.lemmas.Option.{none-some}
 use Rattle.std.specs.Prelude.{slice_get, if◌then◌else◌, nat_abs, nat_le, ◌^◌}
@@ -28,7 +28,7 @@ use Rattle.hd_names.specs.declared.scope.Scope.{Scope}
 use Rattle.hd_names.specs.declared.table.Table.{Table}
 use Rattle.hd_names.specs.Fault.{◌or◌}
 use Rattle.hd_names.specs.Names.{type_number, types_of, names_of, declared_fault, number_in}
-use Rattle.hd_names.specs.Scope.{scope_of, with_objects, scope_fault, signature_table, type_names, parents_of}
+use Rattle.hd_names.specs.Scope.{scope_of, with_objects, scope_fault, signatures_fault, signature_table, type_names, parents_of}
 use Rattle.hd_check.specs.Terms.{applied_fault, lifted_applied}
 use Rattle.hd_check.specs.Conditions.{condition_fault}
 use Rattle.hd_check.specs.Effects.{is_metric}
@@ -39,6 +39,8 @@ use Rattle.hd_check.specs.Whole.{lifted_object, lifted_signature, domain_in, lif
 use Rattle.hd_check.specs.WellFormed.{IsArgumentOf, IsApplied, IsGround, IsFirstValue, IsWellFormed}
 use Rattle.hd_check.proofs.Arguments.{Agrees, Lists, or_none, if_none, some_and, applied}
 use Rattle.hd_check.proofs.Bodies.{maps_long, condition, schemas}
+use Rattle.hd_check.proofs.HaveTypes.{all_append, objects_within, signatures_within, schemas_within}
+use Rattle.hd_names.proofs.Cycles.{types_long}
 
 -- ---- what holds at first
 
@@ -154,12 +156,14 @@ pub text_none : (source : Source) (f : Option Fault) → in_text source f ≡ No
 text_none source None e = refl
 text_none source (Some f) e = absurd (none-some (In source f) (sym e))
 
-below : (types : List (List ℕ)) (parents : List ℕ) (d : DomainAst) (p : ProblemAst) → fault_below types parents d p ≡ None
-    → IsWellFormed (task_below types parents d p)
-unfolding fault_below fault_behind problem_fault fault_in_problem domain_fault lifted_domain domain_in lifted_problem problem_in task_with task_behind task_below
-below types parents d p e =
+below : (types : List (List ℕ)) (parents : List ℕ) (d : DomainAst) (p : ProblemAst) → length types ≡ length parents + 1
+    → fault_below types parents d p ≡ None → IsWellFormed (task_below types parents d p)
+unfolding scope_of with_objects scope_fault fault_below fault_behind problem_fault fault_in_problem domain_fault lifted_domain domain_in lifted_problem problem_in task_with task_behind task_below
+below types parents d p long e =
     let parts = or_none (in_text Domain (domain_fault types parents d p.metric)) (fault_behind (lifted_domain types parents d p.metric) d p) e in
     let domain = or_none (scope_fault types d) (actions_fault (scope_of types parents d p.metric) [] d.actions) (text_none Domain (domain_fault types parents d p.metric) parts.0) in
+    let declared = or_none (declared_fault kinds.Name types [] d.constants) (signatures_fault types [] d.predicates or signatures_fault types [] d.functions) domain.0 in
+    let signatures = or_none (signatures_fault types [] d.predicates) (signatures_fault types [] d.functions) declared.1 in
     let behind = or_none (in_text Problem (problem_fault (scope_of types parents d p.metric) p)) (metric_fault d p) parts.1 in
     let problem =
     or_none (declared_fault kinds.Name (scope_of types parents d p.metric).types (scope_of types parents d p.metric).objects.names p.objects)
@@ -172,6 +176,12 @@ below types parents d p e =
     (metric_name_fault (with_objects (scope_of types parents d p.metric) p.objects).functions p.metric) inner.1 in
     let first = initial (task_below types parents d p) (with_objects (scope_of types parents d p.metric) p.objects) (problem_agrees types parents d p) [] p.init inner.0 in
     record {
+      objects =
+          all_append (λ (o : objects.Object). o.of ≤ length parents) (map (lifted_object types) d.constants) (map (lifted_object types) p.objects)
+          (objects_within (length parents) types long kinds.Name [] d.constants declared.0) (objects_within (length parents) types long kinds.Name (names_of d.constants) p.objects problem.0);
+      predicates = signatures_within (length parents) types long [] d.predicates signatures.0;
+      functions = signatures_within (length parents) types long [] d.functions signatures.1;
+      parameters = schemas_within (length parents) (scope_of types parents d p.metric) long [] d.actions domain.1;
       schemas = schemas (task_below types parents d p) (scope_of types parents d p.metric) (domain_agrees types parents d p) [] d.actions domain.1;
       goal = condition (task_below types parents d p) (with_objects (scope_of types parents d p.metric) p.objects) no_parameters (problem_agrees types parents d p) refl p.goal last.0;
       atoms = first.atoms;
@@ -179,4 +189,4 @@ below types parents d p e =
     }
 
 pub well_formed : (d : DomainAst) (p : ProblemAst) → IsFaultless d p → IsWellFormed (lifted_task d p)
-well_formed d p clean = below (type_names d.types) (parents_of d.types) d p clean.behind_cycles
+well_formed d p clean = below (type_names d.types) (parents_of d.types) d p (types_long d.types) clean.behind_cycles

@@ -5,6 +5,7 @@ pub mod Changed
 pub mod Faultless
 pub mod FirstValues
 pub mod FluentKeys
+pub mod HaveTypes
 pub mod MetricNames
 pub mod MetricUse
 pub mod NoCosts

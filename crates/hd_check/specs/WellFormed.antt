@@ -1,6 +1,6 @@
--- When a lifted task is well formed: each number of a predicate, a function, a parameter or an object in it is that of one declared, and
--- arguments are of the types asked; of the numbers of types nothing is said. (The rules of names and types are those of PDDL 2.1.)
-use Rattle.std.specs.Prelude.{◌≡◌, ◌≢◌, ℕ, true, false, List, [], ◌∷◌, ◌++◌, map, slice_get}
+-- When a lifted task is well formed: each number in it is that of something declared, and arguments are of the types asked. (The rules of
+-- names and types are those of PDDL 2.1.)
+use Rattle.std.specs.Prelude.{◌≡◌, ◌≢◌, ◌≤◌, ℕ, true, false, List, [], ◌∷◌, ◌++◌, map, length, slice_get}
 use Rattle.std.specs.List.{AllZip, AllByRecursion}
 use Rattle.std.specs.Option.{IsSomeAnd}
 use Rattle.hd_lifted.specs.declared.schema.Argument.{Argument}
@@ -107,10 +107,34 @@ pub record HasDistinctNames (t : LiftedTask) : Type 0 where
   pub functions : AreDistinct (map (λ (s : Signature). s.name) t.functions)
   pub schemas : AreDistinct (map (λ (a : Schema). a.name) t.schemas)
 
+-- ---- types
+
+-- a number is that of a type: `object`, which is 0, or one that has a type above it
+abbrev pub IsType : LiftedTask → ℕ → Type 0
+IsType t u = u ≤ length t.hierarchy
+
+-- these are the types of parameters
+abbrev pub AreTypes : LiftedTask → List ℕ → Type 0
+AreTypes t us = AllByRecursion (IsType t) us
+
+-- an object, a predicate or a function, and a schema have types
+abbrev pub HasType : LiftedTask → declared.Object → Type 0
+HasType t o = IsType t o.of
+
+abbrev pub SignatureHasTypes : LiftedTask → Signature → Type 0
+SignatureHasTypes t s = AreTypes t s.parameters
+
+abbrev pub SchemaHasTypes : LiftedTask → Schema → Type 0
+SchemaHasTypes t a = AreTypes t a.parameters
+
 -- ---- the whole
 
--- the schemas, the goal, which has no parameters, and what holds at first are well formed
+-- what is declared has types; the schemas, the goal, which has no parameters, and what holds at first are well formed
 pub record IsWellFormed (t : LiftedTask) : Type 0 where
+  pub objects : AllByRecursion (HasType t) t.objects
+  pub predicates : AllByRecursion (SignatureHasTypes t) t.predicates
+  pub functions : AllByRecursion (SignatureHasTypes t) t.functions
+  pub parameters : AllByRecursion (SchemaHasTypes t) t.schemas
   pub schemas : AllByRecursion (IsSchema t) t.schemas
   pub goal : IsCondition t [] t.goal
   pub atoms : AllByRecursion (IsGround t t.predicates) t.atoms

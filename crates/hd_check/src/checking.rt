@@ -18,8 +18,8 @@ use hd_lifted::{Condition, Hierarchy, LiftedTask, Object, Schema, Signature};
 use hd_list::Sequence;
 use hd_metric::{misused_in_domain, misused_in_problem};
 use hd_names::{
-    Fault, Names, Scope, Stop, copied, hierarchy_of, number_of_type, numbers_of_types, scope_of,
-    types_of, with_objects,
+    Fault, Names, Scope, Stop, hierarchy_of, number_of_type, numbers_of_types, scope_of, types_of,
+    with_objects,
 };
 use hd_pddl::{DomainAst, ProblemAst};
 use hd_terms::Typed;
@@ -137,7 +137,7 @@ fn objects_of(
     ensures { IfOk result (λ v. v.items ≡ found.items ++ map (lifted_object types.now) declared.now) }
 {
     for item in declared {
-        let name = copied(alloc, &item.name.name)?;
+        let name = item.name.name.copied(alloc)?;
         let of = number_of_type(types, &item.of);
         found.push(Object { name, of })?;
     }
@@ -154,7 +154,7 @@ fn signatures_in(
 {
     let mut signatures = Vec::new(alloc);
     for item in declared {
-        let name = copied(alloc, &item.name.name)?;
+        let name = item.name.name.copied(alloc)?;
         let parameters = numbers_of_types(alloc, types, item.parameters.as_slice())?;
         signatures.push(Signature { name, parameters })?;
     }

@@ -7,7 +7,7 @@ use crate::conditions::condition_of;
 use crate::effects::effects_of;
 use hd_lifted::Schema;
 use hd_list::Sequence;
-use hd_names::{Names, Scope, Stop, Table, copied, declare, table_of};
+use hd_names::{Names, Scope, Stop, Table, declare, table_of};
 use hd_pddl::Action;
 use hd_terms::ItemKind;
 use std::alloc::Global;
@@ -25,7 +25,7 @@ fn schema_with(
     let precondition = action.precondition.as_slice();
     let condition = condition_of(alloc, scope, &parameters, precondition)?;
     let effects = effects_of(alloc, scope, &parameters, action.effect.as_slice())?;
-    let name = copied(alloc, &action.name.name)?;
+    let name = action.name.name.copied(alloc)?;
     Ok(Schema {
         name,
         parameters: parameters.items,

@@ -1,3 +1,4 @@
 pub mod Costs
 pub mod Types
 pub mod Walks
+pub mod Jumps

@@ -71,9 +71,9 @@ below_ancestor parents zero t = reflexive t
 below_ancestor parents (suc n) t = transitive (listed t) (below_ancestor parents n (parent_of parents t))
 
 -- some steps lead from a type to the other
-record Reaches (parents : List ℕ) (t u : ℕ) : Type 0 where
-  steps : ℕ
-  leads : ancestor parents steps t ≡ u
+pub record Reaches (parents : List ℕ) (t u : ℕ) : Type 0 where
+  pub steps : ℕ
+  pub leads : ancestor parents steps t ≡ u
 
 then_reaches : (parents : List ℕ) (t u v : ℕ) → (u ≡ 0) ⊎ Reaches parents t u → (v ≡ 0) ⊎ Reaches parents u v → (v ≡ 0) ⊎ Reaches parents t v
 then_reaches parents t u v a (inl e) = inl e
@@ -84,7 +84,7 @@ then_reaches parents t u v (inr a) (inr b) = inr (record {
 })
 
 -- what is above a type: `object`, and where steps lead
-above : {parents : List ℕ} {t u : ℕ} → IsSubtype parents t u → (u ≡ 0) ⊎ Reaches parents t u
+pub above : {parents : List ℕ} {t u : ℕ} → IsSubtype parents t u → (u ≡ 0) ⊎ Reaches parents t u
 above (reflexive t) = inr (record { steps = 0; leads = refl })
 above {parents} (transitive {t} {u} {v} a b) = then_reaches parents t u v (above a) (above b)
 above (listed t) = inr (record { steps = 1; leads = refl })
@@ -107,26 +107,6 @@ above_object parents u s = elim (above s) [
   | inl e ↦ e
   | inr a ↦ sym a.leads ∙ ancestor-object parents a.steps
 ]
-
--- ---- how far up `object` is
-
--- the steps from a type to `object`, of which no more than a number are counted
-abbrev pub height : List ℕ → ℕ → ℕ → ℕ
-height parents zero t = 0
-height parents (suc n) zero = 0
-height parents (suc n) (suc t) = suc (height parents n (parent_of parents (suc t)))
-
-height-enough : (parents : List ℕ) (n t : ℕ) → ancestor parents n t ≡ 0 → height parents (suc n) t ≡ height parents n t
-height-enough parents zero t e = ap (λ u. height parents 1 u) e
-height-enough parents (suc n) zero e = refl
-height-enough parents (suc n) (suc t) e = ap suc (height-enough parents n (parent_of parents (suc t)) e)
-
--- the parent is nearer
-pub height-falls : (parents : List ℕ) (n t : ℕ) → ancestor parents n t ≡ 0 → t ≢ 0 → height parents n (parent_of parents t) < height parents n t
-height-falls parents zero t e ne = absurd (ne e)
-height-falls parents (suc n) zero e ne = absurd (ne refl)
-height-falls parents (suc n) (suc t) e ne =
-    let same = height-enough parents n (parent_of parents (suc t)) e in omega (arith, same)
 
 -- ---- the test of the relation
 

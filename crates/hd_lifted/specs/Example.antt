@@ -1,20 +1,24 @@
 -- Small tasks on which the definitions are computed.
 use Rattle.std.specs.Prelude.{ℕ, Bool, true, false, List, [], ◌∷◌, codes, Option, Some, None, ℤ, pos}
+use Rattle.hd_terms.specs.declared.tree.Operation.TheVariants.{Multiply}
+use Rattle.hd_terms.specs.declared.tree.Relation.{Relation}
 use Rattle.hd_terms.specs.declared.tree.Relation.TheVariants.{GreaterOrEqual}
 use Rattle.hd_lifted.specs.declared.schema.Argument.TheVariants.{Parameter, Object}
 use Rattle.hd_lifted.specs.declared.schema.Applied.{Applied}
 use Rattle.hd_lifted.specs.declared.schema.Ground.{Ground}
 use Rattle.hd_lifted.specs.declared.schema.Literal.{Literal}
+use Rattle.hd_lifted.specs.declared.schema.Equality.{Equality}
+use Rattle.hd_lifted.specs.declared.schema.Comparison.{Comparison}
 use Rattle.hd_lifted.specs.declared.schema.Condition.{Condition}
 use Rattle.hd_lifted.specs.declared.schema.Change.{Change}
-use Rattle.hd_lifted.specs.declared.schema.Change.TheVariants.{Assign, Increase, Decrease, Cost}
+use Rattle.hd_lifted.specs.declared.schema.Change.TheVariants.{Assign, ScaleUp, Increase, Decrease, Cost}
 use Rattle.hd_lifted.specs.declared.schema.NumericEffect.{NumericEffect}
 use Rattle.hd_lifted.specs.declared.schema.Schema.{Schema}
 use Rattle.hd_lifted.specs.declared.task.Object.{Object as TaskObject}
 use Rattle.hd_lifted.specs.declared.task.Signature.{Signature}
 use Rattle.hd_lifted.specs.declared.task.InitialValue.{InitialValue}
 use Rattle.hd_lifted.specs.declared.task.LiftedTask.{LiftedTask}
-use Rattle.hd_lifted.specs.Expression.{Expression, number, fluent}
+use Rattle.hd_lifted.specs.Expression.{Expression, number, fluent, binary as operation}
 use Rattle.hd_lifted.specs.Steps.{Reached}
 use Rattle.hd_lifted.specs.Plans.{Instance}
 
@@ -205,3 +209,50 @@ p_with_p = instance 0 (0 ∷ 0 ∷ [])
 
 abbrev pub p_with_q : Instance
 p_with_q = instance 0 (0 ∷ 1 ∷ [])
+
+-- the action multiplies a fluent, which is 5 at first, by 3
+abbrev pub scaling : LiftedTask
+scaling = small (changing [] (effect ScaleUp (alone 0) (number (pos 3)) ∷ [])) [] (initial 0 [] (pos 5) ∷ [])
+
+-- ---- conditions
+
+-- the atom a is false
+abbrev pub not_the_atom : Literal
+not_the_atom = record { atom = alone 0; positive = false }
+
+-- the two parameters are the same object, or they are not
+abbrev pub parameters_are : Bool → Equality
+parameters_are same = record { left = Parameter 0; right = Parameter 1; positive = same }
+
+-- the first parameter is the object q, by its number
+abbrev pub first_is_q : Equality
+first_is_q = record { left = Parameter 0; right = Object 1; positive = true }
+
+-- how x and y compare
+abbrev pub x_and_y : Relation → Comparison
+x_and_y relation = record { relation = relation; left = fluent (alone 0); right = fluent (alone 1) }
+
+-- x is this at first, and these atoms are true; the goal asks for a, and that the square of x is not negative
+abbrev pub squared : ℤ → List Ground → LiftedTask
+squared x atoms = record {
+  hierarchy = [];
+  objects = [];
+  predicates = signature (codes "a") [] ∷ [];
+  functions = signature (codes "x") [] ∷ [];
+  schemas = [];
+  atoms = atoms;
+  values = initial 0 [] x ∷ [];
+  goal = record {
+    literals = wanted (alone 0) ∷ [];
+    equalities = [];
+    comparisons =
+        record { relation = GreaterOrEqual; left = operation Multiply (fluent (alone 0)) (fluent (alone 0)); right = number (pos 0) } ∷ [];
+  };
+  metric = None;
+}
+
+-- ---- types
+
+-- type 1 is below type 2, which is below `object`, as is type 3
+abbrev pub three_types : List ℕ
+three_types = 2 ∷ 0 ∷ 0 ∷ []

@@ -5,6 +5,7 @@ pub mod ExprParts
 pub mod Depth
 pub mod Types
 pub mod Walks
+pub mod Jumps
 pub mod Objects
 pub mod States
 pub mod Expressions

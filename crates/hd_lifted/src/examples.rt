@@ -1,9 +1,13 @@
-//! Worked examples of the definitions, each a checked fact. The function does nothing.
+//! Worked examples of the definitions, each a checked fact. The functions do nothing.
 ghost use Rattle.std.specs.Prelude.{◌≡◌, [], ◌∷◌, true, false, pos, Some, None};
+ghost use Rattle.hd_terms.specs.declared.tree.Relation.TheVariants.{Less, LessOrEqual, Equal, GreaterOrEqual, Greater};
+ghost use Rattle.hd_lifted.specs.Types.{IsSubtype, is_subtype};
+ghost use Rattle.hd_lifted.specs.States.{initial_state};
+ghost use Rattle.hd_lifted.specs.Conditions.{literal_holds, equality_holds, comparison_holds, comparison_stays};
 ghost use Rattle.hd_lifted.specs.Steps.{start};
 ghost use Rattle.hd_lifted.specs.Plans.{IsInstance, exec, IsValidAt};
-ghost use Rattle.hd_lifted.specs.Departures.{instance_departs};
-ghost use Rattle.hd_lifted.specs.Example.{value_at, is_true_at, cost_at, journey, a_to_b, b_to_c, a_to_c, the_fuel, the_start, only, the_x, the_y, the_atom, swapping, up_and_down, one_up, missing_amount, first_assignment, delete_and_add, mixing, p_with_p, p_with_q};
+ghost use Rattle.hd_lifted.specs.Departures.{goal_departs, instance_departs};
+ghost use Rattle.hd_lifted.specs.Example.{value_at, is_true_at, cost_at, journey, a_to_b, b_to_c, a_to_c, the_fuel, the_start, only, the_x, the_y, the_atom, swapping, up_and_down, one_up, missing_amount, first_assignment, delete_and_add, mixing, p_with_p, p_with_q, scaling, not_the_atom, parameters_are, first_is_q, x_and_y, squared, three_types};
 
 /// The definitions on the small tasks of `specs/Example.antt`.
 pub fn examples_compute()
@@ -42,4 +46,41 @@ pub fn examples_compute()
     // The end of the range is in it.
     ensures departs { instance_departs (one_up (pos 1000000000000000)) (start (one_up (pos 1000000000000000))) only ≡ true }
     ensures reaches_end { instance_departs (one_up (pos 999999999999999)) (start (one_up (pos 999999999999999))) only ≡ false }
+{}
+
+/// Conditions, departures of the goal and types, on the same tasks.
+pub fn conditions_compute()
+    // A negative literal holds where its atom is not true.
+    ensures is_false { literal_holds (initial_state swapping).atoms [] not_the_atom ≡ true }
+    ensures is_true { literal_holds (initial_state delete_and_add).atoms [] not_the_atom ≡ false }
+
+    // p and q are two objects.
+    ensures are_two { equality_holds (0 ∷ 1 ∷ []) (parameters_are true) ≡ false }
+    ensures are_not_one { equality_holds (0 ∷ 1 ∷ []) (parameters_are false) ≡ true }
+    ensures is_q { equality_holds (1 ∷ []) first_is_q ≡ true }
+
+    // 1 and 2 compare so.
+    ensures less { comparison_holds (initial_state swapping).values [] (x_and_y Less) ≡ true }
+    ensures no_more { comparison_holds (initial_state swapping).values [] (x_and_y LessOrEqual) ≡ true }
+    ensures equal { comparison_holds (initial_state swapping).values [] (x_and_y Equal) ≡ false }
+    ensures no_less { comparison_holds (initial_state swapping).values [] (x_and_y GreaterOrEqual) ≡ false }
+    ensures more { comparison_holds (initial_state swapping).values [] (x_and_y Greater) ≡ false }
+
+    // A comparison that reads a fluent without a value does not hold, and does not leave the range.
+    ensures no_value { comparison_holds (initial_state missing_amount).values [] (x_and_y GreaterOrEqual) ≡ false }
+    ensures no_departure { comparison_stays (initial_state missing_amount).values [] (x_and_y GreaterOrEqual) ≡ true }
+
+    // A scaling multiplies.
+    ensures scales { value_at the_x (exec scaling (only ∷ [])) ≡ Some (pos 15) }
+
+    // A goal departs where a subexpression leaves the range, though the comparison holds; but not where its atoms do not hold.
+    ensures square_departs { goal_departs (squared (pos 100000000) (the_atom ∷ [])) (start (squared (pos 100000000) (the_atom ∷ []))) ≡ true }
+    ensures square_stays { goal_departs (squared (pos 10000000) (the_atom ∷ [])) (start (squared (pos 10000000) (the_atom ∷ []))) ≡ false }
+    ensures atoms_first { goal_departs (squared (pos 100000000) []) (start (squared (pos 100000000) [])) ≡ false }
+
+    // A type is below its parent and `object`, and not the other way round.
+    ensures below_parent { IsSubtype three_types 1 2 }
+    ensures below_object { IsSubtype three_types 1 0 }
+    ensures not_above { is_subtype three_types 2 1 ≡ false }
+    ensures not_beside { is_subtype three_types 1 3 ≡ false }
 {}

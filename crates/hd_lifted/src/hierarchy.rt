@@ -2,9 +2,11 @@
 //!
 //! Type 0 is `object`. Each other type has a number from 1 on, and one parent.
 ghost use Rattle.std.specs.Prelude.{◌≡◌, ◌≢◌, ℕ, ◌+◌, ◌<◌, ◌≤◌, ◌↔◌, IsTrue, IfOk, IfErr, IfSome, MatchOption, None, length, replicate, min};
-ghost use Rattle.hd_lifted.specs.Types.{entry_of, IsSubtype, IsOnCycle, IsAcyclic, IsRooted, is_subtype};
+ghost use Rattle.hd_lifted.specs.Types.{IsSubtype, IsOnCycle, IsAcyclic, IsRooted, is_subtype};
 ghost use Rattle.hd_lifted.specs.Walks.{stamp_of, AreRootedBy, OnlyStamps, AreVisited};
+ghost use Rattle.hd_lifted.specs.Jumps.{AreShortcuts};
 
+use crate::shortcuts::{Shortcuts, depth_of, entry_of};
 use hd_list::NoMemory;
 use std::alloc::Global;
 use std::marker::Model;
@@ -15,17 +17,19 @@ use std::marker::Model;
 #[derive(Debug, Drop)]
 pub struct Hierarchy {
     parents: Vec<usize>,
+    shortcuts: Shortcuts,
 }
 
 impl Model for Hierarchy {
     ghost use Rattle.std.specs.Prelude.{List, ℕ};
     ghost use Rattle.hd_lifted.specs.Types.{IsRooted};
+    ghost use Rattle.hd_lifted.specs.Jumps.{AreShortcuts};
 
     ghost Value = { List ℕ };
 
     ghost view = { λ h. h.parents.items };
 
-    ghost invariant = { λ h. IsRooted h.parents.items };
+    ghost invariant = { λ h. IsRooted h.parents.items × AreShortcuts h.parents.items h.shortcuts.depths.items h.shortcuts.jumps.items };
 }
 
 impl Hierarchy {
@@ -41,7 +45,10 @@ impl Hierarchy {
     {
         match least_on_cycles(alloc, parents.as_slice())? {
             Some(on_cycle) => Ok(Err(on_cycle)),
-            None => Ok(Ok(Hierarchy { parents })),
+            None => {
+                let shortcuts = Shortcuts::new(alloc, parents.as_slice())?;
+                Ok(Ok(Hierarchy { parents, shortcuts }))
+            }
         }
     }
 
@@ -55,36 +62,34 @@ impl Hierarchy {
         &self.parents
     }
 
-    /// Whether each object of the type `lower` is one of the type `upper`.
+    /// Whether each object of the type `lower` is one of the type `upper`, in time logarithmic in the depth of `lower`.
     pub fn is_subtype(&self, lower: usize, upper: usize) -> bool
         ensures yes { IsTrue result → IsSubtype self.now lower upper }
         ensures no { IsSubtype self.now lower upper → IsTrue result }
         ensures test { result ≡ is_subtype self.now lower upper }
     {
-        leads_to(self.parents.as_slice(), lower, upper)
+        leads_to(self.parents.as_slice(), &self.shortcuts, lower, upper)
     }
 }
 
-/// What a list with an entry for each of the types 1, 2, .. has for a type, or 0.
-fn entry_of(entries: &[usize], kind: usize) -> usize
-    ensures { result ≡ entry_of entries.now kind }
-{
-    if kind > 0 && kind <= entries.len() {
-        entries[kind - 1]
-    } else {
-        0
-    }
-}
-
-/// Whether steps from a type to its parent lead from `lower` to `upper`.
-fn leads_to(parents: &[usize], lower: usize, upper: usize) -> bool
-    requires { IsRooted parents.now }
+/// Whether steps from a type to its parent lead from `lower` to `upper`. A jump is taken where it leads no higher than `upper`.
+fn leads_to(parents: &[usize], shortcuts: &Shortcuts, lower: usize, upper: usize) -> bool
+    requires rooted { IsRooted parents.now }
+    requires shortcuts { AreShortcuts parents.now shortcuts.now.depths.items shortcuts.now.jumps.items }
     ensures yes { IsTrue result → IsSubtype parents.now lower upper }
     ensures no { IsSubtype parents.now lower upper → IsTrue result }
 {
+    let depths = shortcuts.depths.as_slice();
+    let jumps = shortcuts.jumps.as_slice();
+    let wanted = depth_of(depths, upper);
     let mut kind = lower;
-    while kind != upper && kind != 0 {
-        kind = entry_of(parents, kind);
+    while depth_of(depths, kind) > wanted {
+        let far = entry_of(jumps, kind);
+        kind = if depth_of(depths, far) >= wanted {
+            far
+        } else {
+            entry_of(parents, kind)
+        };
     }
     kind == upper
 }

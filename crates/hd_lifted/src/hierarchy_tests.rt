@@ -102,6 +102,52 @@ fn in_a_falling_chain_earlier_types_are_above(rt: HostRuntime) -> Result<(), Fai
 }
 
 #[test]
+fn jumps_lead_up_a_chain_that_is_listed_deepest_first(rt: HostRuntime) -> Result<(), Fail> {
+    let mut parents = rising(rt.alloc(), 1_000)?;
+    // Types 1001 and 1002 are siblings of type 499.
+    parents.push(500)?;
+    parents.push(500)?;
+    let Ok(types) = Hierarchy::new(rt.alloc(), parents)? else {
+        return Err(Fail::new("a cycle"));
+    };
+    for (lower, upper, answer) in [
+        (1, 1_000, true),
+        (1, 2, true),
+        (1, 777, true),
+        (499, 500, true),
+        (1, 0, true),
+        (1_001, 500, true),
+        (1_001, 1_000, true),
+        (1_000, 1, false),
+        (2, 1, false),
+        (500, 499, false),
+        (500, 1_001, false),
+        (1_001, 499, false),
+        (1_001, 1_002, false),
+        (1, 1_001, false),
+        (1_001, 1, false),
+        (1, 1_003, false),
+        (0, 1_000, false),
+    ] {
+        assert_eq!(rt; types.is_subtype(lower, upper), answer, "{lower} {upper}");
+    }
+    Ok(())
+}
+
+#[test]
+fn a_hundred_thousand_questions_of_a_million_types_take_little_time(
+    rt: HostRuntime,
+) -> Result<(), Fail> {
+    let Ok(types) = Hierarchy::new(rt.alloc(), rising(rt.alloc(), 1_000_000)?)? else {
+        return Err(Fail::new("a cycle"));
+    };
+    for lower in 1..100_001 {
+        assert!(rt; types.is_subtype(lower, 999_999), "{lower}");
+    }
+    Ok(())
+}
+
+#[test]
 fn two_types_under_one_are_not_below_each_other(rt: HostRuntime) -> Result<(), Fail> {
     let parents = [3, 3, 0];
     for (lower, upper, answer) in [

@@ -10,6 +10,7 @@ mod expression;
 mod hierarchy;
 pub mod laws;
 mod schema;
+mod shortcuts;
 mod task;
 mod tuple;
 

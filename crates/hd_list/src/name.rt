@@ -1,7 +1,9 @@
-ghost use Rattle.std.specs.Prelude.{◌≡◌, Some, nat_eq, string_bytes};
+//! Names from texts.
+ghost use Rattle.std.specs.Prelude.{◌≡◌, Some, IfOk, nat_eq, string_bytes};
 ghost use Rattle.std.specs.Cmp.{partial_equiv_from_equiv};
 ghost use Rattle.std.specs.Cmp.Lexicographic.{pointwise, nat_list_eq_equiv};
 
+use std::alloc::{AllocError, Global};
 use std::fmt;
 use std::marker::Model;
 
@@ -32,6 +34,16 @@ impl Name {
         ensures { result.now ≡ self.now }
     {
         self.text.as_str()
+    }
+
+    /// The same name, in memory of its own.
+    ///
+    /// # Errors
+    /// Want of memory.
+    pub fn copied(&self, alloc: Global) -> Result<Name, AllocError>
+        ensures { IfOk result (λ n. n ≡ self.now) }
+    {
+        Ok(Name::from_string(String::from_str(alloc, self.as_str())?))
     }
 }
 

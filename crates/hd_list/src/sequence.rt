@@ -1,3 +1,4 @@
+//! Lists as values.
 ghost use Rattle.std.specs.Prelude.{◌≡◌, ◌==◌, List, [], length};
 ghost use Rattle.std.specs.Cmp.Lexicographic.{pointwise, lists_equiv, lists_per};
 

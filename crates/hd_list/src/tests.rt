@@ -24,6 +24,7 @@ fn a_name_is_the_bytes_of_its_text(rt: HostRuntime) -> Result<(), Fail> {
     let other = Name::from_string(String::from_str(rt.alloc(), "set-b")?);
     assert_eq!(rt; name.as_str(), "set-a");
     assert!(rt; name == same && name != other);
+    assert_eq!(rt; name.copied(rt.alloc())?.as_str(), "set-a");
     assert_eq!(rt; format!(in rt.alloc(); "({name})")?.as_str(), "(set-a)");
     Ok(())
 }

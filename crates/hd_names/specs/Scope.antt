@@ -1,5 +1,5 @@
 -- What names stand for: each is numbered by its place among those declared. (The scopes of names are those of PDDL 2.1.)
-use Rattle.std.specs.Prelude.{◌≡◌, ℕ, suc, List, [], ◌∷◌, ◌++◌, map, slice_get, Option, Some, None, Result, Ok, Err, codes}
+use Rattle.std.specs.Prelude.{◌≡◌, ℕ, suc, List, [], ◌∷◌, ◌++◌, map, slice_get, Option, Some, None, Result, Ok, Err, codes, ◌-◌, length, replicate}
 use Rattle.std.specs.List.{position}
 use Rattle.std.specs.Str.{bytes_eq}
 use Rattle.hd_forms.specs.declared.names.NameAt.{NameAt}
@@ -33,9 +33,13 @@ with_supertypes names (t ∷ ts) = with_supertypes (with_supertype names t.of) t
 abbrev pub type_names : List Typed → List (List ℕ)
 type_names ts = with_supertypes (codes "object" ∷ names_of ts) ts
 
--- the numbers of the types above those that are listed
+-- `object` above each type that is only named as a supertype
+abbrev pub parents_of_others : List Typed → List ℕ
+parents_of_others ts = replicate (length (type_names ts) - 1 - length ts) 0
+
+-- the numbers of the types above each but `object`: of those that are listed, then of the others
 abbrev pub parents_of : List Typed → List ℕ
-parents_of ts = types_of (type_names ts) ts
+parents_of ts = types_of (type_names ts) ts ++ parents_of_others ts
 
 -- a listed type that lies on a cycle: the types are numbered from 1 as they are listed
 pub record TellsCycle (ts : List Typed) (f : Fault) : Type 0 where

@@ -11,7 +11,7 @@ mod types;
 
 pub use declared::table_of;
 pub use fault::{Fault, Stop};
-pub use names::{Names, copied, declare, duplicate, known, spelled};
+pub use names::{Names, declare, duplicate, known, spelled};
 pub use scope::{Scope, scope_of, with_objects};
 pub use table::Table;
 pub use types::{hierarchy_of, number_of_type, numbers_of_types, types_of};

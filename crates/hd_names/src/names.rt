@@ -1,5 +1,5 @@
 //! The numbers of names, and the faults of names.
-ghost use Rattle.std.specs.Prelude.{◌≡◌, ◌++◌, ◌∷◌, [], Some, IfOk};
+ghost use Rattle.std.specs.Prelude.{◌≡◌, ◌++◌, ◌∷◌, [], Some, IfOk, length};
 ghost use Rattle.std.specs.List.{position};
 ghost use Rattle.std.specs.Str.{bytes_eq};
 ghost use Rattle.hd_names.specs.Fault.{Checks, Leaves, StopsAt};
@@ -36,6 +36,13 @@ impl Names {
         Names {
             names: IndexSet::new(alloc),
         }
+    }
+
+    /// How many names there are.
+    pub(crate) fn len(&self) -> usize
+        ensures { result ≡ length self.now }
+    {
+        self.names.len()
     }
 
     /// Whether a name is one of them.
@@ -85,13 +92,6 @@ pub fn spelled(alloc: Global, kind: ItemKind, name: &Name) -> Result<Name, Alloc
     }
     text.push_str(name.as_str())?;
     Ok(Name::from_string(text))
-}
-
-/// A copy of a name.
-pub fn copied(alloc: Global, name: &Name) -> Result<Name, AllocError>
-    ensures { IfOk result (λ n. n ≡ name.now) }
-{
-    Ok(Name::from_string(String::from_str(alloc, name.as_str())?))
 }
 
 /// Tells that a name is not declared.

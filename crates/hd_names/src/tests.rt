@@ -1,6 +1,6 @@
 //! Names by number, types and scopes of a small domain, worked out by hand.
 use crate::{
-    Fault, Names, Scope, Stop, copied, declare, duplicate, hierarchy_of, known, number_of_type,
+    Fault, Names, Scope, Stop, declare, duplicate, hierarchy_of, known, number_of_type,
     numbers_of_types, scope_of, spelled, table_of, types_of, with_objects,
 };
 use hd_forms::NameAt;
@@ -54,7 +54,6 @@ fn names_are_spelled_as_they_are_written(rt: HostRuntime) -> Result<(), Fail> {
     let plain = name(alloc, "a")?;
     assert_eq!(rt; spelled(alloc, ItemKind::Name, &plain)?.as_str(), "a");
     assert_eq!(rt; spelled(alloc, ItemKind::Variable, &plain)?.as_str(), "?a");
-    assert_eq!(rt; copied(alloc, &plain)?.as_str(), "a");
     Ok(())
 }
 

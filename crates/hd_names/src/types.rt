@@ -113,13 +113,25 @@ fn cycle_among(alloc: Global, listed: &[Typed], number: usize) -> Stop
     cycle_at(alloc, &item.name)
 }
 
-/// The hierarchy of the types that are listed, of which none may lie on a cycle.
+/// The numbers of the types above each type but `object`.
+fn parents_of(alloc: Global, types: &Names, listed: &[Typed]) -> Result<Vec<usize>, AllocError>
+    requires { types.now ≡ type_names listed.now }
+    ensures { IfOk result (λ v. v.items ≡ parents_of listed.now) }
+{
+    let mut parents = numbers_of_types(alloc, types, listed)?.into_vec();
+    // A type that is only named as a supertype is below `object`.
+    let others = vec![in alloc; 0; types.len() - 1 - listed.len()]?;
+    parents.extend_from_slice(others.as_slice())?;
+    Ok(parents)
+}
+
+/// The hierarchy of the types, of which none may lie on a cycle.
 pub fn hierarchy_of(alloc: Global, types: &Names, listed: &[Typed]) -> Result<Hierarchy, Stop>
     requires { types.now ≡ type_names listed.now }
     ensures { Climbs result listed.now }
 {
-    let parents = numbers_of_types(alloc, types, listed)?;
-    match Hierarchy::new(alloc, parents.into_vec())? {
+    let parents = parents_of(alloc, types, listed)?;
+    match Hierarchy::new(alloc, parents)? {
         Ok(hierarchy) => Ok(hierarchy),
         Err(number) => Err(cycle_among(alloc, listed, number)),
     }

@@ -1,3 +1,4 @@
+//! Outcomes, and batches of them.
 ghost use Rattle.std.specs.Prelude.{◌≡◌, ◌≤◌, length};
 ghost use Rattle.hd_node.specs.Outcome.{kid_of};
 

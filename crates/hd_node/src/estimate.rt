@@ -1,3 +1,4 @@
+//! Lower bounds on the cost from a state to the goal.
 ghost use Rattle.std.specs.Prelude.{◌≡◌};
 ghost use Rattle.hd_task.specs.Plans.{IsStateOf};
 ghost use Rattle.hd_task.specs.Covers.{zero_estimate};

@@ -1,3 +1,4 @@
+//! Expansions: the children and the departures of a plan.
 ghost use Rattle.std.specs.Prelude.{◌≡◌, ◌+◌, ◌<◌, ◌^◌, ◌++◌, [], ◌∷◌, nat_le, true, false, if◌then◌else◌, length, Some, MatchOption, IfOk, IfErr, OnOk};
 ghost use Rattle.std.specs.Option.{option_to_list};
 ghost use Rattle.hd_task.specs.Conditions.{condition_departs};

@@ -1,3 +1,4 @@
+//! Generated plans that wait to be expanded.
 ghost use Rattle.hd_task.specs.Plans.{IsStateOf};
 
 use hd_task::{Kid, State, Task};

@@ -6,7 +6,7 @@ ghost use Rattle.hd_plain.specs.Parts.{atom_number, literal_of, atom_of, conditi
 use hd_lifted::{Applied, Ground, LiftedTask, Schema, Signature};
 use hd_list::{Name, NoMemory, Sequence};
 use hd_task::{Action, Condition, GroundForm, Literal, Names};
-use std::alloc::{AllocError, Global};
+use std::alloc::Global;
 
 /// The number of an atom. From 2^32 on there is none, and no task has so many atoms as the one that stands for it.
 fn atom_number(symbol: usize) -> u32
@@ -120,20 +120,13 @@ pub fn initial_bits(
     Ok(Sequence::from_vec(bits))
 }
 
-/// A copy of a name.
-fn copied(alloc: Global, name: &Name) -> Result<Name, AllocError>
-    ensures { IfOk result (λ n. n ≡ name.now) }
-{
-    Ok(Name::from_string(String::from_str(alloc, name.as_str())?))
-}
-
 /// The names of predicates, in order.
 fn predicate_names(alloc: Global, predicates: &[Signature]) -> Result<Sequence<Name>, NoMemory>
     ensures { IfOk result (λ s. s ≡ map (λ p. p.name) predicates.now) }
 {
     let mut names = Vec::new(alloc);
     for predicate in predicates {
-        names.push(copied(alloc, &predicate.name)?)?;
+        names.push(predicate.name.copied(alloc)?)?;
     }
     Ok(Sequence::from_vec(names))
 }
@@ -144,7 +137,7 @@ fn schema_names(alloc: Global, schemas: &[Schema]) -> Result<Sequence<Name>, NoM
 {
     let mut names = Vec::new(alloc);
     for schema in schemas {
-        names.push(copied(alloc, &schema.name)?)?;
+        names.push(schema.name.copied(alloc)?)?;
     }
     Ok(Sequence::from_vec(names))
 }

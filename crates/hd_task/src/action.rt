@@ -1,3 +1,4 @@
+//! Ground actions.
 use crate::{Condition, Effect, Expr, GroundForm};
 use hd_list::Sequence;
 

@@ -1,3 +1,4 @@
+//! What an action does in a state, and whether the goal holds there.
 ghost use Rattle.std.specs.Prelude.{◌≡◌, ◌<◌, ◌&&◌, true, false, Some, length, is_some, fold, slice_set, IfOk, MatchOption};
 ghost use Rattle.std.specs.List.{list_all};
 ghost use Rattle.hd_task.specs.Expressions.{stays_in_range};

@@ -1,3 +1,4 @@
+//! Conditions of actions and of the goal.
 ghost use Rattle.std.specs.Prelude.{◌≡◌};
 ghost use Rattle.std.specs.List.{list_all};
 ghost use Rattle.hd_task.specs.Conditions.{has_atom, literal_holds, literals_hold, related, comparison_stays, comparison_holds};

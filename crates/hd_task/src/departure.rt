@@ -1,3 +1,4 @@
+//! What leaves the range of numbers.
 /// What leaves the range of numbers at a plan.
 #[derive(Clone, Copy, Debug, PartialEq, Eq, Hash)]
 pub enum DepartsBy {

@@ -1,3 +1,4 @@
+//! Effects on fluents.
 ghost use Rattle.std.specs.Prelude.{◌≡◌, ◌+ℤ◌, ◌≤ℤ◌, pos, neg_ℤ, ◌^◌, IfSome, fold};
 ghost use Rattle.std.specs.List.{list_all};
 ghost use Rattle.hd_task.specs.Expressions.{in_range, stays_in_range, value_of};

@@ -1,3 +1,4 @@
+//! Expressions over fluents, and the range of numbers.
 ghost use Rattle.std.specs.Prelude.{◌≡◌, ℤ, true, FitsSigned, IfSome};
 ghost use Rattle.std.specs.Int.{w64};
 ghost use Rattle.std.specs.Option.{SomeIff};

@@ -1,3 +1,4 @@
+//! Ground forms, and the names that they are printed with.
 use hd_list::{Name, Sequence};
 
 /// A schema, a predicate or a function with its objects, by their numbers in the task's [`Names`].

@@ -1,3 +1,4 @@
+//! Plans, and the pairs that name generated plans.
 ghost use Rattle.std.specs.Prelude.{◌≡◌, map};
 
 use crate::ActionId;

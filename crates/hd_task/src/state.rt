@@ -1,3 +1,4 @@
+//! States.
 ghost use Rattle.std.specs.Prelude.{◌≡◌, IfOk};
 
 use hd_list::{NoMemory, Sequence};

@@ -1,3 +1,4 @@
+//! Planning tasks.
 ghost use Rattle.std.specs.Prelude.{◌≡◌, IsTrue, length};
 ghost use Rattle.std.specs.List.{list_all};
 ghost use Rattle.hd_task.specs.Expressions.{in_range};

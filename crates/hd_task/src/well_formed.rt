@@ -1,3 +1,4 @@
+//! The tests that the parts of a task fit together.
 ghost use Rattle.std.specs.Prelude.{◌≡◌, ◌+ℤ◌, ◌≤ℤ◌, pos, neg_ℤ, [], map, nat_lt, IfSome};
 ghost use Rattle.std.specs.List.{list_all};
 ghost use Rattle.hd_task.specs.Expressions.{in_range, value_of};

@@ -22,8 +22,8 @@ const DRIVE_PROBLEM: &str = "(define (problem one) (:domain drive) (:objects t -
   (:init (= (total-cost) 0) (at t depot) (= (fuel t) 9) (not (ready)) (road depot q) (= (length depot q) -4))
   (:goal (and (at t q) (< (fuel t) 7) (not (= t q)) (not (ready)))) (:metric minimize (total-cost)))";
 
-/// What both stand for. The parents are those of the types that are listed; `vehicle`, which is not, is type 4.
-const DRIVE_TASK: &str = "types 4 4 0
+/// What both stand for. Behind the types that are listed comes `vehicle`, which is not, as type 4, below `object`.
+const DRIVE_TASK: &str = "types 4 4 0 0
 objects depot:3 t:1 q:3
 predicates (at 4 3) (road 3 3) (ready)
 functions (fuel 4) (length 3 3) (total-cost)
