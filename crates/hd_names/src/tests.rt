@@ -128,11 +128,11 @@ fn whole_scope(alloc: Global) -> Option<Scope> {
     scope(alloc, &domain(alloc)?, &problem(alloc)?).ok()
 }
 
-/// Whether the types are `object`, `b` and `a`, of which `b` is below `a`.
+/// Whether the types are `object`, `b` and `a`, of which `b` is below `a`, and `a` below `object`.
 fn has_types(scope: &Scope, b: &Name, a: &Name) -> bool {
     stands_at(&scope.types, b, Some(1))
         && stands_at(&scope.types, a, Some(2))
-        && scope.hierarchy.parents() == [2].as_slice()
+        && scope.hierarchy.parents() == [2, 0].as_slice()
 }
 
 /// Whether the scope is that of the two texts, but for names.
