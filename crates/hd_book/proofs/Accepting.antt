@@ -1,7 +1,7 @@
 -- A batch that is not refused keeps the book: outcome by outcome, beside the book before the batch.
 use Rattle.std.proofs.Common.{◌≡◌, ◌≢◌, ℕ, zero, suc, ◌+◌, ◌-◌, ◌<◌, ◌≤◌, ◌==◌, nat_le, Bool, true, false, cond, not, ◌||◌, Option, Some, None, List, [], ◌∷◌, ◌++◌, map, set, replicate, length, get_or, slice_get, Contains, ◌⊎◌, inl, inr, refl, sym, ap, ap₂, ◌∙◌, subst, arith, length-append, length-set, append_assoc, append-nil, get_or-set_other, get_or-set_same, true≢false, ℤ}
 use Rattle.std.specs.Prelude.{flat_map, option_and_then, unwrap_or}
-use Rattle.std.specs.List.{position_or_len, AllByRecursion}
+use Rattle.std.specs.List.{position_or_len, AllByRecursion, count_by}
 use Rattle.std.specs.Option.{option_or}
 use Rattle.std.specs.Bool.{beq}
 use Rattle.std.specs.Ordering.{int_eq}
@@ -12,14 +12,17 @@ use Rattle.std.proofs.lemmas.Bool.Decides.{Decides-int_eq}
 use Rattle.std.proofs.lemmas.Slice.Eq.{slice_eq-Decides}
 use Rattle.std.proofs.lemmas.Option.{none-some, same_Some, slice_get_within, get_or_from_slice_get}
 use Rattle.std.proofs.lemmas.List.{get_or_append_left, get_or-append_right, get_or-replicate, length-replicate, get_or-map, length-map, map-append}
-use Rattle.std.proofs.lemmas.List.Sums.{position_or_len_is, fails_before_first, passes_at_first}
+use Rattle.std.proofs.lemmas.List.Sums.{passes_at_first}
 use Rattle.std.proofs.lemmas.List.Folds.{list_any-append}
 use Rattle.std.proofs.lemmas.List.Elements.{Contains-append_left, Contains-push, Contains-get_or}
+use Rattle.hd_base.proofs.Tests.{position_or_len-append_left, count_by-set, count_by-append, count_by-replicate_none}
+use Rattle.hd_base.proofs.Lists.{slice_get-push_cases}
+use Rattle.hd_base.proofs.Truth.{or-false}
 use Rattle.hd_task.specs.declared.state.State.{State}
 use Rattle.hd_task.specs.declared.task.Task.{Task}
 use Rattle.hd_task.specs.declared.plan.Kid.{Kid}
 use Rattle.hd_task.specs.declared.plan.TheConstants.{ROOT}
-use Rattle.hd_task.specs.Plans.{Node, exec}
+use Rattle.hd_task.specs.Plans.{Node, exec, node}
 use Rattle.hd_task.specs.Expansions.{followed_by, applicable_at, children, generated, bound_of}
 use Rattle.hd_task.specs.Entries.{plan_of, plans_of}
 use Rattle.hd_task.specs.Covers.{zero_estimate, Reaches, IsJustified}
@@ -31,7 +34,7 @@ use Rattle.hd_node.specs.declared.batch.By.{By}
 use Rattle.hd_node.specs.declared.batch.By.TheVariants.{Entry, Here}
 use Rattle.hd_node.specs.declared.batch.Outcome.{Outcome}
 use Rattle.hd_node.specs.declared.batch.Outcome.TheVariants.{Expanded, Duplicate, Bounded}
-use Rattle.hd_node.specs.Children.{node, children_at}
+use Rattle.hd_node.specs.Children.{children_at}
 use Rattle.hd_node.specs.EstimateValue.{estimated}
 use Rattle.hd_node.specs.Outcome.{kid_of}
 use Rattle.hd_node.proofs.Steps.{children-actions}
@@ -42,7 +45,7 @@ use Rattle.hd_book.specs.Marks.{IsMarked}
 use Rattle.hd_book.specs.Settling.{BookState, expansions, IsKept, same_kid, knows_parent, place_of, is_posted, is_marked, node_of, same_state, has_state, is_node, dominates, expanded_node, node_by, reaches, refusal_by, is_settled_by, refusal_of, first_refusal, settled, all_settled, entry_of, IsOf}
 use Rattle.hd_book.specs.Holding.{node_at}
 use Rattle.hd_book.specs.Growing.{entered, entered_by, kids_in}
-use Rattle.hd_book.proofs.Adding.{entered_nothing, no_kids, entered_by-push, kids_in-push, count, count-set, count-append, count-unset}
+use Rattle.hd_book.proofs.Adding.{entered_nothing, no_kids, entered_by-push, kids_in-push}
 use Rattle.hd_book.proofs.Marking.{apart, expanded_marks, settled_marks, none_marked}
 use Rattle.hd_book.proofs.Naming.{plans_of-push, posted_named, posted_by-append, generated-append, posted_count, length-plans_of}
 
@@ -69,15 +72,6 @@ is_node-true None s cost e = absurd (true≢false (sym e))
 is_node-true (Some r) s cost e =
     let parts = and_parts (same_state r.state s) (r.cost == cost) e in
     ap₂ (λ (x : State) (c : ℕ). Some (node x c)) (same_state-true r.state s parts.0) (eqb-true r.cost cost parts.1)
-
--- where a test that passes at some place stands in a longer list
-place-append : {X : Type 0} (p : X → Bool) (xs ys : List X) (d : X) → position_or_len p xs < length xs → position_or_len p (xs ++ ys) ≡ position_or_len p xs
-place-append p xs ys d h =
-    let i = position_or_len p xs in
-    position_or_len_is p (xs ++ ys) i d
-    (omega (arith, length-append xs ys))
-    (λ k lt. ap p (get_or_append_left xs ys d k (omega arith)) ∙ fails_before_first p xs k d lt)
-    (λ lt. ap p (get_or_append_left xs ys d i h) ∙ passes_at_first p xs d h)
 
 -- ---- what an outcome that is not refused says
 
@@ -125,12 +119,6 @@ stands b kept k e =
     }
 
 -- ---- outcomes so far, and one more
-
-slice_get-push_cases : {X : Type 0} (xs : List X) (x : X) (i : ℕ) (y : X) → slice_get (xs ++ x ∷ []) i ≡ Some y → (slice_get xs i ≡ Some y) ⊎ (x ≡ y)
-slice_get-push_cases [] x zero y e = inr (same_Some x y e)
-slice_get-push_cases [] x (suc i) y e = absurd (none-some y e)
-slice_get-push_cases (z ∷ xs) x zero y e = inl e
-slice_get-push_cases (z ∷ xs) x (suc i) y e = slice_get-push_cases xs x i y e
 
 -- an expansion among the outcomes so far and one more
 expanded_cases : (earlier : List Outcome) (o : Outcome) (i : ℕ) (r : Node) → expanded_node (slice_get (earlier ++ o ∷ []) i) ≡ Some r → (expanded_node (slice_get earlier i) ≡ Some r) ⊎ (expanded_node (Some o) ≡ Some r)
@@ -229,22 +217,18 @@ entries_grow outcomes b = omega (arith, ap length (all_entries outcomes b), leng
 
 -- ---- truth values
 
-or_false : (b : Bool) → b ≡ (b || false)
-or_false true = refl
-or_false false = refl
-
 or_yes : (a b c : Bool) → c ≡ true → true ≡ (a || (b || (c || false)))
 or_yes true b c e = refl
 or_yes false true c e = refl
-or_yes false false c e = sym e ∙ or_false c
+or_yes false false c e = sym e ∙ sym (or-false c)
 
 or_no : (a b c : Bool) → c ≡ false → (a || b) ≡ (a || (b || (c || false)))
 or_no true b c e = refl
 or_no false true c e = refl
-or_no false false c e = sym e ∙ or_false c
+or_no false false c e = sym e ∙ sym (or-false c)
 
 only : (b : Bool) → (b || false) ≡ true → b ≡ true
-only b e = or_false b ∙ e
+only b e = sym (or-false b) ∙ e
 
 -- ---- the book after earlier outcomes of a batch, beside the book before it
 
@@ -276,7 +260,7 @@ module _ (t : Task) (entries0 : List Kid) (marks0 : List Bool) (kept0 : IsKept (
     pub opens : (k : Kid) → is_posted before k ≡ true → is_marked before k ≡ false → is_settled_by earlier k ≡ false → get_or marks (place_of before k) true ≡ false
     pub leads : map (exec t) more ≡ map (λ e. Some (node_at e)) (entered_by earlier)
     pub grown : length marks ≡ length marks0 + kids_in earlier
-    pub counted : count marks ≡ count marks0 + length earlier
+    pub counted : count_by (λ (m : Bool). m) marks ≡ count_by (λ (m : Bool). m) marks0 + length earlier
     pub known : (q : Kid) → is_settled_by earlier q ≡ true → is_posted before q ≡ true
     pub olds : (j : ℕ) → j < length marks0 → get_or marks j true ≡ (get_or marks0 j true || is_settled_by earlier (get_or (posted_by t old) j root))
     pub news : (j : ℕ) → length marks0 ≤ j → j < length marks → get_or marks j true ≡ false
@@ -307,7 +291,7 @@ module _ (t : Task) (entries0 : List Kid) (marks0 : List Bool) (kept0 : IsKept (
     same_place : place_of now k ≡ place_of before k
     same_place =
         ap (position_or_len (same_kid k)) posted_tail
-        ∙ place-append (same_kid k) (posted_by t old) (kids_from t (length old) f.more) root within_old
+        ∙ position_or_len-append_left (same_kid k) (posted_by t old) (kids_from t (length old) f.more) within_old
 
     still_posted : is_posted now k ≡ true
     still_posted =
@@ -413,7 +397,7 @@ module _ (t : Task) (entries0 : List Kid) (marks0 : List Bool) (kept0 : IsKept (
           ∙ ap (map (λ e. Some (node_at e)))
           (sym (append-nil (entered_by earlier)) ∙ (ap (λ xs. entered_by earlier ++ xs) (sym (entered_nothing o no_node)) ∙ sym (entered_by-push earlier o)));
       grown = omega (arith, length-set marks (place_of now k) true, f.grown, kids_in-push earlier o, no_kids o no_node);
-      counted = omega (arith, count-set marks (place_of now k) within_marks (open_now unmarked other), f.counted, length-append earlier (o ∷ []));
+      counted = omega (arith, count_by-set (λ (m : Bool). m) marks (place_of now k) true true within_marks (open_now unmarked other) refl, f.counted, length-append earlier (o ∷ []));
       known = known_now o is_k;
       olds = old_marks o is_k;
       news = new_marks_unset;
@@ -516,7 +500,7 @@ module _ (t : Task) (entries0 : List Kid) (marks0 : List Bool) (kept0 : IsKept (
         grown =
             omega (arith, length-append (set marks (place_of now k) true) (replicate (length e.children) false), length-set marks (place_of now k) true, length-replicate (length e.children) false, f.grown, kids_in-push earlier o);
         counted =
-            omega (arith, count-append (set marks (place_of now k) true) (replicate (length e.children) false), count-unset (length e.children), count-set marks (place_of now k) within_marks (open_now unmarked other), f.counted, length-append earlier (o ∷ []));
+            omega (arith, count_by-append (λ (m : Bool). m) (set marks (place_of now k) true) (replicate (length e.children) false), count_by-replicate_none (λ (m : Bool). m) (length e.children) false refl, count_by-set (λ (m : Bool). m) marks (place_of now k) true true within_marks (open_now unmarked other) refl, f.counted, length-append earlier (o ∷ []));
         known = known_now o is_k;
         olds = λ j lt.
             get_or_append_left (set marks (place_of now k) true) (replicate (length e.children) false) true j
@@ -553,7 +537,7 @@ module _ (t : Task) (entries0 : List Kid) (marks0 : List Bool) (kept0 : IsKept (
     grown = omega arith;
     counted = omega arith;
     known = λ q e. absurd (true≢false (sym e));
-    olds = λ j lt. or_false (get_or marks0 j true);
+    olds = λ j lt. sym (or-false (get_or marks0 j true));
     news = λ j le lt. absurd (omega arith);
     nodes = λ i r e. absurd (none-some r (sym (no_outcome i) ∙ e));
   }

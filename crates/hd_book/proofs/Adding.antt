@@ -1,10 +1,7 @@
 -- What one outcome more adds.
-use Rattle.std.proofs.Common.{◌≡◌, ℕ, suc, ◌+◌, ◌<◌, cond, Bool, true, false, Some, None, List, [], ◌∷◌, ◌++◌, set, replicate, length, get_or, refl, ap, ◌∙◌, arith, append-nil}
+use Rattle.std.proofs.Common.{◌≡◌, suc, ◌+◌, Some, None, List, [], ◌∷◌, ◌++◌, length, refl, ap, ◌∙◌, arith, append-nil}
 use Rattle.std.specs.Prelude.{flat_map}
-use Rattle.std.specs.List.{count_by}
 use Rattle.std.proofs.lemmas.List.Concat.{flat_map-append}
-use Rattle.std.proofs.lemmas.List.Sums.{sum_by-set, sum_by-append}
-use Rattle.std.proofs.lemmas.List.Folds.{sum_by-replicate}
 use Rattle.hd_node.specs.declared.batch.Outcome.{Outcome}
 use Rattle.hd_node.specs.declared.batch.Outcome.TheVariants.{Expanded, Duplicate, Bounded}
 use Rattle.hd_book.specs.Settling.{expanded_node, entry_of}
@@ -34,21 +31,3 @@ entered-count [] = refl
 entered-count (Expanded e ∷ outcomes) = ap suc (entered-count outcomes)
 entered-count (Duplicate k by ∷ outcomes) = entered-count outcomes
 entered-count (Bounded k h ∷ outcomes) = entered-count outcomes
-
--- ---- how many marks are set
-
--- how many marks are set
-abbrev pub count : List Bool → ℕ
-count marks = count_by (λ m. m) marks
-
-pub count-set : (marks : List Bool) (i : ℕ) → i < length marks → get_or marks i true ≡ false → count (set marks i true) ≡ count marks + 1
-count-set marks i lt e =
-    let f : Bool → ℕ = λ m. cond m 1 0 in
-    let was : f (get_or marks i true) ≡ 0 = ap f e in
-    omega (arith, was, sum_by-set f marks i true true lt)
-
-pub count-append : (marks more : List Bool) → count (marks ++ more) ≡ count marks + count more
-count-append marks more = sum_by-append (λ m. cond m 1 0) marks more
-
-pub count-unset : (n : ℕ) → count (replicate n false) ≡ 0
-count-unset n = sum_by-replicate (λ m. cond m 1 0) n false ∙ omega arith

@@ -2,11 +2,13 @@
 use Rattle.std.proofs.Common.{◌≡◌, ℕ, ◌+◌, ◌-◌, ◌*◌, ◌^◌, ◌<◌, ◌≤◌, nat_le, ◌&&◌, Bool, true, false, cond, not, ◌||◌, Option, Some, None, List, [], ◌∷◌, ◌++◌, map, length, get_or, slice_get, inl, inr, refl, sym, ap, ap₂, ◌∙◌, subst, arith, length-append, true≢false}
 use Rattle.std.specs.Prelude.{flat_map}
 use Rattle.std.specs.List.{list_any, range_with_len, AllByRecursion}
-use Rattle.std.proofs.lemmas.Bool.{cases_lt, and_parts, ltb-true, leb-true}
+use Rattle.std.proofs.lemmas.Bool.{cases_lt, and_parts, ltb-true, leb-true, or_right}
 use Rattle.std.proofs.lemmas.List.{get_or_append_left, get_or-append_right, get_or-map, length-map, map-append, ext_get_or}
 use Rattle.std.proofs.lemmas.List.Folds.{list_any-append, list_any_at}
 use Rattle.std.proofs.lemmas.List.Sums.{length-filter, count_by-le-length}
 use Rattle.std.proofs.lemmas.List.FromFn.{length-range_with_len}
+use Rattle.hd_base.proofs.Lists.{AllByRecursion-push}
+use Rattle.hd_base.proofs.Tests.{nat_lt-position_or_len}
 use Rattle.hd_task.specs.declared.task.Task.{Task}
 use Rattle.hd_task.specs.declared.plan.Kid.{Kid}
 use Rattle.hd_task.specs.declared.plan.TheConstants.{ROOT}
@@ -28,7 +30,7 @@ use Rattle.hd_book.specs.declared.content.Content.{Content}
 use Rattle.hd_book.specs.Refusing.{has_room, refusal_to}
 use Rattle.hd_book.specs.Growing.{entered_by, best_by, departure_by, kids_in, Releases}
 use Rattle.hd_book.proofs.Naming.{length-plans_of, posted_by-append, posted_count}
-use Rattle.hd_book.proofs.Held.{place-any, none_below, none_above}
+use Rattle.hd_book.proofs.Held.{none_below, none_above}
 use Rattle.hd_book.proofs.Accepting.{same_kid-true, same_kid-refl, accepted_kept, all_entries, Follows, at_first, batch_follows, batch_task}
 use Rattle.hd_book.proofs.Best.{best_all, departure_all}
 
@@ -51,15 +53,7 @@ all_has P (k ∷ kids) all q e =
 
 has_all : (P : Kid → Type 0) (kids : List Kid) → ((q : Kid) → has kids q ≡ true → P q) → AllByRecursion P kids
 has_all P [] h = tt
-has_all P (k ∷ kids) h = (h k (ap (λ b. b || has kids k) (same_kid-refl k)), has_all P kids (λ q e. h q (or_last (same_kid q k) (has kids q) e)))
-  where
-    or_last : (a b : Bool) → b ≡ true → (a || b) ≡ true
-    or_last true b e = refl
-    or_last false b e = e
-
-all_push : {X : Type 0} (P : X → Type 0) (xs : List X) (x : X) → AllByRecursion P xs → P x → AllByRecursion P (xs ++ x ∷ [])
-all_push P [] x all p = (p, tt)
-all_push P (y ∷ xs) x all p = (all.0, all_push P xs x all.1 p)
+has_all P (k ∷ kids) h = (h k (ap (λ b. b || has kids k) (same_kid-refl k)), has_all P kids (λ q e. h q (or_right (same_kid q k) (has kids q) e)))
 
 -- the kids of entries that are numbered from n on have their numbers as parents
 parent_bounds : (t : Task) (n : ℕ) (expanded : List (List ℕ)) (i : ℕ) → i < length (kids_from t n expanded) → (n ≤ (get_or (kids_from t n expanded) i root).parent) × ((get_or (kids_from t n expanded) i root).parent < n + length expanded)
@@ -127,7 +121,7 @@ module _ (t : Task) (entries : List Entry) (settled : List Kid) (posted : ℕ) (
   -- a posted kid is the root, or of an entry before the batch
   is_older : (q : Kid) → is_posted before q ≡ true → (length old ≤ q.parent) → (q.parent < ROOT) → ⊥
   is_older q e le lt =
-      let any = sym (place-any (same_kid q) (posted_by t old)) ∙ e in
+      let any = sym (nat_lt-position_or_len (same_kid q) (posted_by t old)) ∙ e in
       elim (same_kid q root) as (λ b. same_kid q root ≡ b → (b || list_any (same_kid q) (kids_from t 0 old)) ≡ true → ⊥) [
         | true ↦ λ is e. let at : q.parent ≡ ROOT = ap (λ (k : Kid). k.parent) (same_kid-true q root is) in omega arith
         | false ↦ λ is e. true≢false (sym e ∙ none_above t q 0 old (omega arith))
@@ -199,10 +193,10 @@ module _ (t : Task) (entries : List Entry) (settled : List Kid) (posted : ℕ) (
 
   now_posted : (q : Kid) → is_posted before q ≡ true → is_posted (state_by t (map kid_at entries') settled') q ≡ true
   now_posted q e =
-      place-any (same_kid q) (posted_by t E)
+      nat_lt-position_or_len (same_kid q) (posted_by t E)
       ∙ (ap (list_any (same_kid q)) posted_tail
       ∙ (list_any-append (same_kid q) (posted_by t old) (kids_from t (length old) f.more)
-      ∙ ap (λ b. b || list_any (same_kid q) (kids_from t (length old) f.more)) (sym (place-any (same_kid q) (posted_by t old)) ∙ e)))
+      ∙ ap (λ b. b || list_any (same_kid q) (kids_from t (length old) f.more)) (sym (nat_lt-position_or_len (same_kid q) (posted_by t old)) ∙ e)))
 
   module _ (some : 1 ≤ length outcomes) (tickets' : List (Option Outgoing)) (released : Releases t (length entries) outcomes tickets tickets') where
     pub held_after : IsHeldBy t entries' settled' (posted + kids_in outcomes) (best_by best (length entries) outcomes) (departure_by departure (length entries) outcomes) tickets'
@@ -223,7 +217,7 @@ module _ (t : Task) (entries : List Entry) (settled : List Kid) (posted : ℕ) (
           departure_is =
               ap (λ n. departure_by departure n outcomes) (sym same_number)
               ∙ (departure_all t outcomes old f.more departure own f.leads h.departure_is ∙ ap (λ xs. slice_get (departures_of t xs) 0) (sym tail));
-          of_task = subst (AllByRecursion (IsOutgoingOf t)) (sym released.added) (all_push (IsOutgoingOf t) tickets (Some released.out) h.of_task released.of_task);
+          of_task = subst (AllByRecursion (IsOutgoingOf t)) (sym released.added) (AllByRecursion-push (IsOutgoingOf t) tickets (Some released.out) h.of_task released.of_task);
           commits =
               omega (arith, ap length released.added, length-append tickets (Some released.out ∷ []), h.commits, f.counted, some, ap settled_count state_after);
         }

@@ -1,22 +1,22 @@
 -- The bound with its first entry, and the first departure, after further entries.
-use Rattle.std.proofs.Common.{◌≡◌, ◌≢◌, ℕ, ◌+◌, ◌<◌, ◌≤◌, nat_lt, true, false, cond, Option, Some, None, List, [], ◌∷◌, ◌++◌, map, length, drop, get_or, slice_get, min, refl, sym, ap, ap₂, ◌∙◌, subst, arith, length-append, append_assoc, append-nil}
+use Rattle.std.proofs.Common.{◌≡◌, ◌≢◌, ℕ, ◌+◌, ◌<◌, ◌≤◌, nat_lt, true, false, cond, Option, Some, None, List, [], ◌∷◌, ◌++◌, map, length, get_or, slice_get, min, refl, sym, ap, ap₂, ◌∙◌, subst, arith, length-append, append_assoc, append-nil}
 use Rattle.std.specs.Prelude.{option_map}
 use Rattle.std.specs.Option.{option_or}
 use Rattle.std.specs.List.{AllByRecursion}
 use Rattle.std.proofs.lemmas.Bool.{ltb-true, ltb-false}
-use Rattle.std.proofs.lemmas.Option.{none-some, same_Some}
+use Rattle.std.proofs.lemmas.Option.{none-some, same_Some, slice_get-map}
 use Rattle.std.proofs.lemmas.List.{get_or_append_left, get_or_at}
 use Rattle.std.proofs.lemmas.List.Elements.{Contains-get_or}
+use Rattle.hd_base.proofs.Lists.{cons_parts, slice_get-append_zero}
 use Rattle.hd_task.specs.declared.task.Task.{Task}
 use Rattle.hd_task.specs.declared.departure.DepartsBy.{DepartsBy}
 use Rattle.hd_task.specs.declared.departure.Departure.{Departure}
-use Rattle.hd_task.specs.Plans.{Node, exec}
+use Rattle.hd_task.specs.Plans.{Node, exec, node}
 use Rattle.hd_task.specs.Expansions.{lesser, goal_cost, bound_of, departing_at, departure_at, departures_from, departures_of}
 use Rattle.hd_task.proofs.Bounds.{bound_up_to}
 use Rattle.hd_task.proofs.Growing.{departures_stay}
 use Rattle.hd_node.specs.declared.batch.Outcome.{Outcome}
 use Rattle.hd_node.specs.declared.batch.Outcome.TheVariants.{Expanded, Duplicate, Bounded}
-use Rattle.hd_node.specs.Children.{node}
 use Rattle.hd_book.specs.declared.entry.Best.{Best}
 use Rattle.hd_book.specs.Settling.{IsOf}
 use Rattle.hd_book.specs.Holding.{node_at, IsAt, IsBestOf}
@@ -98,20 +98,14 @@ module _ (t : Task) (expanded : List (List ℕ)) (p : List ℕ) where
 abbrev leads_to : List (List ℕ) → Task → List (Option Node)
 leads_to plans t = map (exec t) plans
 
-head_is : {X : Type 0} (x y : X) (xs ys : List X) → x ∷ xs ≡ y ∷ ys → x ≡ y
-head_is x y xs ys e = ap (λ zs. get_or zs 0 x) e
-
-tail_is : {X : Type 0} (x y : X) (xs ys : List X) → x ∷ xs ≡ y ∷ ys → xs ≡ ys
-tail_is x y xs ys e = ap (drop 1) e
-
 -- the best of a list that outcomes lengthen
 pub best_all : (t : Task) (outcomes : List Outcome) (expanded more : List (List ℕ)) (b : Option Best) → AllByRecursion (IsOf t) outcomes → map (exec t) more ≡ map (λ e. Some (node_at e)) (entered_by outcomes) → IsBestOf t expanded b → IsBestOf t (expanded ++ more) (best_by b (length expanded) outcomes)
 best_all t [] expanded [] b own e at = subst (λ xs. IsBestOf t xs b) (sym (append-nil expanded)) at
 best_all t [] expanded (p ∷ more) b own e at = absurd (cc)
 best_all t (Expanded x ∷ outcomes) expanded [] b own e at = absurd (cc)
 best_all t (Expanded x ∷ outcomes) expanded (p ∷ more) b own e at =
-    let at_p : exec t p ≡ Some (node x.state x.cost) = head_is _ _ _ _ e in
-    let rest : map (exec t) more ≡ map (λ e. Some (node_at e)) (entered_by outcomes) = tail_is _ _ _ _ e in
+    let at_p : exec t p ≡ Some (node x.state x.cost) = (cons_parts _ _ _ _ e).0 in
+    let rest : map (exec t) more ≡ map (λ e. Some (node_at e)) (entered_by outcomes) = (cons_parts _ _ _ _ e).1 in
     let cost : goal_cost t (exec t p) ≡ goal_cost x.task.now (Some (node x.state x.cost)) =
     ap (goal_cost t) at_p ∙ ap (λ u. goal_cost u (Some (node x.state x.cost))) (sym own.0)
     in
@@ -124,29 +118,21 @@ best_all t (Bounded k h ∷ outcomes) expanded more b own e at = best_all t outc
 
 -- ---- the first departure
 
-first-append : {X : Type 0} (xs ys : List X) → slice_get (xs ++ ys) 0 ≡ option_or (slice_get xs 0) (slice_get ys 0)
-first-append [] ys = refl
-first-append (x ∷ xs) ys = refl
-
-first-map : {X Y : Type 0} (f : X → Y) (xs : List X) → slice_get (map f xs) 0 ≡ option_map f (slice_get xs 0)
-first-map f [] = refl
-first-map f (x ∷ xs) = refl
-
 departure_step : (t : Task) (expanded : List (List ℕ)) (p : List ℕ) (ds : List DepartsBy) → departing_at t (exec t p) ≡ ds → slice_get (departures_of t (expanded ++ p ∷ [])) 0 ≡ option_or (slice_get (departures_of t expanded) 0) (option_map (departure_at (length expanded)) (slice_get ds 0))
 departure_step t expanded p ds e =
     ap (λ xs. slice_get xs 0) (departures_stay t expanded (p ∷ []))
-    ∙ (first-append (departures_of t expanded) (departures_from t (length expanded) (p ∷ []))
+    ∙ (slice_get-append_zero (departures_of t expanded) (departures_from t (length expanded) (p ∷ []))
     ∙ ap (option_or (slice_get (departures_of t expanded) 0))
     (ap (λ xs. slice_get xs 0) (append-nil (map (departure_at (length expanded)) (departing_at t (exec t p))))
-    ∙ (first-map (departure_at (length expanded)) (departing_at t (exec t p)) ∙ ap (λ xs. option_map (departure_at (length expanded)) (slice_get xs 0)) e)))
+    ∙ (slice_get-map (departure_at (length expanded)) (departing_at t (exec t p)) 0 ∙ ap (λ xs. option_map (departure_at (length expanded)) (slice_get xs 0)) e)))
 
 pub departure_all : (t : Task) (outcomes : List Outcome) (expanded more : List (List ℕ)) (d : Option Departure) → AllByRecursion (IsOf t) outcomes → map (exec t) more ≡ map (λ e. Some (node_at e)) (entered_by outcomes) → d ≡ slice_get (departures_of t expanded) 0 → departure_by d (length expanded) outcomes ≡ slice_get (departures_of t (expanded ++ more)) 0
 departure_all t [] expanded [] d own e at = at ∙ ap (λ xs. slice_get (departures_of t xs) 0) (sym (append-nil expanded))
 departure_all t [] expanded (p ∷ more) d own e at = absurd (cc)
 departure_all t (Expanded x ∷ outcomes) expanded [] d own e at = absurd (cc)
 departure_all t (Expanded x ∷ outcomes) expanded (p ∷ more) d own e at =
-    let at_p : exec t p ≡ Some (node x.state x.cost) = head_is _ _ _ _ e in
-    let rest : map (exec t) more ≡ map (λ e. Some (node_at e)) (entered_by outcomes) = tail_is _ _ _ _ e in
+    let at_p : exec t p ≡ Some (node x.state x.cost) = (cons_parts _ _ _ _ e).0 in
+    let rest : map (exec t) more ≡ map (λ e. Some (node_at e)) (entered_by outcomes) = (cons_parts _ _ _ _ e).1 in
     let departs : departing_at t (exec t p) ≡ x.departures =
     ap (departing_at t) at_p ∙ (ap (λ u. departing_at u (Some (node x.state x.cost))) (sym own.0) ∙ sym x.all_departures)
     in

@@ -1,12 +1,14 @@
 -- As many kids are settled as marks are set.
-use Rattle.std.proofs.Common.{◌≡◌, ℕ, ◌+◌, ◌<◌, ◌&&◌, ◌||◌, Bool, true, false, cond, Option, Some, List, [], ◌∷◌, map, filter, length, Contains, refl, sym, ap, ap₂, ◌∙◌, subst, arith, true≢false}
-use Rattle.std.specs.List.{count_by, IsDistinct}
+use Rattle.std.proofs.Common.{◌≡◌, ℕ, ◌<◌, ◌&&◌, ◌||◌, Bool, true, false, cond, Option, Some, List, [], ◌∷◌, filter, length, Contains, refl, sym, ap, ap₂, ◌∙◌, subst, arith, true≢false}
+use Rattle.std.specs.List.{IsDistinct}
 use Rattle.std.specs.Cmp.{IsEquivalence}
-use Rattle.std.proofs.lemmas.List.Sums.{length-filter, sum_by-cons}
+use Rattle.std.proofs.lemmas.List.Sums.{length-filter}
 use Rattle.std.proofs.lemmas.Option.{same_Some}
 use Rattle.std.proofs.lemmas.Map.Made.{length-le_from_is_member}
-use Rattle.hd_list.proofs.Distinct as distinct
-use Rattle.hd_list.proofs.Members.{Contains-map}
+use Rattle.std.proofs.lemmas.Bool.{and_right}
+use Rattle.hd_base.proofs.Distinct as distinct
+use Rattle.hd_base.proofs.Members.{AllByRecursion-from_contains}
+use Rattle.hd_base.proofs.Tests.{count_by-map}
 use Rattle.hd_task.specs.declared.task.Task.{Task}
 use Rattle.hd_task.specs.declared.plan.Kid.{Kid}
 use Rattle.hd_task.specs.declared.plan.TheConstants.{ROOT}
@@ -21,7 +23,6 @@ use Rattle.hd_book.proofs.Naming.{posted_named}
 use Rattle.hd_book.proofs.Held.{short, posted-any}
 use Rattle.hd_book.proofs.Accepting.{same_kid-true, same_kid-refl}
 use Rattle.hd_book.proofs.After.{all_has}
-use Rattle.hd_book.proofs.Children.{all_from_members}
 
 -- ---- kids as keys
 
@@ -48,15 +49,11 @@ same_kid-laws = record {
 
 -- ---- lists without repetition
 
-unmap : {X Y : Type 0} (f : X → Y) (xs : List X) → distinct.IsDistinct (map f xs) → distinct.IsDistinct xs
-unmap f [] d = tt
-unmap f (x ∷ xs) d = (λ c. d.0 (Contains-map f xs x c), unmap f xs d.1)
-
 as_keys : (kids : List Kid) → distinct.IsDistinct kids → IsDistinct same_kid kids
 unfolding IsDistinct
 as_keys [] d = tt
 as_keys (k ∷ kids) d = (
-  all_from_members (λ q. same_kid k q ≡ false) kids
+  AllByRecursion-from_contains (λ q. same_kid k q ≡ false) kids
       (λ q c.
       elim (same_kid k q) as (λ b. same_kid k q ≡ b → b ≡ false) [
         | true ↦ λ e. absurd (d.0 (subst (Contains kids) (sym (same_kid-true k q e)) c))
@@ -67,7 +64,7 @@ as_keys (k ∷ kids) d = (
 
 posted_distinct : (t : Task) (E : List (List ℕ)) → length E < ROOT → distinct.IsDistinct (generated t E) → distinct.IsDistinct (posted_by t E)
 posted_distinct t E short d =
-    unmap (plan_of E) (posted_by t E)
+    distinct.IsDistinct-from_map (plan_of E) (posted_by t E)
     (subst (λ (xs : List (Option (List ℕ))). distinct.IsDistinct xs) (sym (posted_named t E short)) (distinct.IsDistinct-map Some (λ a b e. same_Some a b e) (generated t E) d))
 
 -- ---- the kids of a list that pass a test
@@ -85,18 +82,10 @@ has-filter f (k ∷ kids) q =
     kept false e fk = refl
 
     left_out : (b : Bool) → same_kid q k ≡ b → f k ≡ false → (has kids q && f q) ≡ ((b || has kids q) && f q)
-    left_out true e fk = both_false (has kids q) (f q) (ap f (same_kid-true q k e) ∙ fk)
-      where
-        both_false : (a b : Bool) → b ≡ false → (a && b) ≡ b
-        both_false true b e = refl
-        both_false false b e = sym e
+    left_out true e fk =
+        let fq : f q ≡ false = ap f (same_kid-true q k e) ∙ fk in
+        and_right (has kids q) (f q) fq ∙ sym fq
     left_out false e fk = refl
-
--- how many of a mapped list are true
-count-map : {X : Type 0} (f : X → Bool) (xs : List X) → count_by (λ m. m) (map f xs) ≡ count_by f xs
-count-map f [] = refl
-count-map f (x ∷ xs) =
-    sum_by-cons (λ (m : Bool). cond m 1 0) (f x) (map f xs) ∙ (ap (λ n. cond (f x) 1 0 + n) (count-map f xs) ∙ sym (sum_by-cons (λ y. cond (f y) 1 0) x xs))
 
 pub settled_len : (c : Content) → IsHeld c → IsDistinct same_kid c.settled.keys → length c.settled.keys ≡ settled_count (state_of c)
 settled_len c h unique =
@@ -109,7 +98,7 @@ settled_len c h unique =
       | true ↦ λ e.
           let posted : has P q ≡ true = sym (posted-any c h q) ∙ all_has (λ k. is_posted (state_of c) k ≡ true) c.settled.keys h.known q e in
           sym (has-filter f P q ∙ ap₂ (λ a b. a && b) posted e)
-      | false ↦ λ e. sym (has-filter f P q ∙ (ap (λ b. has P q && b) e ∙ no_and (has P q)))
+      | false ↦ λ e. sym (has-filter f P q ∙ (ap (λ b. has P q && b) e ∙ and_right (has P q) false refl))
     ] refl
     in
     let only_once : distinct.IsDistinct (filter f P) =
@@ -118,8 +107,4 @@ settled_len c h unique =
     let le = length-le_from_is_member same_kid-laws c.settled.keys (filter f P) unique (λ q e. sym (same q) ∙ e) in
     let ge = length-le_from_is_member same_kid-laws (filter f P) c.settled.keys (as_keys (filter f P) only_once) (λ q e. same q ∙ e) in
     let equal : length c.settled.keys ≡ length (filter f P) = omega (arith, le, ge) in
-    equal ∙ (length-filter f P ∙ sym (count-map f P))
-  where
-    no_and : (b : Bool) → (b && false) ≡ false
-    no_and true = refl
-    no_and false = refl
+    equal ∙ (length-filter f P ∙ sym (count_by-map (λ (m : Bool). m) f P))

@@ -1,5 +1,6 @@
 -- Where all is settled, the answer is true.
 use Rattle.std.proofs.Common.{◌≡◌, ℕ, Bool, true, false, cond, Some, None, List, [], ◌∷◌, length, All, refl, sym, ap, ◌∙◌, arith}
+use Rattle.std.specs.List.{count_by}
 use Rattle.std.proofs.lemmas.List.Sums.{sum_by-cons, count_by-le-length}
 use Rattle.std.proofs.lemmas.List.Elements.{All-nil, All-cons}
 use Rattle.hd_task.specs.declared.task.Task.{Task}
@@ -12,11 +13,10 @@ use Rattle.hd_book.specs.declared.verdict.Verdict.TheVariants.{Optimal, NoPlan, 
 use Rattle.hd_book.specs.Settling.{expansions}
 use Rattle.hd_book.specs.Holding.{settled_count, state_of, IsHeld}
 use Rattle.hd_book.specs.Answers.{IsAnswer, IsTrueAnswer}
-use Rattle.hd_book.proofs.Adding.{count}
 use Rattle.hd_book.proofs.Marking.{all_marked}
 
 -- where as many marks are set as there are, all are
-all_set : (marks : List Bool) → count marks ≡ length marks → All (λ m. m ≡ true) marks
+all_set : (marks : List Bool) → count_by (λ (m : Bool). m) marks ≡ length marks → All (λ m. m ≡ true) marks
 all_set [] e = All-nil (λ m. m ≡ true)
 all_set (m ∷ marks) e =
     let sum = sum_by-cons (λ (m : Bool). let n : ℕ = cond m 1 0 in n) m marks in

@@ -1,23 +1,25 @@
 -- What the parts of a book say of a kid: whether it is posted, and where it leads.
-use Rattle.std.proofs.Common.{◌≡◌, ◌≢◌, ℕ, suc, ◌+◌, ◌-◌, ◌<◌, ◌≤◌, ◌==◌, nat_lt, Bool, true, false, cond, not, ◌&&◌, ◌||◌, Option, Some, None, is_some, List, [], ◌∷◌, filter, length, get_or, slice_get, Contains, ◌⊎◌, inl, inr, refl, sym, ap, ap₂, ◌∙◌, subst, arith, true≢false}
+use Rattle.std.proofs.Common.{◌≡◌, ◌≢◌, ℕ, suc, ◌+◌, ◌-◌, ◌<◌, ◌≤◌, ◌==◌, nat_lt, Bool, true, false, cond, not, ◌&&◌, ◌||◌, Option, Some, None, is_some, List, [], ◌∷◌, filter, length, get_or, slice_get, ◌⊎◌, inl, inr, refl, sym, ap, ap₂, ◌∙◌, subst, arith, true≢false}
 use Rattle.std.specs.Prelude.{option_and_then}
-use Rattle.std.specs.List.{list_any, position_or_len, range_with_len}
-use Rattle.std.proofs.lemmas.Bool.{cases_eq, cases_lt, and_parts, cond-false, eq-eqb, ne_eqb, lt-ltb, le-ltb, ltb-true}
+use Rattle.std.specs.List.{list_any, range_with_len}
+use Rattle.std.proofs.lemmas.Bool.{cases_eq, and_parts, cond-false, eq-eqb, ne_eqb, ltb-true}
 use Rattle.std.proofs.lemmas.Option.{none-some, same_Some, slice_get-get_or, slice_get_past}
 use Rattle.std.proofs.lemmas.List.{get_or-map, length-map}
 use Rattle.std.proofs.lemmas.List.Sums.{passes_at_first}
-use Rattle.std.proofs.lemmas.List.Folds.{list_any-append, list_any_at, list_any_none}
+use Rattle.std.proofs.lemmas.List.Folds.{list_any-append, list_any_none}
 use Rattle.std.proofs.lemmas.List.Elements.{Contains-get_or}
-use Rattle.hd_list.proofs.Members.{Contains-filter, Contains-range, filter_test}
+use Rattle.hd_base.proofs.Members.{Contains-filter, Contains-range_with_len, passes-from_filter}
+use Rattle.hd_base.proofs.Tests.{nat_lt-position_or_len, list_any-from_contains}
+use Rattle.hd_base.proofs.Truth.{or-false}
 use Rattle.hd_task.specs.declared.task.Task.{Task}
 use Rattle.hd_task.specs.declared.plan.Kid.{Kid}
 use Rattle.hd_task.specs.declared.plan.TheConstants.{ROOT}
-use Rattle.hd_task.specs.Plans.{Node, IsStateOf, step_by, step_of, start, exec}
+use Rattle.hd_task.specs.Plans.{Node, IsStateOf, step_by, step_of, start, exec, node}
 use Rattle.hd_task.specs.Departures.{action_departs}
 use Rattle.hd_task.specs.Expansions.{is_applicable, applicable_at}
 use Rattle.hd_task.proofs.Runs.{exec-push, exec-state, step_within}
 use Rattle.hd_node.specs.declared.expansion.Child.{Child}
-use Rattle.hd_node.specs.Children.{node, child_to, child_at}
+use Rattle.hd_node.specs.Children.{child_to, child_at}
 use Rattle.hd_book.specs.declared.entry.Entry.{Entry}
 use Rattle.hd_book.specs.declared.content.Content.{Content}
 use Rattle.hd_book.specs.declared.refusal.Refusal.{Refusal}
@@ -27,29 +29,6 @@ use Rattle.hd_book.specs.Settling.{expansions, same_kid, knows_parent, place_of,
 use Rattle.hd_book.specs.Holding.{kid_at, node_at, has, state_of, IsHeld}
 use Rattle.hd_book.proofs.Accepting.{same_kid-true}
 use Rattle.hd_book.proofs.Naming.{plan_of-kid, length-plans_of}
-
--- ---- lists
-
-ltb_suc : (a b : ℕ) → nat_lt (suc a) (suc b) ≡ nat_lt a b
-ltb_suc a b =
-    elim (cases_lt a b) [
-      | inl lt ↦ lt-ltb (suc a) (suc b) (omega arith) ∙ sym (lt-ltb a b lt)
-      | inr le ↦ le-ltb (suc a) (suc b) (omega arith) ∙ sym (le-ltb a b le)
-    ]
-
--- a test that some element passes, by the place of the first
-pub place-any : {X : Type 0} (p : X → Bool) (xs : List X) → nat_lt (position_or_len p xs) (length xs) ≡ list_any p xs
-place-any p [] = refl
-place-any p (x ∷ xs) =
-    elim (p x) as (λ b. nat_lt (cond (not b) (1 + position_or_len p xs) 0) (length (x ∷ xs)) ≡ (b || list_any p xs)) [
-      | true ↦ lt-ltb 0 (suc (length xs)) (omega arith)
-      | false ↦
-          let next : 1 + position_or_len p xs ≡ suc (position_or_len p xs) = omega arith in
-          ap (λ n. nat_lt n (suc (length xs))) next ∙ (ltb_suc (position_or_len p xs) (length xs) ∙ place-any p xs)
-    ]
-
-any_among : {X : Type 0} (p : X → Bool) (xs : List X) (x : X) → Contains xs x → p x ≡ true → list_any p xs ≡ true
-any_among p xs x c e = list_any_at p xs c.0 x c.1 (ap p c.2 ∙ e)
 
 -- ---- the kids of an entry
 
@@ -86,7 +65,7 @@ at_entry t k n (p ∷ expanded) le lt =
           let first : k.parent - n ≡ 0 = omega arith in
           whole
           ∙ (ap₂ (λ x y. x || y) (any_of k n (applicable_at t (exec t p)) e) (none_below t k (n + 1) expanded (omega arith))
-          ∙ (or_false (list_any (λ a. k.action == a) (applicable_at t (exec t p)))
+          ∙ (or-false (list_any (λ a. k.action == a) (applicable_at t (exec t p)))
           ∙ ap (λ i. list_any (λ a. k.action == a) (applicable_at t (exec t (get_or (p ∷ expanded) i [])))) (sym first)))
       | inr ne ↦
           let next : k.parent - n ≡ suc (k.parent - (n + 1)) = omega arith in
@@ -94,10 +73,6 @@ at_entry t k n (p ∷ expanded) le lt =
           ∙ (ap₂ (λ x y. x || y) (none_of k n (applicable_at t (exec t p)) ne) (at_entry t k (n + 1) expanded (omega arith) (omega arith))
           ∙ ap (λ i. list_any (λ a. k.action == a) (applicable_at t (exec t (get_or (p ∷ expanded) i [])))) (sym next))
     ]
-  where
-    or_false : (b : Bool) → (b || false) ≡ b
-    or_false true = refl
-    or_false false = refl
 
 -- ---- actions
 
@@ -139,8 +114,8 @@ applicable-any t r a =
     elim (is_applicable t (Some r) a) as (λ b. is_applicable t (Some r) a ≡ b → list_any (λ b. a == b) (filter (is_applicable t (Some r)) (range_with_len 0 (length t.actions))) ≡ b) [
       | true ↦ λ e.
           let lt = some_within t r a (step_by t r a) refl (and_parts (is_some (step_by t r a)) (not (action_departs t r a)) e).0 in
-          any_among (λ b. a == b) (filter (is_applicable t (Some r)) (range_with_len 0 (length t.actions))) a
-          (Contains-filter (is_applicable t (Some r)) (range_with_len 0 (length t.actions)) a (Contains-range (length t.actions) a lt) e)
+          list_any-from_contains (λ b. a == b) (filter (is_applicable t (Some r)) (range_with_len 0 (length t.actions))) a
+          (Contains-filter (is_applicable t (Some r)) (range_with_len 0 (length t.actions)) a (Contains-range_with_len (length t.actions) a lt) e)
           (eq-eqb a a refl)
       | false ↦ λ e.
           list_any_none (λ b. a == b) (filter (is_applicable t (Some r)) (range_with_len 0 (length t.actions)))
@@ -148,7 +123,7 @@ applicable-any t r a =
           let xs = filter (is_applicable t (Some r)) (range_with_len 0 (length t.actions)) in
           ne_eqb a (get_or xs i d) (λ same.
           true≢false (sym (subst (λ x. is_applicable t (Some r) x ≡ true) (sym same)
-          (filter_test (is_applicable t (Some r)) (range_with_len 0 (length t.actions)) (get_or xs i d) (Contains-get_or xs i d lt))) ∙ e)))
+          (passes-from_filter (is_applicable t (Some r)) (range_with_len 0 (length t.actions)) (get_or xs i d) (Contains-get_or xs i d lt))) ∙ e)))
     ] refl
 
 -- ---- a book
@@ -188,7 +163,7 @@ module _ (c : Content) (h : IsHeld c) where
   entry_state n e d lt is = exec-state t (get_or E n []) (node_at e) (runs n e d lt is)
 
   pub posted-any : (k : Kid) → is_posted (state_of c) k ≡ list_any (same_kid k) (posted_by t E)
-  posted-any k = place-any (same_kid k) (posted_by t E)
+  posted-any k = nat_lt-position_or_len (same_kid k) (posted_by t E)
 
   -- a kid of an entry is posted where its action leads somewhere
   pub entry_posted : (k : Kid) (e d : Entry) → k.parent < length c.entries.items → e ≡ get_or c.entries.items k.parent d → is_some (child_at t (node_at e) k.action) ≡ is_posted (state_of c) k

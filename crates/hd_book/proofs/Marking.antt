@@ -3,7 +3,7 @@ use Rattle.std.proofs.Common.{◌≡◌, ◌≢◌, ℕ, zero, suc, ◌+◌, ◌
 use Rattle.std.proofs.lemmas.Bool.{cases_lt, cases_eq}
 use Rattle.std.proofs.lemmas.List.{get_or_append_left, get_or-append_right, get_or-replicate, length-replicate, get_or_default}
 use Rattle.std.proofs.lemmas.List.Elements.{Contains-append_left, Contains-push, Contains-push_cases, Contains-get_or}
-use Rattle.hd_list.proofs.Members.{Contains-from_take, from_map}
+use Rattle.hd_base.proofs.Members.{Contains-from_take, IsFrom-from_map}
 use Rattle.hd_task.specs.declared.task.Task.{Task}
 use Rattle.hd_task.specs.Plans.{exec}
 use Rattle.hd_task.specs.Expansions.{followed_by, applicable_at, children, generated, IsLegal}
@@ -99,7 +99,7 @@ module _ (t : Task) (h : Estimate) (expanded : List (List ℕ)) (marks : List Bo
             ∙ get_or-append_right (generated t expanded) (children t p) (length marks) j [] (sym m.one_each) le
             in
             let q = get_or (children t p) (j - length marks) [] in
-            let step = from_map (followed_by p) (applicable_at t (exec t p)) q (Contains-get_or (children t p) (j - length marks) [] (omega (arith, length_marks))) in
+            let step = IsFrom-from_map (followed_by p) (applicable_at t (exec t p)) q (Contains-get_or (children t p) (j - length marks) [] (omega (arith, length_marks))) in
             let c' : Contains (expanded ++ p ∷ []) (followed_by p step.source) = subst (Contains (expanded ++ p ∷ [])) (at ∙ sym step.is) c in
             elim (Contains-push_cases expanded p (followed_by p step.source) c') [
               | inl c ↦ new (legal_parent t expanded p step.source m.legal c)

@@ -1,20 +1,15 @@
 -- A ticket that is out, by the slots of a book.
-use Rattle.std.proofs.Common.{◌≡◌, ℕ, suc, zero, ◌==◌, ◌&&◌, Bool, true, false, cond, Option, Some, None, is_some, List, [], ◌∷◌, get_or, slice_get, refl, sym, ap, ◌∙◌, subst, true≢false}
+use Rattle.std.proofs.Common.{◌≡◌, ℕ, ◌==◌, ◌&&◌, Bool, true, false, cond, Option, Some, None, is_some, List, get_or, slice_get, refl, sym, ap, ◌∙◌, subst, true≢false}
 use Rattle.std.specs.Prelude.{option_map}
 use Rattle.std.specs.Option.{option_flatten}
 use Rattle.std.specs.List.{AllByRecursion}
 use Rattle.std.proofs.lemmas.Bool.{and_parts, eqb-true}
-use Rattle.std.proofs.lemmas.Option.{none-some, same_Some, slice_get-map, get_or_from_slice_get}
+use Rattle.std.proofs.lemmas.Option.{slice_get-map, get_or_from_slice_get}
+use Rattle.hd_base.proofs.Lists.{AllByRecursion-slice_get}
 use Rattle.hd_task.specs.declared.task.Task.{Task}
 use Rattle.hd_book.specs.declared.entry.Outgoing.{Outgoing}
 use Rattle.hd_book.specs.declared.content.Content.{Content}
 use Rattle.hd_book.specs.Holding.{Out, TicketView, out_of, if_its, out_at, view_of, IsOutgoingOf}
-
--- what holds of each element of a list holds of one
-all_get : {X : Type 0} (P : X → Type 0) (xs : List X) (n : ℕ) (x : X) → AllByRecursion P xs → slice_get xs n ≡ Some x → P x
-all_get P [] n x all e = absurd (none-some x e)
-all_get P (y ∷ xs) zero x all e = subst P (same_Some y x e) all.0
-all_get P (y ∷ xs) (suc n) x all e = all_get P xs n x all.1 e
 
 -- what a slot shows
 slot_out : (c : Content) (k : TicketView) (slot : Option Outgoing) → slice_get c.tickets.items k.number ≡ Some slot → out_at (view_of c) k ≡ if_its k (option_map out_of slot)
@@ -43,7 +38,7 @@ pub no_ticket : (c : Content) (k : TicketView) → slice_get c.tickets.items k.n
 no_ticket c k e = slot_out c k None e
 
 pub slot_task : (t : Task) (slots : List (Option Outgoing)) (n : ℕ) (out : Outgoing) → AllByRecursion (IsOutgoingOf t) slots → slice_get slots n ≡ Some (Some out) → IsOutgoingOf t (Some out)
-slot_task t slots n out all e = all_get (IsOutgoingOf t) slots n (Some out) all e
+slot_task t slots n out all e = AllByRecursion-slice_get (IsOutgoingOf t) slots n (Some out) all e
 
 -- a ticket that is out has a slot
 pub slot_at : (c : Content) (k : TicketView) (d : Option Outgoing) → is_some (out_at (view_of c) k) ≡ true → slice_get c.tickets.items k.number ≡ Some (get_or c.tickets.items k.number d)

@@ -1,8 +1,7 @@
 -- The plan that an entry names, by the entries before it.
-use Rattle.std.proofs.Common.{◌≡◌, ◌≢◌, ℕ, zero, suc, ◌+◌, ◌<◌, ◌==◌, cond, true, false, Some, None, List, [], ◌∷◌, ◌++◌, map, take, length, get_or, slice_get, reverse, refl, sym, ap, ◌∙◌, subst, arith, length-append, append_assoc, append-nil}
+use Rattle.std.proofs.Common.{◌≡◌, ◌≢◌, ℕ, zero, suc, ◌+◌, ◌<◌, ◌==◌, cond, true, false, Some, None, List, [], ◌∷◌, ◌++◌, map, take, length, get_or, slice_get, refl, sym, ap, ◌∙◌, subst, arith, length-append, append_assoc, append-nil}
 use Rattle.std.specs.Prelude.{option_and_then}
 use Rattle.std.specs.List.{fold}
-use mathlib.Core.List.{reverse_aux}
 use Rattle.std.proofs.Math.Seq.{take-append_seam}
 use Rattle.std.proofs.lemmas.Bool.{eq-eqb, ne_eqb, cond-true, cond-false}
 use Rattle.std.proofs.lemmas.Option.{none-some, same_Some, slice_get_within, get_or_from_slice_get}
@@ -119,12 +118,3 @@ module _ (c : Content) (h : IsHeld c) (n : ℕ) (e : Entry) (lt : n < length c.e
         before = before;
         is = p.is ∙ ap (λ x. x ++ e.kid.action ∷ []) (get_or-take n E e.kid.parent [] before);
       }
-
--- ---- lists turned round
-
-map-reverse_onto : {X Y : Type 0} (f : X → Y) (xs ys : List X) → map f (reverse_aux xs ys) ≡ reverse_aux (map f xs) (map f ys)
-map-reverse_onto f [] ys = refl
-map-reverse_onto f (x ∷ xs) ys = map-reverse_onto f xs (x ∷ ys)
-
-pub map-reverse : {X Y : Type 0} (f : X → Y) (xs : List X) → map f (reverse xs) ≡ reverse (map f xs)
-map-reverse f xs = map-reverse_onto f xs []

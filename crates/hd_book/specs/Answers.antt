@@ -1,12 +1,15 @@
--- What a book answers when all is settled. (HDA*, Kishimoto, Fukunaga and Botea 2013, section 3, for the end of the search;
+-- What a book answers when all is settled. (HDA*, Kishimoto, Fukunaga and Botea 2013, for the end of the search;
 -- departures are our own.)
-use Rattle.std.specs.Prelude.{◌≡◌, ◌≢◌, ℕ, ◌<◌, List, [], length, slice_get, slice_index_or, Option, Some, None}
+use Rattle.std.specs.Prelude.{◌≡◌, ◌≢◌, ℕ, ◌<◌, Bool, ◌==◌, List, [], length, slice_get, slice_index_or, Option, Some, None}
 use Rattle.hd_task.specs.declared.task.Task.{Task}
 use Rattle.hd_task.specs.Plans.{exec, IsValidAt}
 use Rattle.hd_task.specs.Expansions.{goal_cost, bound_of, departures_of}
+use Rattle.hd_task.specs.Covers.{IsCovered, zero_estimate}
 use Rattle.hd_task.specs.Verdicts as said
 use Rattle.hd_book.specs.declared.verdict.Verdict.{Verdict}
 use Rattle.hd_book.specs.declared.verdict.Verdict.TheVariants.{Optimal, NoPlan, RangeLeft}
+use Rattle.hd_book.specs.Settling.{BookState, expansions}
+use Rattle.hd_book.specs.Holding.{posted_count, settled_count}
 
 -- the plan of the bound: that of the least-numbered entry at which the goal holds, and does not depart, at the bound's cost
 pub record IsBoundPlan (t : Task) (expanded : List (List ℕ)) (p : List ℕ) : Type 0 where
@@ -29,6 +32,18 @@ abbrev pub IsAnswer : Task → List (List ℕ) → Verdict → Type 0
 IsAnswer t expanded (Optimal p) = (departures_of t expanded ≡ []) × IsBoundPlan t expanded p
 IsAnswer t expanded NoPlan = (departures_of t expanded ≡ []) × (bound_of t expanded ≡ None)
 IsAnswer t expanded (RangeLeft d p) = (slice_get (departures_of t expanded) 0 ≡ Some d) × IsBoundPlanOf t expanded p
+
+-- the same of what a book holds
+abbrev pub IsAnswerOf : BookState → Verdict → Type 0
+IsAnswerOf b answer = IsAnswer b.task (expansions b) answer
+
+-- a search is over where each posted kid is settled
+abbrev pub is_over : BookState → Bool
+is_over b = settled_count b == posted_count b
+
+-- each plan that the entries of a book generate is expanded, or need not be
+abbrev pub IsCoveredBook : BookState → Type 0
+IsCoveredBook b = IsCovered b.task zero_estimate (expansions b)
 
 -- a plan is valid, if there is one
 abbrev pub IsValidPlan : Task → Option (List ℕ) → Type 0

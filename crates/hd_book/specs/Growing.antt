@@ -7,7 +7,7 @@ use Rattle.hd_task.specs.declared.departure.Departure.{Departure}
 use Rattle.hd_task.specs.Expansions.{goal_cost, departure_at}
 use Rattle.hd_node.specs.declared.batch.Outcome.{Outcome}
 use Rattle.hd_node.specs.declared.batch.Outcome.TheVariants.{Expanded, Duplicate, Bounded}
-use Rattle.hd_node.specs.Children.{node}
+use Rattle.hd_task.specs.Plans.{node}
 use Rattle.hd_book.specs.declared.entry.Entry.{Entry}
 use Rattle.hd_book.specs.declared.entry.Best.{Best}
 use Rattle.hd_book.specs.declared.entry.Outgoing.{Outgoing}

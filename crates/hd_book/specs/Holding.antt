@@ -1,25 +1,24 @@
 -- What a book holds, as its parts keep it and as contracts see it. (Our own.)
-use Rattle.std.specs.Prelude.{◌≡◌, ℕ, ◌+◌, ◌<◌, ◌≤◌, ◌≢◌, Bool, true, List, [], ◌∷◌, ◌++◌, map, length, slice_index_or, Option, Some, None, option_map, slice_get, slice_set, unwrap_or, ◌==◌, ◌&&◌, if◌then◌else◌}
+use Rattle.std.specs.Prelude.{◌≡◌, ℕ, ◌+◌, ◌<◌, ◌≤◌, ◌≢◌, Bool, true, false, List, [], ◌∷◌, ◌++◌, map, length, slice_index_or, Option, Some, None, option_map, slice_get, slice_set, unwrap_or, ◌==◌, ◌&&◌, ◌||◌, nat_le, flat_map, if◌then◌else◌}
 use Rattle.std.specs.List.{list_any, count_by, AllByRecursion}
 use Rattle.std.specs.Option.{option_flatten}
 use Rattle.hd_task.specs.declared.state.State.{State}
 use Rattle.hd_task.specs.declared.task.Task.{Task}
 use Rattle.hd_task.specs.declared.plan.Kid.{Kid}
 use Rattle.hd_task.specs.declared.departure.Departure.{Departure}
-use Rattle.hd_task.specs.Plans.{Node, exec}
+use Rattle.hd_task.specs.Plans.{Node, exec, node}
 use Rattle.hd_task.specs.Expansions.{generated, goal_cost, bound_of, departures_of}
 use Rattle.hd_task.specs.Entries.{plans_of}
 use Rattle.hd_node.specs.declared.expansion.Child.{Child}
 use Rattle.hd_node.specs.declared.parcel.Parcel.{Parcel}
 use Rattle.hd_node.specs.declared.batch.Outcome.{Outcome}
 use Rattle.hd_node.specs.declared.batch.Outcome.TheVariants.{Expanded, Duplicate, Bounded}
-use Rattle.hd_node.specs.Children.{node}
 use Rattle.hd_book.specs.declared.entry.Entry.{Entry}
 use Rattle.hd_book.specs.declared.entry.Best.{Best}
 use Rattle.hd_book.specs.declared.entry.Outgoing.{Outgoing}
 use Rattle.hd_book.specs.declared.content.Content.{Content}
 use Rattle.hd_book.specs.Kids.{kid_from, posted_by}
-use Rattle.hd_book.specs.Settling.{BookState, IsKept, same_kid, is_posted, entry_of}
+use Rattle.hd_book.specs.Settling.{BookState, IsKept, same_kid, is_posted, entry_of, all_settled, expansions}
 
 -- ---- what contracts see
 
@@ -57,11 +56,37 @@ abbrev pub released_by : ℕ → List Outcome → List Released
 released_by n [] = []
 released_by n (o ∷ outcomes) = released_at n o ++ released_by (n + length (entry_of o)) outcomes
 
+-- ---- what a batch does
+
+-- the book of a search that has not begun: the root is posted
+abbrev pub empty_book : Task → BookView
+empty_book t = record { state = record { task = t; entries = []; marks = false ∷ [] }; tickets = []; halted = false }
+
+-- the book gains the entries of outcomes, one for each expansion among them
+abbrev pub GainsEntries : BookView → BookView → List Outcome → Type 0
+GainsEntries old new outcomes = new.state.entries ≡ old.state.entries ++ flat_map entry_of outcomes
+
+-- what a book holds of the search after outcomes
+abbrev pub state_after : BookView → List Outcome → BookState
+state_after b outcomes = all_settled b.state outcomes
+
+-- the book gains a ticket that is out: it has the entries that the outcomes add, and releases their kids
+abbrev pub GainsTicket : BookView → BookView → List Outcome → Type 0
+GainsTicket old new outcomes =
+    new.tickets
+    ≡ old.tickets
+    ++ Some (record {
+      first = length old.state.entries;
+      end = length new.state.entries;
+      released = released_by (length old.state.entries) outcomes;
+    })
+    ∷ []
+
+-- ---- how the parts of a book show it
+
 -- what a parcel releases
 abbrev pub parcel_of : Parcel → Released
 parcel_of p = record { kid = p.kid; state = p.state; cost = p.cost }
-
--- ---- how the parts of a book show it
 
 abbrev pub kid_at : Entry → Kid
 kid_at e = e.kid
@@ -87,6 +112,10 @@ marks_by t entries settled = map (has settled) (posted_by t (plans_at entries))
 -- how many kids are settled
 abbrev pub settled_count : BookState → ℕ
 settled_count b = count_by (λ m. m) b.marks
+
+-- how many kids are posted
+abbrev pub posted_count : BookState → ℕ
+posted_count b = length (generated b.task (expansions b))
 
 -- the state of the book whose entries and settled kids these are
 abbrev pub state_by : Task → List Kid → List Kid → BookState
@@ -151,6 +180,18 @@ pub record TicketView : Type 0 where
 pub record ReceiptView : Type 0 where
   pub first : ℕ
   pub end : ℕ
+
+-- the ticket of the batch between two states of a book
+abbrev pub ticket_between : BookView → BookView → TicketView
+ticket_between old new = record {
+  number = length old.tickets;
+  first = length old.state.entries;
+  end = length new.state.entries;
+}
+
+-- the entries of a receipt are acknowledged: for now all entries of the book are, and a receipt of none always is
+abbrev pub is_acknowledged : BookView → ReceiptView → Bool
+is_acknowledged b r = (r.first == r.end) || nat_le r.end (length b.state.entries)
 
 -- a ticket that is out has these entries
 abbrev pub if_its : TicketView → Option Out → Option Out

@@ -1,4 +1,4 @@
--- Which generated plans are settled. (HDA*, Kishimoto, Fukunaga and Botea 2013, section 3: closed and pruned nodes.)
+-- Which generated plans are settled. (HDA*, Kishimoto, Fukunaga and Botea 2013: closed and pruned nodes.)
 use Rattle.std.specs.Prelude.{◌≡◌, ℕ, ◌<◌, Bool, true, false, List, [], Contains, length, slice_index_or, ◌⊎◌}
 use Rattle.hd_task.specs.declared.task.Task.{Task}
 use Rattle.hd_task.specs.Expansions.{generated, IsLegal}

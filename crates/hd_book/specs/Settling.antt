@@ -1,5 +1,5 @@
 -- What a batch of outcomes does to a book, and why it may be refused. (Our own; the three ways to settle a kid are those of
--- HDA*, Kishimoto, Fukunaga and Botea 2013, section 3: expansion, duplicate detection and pruning.)
+-- HDA*, Kishimoto, Fukunaga and Botea 2013: expansion, duplicate detection and pruning.)
 use Rattle.std.specs.Prelude.{◌≡◌, ℕ, ◌+◌, ◌<◌, Bool, true, false, not, ◌&&◌, ◌||◌, ◌==◌, nat_lt, nat_le, if◌then◌else◌, List, [], ◌∷◌, ◌++◌, length, slice_get, slice_index_or, slice_set, replicate, Option, Some, None, option_and_then, unwrap_or}
 use Rattle.std.specs.List.{list_any, position_or_len, fold}
 use Rattle.std.specs.Option.{option_or}
@@ -10,7 +10,7 @@ use Rattle.hd_task.specs.declared.state.State.{State}
 use Rattle.hd_task.specs.declared.task.Task.{Task}
 use Rattle.hd_task.specs.declared.plan.Kid.{Kid}
 use Rattle.hd_task.specs.declared.plan.TheConstants.{ROOT}
-use Rattle.hd_task.specs.Plans.{Node, exec}
+use Rattle.hd_task.specs.Plans.{Node, exec, node}
 use Rattle.hd_task.specs.Expansions.{bound_of}
 use Rattle.hd_task.specs.Entries.{plan_of, plans_of}
 use Rattle.hd_task.specs.Covers.{zero_estimate}
@@ -18,7 +18,6 @@ use Rattle.hd_node.specs.declared.batch.By.{By}
 use Rattle.hd_node.specs.declared.batch.By.TheVariants.{Entry, Here}
 use Rattle.hd_node.specs.declared.batch.Outcome.{Outcome}
 use Rattle.hd_node.specs.declared.batch.Outcome.TheVariants.{Expanded, Duplicate, Bounded}
-use Rattle.hd_node.specs.Children.{node}
 use Rattle.hd_node.specs.EstimateValue.{estimated}
 use Rattle.hd_node.specs.Outcome.{kid_of}
 use Rattle.hd_book.specs.declared.refusal.Refusal.{Refusal}

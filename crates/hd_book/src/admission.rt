@@ -1,7 +1,7 @@
 //! Whether a batch is refused: the book is only read.
-ghost use Rattle.std.specs.Prelude.{◌≡◌, ◌+◌, ◌<◌, ◌^◌, ◌||◌, true, false, Some, None, nat_le, is_some, length, [], IfOk, IfSome, MatchOption};
-ghost use Rattle.hd_task.specs.Plans.{IsStateOf};
-ghost use Rattle.hd_node.specs.Children.{node, child_at};
+ghost use Rattle.std.specs.Prelude.{◌≡◌, ◌||◌, true, Some, is_some, [], IfOk, IfSome};
+ghost use Rattle.hd_task.specs.Plans.{IsStateOf, node};
+ghost use Rattle.hd_node.specs.Children.{child_at};
 ghost use Rattle.hd_node.specs.Outcome.{kid_of};
 ghost use Rattle.hd_book.specs.Settling.{expansions, knows_parent, is_posted, is_marked, node_of, node_by, dominates, reaches, refusal_by, is_settled_by, refusal_of, first_refusal};
 ghost use Rattle.hd_task.specs.Expansions.{bound_of};
@@ -13,20 +13,9 @@ use crate::Refusal;
 use crate::content::Content;
 use crate::entry::Best;
 use hd_node::{By, Child, EstimateValue, Outcome};
-use hd_task::{ActionId, Applied, Kid, NoMemory, RANGE_END, ROOT, State, Task, apply};
+use hd_task::{ActionId, Kid, NoMemory, ROOT, Reached, State, Task, step};
 use std::alloc::Global;
 use std::collections::HashSet;
-
-/// A cost with a step's, if it is in the range.
-fn total(cost: u64, step: u128) -> Option<u64>
-    ensures { MatchOption result (nat_le (cost + step) (10 ^ 15) ≡ false) (λ c. (nat_le (cost + step) (10 ^ 15) ≡ true) × (c ≡ cost + step)) }
-{
-    if cost <= RANGE_END && step <= u128::from(RANGE_END - cost) {
-        Some(cost + step as u64)
-    } else {
-        None
-    }
-}
 
 /// Where an action leads from a node, if it is applicable there.
 fn child(
@@ -42,23 +31,21 @@ fn child(
     if action as usize >= task.actions.len() {
         return Ok(None);
     }
-    match apply(alloc, task, state, ActionId(action))? {
-        Applied::No => Ok(None),
-        Applied::Departs => Ok(None),
-        Applied::Next(state, step) => match total(cost, step) {
-            Some(cost) => Ok(Some(Child {
-                action,
-                state,
-                cost,
-            })),
-            None => Ok(None),
-        },
+    match step(alloc, task, state, cost, ActionId(action))? {
+        Reached::No => Ok(None),
+        Reached::Departs => Ok(None),
+        Reached::Next(state, cost) => Ok(Some(Child {
+            action,
+            state,
+            cost,
+        })),
     }
 }
 
 /// Whether a node has a child's state at no greater cost.
 fn is_no_dearer(state: &State, cost: u64, reached: &Child) -> bool
-    ensures { result ≡ dominates (Some (node state.now cost)) (Some (node reached.now.state reached.now.cost)) }
+    ensures { result ≡ dominates (Some (node state.now cost))
+        (Some (node reached.now.state reached.now.cost)) }
 {
     *state == reached.state && cost <= reached.cost
 }
@@ -76,7 +63,8 @@ impl<'t> Content<'t> {
         requires held { IsHeld self.now }
         requires known { knows_parent (state_of self.now) kid ≡ true }
         ensures posted { IfOk result (λ r. is_some r ≡ is_posted (state_of self.now) kid) }
-        ensures leads { IfOk result (λ r. IfSome r (λ c. node_of (state_of self.now) kid ≡ Some (node c.state c.cost))) }
+        ensures leads { IfOk result (λ r. IfSome r (λ c. node_of (state_of self.now) kid
+            ≡ Some (node c.state c.cost))) }
     {
         if kid.parent == ROOT {
             let state = self.task.initial.copied(alloc)?;
@@ -93,7 +81,8 @@ impl<'t> Content<'t> {
     /// Whether what a duplicate names has a state at no greater cost.
     fn dominates(&self, earlier: &[Outcome<'t>], by: By, reached: &Child) -> bool
         requires held { IsHeld self.now }
-        ensures { result ≡ dominates (node_by (state_of self.now) earlier.now by) (Some (node reached.now.state reached.now.cost)) }
+        ensures { result ≡ dominates (node_by (state_of self.now) earlier.now by)
+            (Some (node reached.now.state reached.now.cost)) }
     {
         match by {
             By::Entry(number) => match self.entries.get(number as usize) {
@@ -114,7 +103,8 @@ impl<'t> Content<'t> {
     /// Whether a cost and an estimate reach the bound, or the estimate is infinite.
     fn reaches(&self, reached: &Child, estimate: EstimateValue) -> bool
         requires held { IsHeld self.now }
-        ensures { result ≡ reaches (bound_of self.now.task.now (expansions (state_of self.now))) (Some (node reached.now.state reached.now.cost)) (estimated estimate) }
+        ensures { result ≡ reaches (bound_of self.now.task.now (expansions (state_of self.now)))
+            (Some (node reached.now.state reached.now.cost)) (estimated estimate) }
     {
         match (self.best, estimate) {
             (_, EstimateValue::Dead) => true,
@@ -133,7 +123,8 @@ impl<'t> Content<'t> {
         reached: &Child,
     ) -> Option<Refusal>
         requires held { IsHeld self.now }
-        requires leads { node_of (state_of self.now) (kid_of outcome.now) ≡ Some (node reached.now.state reached.now.cost) }
+        requires leads { node_of (state_of self.now) (kid_of outcome.now)
+            ≡ Some (node reached.now.state reached.now.cost) }
         ensures { result ≡ refusal_by (state_of self.now) earlier.now outcome.now }
     {
         match outcome {

@@ -16,7 +16,8 @@ impl<'t> Content<'t> {
     pub(crate) fn counts(&self) -> Counts
         requires held { IsHeld self.now }
         ensures entries { result.entries ≡ length self.now.entries.items }
-        ensures posted { result.posted ≡ length (generated self.now.task.now (expansions (state_of self.now))) }
+        ensures posted { result.posted ≡ length (generated self.now.task.now
+            (expansions (state_of self.now))) }
         ensures settled { result.settled ≡ settled_count (state_of self.now) }
         ensures acknowledged { result.acknowledged ≡ result.entries }
         ensures commits { result.commits ≡ length self.now.tickets.items }
@@ -75,10 +76,13 @@ impl<'t> Content<'t> {
     /// The answer, once all is settled.
     pub(crate) fn verdict(&self, alloc: Global) -> Result<Option<Verdict>, NoMemory>
         requires held { IsHeld self.now }
-        ensures over { IfOk result (λ v. is_some v ≡ (settled_count (state_of self.now) == length (generated self.now.task.now (expansions (state_of self.now))))) }
+        ensures over { IfOk result (λ v. is_some v ≡ (settled_count (state_of self.now)
+            == length (generated self.now.task.now (expansions (state_of self.now))))) }
         ensures kept { IsKept (state_of self.now) }
-        ensures covered { IfOk result (λ v. IfSome v (λ _. IsCovered self.now.task.now zero_estimate (expansions (state_of self.now)))) }
-        ensures answer { IfOk result (λ v. IfSome v (IsAnswer self.now.task.now (expansions (state_of self.now)))) }
+        ensures covered { IfOk result (λ v. IfSome v
+            (λ _. IsCovered self.now.task.now zero_estimate (expansions (state_of self.now)))) }
+        ensures answer { IfOk result (λ v. IfSome v (IsAnswer self.now.task.now
+            (expansions (state_of self.now)))) }
         ensures is_true { IfOk result (λ v. IfSome v (IsTrueAnswer self.now.task.now)) }
     {
         let counts = self.counts();

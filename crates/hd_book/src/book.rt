@@ -15,12 +15,12 @@ pub struct Book<'t> {
 
 impl<'t> Model for Book<'t> {
     ghost use Rattle.hd_book.specs.Holding.{BookView, view_of, IsHeld};
-    ghost use Rattle.hd_task.specs.contracts.expression.Expr as e;
+    ghost use Rattle.hd_task.specs.contracts.task.Task as tasks;
     ghost use Rattle.std.specs.Coded.{codes};
 
     ghost Value = { BookView };
 
-    ghost coded = { Prim.hlevel (codes, e.the_row.coded) };
+    ghost coded = { Prim.hlevel (codes, tasks.the_row.coded) };
 
     ghost view = { λ b. view_of b.content.value };
 
@@ -28,24 +28,24 @@ impl<'t> Model for Book<'t> {
 }
 
 impl<'t> Book<'t> {
-    ghost use Rattle.std.specs.Prelude.{◌≡◌, ◌==◌, ◌<◌, ◌≤◌, ◌^◌, ◌||◌, ◌++◌, [], ◌∷◌, Some, None, true, false, nat_le, length, flat_map, slice_get, is_some, IfOk, IfErr, IfSome, OnOk, OnErr};
+    ghost use Rattle.std.specs.Prelude.{◌≡◌, ◌<◌, ◌≤◌, ◌^◌, None, true, length, slice_get, is_some, IfOk, IfErr, IfSome, OnOk, OnErr};
     ghost use Rattle.std.specs.Result.{is_ok};
-    ghost use Rattle.hd_task.specs.Expansions.{generated, bound_of};
-    ghost use Rattle.hd_task.specs.Covers.{IsCovered, zero_estimate};
+    ghost use Rattle.hd_task.specs.Expansions.{bound_of};
     ghost use Rattle.hd_book.specs.declared.refusal.Refusal.TheVariants as Refusal;
     ghost use Rattle.std.specs.List.{AllByRecursion};
-    ghost use Rattle.hd_book.specs.Settling.{IsOf, entry_of, all_settled, expansions, IsKept};
-    ghost use Rattle.hd_book.specs.Holding.{released_by, settled_count, out_at, without};
+    ghost use Rattle.hd_book.specs.Settling.{IsOf, expansions, IsKept};
+    ghost use Rattle.hd_book.specs.Holding.{empty_book, GainsEntries, state_after, GainsTicket, ticket_between};
+    ghost use Rattle.hd_book.specs.Holding.{is_acknowledged, posted_count, settled_count, out_at, without};
     ghost use Rattle.hd_book.specs.Refusing.{refusal_to, IsRefusalTo};
     ghost use Rattle.hd_book.specs.Releasing.{IsReleased};
-    ghost use Rattle.hd_book.specs.Answers.{IsAnswer, IsTrueAnswer};
+    ghost use Rattle.hd_book.specs.Answers.{is_over, IsCoveredBook, IsAnswerOf, IsTrueAnswer};
 
     /// The book of a search that has not begun: the root is posted.
     ///
     /// # Errors
     /// `NoMemory` where there is no room for it.
     pub fn new(alloc: Global, task: &'t Task) -> Result<Book<'t>, NoMemory>
-        ensures { IfOk result (λ b. b ≡ record { state = record { task = task.now; entries = []; marks = false ∷ [] }; tickets = []; halted = false }) }
+        ensures { IfOk result (λ b. b ≡ empty_book task.now) }
     {
         Ok(Book {
             content: Box::new(alloc, Content::new(alloc, task))?,
@@ -66,12 +66,12 @@ impl<'t> Book<'t> {
     ) -> Result<Ticket, (Batch<'t>, Refusal)>
         requires of_task { AllByRecursion (IsOf self.old.state.task) batch.outcomes }
         ensures task { self.new.state.task ≡ self.old.state.task }
-        ensures grown { OnOk result (self.new.state.entries ≡ self.old.state.entries ++ flat_map entry_of batch.entry.outcomes) }
+        ensures grown { OnOk result (GainsEntries self.old self.new batch.entry.outcomes) }
         ensures accepted { OnOk result (refusal_to self.old batch.entry.outcomes ≡ None) }
-        ensures state { OnOk result (self.new.state ≡ all_settled self.old.state batch.entry.outcomes) }
-        ensures tickets { OnOk result (self.new.tickets ≡ self.old.tickets ++ Some (record { first = length self.old.state.entries; end = length self.new.state.entries; released = released_by (length self.old.state.entries) batch.entry.outcomes }) ∷ []) }
+        ensures state { OnOk result (self.new.state ≡ state_after self.old batch.entry.outcomes) }
+        ensures tickets { OnOk result (GainsTicket self.old self.new batch.entry.outcomes) }
         ensures halted { self.new.halted ≡ self.old.halted }
-        ensures ticket { IfOk result (λ k. k ≡ record { number = length self.old.tickets; first = length self.old.state.entries; end = length self.new.state.entries }) }
+        ensures ticket { IfOk result (λ k. k ≡ ticket_between self.old self.new) }
         ensures refused { IfErr result (λ e. IsRefusalTo self.old batch.entry.outcomes e.1) }
         ensures batch { IfErr result (λ e. e.0 ≡ batch.entry) }
         ensures err { OnErr result (self.new ≡ self.old) }
@@ -98,7 +98,7 @@ impl<'t> Book<'t> {
     /// # Errors
     /// `NotOut` where these are not acknowledged; a receipt of no entries always is. The receipt is spent.
     pub fn present(&self, receipt: Receipt) -> Result<Range<u64>, Refusal>
-        ensures acknowledged { is_ok result ≡ ((receipt.first == receipt.end) || nat_le receipt.end (length self.now.state.entries)) }
+        ensures acknowledged { is_ok result ≡ is_acknowledged self.now receipt }
         ensures range { IfOk result (λ r. (r.start ≡ receipt.first) × (r.end ≡ receipt.end)) }
         ensures refused { IfErr result (λ r. r ≡ Refusal.NotOut) }
     {
@@ -123,7 +123,7 @@ impl<'t> Book<'t> {
     pub fn counts(&self) -> Counts
         ensures kept { IsKept self.now.state }
         ensures entries { result.entries ≡ length self.now.state.entries }
-        ensures posted { result.posted ≡ length (generated self.now.state.task (expansions self.now.state)) }
+        ensures posted { result.posted ≡ posted_count self.now.state }
         ensures settled { result.settled ≡ settled_count self.now.state }
         ensures acknowledged { result.acknowledged ≡ result.entries }
         ensures commits { result.commits ≡ length self.now.tickets }
@@ -159,10 +159,10 @@ impl<'t> Book<'t> {
     /// # Errors
     /// `NoMemory` where there is no room for a plan.
     pub fn verdict(&self, alloc: Global) -> Result<Option<Verdict>, NoMemory>
-        ensures over { IfOk result (λ v. is_some v ≡ (settled_count self.now.state == length (generated self.now.state.task (expansions self.now.state)))) }
+        ensures over { IfOk result (λ v. is_some v ≡ is_over self.now.state) }
         ensures kept { IsKept self.now.state }
-        ensures covered { IfOk result (λ v. IfSome v (λ _. IsCovered self.now.state.task zero_estimate (expansions self.now.state))) }
-        ensures answer { IfOk result (λ v. IfSome v (IsAnswer self.now.state.task (expansions self.now.state))) }
+        ensures covered { IfOk result (λ v. IfSome v (λ _. IsCoveredBook self.now.state)) }
+        ensures answer { IfOk result (λ v. IfSome v (IsAnswerOf self.now.state)) }
         ensures is_true { IfOk result (λ v. IfSome v (IsTrueAnswer self.now.state.task)) }
     {
         self.content.verdict(alloc)

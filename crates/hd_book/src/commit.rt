@@ -45,7 +45,8 @@ fn make_room<'t>(
     ensures settled { OnErr result (settled.new.keys ≡ settled.old.keys) }
     ensures reordered { OnOk result ((k : Kid) → has settled.new.keys k ≡ has settled.old.keys k) }
     ensures err { IfErr result (λ r. r ≡ Refusal.NoMemory) }
-    ensures room_entries { OnOk result (vec_len entries.new + length (flat_map entry_of outcomes.now) ≤ vec_capacity entries.new) }
+    ensures room_entries { OnOk result (vec_len entries.new +
+        length (flat_map entry_of outcomes.now) ≤ vec_capacity entries.new) }
     ensures room_tickets { OnOk result (vec_len tickets.new < vec_capacity tickets.new) }
     ensures room_settled { OnOk result (length outcomes.now ≤ spare settled.new) }
     ensures parcels { IfOk result (λ ps. (ps.items ≡ []) × (kids_in outcomes.now ≤ vec_capacity ps)) }
@@ -94,10 +95,12 @@ impl<'t> Content<'t> {
         ensures entries { self.new.entries.items ≡ self.old.entries.items }
         ensures tickets { self.new.tickets.items ≡ self.old.tickets.items }
         ensures settled { OnErr result (self.new.settled.keys ≡ self.old.settled.keys) }
-        ensures reordered { OnOk result ((k : Kid) → has self.new.settled.keys k ≡ has self.old.settled.keys k) }
+        ensures reordered { OnOk result ((k : Kid) → has self.new.settled.keys k
+            ≡ has self.old.settled.keys k) }
         ensures accepted { OnOk result (refusal_to (view_of self.old) outcomes.now ≡ None) }
         ensures refused { IfErr result (IsRefusalTo (view_of self.old) outcomes.now) }
-        ensures room_entries { OnOk result (vec_len self.new.entries + length (flat_map entry_of outcomes.now) ≤ vec_capacity self.new.entries) }
+        ensures room_entries { OnOk result (vec_len self.new.entries +
+            length (flat_map entry_of outcomes.now) ≤ vec_capacity self.new.entries) }
         ensures room_tickets { OnOk result (vec_len self.new.tickets < vec_capacity self.new.tickets) }
         ensures room_settled { OnOk result (length outcomes.now ≤ spare self.new.settled) }
         ensures parcels { IfOk result (λ ps. (ps.items ≡ []) × (kids_in outcomes.now ≤ vec_capacity ps)) }
@@ -120,7 +123,8 @@ impl<'t> Content<'t> {
     pub(crate) fn accept(&mut self, outcomes: Vec<Outcome<'t>>, parcels: Vec<Parcel<'t>>) -> u64
         requires of_task { AllByRecursion (IsOf self.old.task.now) outcomes.items }
         requires fits { vec_len self.old.entries + length (entered_by outcomes.items) ≤ 2 ^ 32 }
-        requires room_entries { vec_len self.old.entries + length (entered_by outcomes.items) ≤ vec_capacity self.old.entries }
+        requires room_entries { vec_len self.old.entries + length (entered_by outcomes.items)
+            ≤ vec_capacity self.old.entries }
         requires room_tickets { vec_len self.old.tickets < vec_capacity self.old.tickets }
         requires room_settled { length outcomes.items ≤ spare self.old.settled }
         requires room_parcels { kids_in outcomes.items ≤ vec_capacity parcels }
@@ -128,12 +132,19 @@ impl<'t> Content<'t> {
         ensures number { result ≡ length self.old.tickets.items }
         ensures task { self.new.task.now ≡ self.old.task.now }
         ensures halted { self.new.halted ≡ self.old.halted }
-        ensures entries { self.new.entries.items ≡ self.old.entries.items ++ entered_by outcomes.entry.items }
-        ensures settled { (k : Kid) → has self.new.settled.keys k ≡ (has self.old.settled.keys k || is_settled_by outcomes.entry.items k) }
-        ensures posted { self.old.posted + kids_in outcomes.entry.items < 2 ^ 64 → self.new.posted ≡ self.old.posted + kids_in outcomes.entry.items }
-        ensures best { self.new.best ≡ best_by self.old.best (vec_len self.old.entries) outcomes.entry.items }
-        ensures departure { self.new.departure ≡ departure_by self.old.departure (vec_len self.old.entries) outcomes.entry.items }
-        ensures tickets { Releases self.old.task.now (vec_len self.old.entries) outcomes.entry.items self.old.tickets.items self.new.tickets.items }
+        ensures entries { self.new.entries.items ≡ self.old.entries.items
+            ++ entered_by outcomes.entry.items }
+        ensures settled { (k : Kid) → has self.new.settled.keys k
+            ≡ (has self.old.settled.keys k || is_settled_by outcomes.entry.items k) }
+        ensures posted { self.old.posted + kids_in outcomes.entry.items < 2 ^ 64
+            → self.new.posted ≡ self.old.posted + kids_in outcomes.entry.items }
+        ensures best { self.new.best ≡ best_by self.old.best
+            (vec_len self.old.entries) outcomes.entry.items }
+        ensures departure { self.new.departure
+            ≡ departure_by self.old.departure (vec_len self.old.entries) outcomes.entry.items }
+        ensures tickets { Releases self.old.task.now
+            (vec_len self.old.entries) outcomes.entry.items self.old.tickets.items
+            self.new.tickets.items }
     {
         let mut parcels = parcels;
         let first = self.entries.len();
@@ -162,12 +173,26 @@ impl<'t> Content<'t> {
         requires of_task { AllByRecursion (IsOf self.old.task.now) batch.outcomes }
         ensures held { IsHeld self.new }
         ensures task { self.new.task.now ≡ self.old.task.now }
-        ensures grown { OnOk result (map kid_at self.new.entries.items ≡ map kid_at self.old.entries.items ++ flat_map entry_of batch.entry.outcomes) }
+        ensures grown { OnOk result (map kid_at self.new.entries.items
+            ≡ map kid_at self.old.entries.items ++ flat_map entry_of batch.entry.outcomes) }
         ensures accepted { OnOk result (refusal_to (view_of self.old) batch.entry.outcomes ≡ None) }
-        ensures state { OnOk result (state_of self.new ≡ all_settled (state_of self.old) batch.entry.outcomes) }
-        ensures tickets { OnOk result (map (option_map out_of) self.new.tickets.items ≡ map (option_map out_of) self.old.tickets.items ++ Some (record { first = length self.old.entries.items; end = length self.new.entries.items; released = released_by (length self.old.entries.items) batch.entry.outcomes }) ∷ []) }
+        ensures state { OnOk result (state_of self.new
+            ≡ all_settled (state_of self.old) batch.entry.outcomes) }
+        ensures tickets { OnOk result (map (option_map out_of) self.new.tickets.items
+            ≡ map (option_map out_of) self.old.tickets.items
+            ++ Some (record {
+              first = length self.old.entries.items;
+              end = length self.new.entries.items;
+              released = released_by
+                  (length self.old.entries.items) batch.entry.outcomes;
+            }) ∷ []) }
         ensures halted { self.new.halted ≡ self.old.halted }
-        ensures ticket { IfOk result (λ k. k ≡ record { number = length self.old.tickets.items; first = length self.old.entries.items; end = length self.new.entries.items }) }
+        ensures ticket { IfOk result (λ k. k
+            ≡ record {
+              number = length self.old.tickets.items;
+              first = length self.old.entries.items;
+              end = length self.new.entries.items;
+            }) }
         ensures refused { IfErr result (λ e. IsRefusalTo (view_of self.old) batch.entry.outcomes e.1) }
         ensures batch { IfErr result (λ e. e.0 ≡ batch.entry) }
         ensures err { OnErr result (view_of self.new ≡ view_of self.old) }

@@ -15,7 +15,8 @@ ghost use Rattle.hd_book.specs.Settling.{BookState, expansions, IsKept, IsOf, en
 /// What a book posts names what its expansions generate, in order: a kid is a place in both.
 pub fn kids_name_plans()
     ensures names { (t : Task) (expanded : List (List ℕ))
-        → length expanded < ROOT → map (plan_of expanded) (posted_by t expanded) ≡ map Some (generated t expanded) }
+        → length expanded < ROOT
+        → map (plan_of expanded) (posted_by t expanded) ≡ map Some (generated t expanded) }
     ensures count { (t : Task) (expanded : List (List ℕ))
         → length expanded < ROOT → length (posted_by t expanded) ≡ length (generated t expanded) }
 {}
@@ -33,10 +34,12 @@ pub fn books_are_kept()
 
 /// A kept book in which all kids are marked is covered; where nothing departs, it has the last word.
 pub fn full_books_decide()
-    ensures covered { (b : BookState) → IsKept b → All (λ m. m ≡ true) b.marks → IsCovered b.task zero_estimate (expansions b) }
+    ensures covered { (b : BookState)
+        → IsKept b → All (λ m. m ≡ true) b.marks → IsCovered b.task zero_estimate (expansions b) }
     ensures optimal { (b : BookState) (c : ℕ) → IsKept b → All (λ m. m ≡ true) b.marks
         → departures_of b.task (expansions b) ≡ [] → bound_of b.task (expansions b) ≡ Some c
-        → (p : List ℕ) → goal_cost b.task (exec b.task p) ≡ Some c → IsTrueVerdict b.task (Optimal p) }
+        → (p : List ℕ)
+        → goal_cost b.task (exec b.task p) ≡ Some c → IsTrueVerdict b.task (Optimal p) }
     ensures no_plan { (b : BookState) → IsKept b → All (λ m. m ≡ true) b.marks
         → departures_of b.task (expansions b) ≡ [] → bound_of b.task (expansions b) ≡ None
         → IsTrueVerdict b.task NoPlan }

@@ -24,6 +24,3 @@ pub use counts::Counts;
 pub use refusal::Refusal;
 pub use ticket::{Receipt, Redeemed, Ticket};
 pub use verdict::Verdict;
-
-#[cfg(test)]
-mod tests;

@@ -11,7 +11,11 @@ use crate::{Receipt, Redeemed, Refusal, Ticket};
 impl<'t> Content<'t> {
     /// Whether a ticket of this number and these entries is out.
     fn is_out(&self, number: u64, first: u64, end: u64) -> bool
-        ensures { result ≡ is_some (out_at (view_of self.now) (record { number = number; first = first; end = end })) }
+        ensures { result ≡ is_some (out_at (view_of self.now) (record {
+          number = number;
+          first = first;
+          end = end;
+        })) }
     {
         match self.tickets.get(number as usize) {
             Some(Some(out)) => out.first == first && out.end == end,

@@ -5,9 +5,8 @@ ghost use Rattle.std.specs.HashSet.{spare};
 ghost use Rattle.hd_task.specs.declared.plan.Kid.{Kid};
 ghost use Rattle.hd_task.specs.Applying.{says_yes};
 ghost use Rattle.hd_task.specs.Expansions.{goal_cost, departure_at};
-ghost use Rattle.hd_task.specs.Plans.{IsStateOf};
+ghost use Rattle.hd_task.specs.Plans.{IsStateOf, node};
 ghost use Rattle.hd_node.specs.declared.expansion.Child.{Child};
-ghost use Rattle.hd_node.specs.Children.{node};
 ghost use Rattle.hd_book.specs.Settling.{is_settled_by, entry_of, IsOf};
 ghost use Rattle.hd_book.specs.Holding.{has, parcel_of, released_from, released_at, released_by, IsParcelOf};
 ghost use Rattle.hd_book.specs.Growing.{entered, entered_by, better, best_by, departure_by, kids_at, kids_in};
@@ -33,7 +32,8 @@ pub(crate) fn kids_of(outcomes: &[Outcome]) -> Option<usize>
 
 /// What an expansion costs, if it meets the goal.
 fn goal_cost(expansion: &Expansion) -> Option<u64>
-    ensures { result ≡ goal_cost expansion.now.task.now (Some (node expansion.now.state expansion.now.cost)) }
+    ensures { result ≡ goal_cost expansion.now.task.now
+        (Some (node expansion.now.state expansion.now.cost)) }
 {
     match goal(expansion.task, &expansion.state) {
         GoalTest::Yes => Some(expansion.cost),
@@ -110,7 +110,8 @@ fn first_departure(expansion: &Expansion, entry: u64) -> Option<Departure>
 /// Adds the kids of outcomes to those that are settled.
 pub(crate) fn settle(settled: &mut HashSet<Kid>, outcomes: &[Outcome])
     requires room { length outcomes.now ≤ spare settled.old }
-    ensures { (k : Kid) → has settled.new.keys k ≡ (has settled.old.keys k || is_settled_by outcomes.now k) }
+    ensures { (k : Kid) → has settled.new.keys k ≡ (has settled.old.keys k
+        || is_settled_by outcomes.now k) }
 {
     for outcome in outcomes {
         match settled.insert(outcome.kid()) {
@@ -137,7 +138,8 @@ fn release<'t>(parcels: &mut Vec<Parcel<'t>>, task: &'t Task, entry: u32, childr
     requires room { vec_len parcels.old + length children.items ≤ vec_capacity parcels.old }
     requires of_task { AllByRecursion (λ (c : Child). IsStateOf task.now c.state) children.items }
     requires tasks { AllByRecursion (IsParcelOf task.now) parcels.old.items }
-    ensures released { map parcel_of parcels.new.items ≡ map parcel_of parcels.old.items ++ map (released_from entry) children.items }
+    ensures released { map parcel_of parcels.new.items ≡ map parcel_of parcels.old.items
+        ++ map (released_from entry) children.items }
     ensures len { vec_len parcels.new ≡ vec_len parcels.old + length children.items }
     ensures capacity { vec_capacity parcels.old ≤ vec_capacity parcels.new }
     ensures tasks { AllByRecursion (IsParcelOf task.now) parcels.new.items }
@@ -169,9 +171,15 @@ fn enter_expansion<'t>(
     requires fits { vec_len entries.old < 2 ^ 32 }
     requires parcels { vec_len parcels.old + length expansion.children ≤ vec_capacity parcels.old }
     requires tasks { AllByRecursion (IsParcelOf expansion.task.now) parcels.old.items }
-    ensures entries { entries.new.items ≡ entries.old.items ++ record { kid = expansion.entry.kid; state = expansion.entry.state; cost = expansion.entry.cost } ∷ [] }
+    ensures entries { entries.new.items ≡ entries.old.items
+        ++ record {
+          kid = expansion.entry.kid;
+          state = expansion.entry.state;
+          cost = expansion.entry.cost;
+        } ∷ [] }
     ensures entries_capacity { vec_capacity entries.old ≤ vec_capacity entries.new }
-    ensures released { map parcel_of parcels.new.items ≡ map parcel_of parcels.old.items ++ map (released_from (vec_len entries.old)) expansion.entry.children }
+    ensures released { map parcel_of parcels.new.items ≡ map parcel_of parcels.old.items
+        ++ map (released_from (vec_len entries.old)) expansion.entry.children }
     ensures len { vec_len parcels.new ≡ vec_len parcels.old + length expansion.entry.children }
     ensures capacity { vec_capacity parcels.old ≤ vec_capacity parcels.new }
     ensures tasks { AllByRecursion (IsParcelOf expansion.entry.task.now) parcels.new.items }
@@ -204,7 +212,8 @@ fn enter_outcome<'t>(
     ensures entries { entries.new.items ≡ entries.old.items ++ entered outcome.entry }
     ensures count { vec_len entries.new ≡ vec_len entries.old + length (entry_of outcome.entry) }
     ensures entries_capacity { vec_capacity entries.old ≤ vec_capacity entries.new }
-    ensures released { map parcel_of parcels.new.items ≡ map parcel_of parcels.old.items ++ released_at (vec_len entries.old) outcome.entry }
+    ensures released { map parcel_of parcels.new.items ≡ map parcel_of parcels.old.items
+        ++ released_at (vec_len entries.old) outcome.entry }
     ensures kids { vec_len parcels.new ≡ vec_len parcels.old + kids_at outcome.entry }
     ensures capacity { vec_capacity parcels.old ≤ vec_capacity parcels.new }
     ensures tasks { AllByRecursion (IsParcelOf task.now) parcels.new.items }
@@ -224,12 +233,14 @@ pub(crate) fn enter<'t>(
     outcomes: Vec<Outcome<'t>>,
 )
     requires of_task { AllByRecursion (IsOf task.now) outcomes.items }
-    requires room { vec_len entries.old + length (entered_by outcomes.items) ≤ vec_capacity entries.old }
+    requires room { vec_len entries.old + length (entered_by outcomes.items)
+        ≤ vec_capacity entries.old }
     requires fits { vec_len entries.old + length (entered_by outcomes.items) ≤ 2 ^ 32 }
     requires parcels { vec_len parcels.old + kids_in outcomes.items ≤ vec_capacity parcels.old }
     requires tasks { AllByRecursion (IsParcelOf task.now) parcels.old.items }
     ensures entries { entries.new.items ≡ entries.old.items ++ entered_by outcomes.entry.items }
-    ensures released { map parcel_of parcels.new.items ≡ map parcel_of parcels.old.items ++ released_by (vec_len entries.old) outcomes.entry.items }
+    ensures released { map parcel_of parcels.new.items ≡ map parcel_of parcels.old.items
+        ++ released_by (vec_len entries.old) outcomes.entry.items }
     ensures kids { vec_len parcels.new ≡ vec_len parcels.old + kids_in outcomes.entry.items }
     ensures tasks { AllByRecursion (IsParcelOf task.now) parcels.new.items }
 {

@@ -2,6 +2,7 @@
 use Rattle.std.proofs.Common.{◌≡◌, ℕ, suc, List, [], ◌∷◌, ◌++◌, map, None, refl, sym, ap, ◌∙◌, subst}
 use Rattle.std.proofs.lemmas.List.{map-append, append-nil, append_assoc}
 use Rattle.std.proofs.lemmas.Option.{none-some}
+use Rattle.hd_base.proofs.Options.{option_or_none, false-from_none}
 use Rattle.hd_terms.specs.declared.typed.ItemKind.{ItemKind}
 use Rattle.hd_terms.specs.declared.typed.ItemKind.TheVariants as kinds
 use Rattle.hd_terms.specs.declared.tree.Typed.{Typed}
@@ -16,13 +17,13 @@ use Rattle.hd_check.specs.declared.fault.Source.TheVariants.{Domain, Problem}
 use Rattle.hd_check.specs.declared.fault.CheckError.{CheckError}
 use Rattle.hd_names.specs.declared.fault.Fault.TheVariants.{Duplicate}
 use Rattle.hd_names.specs.declared.scope.Scope.{Scope}
-use Rattle.hd_names.specs.Fault.{◌or◌}
-use Rattle.hd_names.specs.Names.{is_named, spelled, names_of, declared_fault, duplicate_in, unknown_type}
+use Rattle.hd_base.specs.Options.{◌or◌}
+use Rattle.hd_base.specs.Names.{is_named}
+use Rattle.hd_names.specs.Names.{spelled, names_of, declared_fault, duplicate_in, unknown_type}
 use Rattle.hd_names.specs.Scope.{type_names, parents_of, signatures_fault, scope_fault, scope_of, with_objects}
 use Rattle.hd_check.specs.Schemas.{action_fault, actions_fault, schema_with, lifted_schema}
-use Rattle.hd_check.specs.WellFormed.{AreNew, HasDistinctNames}
+use Rattle.hd_lifted.specs.WellFormed.{AreNew, HasDistinctNames}
 use Rattle.hd_check.specs.Whole.{lifted_object, lifted_signature, domain_in, lifted_domain, problem_in, lifted_problem, task_with, task_behind, task_below, lifted_task, in_text, domain_fault, fault_in_problem, problem_fault, metric_fault, fault_behind, fault_below, IsFaultless, Stands, before_cycles, on_cycle, behind_cycles}
-use Rattle.hd_check.proofs.Arguments.{or_none, if_some}
 use Rattle.hd_check.proofs.Faultless.{text_none}
 
 -- where a fault stands there is a fault
@@ -41,9 +42,9 @@ new-append given (a ∷ as') bs (h, hs) k =
 declared_new : (k : ItemKind) (types given : List (List ℕ)) (ts : List Typed) → declared_fault k types given ts ≡ None → AreNew given (names_of ts)
 declared_new k types given [] e = tt
 declared_new k types given (t ∷ ts) e =
-    let parts = or_none (duplicate_in k given t.name) (unknown_type types t.of or declared_fault k types (given ++ t.name.name ∷ []) ts) e in
-    let later = or_none (unknown_type types t.of) (declared_fault k types (given ++ t.name.name ∷ []) ts) parts.1 in (
-      if_some (is_named given t.name.name) (Duplicate (spelled k t.name.name) t.name.at) parts.0,
+    let parts = option_or_none (duplicate_in k given t.name) (unknown_type types t.of or declared_fault k types (given ++ t.name.name ∷ []) ts) e in
+    let later = option_or_none (unknown_type types t.of) (declared_fault k types (given ++ t.name.name ∷ []) ts) parts.1 in (
+      false-from_none (is_named given t.name.name) (Duplicate (spelled k t.name.name) t.name.at) parts.0,
       declared_new k types (given ++ t.name.name ∷ []) ts later.1,
     )
 
@@ -51,9 +52,9 @@ signatures_new : (types given : List (List ℕ)) (ss : List trees.Signature) →
     → AreNew given (map (λ (s : Signature). s.name) (map (lifted_signature types) ss))
 signatures_new types given [] e = tt
 signatures_new types given (s ∷ ss) e =
-    let parts = or_none (duplicate_in kinds.Name given s.name) (declared_fault kinds.Variable types [] s.parameters or signatures_fault types (given ++ s.name.name ∷ []) ss) e in
-    let later = or_none (declared_fault kinds.Variable types [] s.parameters) (signatures_fault types (given ++ s.name.name ∷ []) ss) parts.1 in (
-      if_some (is_named given s.name.name) (Duplicate (spelled kinds.Name s.name.name) s.name.at) parts.0,
+    let parts = option_or_none (duplicate_in kinds.Name given s.name) (declared_fault kinds.Variable types [] s.parameters or signatures_fault types (given ++ s.name.name ∷ []) ss) e in
+    let later = option_or_none (declared_fault kinds.Variable types [] s.parameters) (signatures_fault types (given ++ s.name.name ∷ []) ss) parts.1 in (
+      false-from_none (is_named given s.name.name) (Duplicate (spelled kinds.Name s.name.name) s.name.at) parts.0,
       signatures_new types (given ++ s.name.name ∷ []) ss later.1,
     )
 
@@ -62,9 +63,9 @@ actions_new : (s : Scope) (given : List (List ℕ)) (as' : List Action) → acti
 unfolding lifted_schema schema_with
 actions_new s given [] e = tt
 actions_new s given (a ∷ as') e =
-    let parts = or_none (duplicate_in kinds.Name given a.name) (action_fault s a or actions_fault s (given ++ a.name.name ∷ []) as') e in
-    let later = or_none (action_fault s a) (actions_fault s (given ++ a.name.name ∷ []) as') parts.1 in (
-      if_some (is_named given a.name.name) (Duplicate (spelled kinds.Name a.name.name) a.name.at) parts.0,
+    let parts = option_or_none (duplicate_in kinds.Name given a.name) (action_fault s a or actions_fault s (given ++ a.name.name ∷ []) as') e in
+    let later = option_or_none (action_fault s a) (actions_fault s (given ++ a.name.name ∷ []) as') parts.1 in (
+      false-from_none (is_named given a.name.name) (Duplicate (spelled kinds.Name a.name.name) a.name.at) parts.0,
       actions_new s (given ++ a.name.name ∷ []) as' later.1,
     )
 
@@ -79,13 +80,13 @@ below : (types : List (List ℕ)) (parents : List ℕ) (d : DomainAst) (p : Prob
 unfolding scope_of with_objects scope_fault fault_below fault_behind problem_fault fault_in_problem domain_fault lifted_domain domain_in lifted_problem problem_in task_with task_behind task_below
 below types parents d p e =
     let s = scope_of types parents d p.metric in
-    let parts = or_none (in_text Domain (domain_fault types parents d p.metric)) (fault_behind (lifted_domain types parents d p.metric) d p) e in
-    let domain = or_none (scope_fault types d) (actions_fault (scope_of types parents d p.metric) [] d.actions) (text_none Domain (domain_fault types parents d p.metric) parts.0) in
-    let declared = or_none (declared_fault kinds.Name types [] d.constants) (signatures_fault types [] d.predicates or signatures_fault types [] d.functions) domain.0 in
-    let signatures = or_none (signatures_fault types [] d.predicates) (signatures_fault types [] d.functions) declared.1 in
-    let behind = or_none (in_text Problem (problem_fault (scope_of types parents d p.metric) p)) (metric_fault d p) parts.1 in
+    let parts = option_or_none (in_text Domain (domain_fault types parents d p.metric)) (fault_behind (lifted_domain types parents d p.metric) d p) e in
+    let domain = option_or_none (scope_fault types d) (actions_fault (scope_of types parents d p.metric) [] d.actions) (text_none Domain (domain_fault types parents d p.metric) parts.0) in
+    let declared = option_or_none (declared_fault kinds.Name types [] d.constants) (signatures_fault types [] d.predicates or signatures_fault types [] d.functions) domain.0 in
+    let signatures = option_or_none (signatures_fault types [] d.predicates) (signatures_fault types [] d.functions) declared.1 in
+    let behind = option_or_none (in_text Problem (problem_fault (scope_of types parents d p.metric) p)) (metric_fault d p) parts.1 in
     let problem =
-    or_none (declared_fault kinds.Name (scope_of types parents d p.metric).types (scope_of types parents d p.metric).objects.names p.objects)
+    option_or_none (declared_fault kinds.Name (scope_of types parents d p.metric).types (scope_of types parents d p.metric).objects.names p.objects)
     (fault_in_problem (with_objects (scope_of types parents d p.metric) p.objects) p) (text_none Problem (problem_fault (scope_of types parents d p.metric) p) behind.0) in
     let named : map (λ (o : Object). o.name) (map (lifted_object types) d.constants ++ map (lifted_object types) p.objects) ≡ names_of d.constants ++ names_of p.objects =
     map-append (λ (o : Object). o.name) (map (lifted_object types) d.constants) (map (lifted_object types) p.objects)

@@ -1,11 +1,13 @@
 -- In texts without a fault each name is declared, and each argument is of the type that is asked.
-use Rattle.std.proofs.Common.{◌≡◌, ℕ, zero, suc, ◌+◌, ◌<◌, ◌==◌, Bool, true, false, not, ◌||◌, cond, List, [], ◌∷◌, ◌++◌, map, length, Option, Some, None, refl, sym, ap, subst, arith}
-use Rattle.std.proofs.lemmas.Bool.{eqb-true, false≢true, lt-ltb}
-use Rattle.std.proofs.lemmas.Option.{none-some, slice_get-get_or}
-use Rattle.std.specs.Prelude.{slice_get, slice_index_or, if◌then◌else◌}
-use Rattle.std.specs.List.{AllZip, list_any, prefix_len}
+use Rattle.std.proofs.Common.{◌≡◌, ℕ, zero, suc, ◌<◌, ◌==◌, true, not, List, [], ◌∷◌, ◌++◌, map, length, Option, Some, None, refl, sym, ap, subst, arith}
+use Rattle.std.proofs.lemmas.Bool.{eqb-true, lt-ltb}
+use Rattle.std.proofs.lemmas.Option.{slice_get-get_or}
+use Rattle.std.specs.Prelude.{slice_get, slice_index_or}
+use Rattle.std.specs.List.{AllZip, prefix_len}
 use Rattle.std.specs.Option.{IsSomeAnd}
 use Rattle.std.specs.Str.{bytes_eq}
+use Rattle.hd_base.proofs.Options.{option_or_none, true-from_none, IsSomeAnd-weaker}
+use Rattle.hd_base.proofs.Tests.{position_or_len-lt}
 use Rattle.hd_terms.specs.declared.typed.ItemKind.TheVariants as kinds
 use Rattle.hd_terms.specs.declared.tree.Term.{Term}
 use Rattle.hd_terms.specs.declared.tree.Term.TheVariants.{Name, Variable}
@@ -19,48 +21,18 @@ use Rattle.hd_lifted.proofs.Types.{is_subtype-sound}
 use Rattle.hd_names.specs.declared.scope.Scope.{Scope}
 use Rattle.hd_names.specs.declared.table.Table.{Table}
 use Rattle.hd_names.specs.declared.fault.Fault.TheVariants.{UnknownName, WrongArity}
-use Rattle.hd_names.specs.Fault.{◌or◌}
-use Rattle.hd_names.specs.Names.{is_named, number_in, unknown_in, spelled}
+use Rattle.hd_base.specs.Options.{◌or◌}
+use Rattle.hd_base.specs.Names.{is_named}
+use Rattle.hd_names.specs.Names.{number_in, unknown_in, spelled}
 use Rattle.hd_check.specs.Terms.{lifted_term, term_fault, type_of_term, type_fault, wrong_type, argument_fault, arguments_fault, parameters_of, arity_fault, applied_fault, lifted_applied}
-use Rattle.hd_check.specs.WellFormed.{IsArgumentOf, IsApplied}
-
--- ---- no fault
-
--- where neither of two faults is there
-pub or_none : {A : Type 0} (a b : Option A) → (a or b) ≡ None → (a ≡ None) × (b ≡ None)
-or_none (Some f) b e = absurd (none-some f (sym e))
-or_none None b e = (refl, e)
-
--- where a test finds no fault
-pub if_none : {A : Type 0} (b : Bool) (f : A) → (if b then None else Some f) ≡ None → b ≡ true
-if_none true f e = refl
-if_none false f e = absurd (none-some f (sym e))
-
--- where a test that is a fault finds none
-pub if_some : {A : Type 0} (b : Bool) (f : A) → (if b then Some f else None) ≡ None → b ≡ false
-if_some true f e = absurd (none-some f (sym e))
-if_some false f e = refl
-
--- what follows of a value that is there
-pub some_and : {X : Type 0} (P Q : X → Type 0) (o : Option X) → ((x : X) → P x → Q x) → IsSomeAnd o P → IsSomeAnd o Q
-some_and P Q None f h = h
-some_and P Q (Some x) f h = f x h
+use Rattle.hd_lifted.specs.WellFormed.{IsArgumentOf, IsApplied}
 
 -- ---- numbers of names
-
-found_within : (b rest : Bool) (n m : ℕ) → (b || rest) ≡ true → (rest ≡ true → n < m) → cond (not b) (1 + n) 0 < suc m
-found_within true rest n m e f = omega arith
-found_within false rest n m e f = let lt = f e in omega (arith, lt)
-
-pub before_found : {X : Type 0} (p : X → Bool) (xs : List X) → list_any p xs ≡ true → prefix_len (λ x. not (p x)) xs < length xs
-before_found p [] e = absurd (false≢true e)
-before_found p (x ∷ xs) e =
-    found_within (p x) (list_any p xs) (prefix_len (λ x. not (p x)) xs) (length xs) e (before_found p xs)
 
 -- a name that is one of these has a number below theirs
 pub named-number : (names : List (List ℕ)) (n : List ℕ) → is_named names n ≡ true → number_in names n < length names
 named-number names n e =
-    let lt = before_found (bytes_eq n) names e in
+    let lt = position_or_len-lt (bytes_eq n) names e in
     let is : number_in names n ≡ prefix_len (λ x. not (bytes_eq n x)) names = rw (lt-ltb (prefix_len (λ x. not (bytes_eq n x)) names) (length names) lt) refl in
     omega (arith, lt, is)
 
@@ -108,7 +80,7 @@ pub placed : (t : LiftedTask) (s : Scope) (ps : Table ℕ) → Agrees t s → le
     → term_fault s ps x ≡ None → IsSubtype t.hierarchy (type_of_term s ps x) wanted
     → IsArgumentOf t ps.items (lifted_term s ps x) wanted
 placed t s ps g long (Name n) wanted e below =
-    let named = if_none (is_named s.objects.names n.name) (UnknownName (spelled kinds.Name n.name) n.at) e in
+    let named = true-from_none (is_named s.objects.names n.name) (UnknownName (spelled kinds.Name n.name) n.at) e in
     let within = named-number s.objects.names n.name named in
     let few : number_in s.objects.names n.name < length s.objects.items = omega (arith, within, g.long) in
     let there : IsSomeAnd (slice_get (g.own ++ g.more) (number_in s.objects.names n.name)) (λ (o : Object). o.of ≡ slice_index_or s.objects.items (number_in s.objects.names n.name) 0) =
@@ -117,7 +89,7 @@ placed t s ps g long (Name n) wanted e below =
     of_type t (number_in s.objects.names n.name) (type_of_term s ps (Name n)) wanted (slice_get (g.own ++ g.more) (number_in s.objects.names n.name))
     (ap (λ (os : List Object). slice_get os (number_in s.objects.names n.name)) g.objects) there below
 placed t s ps g long (Variable n) wanted e below =
-    let named = if_none (is_named ps.names n.name) (UnknownName (spelled kinds.Variable n.name) n.at) e in
+    let named = true-from_none (is_named ps.names n.name) (UnknownName (spelled kinds.Variable n.name) n.at) e in
     let within = named-number ps.names n.name named in
     let few : number_in ps.names n.name < length ps.items = omega (arith, within, long) in
     subst (λ (o : Option ℕ). IsSomeAnd o (λ u. IsSubtype t.hierarchy u wanted))
@@ -126,8 +98,8 @@ placed t s ps g long (Variable n) wanted e below =
 argument : (t : LiftedTask) (s : Scope) (ps : Table ℕ) → Agrees t s → length ps.items ≡ length ps.names → (x : Term) (wanted : ℕ)
     → argument_fault s ps x wanted ≡ None → IsArgumentOf t ps.items (lifted_term s ps x) wanted
 argument t s ps g long x wanted e =
-    let parts = or_none (term_fault s ps x) (type_fault s ps x wanted) e in
-    let test = if_none (is_subtype s.hierarchy (type_of_term s ps x) wanted) (wrong_type x) parts.1 in
+    let parts = option_or_none (term_fault s ps x) (type_fault s ps x wanted) e in
+    let test = true-from_none (is_subtype s.hierarchy (type_of_term s ps x) wanted) (wrong_type x) parts.1 in
     placed t s ps g long x wanted parts.0
     (subst (λ (h : List ℕ). IsSubtype h (type_of_term s ps x) wanted) g.hierarchy (is_subtype-sound s.hierarchy (type_of_term s ps x) wanted test))
 
@@ -137,7 +109,7 @@ arguments t s ps g long [] [] same e = tt
 arguments t s ps g long [] (u ∷ us) same e = absurd (omega arith)
 arguments t s ps g long (x ∷ xs) [] same e = absurd (omega arith)
 arguments t s ps g long (x ∷ xs) (u ∷ us) same e =
-    let parts = or_none (argument_fault s ps x u) (arguments_fault s ps xs us) e in
+    let parts = option_or_none (argument_fault s ps x u) (arguments_fault s ps xs us) e in
     (argument t s ps g long x u parts.0, arguments t s ps g long xs us (omega arith) parts.1)
 
 -- an atom or a fluent without a fault
@@ -145,18 +117,18 @@ pub applied : (t : LiftedTask) (s : Scope) (ps : Table ℕ) → Agrees t s → l
     → (symbols : List Signature) (table : Table (List ℕ)) → Lists symbols table → (a : Atom)
     → applied_fault table s ps a ≡ None → IsApplied t symbols ps.items (lifted_applied table s ps a)
 applied t s ps g long symbols table lists a e =
-    let parts = or_none (unknown_in kinds.Name table.names a.name) (arity_fault table a or arguments_fault s ps a.terms (parameters_of table a.name)) e in
-    let later = or_none (arity_fault table a) (arguments_fault s ps a.terms (parameters_of table a.name)) parts.1 in
-    let named = if_none (is_named table.names a.name.name) (UnknownName (spelled kinds.Name a.name.name) a.name.at) parts.0 in
+    let parts = option_or_none (unknown_in kinds.Name table.names a.name) (arity_fault table a or arguments_fault s ps a.terms (parameters_of table a.name)) e in
+    let later = option_or_none (arity_fault table a) (arguments_fault s ps a.terms (parameters_of table a.name)) parts.1 in
+    let named = true-from_none (is_named table.names a.name.name) (UnknownName (spelled kinds.Name a.name.name) a.name.at) parts.0 in
     let within = named-number table.names a.name.name named in
     let few : number_in table.names a.name.name < length table.items = omega (arith, within, lists.long) in
     let same : length a.terms ≡ length (parameters_of table a.name) =
     eqb-true (length a.terms) (length (parameters_of table a.name))
-    (if_none (length a.terms == length (parameters_of table a.name)) (WrongArity a.name.name a.name.at) later.0) in
+    (true-from_none (length a.terms == length (parameters_of table a.name)) (WrongArity a.name.name a.name.at) later.0) in
     let zipped = arguments t s ps g long a.terms (parameters_of table a.name) same later.1 in
     let there : IsSomeAnd (slice_get symbols (number_in table.names a.name.name)) (λ (x : Signature). x.parameters ≡ parameters_of table a.name) =
     subst (λ (us : List (List ℕ)). number_in table.names a.name.name < length us → IsSomeAnd (slice_get symbols (number_in table.names a.name.name)) (λ (x : Signature). x.parameters ≡ slice_index_or us (number_in table.names a.name.name) []))
     (sym lists.same) (signature-there symbols (number_in table.names a.name.name)) few in
-    some_and (λ (x : Signature). x.parameters ≡ parameters_of table a.name) (λ (x : Signature). AllZip (IsArgumentOf t ps.items) (map (lifted_term s ps) a.terms) x.parameters)
+    IsSomeAnd-weaker (λ (x : Signature). x.parameters ≡ parameters_of table a.name) (λ (x : Signature). AllZip (IsArgumentOf t ps.items) (map (lifted_term s ps) a.terms) x.parameters)
     (slice_get symbols (number_in table.names a.name.name))
     (λ x is. subst (AllZip (IsArgumentOf t ps.items) (map (lifted_term s ps) a.terms)) (sym is) zipped) there

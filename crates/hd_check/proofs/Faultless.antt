@@ -1,8 +1,11 @@
 -- What two texts without a fault stand for is well formed.
+use Rattle.hd_base.proofs.Lists.{AllByRecursion-append}
+use Rattle.hd_base.proofs.Options.{IsSomeAnd-weaker, option_or_none, true-from_none}
 use Rattle.std.proofs.Common.{◌≡◌, ℕ, ◌+◌, ◌≤◌, Bool, true, false, List, [], ◌∷◌, ◌++◌, map, length, Option, Some, None, refl, sym, ap, ◌∙◌, arith}
-use Rattle.std.proofs.lemmas.List.{length-append, map-append, append-nil}
+use Rattle.std.proofs.lemmas.List.{length-append, map-append, append-nil, length-map}
 use Rattle.std.proofs.lemmas.Option.{none-some}
-use Rattle.std.specs.Prelude.{slice_get, if◌then◌else◌, nat_abs, nat_le, ◌^◌}
+use Rattle.std.specs.Prelude.{slice_get, if◌then◌else◌}
+use Rattle.hd_base.specs.Numbers.{in_range}
 use Rattle.std.specs.List.{AllZip, AllByRecursion}
 use Rattle.hd_terms.specs.declared.typed.ItemKind.TheVariants as kinds
 use Rattle.hd_terms.specs.declared.tree.Atom.{Atom}
@@ -26,20 +29,20 @@ use Rattle.hd_names.specs.declared.fault.Fault.TheVariants.{InitOutOfRange}
 use Rattle.hd_check.specs.declared.fault.CheckError.TheVariants.{In}
 use Rattle.hd_names.specs.declared.scope.Scope.{Scope}
 use Rattle.hd_names.specs.declared.table.Table.{Table}
-use Rattle.hd_names.specs.Fault.{◌or◌}
+use Rattle.hd_base.specs.Options.{◌or◌}
 use Rattle.hd_names.specs.Names.{type_number, types_of, names_of, declared_fault, number_in}
 use Rattle.hd_names.specs.Scope.{scope_of, with_objects, scope_fault, signatures_fault, signature_table, type_names, parents_of}
 use Rattle.hd_check.specs.Terms.{applied_fault, lifted_applied}
 use Rattle.hd_check.specs.Conditions.{condition_fault}
 use Rattle.hd_check.specs.Effects.{is_metric}
 use Rattle.hd_check.specs.Schemas.{actions_fault}
-use Rattle.hd_check.specs.Initial.{no_parameters, object_in, grounded, ground_of, key_of, range_fault, second_value, valued, with_value, value_fault, initial_fault, atoms_in, values_in}
+use Rattle.hd_check.specs.Initial.{no_parameters, object_in, ground_form, ground_of, key_of, range_fault, second_value, fluent_of, with_value, value_fault, initial_fault, atoms_in, values_in}
 use Rattle.hd_check.specs.MetricName.{metric_name_fault}
 use Rattle.hd_check.specs.Whole.{lifted_object, lifted_signature, domain_in, lifted_domain, problem_in, lifted_problem, task_with, task_behind, task_below, lifted_task, in_text, domain_fault, fault_in_problem, problem_fault, metric_fault, fault_behind, fault_below, IsFaultless}
-use Rattle.hd_check.specs.WellFormed.{IsArgumentOf, IsApplied, IsGround, IsFirstValue, IsWellFormed}
-use Rattle.hd_check.proofs.Arguments.{Agrees, Lists, or_none, if_none, some_and, applied}
-use Rattle.hd_check.proofs.Bodies.{maps_long, condition, schemas}
-use Rattle.hd_check.proofs.HaveTypes.{all_append, objects_within, signatures_within, schemas_within}
+use Rattle.hd_lifted.specs.WellFormed.{IsArgumentOf, IsApplied, IsGround, IsFirstValue, IsWellFormed}
+use Rattle.hd_check.proofs.Arguments.{Agrees, Lists, applied}
+use Rattle.hd_check.proofs.Bodies.{condition, schemas}
+use Rattle.hd_check.proofs.HaveTypes.{objects_within, signatures_within, schemas_within}
 use Rattle.hd_names.proofs.Cycles.{types_long}
 
 -- ---- what holds at first
@@ -51,9 +54,9 @@ ground_arguments t (a ∷ as') [] h = absurd h
 ground_arguments t (Parameter k ∷ as') (u ∷ us) (h, hs) = absurd h
 ground_arguments t (Object o ∷ as') (u ∷ us) (h, hs) = (h, ground_arguments t as' us hs)
 
-ground : (t : LiftedTask) (symbols : List Signature) (a : Applied) → IsApplied t symbols [] a → IsGround t symbols (grounded a)
+ground : (t : LiftedTask) (symbols : List Signature) (a : Applied) → IsApplied t symbols [] a → IsGround t symbols (ground_form a)
 ground t symbols a h =
-    some_and (λ (s : Signature). AllZip (IsArgumentOf t []) a.arguments s.parameters) (λ (s : Signature). AllZip (IsOfType t) (map object_in a.arguments) s.parameters)
+    IsSomeAnd-weaker (λ (s : Signature). AllZip (IsArgumentOf t []) a.arguments s.parameters) (λ (s : Signature). AllZip (IsOfType t) (map object_in a.arguments) s.parameters)
     (slice_get symbols a.symbol) (λ s zipped. ground_arguments t a.arguments s.parameters zipped) h
 
 stated : (t : LiftedTask) (s : Scope) → Agrees t s → (symbols : List Signature) (table : Table (List ℕ)) → Lists symbols table → (a : Atom)
@@ -74,23 +77,23 @@ record AreInitial (t : LiftedTask) (s : Scope) (is : List Init) : Type 0 where
 initial : (t : LiftedTask) (s : Scope) → Agrees t s → (given : List (List ℕ)) (is : List Init) → initial_fault s given is ≡ None → AreInitial t s is
 initial t s g given [] e = record { atoms = tt; values = tt }
 initial t s g given (inits.Atom a ∷ is) e =
-    let parts = or_none (applied_fault s.predicates s no_parameters a) (initial_fault s given is) e in
+    let parts = option_or_none (applied_fault s.predicates s no_parameters a) (initial_fault s given is) e in
     let rest = initial t s g given is parts.1 in
     record { atoms = (stated t s g t.predicates s.predicates g.predicates a parts.0, rest.atoms); values = rest.values }
 initial t s g given (inits.NotAtom a ∷ is) e =
-    let parts = or_none (applied_fault s.predicates s no_parameters a) (initial_fault s given is) e in
+    let parts = option_or_none (applied_fault s.predicates s no_parameters a) (initial_fault s given is) e in
     let rest = initial t s g given is parts.1 in
     record { atoms = rest.atoms; values = rest.values }
 initial t s g given (inits.Value v ∷ is) e =
-    let parts = or_none (value_fault s given v) (initial_fault s (with_value s given v) is) e in
+    let parts = option_or_none (value_fault s given v) (initial_fault s (with_value s given v) is) e in
     let rest = initial t s g (with_value s given v) is parts.1 in
-    let first = or_none (applied_fault s.functions s no_parameters v.fluent) (second_value given (key_of (valued s v)) v.fluent or range_fault v) parts.0 in
-    let later = or_none (second_value given (key_of (valued s v)) v.fluent) (range_fault v) first.1 in
-    let fits : nat_le (nat_abs v.value) (10 ^ 15) ≡ true = if_none (nat_le (nat_abs v.value) (10 ^ 15)) (InitOutOfRange v.at) later.1 in
+    let first = option_or_none (applied_fault s.functions s no_parameters v.fluent) (second_value given (key_of (fluent_of s v)) v.fluent or range_fault v) parts.0 in
+    let later = option_or_none (second_value given (key_of (fluent_of s v)) v.fluent) (range_fault v) first.1 in
+    let fits : in_range v.value ≡ true = true-from_none (in_range v.value) (InitOutOfRange v.at) later.1 in
     let there = stated t s g t.functions s.functions g.functions v.fluent first.0 in
     record {
       atoms = rest.atoms;
-      values = left_out (IsFirstValue t) (is_metric s.metric (number_in s.functions.names v.fluent.name.name)) (record { fluent = valued s v; value = v.value })
+      values = left_out (IsFirstValue t) (is_metric s.metric (number_in s.functions.names v.fluent.name.name)) (record { fluent = fluent_of s v; value = v.value })
           (values_in s is) (there, fits) rest.values;
     }
 
@@ -107,12 +110,12 @@ signatures_same types (s ∷ ss) = ap (λ (us : List (List ℕ)). types_of types
 
 lists : (types : List (List ℕ)) (ss : List trees_signature.Signature) → Lists (map (lifted_signature types) ss) (signature_table types ss)
 lists types ss = record {
-  long = maps_long (λ (s : trees_signature.Signature). types_of types s.parameters) (λ (s : trees_signature.Signature). s.name.name) ss;
+  long = length-map ss (λ (s : trees_signature.Signature). types_of types s.parameters) ∙ sym (length-map ss (λ (s : trees_signature.Signature). s.name.name));
   same = signatures_same types ss;
 }
 
 typed_long : (types : List (List ℕ)) (ts : List Typed) → length (types_of types ts) ≡ length (names_of ts)
-typed_long types ts = maps_long (λ (t : Typed). type_number types t.of) (λ (t : Typed). t.name.name) ts
+typed_long types ts = length-map ts (λ (t : Typed). type_number types t.of) ∙ sym (length-map ts (λ (t : Typed). t.name.name))
 
 -- the domain's names are those of the task
 pub domain_agrees : (types : List (List ℕ)) (parents : List ℕ) (d : DomainAst) (p : ProblemAst)
@@ -160,24 +163,24 @@ below : (types : List (List ℕ)) (parents : List ℕ) (d : DomainAst) (p : Prob
     → fault_below types parents d p ≡ None → IsWellFormed (task_below types parents d p)
 unfolding scope_of with_objects scope_fault fault_below fault_behind problem_fault fault_in_problem domain_fault lifted_domain domain_in lifted_problem problem_in task_with task_behind task_below
 below types parents d p long e =
-    let parts = or_none (in_text Domain (domain_fault types parents d p.metric)) (fault_behind (lifted_domain types parents d p.metric) d p) e in
-    let domain = or_none (scope_fault types d) (actions_fault (scope_of types parents d p.metric) [] d.actions) (text_none Domain (domain_fault types parents d p.metric) parts.0) in
-    let declared = or_none (declared_fault kinds.Name types [] d.constants) (signatures_fault types [] d.predicates or signatures_fault types [] d.functions) domain.0 in
-    let signatures = or_none (signatures_fault types [] d.predicates) (signatures_fault types [] d.functions) declared.1 in
-    let behind = or_none (in_text Problem (problem_fault (scope_of types parents d p.metric) p)) (metric_fault d p) parts.1 in
+    let parts = option_or_none (in_text Domain (domain_fault types parents d p.metric)) (fault_behind (lifted_domain types parents d p.metric) d p) e in
+    let domain = option_or_none (scope_fault types d) (actions_fault (scope_of types parents d p.metric) [] d.actions) (text_none Domain (domain_fault types parents d p.metric) parts.0) in
+    let declared = option_or_none (declared_fault kinds.Name types [] d.constants) (signatures_fault types [] d.predicates or signatures_fault types [] d.functions) domain.0 in
+    let signatures = option_or_none (signatures_fault types [] d.predicates) (signatures_fault types [] d.functions) declared.1 in
+    let behind = option_or_none (in_text Problem (problem_fault (scope_of types parents d p.metric) p)) (metric_fault d p) parts.1 in
     let problem =
-    or_none (declared_fault kinds.Name (scope_of types parents d p.metric).types (scope_of types parents d p.metric).objects.names p.objects)
+    option_or_none (declared_fault kinds.Name (scope_of types parents d p.metric).types (scope_of types parents d p.metric).objects.names p.objects)
     (fault_in_problem (with_objects (scope_of types parents d p.metric) p.objects) p) (text_none Problem (problem_fault (scope_of types parents d p.metric) p) behind.0) in
     let inner =
-    or_none (initial_fault (with_objects (scope_of types parents d p.metric) p.objects) [] p.init)
+    option_or_none (initial_fault (with_objects (scope_of types parents d p.metric) p.objects) [] p.init)
     (condition_fault (with_objects (scope_of types parents d p.metric) p.objects) no_parameters p.goal or metric_name_fault (with_objects (scope_of types parents d p.metric) p.objects).functions p.metric) problem.1 in
     let last =
-    or_none (condition_fault (with_objects (scope_of types parents d p.metric) p.objects) no_parameters p.goal)
+    option_or_none (condition_fault (with_objects (scope_of types parents d p.metric) p.objects) no_parameters p.goal)
     (metric_name_fault (with_objects (scope_of types parents d p.metric) p.objects).functions p.metric) inner.1 in
     let first = initial (task_below types parents d p) (with_objects (scope_of types parents d p.metric) p.objects) (problem_agrees types parents d p) [] p.init inner.0 in
     record {
       objects =
-          all_append (λ (o : objects.Object). o.of ≤ length parents) (map (lifted_object types) d.constants) (map (lifted_object types) p.objects)
+          AllByRecursion-append (λ (o : objects.Object). o.of ≤ length parents) (map (lifted_object types) d.constants) (map (lifted_object types) p.objects)
           (objects_within (length parents) types long kinds.Name [] d.constants declared.0) (objects_within (length parents) types long kinds.Name (names_of d.constants) p.objects problem.0);
       predicates = signatures_within (length parents) types long [] d.predicates signatures.0;
       functions = signatures_within (length parents) types long [] d.functions signatures.1;

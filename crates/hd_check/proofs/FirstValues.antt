@@ -1,4 +1,5 @@
 -- In texts without a fault no fluent has two first values.
+use Rattle.hd_base.proofs.Options.{false-from_none, option_or_none}
 use Rattle.std.proofs.Common.{◌≡◌, ◌≢◌, ℕ, Bool, true, false, List, [], ◌∷◌, ◌++◌, None, sym, ap, ◌∙◌}
 use Rattle.std.proofs.lemmas.Bool.{or_parts, false≢true}
 use Rattle.std.proofs.lemmas.List.Folds.{list_any-append}
@@ -16,17 +17,16 @@ use Rattle.hd_lifted.specs.declared.task.InitialValue.{InitialValue}
 use Rattle.hd_names.specs.declared.fault.Fault.TheVariants.{Duplicate}
 use Rattle.hd_check.specs.declared.fault.Source.TheVariants.{Domain, Problem}
 use Rattle.hd_names.specs.declared.scope.Scope.{Scope}
-use Rattle.hd_names.specs.Fault.{◌or◌}
+use Rattle.hd_base.specs.Options.{◌or◌}
 use Rattle.hd_names.specs.Names.{declared_fault, number_in}
 use Rattle.hd_names.specs.Scope.{scope_of, with_objects, type_names, parents_of}
 use Rattle.hd_check.specs.Terms.{applied_fault}
 use Rattle.hd_check.specs.Conditions.{condition_fault}
 use Rattle.hd_check.specs.Effects.{is_metric}
-use Rattle.hd_check.specs.Initial.{no_parameters, key_of, range_fault, second_value, valued, with_value, value_fault, initial_fault, values_in}
+use Rattle.hd_check.specs.Initial.{no_parameters, key_of, range_fault, second_value, fluent_of, with_value, value_fault, initial_fault, values_in}
 use Rattle.hd_check.specs.MetricName.{metric_name_fault}
 use Rattle.hd_check.specs.Whole.{domain_in, lifted_domain, problem_in, lifted_problem, task_with, task_behind, task_below, lifted_task, in_text, domain_fault, fault_in_problem, problem_fault, metric_fault, fault_behind, fault_below, IsFaultless}
-use Rattle.hd_check.specs.WellFormed.{AreOfDifferentFluents}
-use Rattle.hd_check.proofs.Arguments.{or_none, if_some}
+use Rattle.hd_lifted.specs.WellFormed.{AreOfDifferentFluents}
 use Rattle.hd_check.proofs.Faultless.{text_none}
 
 -- a value's fluent is none of these
@@ -60,35 +60,35 @@ with_one given false v vs new news others different = record { new = (new, news)
 values : (s : Scope) (given : List (List ℕ)) (is : List Init) → initial_fault s given is ≡ None → AreNew given (values_in s is)
 values s given [] e = record { new = tt; different = tt }
 values s given (inits.Atom a ∷ is) e =
-    let parts = or_none (applied_fault s.predicates s no_parameters a) (initial_fault s given is) e in
+    let parts = option_or_none (applied_fault s.predicates s no_parameters a) (initial_fault s given is) e in
     let rest = values s given is parts.1 in
     record { new = rest.new; different = rest.different }
 values s given (inits.NotAtom a ∷ is) e =
-    let parts = or_none (applied_fault s.predicates s no_parameters a) (initial_fault s given is) e in
+    let parts = option_or_none (applied_fault s.predicates s no_parameters a) (initial_fault s given is) e in
     let rest = values s given is parts.1 in
     record { new = rest.new; different = rest.different }
 values s given (inits.Value v ∷ is) e =
-    let parts = or_none (value_fault s given v) (initial_fault s (with_value s given v) is) e in
+    let parts = option_or_none (value_fault s given v) (initial_fault s (with_value s given v) is) e in
     let rest = values s (with_value s given v) is parts.1 in
-    let first = or_none (applied_fault s.functions s no_parameters v.fluent) (second_value given (key_of (valued s v)) v.fluent or range_fault v) parts.0 in
-    let later = or_none (second_value given (key_of (valued s v)) v.fluent) (range_fault v) first.1 in
-    let new : list_any (bytes_eq (key_of (valued s v))) given ≡ false =
-    if_some (list_any (bytes_eq (key_of (valued s v))) given) (Duplicate v.fluent.name.name v.fluent.name.at) later.0 in
-    let old = older given (valued s v) (values_in s is) rest.new in
-    with_one given (is_metric s.metric (number_in s.functions.names v.fluent.name.name)) (record { fluent = valued s v; value = v.value })
+    let first = option_or_none (applied_fault s.functions s no_parameters v.fluent) (second_value given (key_of (fluent_of s v)) v.fluent or range_fault v) parts.0 in
+    let later = option_or_none (second_value given (key_of (fluent_of s v)) v.fluent) (range_fault v) first.1 in
+    let new : list_any (bytes_eq (key_of (fluent_of s v))) given ≡ false =
+    false-from_none (list_any (bytes_eq (key_of (fluent_of s v))) given) (Duplicate v.fluent.name.name v.fluent.name.at) later.0 in
+    let old = older given (fluent_of s v) (values_in s is) rest.new in
+    with_one given (is_metric s.metric (number_in s.functions.names v.fluent.name.name)) (record { fluent = fluent_of s v; value = v.value })
     (values_in s is) new old.0 old.1 rest.different
 
 below : (types : List (List ℕ)) (parents : List ℕ) (d : DomainAst) (p : ProblemAst) → fault_below types parents d p ≡ None
     → AreOfDifferentFluents (task_below types parents d p).values
 unfolding fault_below fault_behind problem_fault fault_in_problem domain_fault lifted_domain domain_in lifted_problem problem_in task_with task_behind task_below
 below types parents d p e =
-    let parts = or_none (in_text Domain (domain_fault types parents d p.metric)) (fault_behind (lifted_domain types parents d p.metric) d p) e in
-    let behind = or_none (in_text Problem (problem_fault (scope_of types parents d p.metric) p)) (metric_fault d p) parts.1 in
+    let parts = option_or_none (in_text Domain (domain_fault types parents d p.metric)) (fault_behind (lifted_domain types parents d p.metric) d p) e in
+    let behind = option_or_none (in_text Problem (problem_fault (scope_of types parents d p.metric) p)) (metric_fault d p) parts.1 in
     let problem =
-    or_none (declared_fault kinds.Name (scope_of types parents d p.metric).types (scope_of types parents d p.metric).objects.names p.objects)
+    option_or_none (declared_fault kinds.Name (scope_of types parents d p.metric).types (scope_of types parents d p.metric).objects.names p.objects)
     (fault_in_problem (with_objects (scope_of types parents d p.metric) p.objects) p) (text_none Problem (problem_fault (scope_of types parents d p.metric) p) behind.0) in
     let inner =
-    or_none (initial_fault (with_objects (scope_of types parents d p.metric) p.objects) [] p.init)
+    option_or_none (initial_fault (with_objects (scope_of types parents d p.metric) p.objects) [] p.init)
     (condition_fault (with_objects (scope_of types parents d p.metric) p.objects) no_parameters p.goal or metric_name_fault (with_objects (scope_of types parents d p.metric) p.objects).functions p.metric) problem.1 in
     (values (with_objects (scope_of types parents d p.metric) p.objects) [] p.init inner.0).different
 

@@ -2,6 +2,7 @@ pub mod Apart
 pub mod Arguments
 pub mod Bodies
 pub mod Changed
+pub mod CheckedTasks
 pub mod Faultless
 pub mod FirstValues
 pub mod FluentKeys

@@ -1,6 +1,8 @@
 -- In texts without a fault the metric's function is used as a cost alone.
+use Rattle.hd_base.proofs.Tests.{position_or_len-lt}
+use Rattle.hd_base.proofs.Options.{false-from_none, option_or_none, true-from_none}
 use Rattle.std.proofs.Common.{◌≡◌, ◌≢◌, ℕ, ◌==◌, Bool, true, false, not, List, [], ◌∷◌, ◌++◌, map, length, get_or, Option, Some, None, refl, sym, ap, ◌∙◌, subst, eq-eqb}
-use Rattle.std.proofs.lemmas.Bool.{false≢true, lt-ltb, ne_eqb}
+use Rattle.std.proofs.lemmas.Bool.{false≢true, lt-ltb, ne_eqb, not-true}
 use Rattle.std.proofs.lemmas.Option.{none-some}
 use Rattle.std.proofs.lemmas.List.Quantifiers.{position-Some}
 use Rattle.std.proofs.lemmas.Slice.Eq.{bytes_eq-Decides}
@@ -16,7 +18,9 @@ use Rattle.hd_terms.specs.declared.tree.Condition.TheVariants as conditions
 use Rattle.hd_terms.specs.declared.tree.Effect.{Effect}
 use Rattle.hd_terms.specs.declared.tree.Effect.TheVariants as effects
 use Rattle.hd_terms.specs.declared.tree.FluentChange.{FluentChange}
-use Rattle.hd_terms.specs.Expression as trees
+use Rattle.hd_base.specs.Expression as trees
+use Rattle.hd_terms.specs.declared.tree.Leaf.{Leaf}
+use Rattle.hd_terms.specs.declared.tree.Leaf.TheVariants.{Number, Fluent}
 use Rattle.hd_pddl.specs.declared.tree.Action.{Action}
 use Rattle.hd_pddl.specs.declared.tree.Init.{Init}
 use Rattle.hd_pddl.specs.declared.tree.Init.TheVariants as inits
@@ -26,23 +30,23 @@ use Rattle.hd_lifted.specs.Effects.{is_cost}
 use Rattle.hd_names.specs.declared.fault.Fault.TheVariants.{UnknownName}
 use Rattle.hd_names.specs.declared.scope.Scope.{Scope}
 use Rattle.hd_names.specs.declared.table.Table.{Table}
-use Rattle.hd_names.specs.Fault.{◌or◌}
-use Rattle.hd_names.specs.Names.{is_named, number_in, or_zero, unknown_in, spelled, duplicate_in, declared_fault}
+use Rattle.hd_base.specs.Options.{◌or◌}
+use Rattle.hd_base.specs.Names.{is_named}
+use Rattle.hd_names.specs.Names.{number_in, or_zero, unknown_in, spelled, duplicate_in, declared_fault}
 use Rattle.hd_check.specs.Terms.{parameters_of, arity_fault, arguments_fault, applied_fault, expression_fault, lifted_expression}
 use Rattle.hd_check.specs.Conditions.{part_fault, condition_fault, comparisons_in}
 use Rattle.hd_check.specs.Effects.{effect_fault, effects_fault, change_fault, is_metric, lifted_change, lifted_effect, changes_in}
 use Rattle.hd_check.specs.Schemas.{parameters_in, body_fault, action_fault, actions_fault, schema_with, lifted_schema}
-use Rattle.hd_check.specs.Initial.{valued, values_in}
+use Rattle.hd_check.specs.Initial.{fluent_of, values_in}
 use Rattle.hd_metric.specs.Metric.{read_in, read_by_part, read_by_condition, is_fixed, change_of_metric, misused_by_change, misused_by_effect, misused_by_action, misused_by_actions}
-use Rattle.hd_check.specs.MetricUse.{IsFreeOf, ComparesWithout, IsFixed, LeavesAlone, AmountFits, IsCostOf, CountsCost}
-use Rattle.hd_check.proofs.Arguments.{or_none, if_none, if_some, before_found}
+use Rattle.hd_lifted.specs.MetricUse.{IsFreeOf, ComparesWithout, IsFixed, LeavesAlone, AmountFits, IsCostOf, CountsCost}
 
 -- ---- numbers of names
 
 -- a name that is one of these has a place
 pub position-there : (names : List (List ℕ)) (n : List ℕ) → is_named names n ≡ true → position (bytes_eq n) names ≡ Some (number_in names n)
 position-there names n e =
-    let lt = before_found (bytes_eq n) names e in
+    let lt = position_or_len-lt (bytes_eq n) names e in
     rw (lt-ltb (prefix_len (λ x. not (bytes_eq n x)) names) (length names) lt) refl
 
 -- the number is the metric's for its name alone
@@ -65,21 +69,21 @@ other_number names m n f is named other same = false≢true (sym other ∙ same_
 
 pub fluent_named : (s : Scope) (ps : Table ℕ) (a : Atom) → applied_fault s.functions s ps a ≡ None → is_named s.functions.names a.name.name ≡ true
 fluent_named s ps a e =
-    let parts = or_none (unknown_in kinds.Name s.functions.names a.name) (arity_fault s.functions a or arguments_fault s ps a.terms (parameters_of s.functions a.name)) e in
-    if_none (is_named s.functions.names a.name.name) (UnknownName (spelled kinds.Name a.name.name) a.name.at) parts.0
+    let parts = option_or_none (unknown_in kinds.Name s.functions.names a.name) (arity_fault s.functions a or arguments_fault s ps a.terms (parameters_of s.functions a.name)) e in
+    true-from_none (is_named s.functions.names a.name.name) (UnknownName (spelled kinds.Name a.name.name) a.name.at) parts.0
 
 -- ---- what reads it
 
 -- an expression that doesn't read it
-pub reads_not : (s : Scope) (ps : Table ℕ) (m : List ℕ) (f : ℕ) → position (bytes_eq m) s.functions.names ≡ Some f → (x : trees.Expression)
+pub reads_not : (s : Scope) (ps : Table ℕ) (m : List ℕ) (f : ℕ) → position (bytes_eq m) s.functions.names ≡ Some f → (x : trees.Expression Leaf)
     → expression_fault s ps x ≡ None → read_in m x ≡ None → IsFreeOf f (lifted_expression s ps x)
-reads_not s ps m f is (trees.number v at) e r = tt
-reads_not s ps m f is (trees.fluent a) e r =
-    other_number s.functions.names m a.name.name f is (fluent_named s ps a e) (if_some (bytes_eq a.name.name m) a.name.at r)
+reads_not s ps m f is (trees.leaf (Number v at)) e r = tt
+reads_not s ps m f is (trees.leaf (Fluent a)) e r =
+    other_number s.functions.names m a.name.name f is (fluent_named s ps a e) (false-from_none (bytes_eq a.name.name m) a.name.at r)
 reads_not s ps m f is (trees.negate x) e r = reads_not s ps m f is x e r
 reads_not s ps m f is (trees.binary o x y) e r =
-    let parts = or_none (expression_fault s ps x) (expression_fault s ps y) e in
-    let reads = or_none (read_in m x) (read_in m y) r in
+    let parts = option_or_none (expression_fault s ps x) (expression_fault s ps y) e in
+    let reads = option_or_none (read_in m x) (read_in m y) r in
     (reads_not s ps m f is x parts.0 reads.0, reads_not s ps m f is y parts.1 reads.1)
 
 -- a condition that doesn't
@@ -87,18 +91,18 @@ pub compares_not : (s : Scope) (ps : Table ℕ) (m : List ℕ) (f : ℕ) → pos
     → condition_fault s ps cs ≡ None → read_by_condition m cs ≡ None → AllByRecursion (ComparesWithout f) (comparisons_in s ps cs)
 compares_not s ps m f is [] e r = tt
 compares_not s ps m f is (conditions.Atom a ∷ cs) e r =
-    compares_not s ps m f is cs (or_none (part_fault s ps (conditions.Atom a)) (condition_fault s ps cs) e).1 r
+    compares_not s ps m f is cs (option_or_none (part_fault s ps (conditions.Atom a)) (condition_fault s ps cs) e).1 r
 compares_not s ps m f is (conditions.NotAtom a ∷ cs) e r =
-    compares_not s ps m f is cs (or_none (part_fault s ps (conditions.NotAtom a)) (condition_fault s ps cs) e).1 r
+    compares_not s ps m f is cs (option_or_none (part_fault s ps (conditions.NotAtom a)) (condition_fault s ps cs) e).1 r
 compares_not s ps m f is (conditions.Equal x y ∷ cs) e r =
-    compares_not s ps m f is cs (or_none (part_fault s ps (conditions.Equal x y)) (condition_fault s ps cs) e).1 r
+    compares_not s ps m f is cs (option_or_none (part_fault s ps (conditions.Equal x y)) (condition_fault s ps cs) e).1 r
 compares_not s ps m f is (conditions.NotEqual x y ∷ cs) e r =
-    compares_not s ps m f is cs (or_none (part_fault s ps (conditions.NotEqual x y)) (condition_fault s ps cs) e).1 r
+    compares_not s ps m f is cs (option_or_none (part_fault s ps (conditions.NotEqual x y)) (condition_fault s ps cs) e).1 r
 compares_not s ps m f is (conditions.Compare c ∷ cs) e r =
-    let parts = or_none (part_fault s ps (conditions.Compare c)) (condition_fault s ps cs) e in
-    let sides = or_none (expression_fault s ps c.left) (expression_fault s ps c.right) parts.0 in
-    let reads = or_none (read_by_part m (conditions.Compare c)) (read_by_condition m cs) r in
-    let both = or_none (read_in m c.left) (read_in m c.right) reads.0 in
+    let parts = option_or_none (part_fault s ps (conditions.Compare c)) (condition_fault s ps cs) e in
+    let sides = option_or_none (expression_fault s ps c.left) (expression_fault s ps c.right) parts.0 in
+    let reads = option_or_none (read_by_part m (conditions.Compare c)) (read_by_condition m cs) r in
+    let both = option_or_none (read_in m c.left) (read_in m c.right) reads.0 in
     ((reads_not s ps m f is c.left sides.0 both.0, reads_not s ps m f is c.right sides.1 both.1), compares_not s ps m f is cs parts.1 reads.1)
 
 -- ---- what changes it
@@ -109,15 +113,11 @@ AreAlone s changed schemas =
     (n : List ℕ) → is_named s.functions.names n ≡ true → is_named changed n ≡ false
     → AllByRecursion (LeavesAlone (number_in s.functions.names n)) schemas
 
-not_named : (b : Bool) → not b ≡ true → b ≡ false
-not_named true e = absurd (false≢true e)
-not_named false e = refl
-
-plain : (changed : List (List ℕ)) (schemas : List Schema) (s : Scope) (ps : Table ℕ) → AreAlone s changed schemas → (x : trees.Expression)
+plain : (changed : List (List ℕ)) (schemas : List Schema) (s : Scope) (ps : Table ℕ) → AreAlone s changed schemas → (x : trees.Expression Leaf)
     → expression_fault s ps x ≡ None → is_fixed changed x ≡ true → IsFixed schemas (lifted_expression s ps x)
-plain changed schemas s ps alone (trees.number v at) none e = tt
-plain changed schemas s ps alone (trees.fluent a) none e =
-    alone a.name.name (fluent_named s ps a none) (not_named (is_named changed a.name.name) e)
+plain changed schemas s ps alone (trees.leaf (Number v at)) none e = tt
+plain changed schemas s ps alone (trees.leaf (Fluent a)) none e =
+    alone a.name.name (fluent_named s ps a none) (not-true (is_named changed a.name.name) e)
 plain changed schemas s ps alone (trees.negate x) none e = absurd (false≢true e)
 plain changed schemas s ps alone (trees.binary o x y) none e = absurd (false≢true e)
 
@@ -132,7 +132,7 @@ a_cost : (changed : List (List ℕ)) (c : FluentChange) (w : words.Change) → c
     → (is_cost (lifted_change true w) ≡ true) × (is_fixed changed c.amount ≡ true)
 a_cost changed c changes.Assign e = absurd (none-some c.fluent.name.at (sym e))
 a_cost changed c changes.ScaleUp e = absurd (none-some c.fluent.name.at (sym e))
-a_cost changed c changes.Increase e = (refl, if_none (is_fixed changed c.amount) c.at e)
+a_cost changed c changes.Increase e = (refl, true-from_none (is_fixed changed c.amount) c.at e)
 a_cost changed c changes.Decrease e = absurd (none-some c.fluent.name.at (sym e))
 
 counts : (s : Scope) (ps : Table ℕ) (m : List ℕ) (f : ℕ) (changed : List (List ℕ)) (schemas : List Schema) → AreAlone s changed schemas → position (bytes_eq m) s.functions.names ≡ Some f
@@ -151,12 +151,12 @@ counts s ps m f changed schemas alone is metric c e r = by (bytes_eq c.fluent.na
       ap (λ (b : Bool). is_cost (lifted_change b c.change)) here ∙ both.0 in
       record {
         cost = cost ∙ sym (eq-eqb (number_in s.functions.names c.fluent.name.name) f number);
-        amount = subst (λ (b : Bool). AmountFits schemas f b (lifted_expression s ps c.amount)) (sym cost) (plain changed schemas s ps alone c.amount (or_none (applied_fault s.functions s ps c.fluent) (expression_fault s ps c.amount) e).1 both.1);
+        amount = subst (λ (b : Bool). AmountFits schemas f b (lifted_expression s ps c.amount)) (sym cost) (plain changed schemas s ps alone c.amount (option_or_none (applied_fault s.functions s ps c.fluent) (expression_fault s ps c.amount) e).1 both.1);
       }
   by false other =
       let told : read_in m c.amount ≡ None =
       sym (ap (λ (b : Bool). if b then change_of_metric changed c c.change else read_in m c.amount) other) ∙ r in
-      let parts = or_none (applied_fault s.functions s ps c.fluent) (expression_fault s ps c.amount) e in
+      let parts = option_or_none (applied_fault s.functions s ps c.fluent) (expression_fault s ps c.amount) e in
       let number = other_number s.functions.names m c.fluent.name.name f is (fluent_named s ps c.fluent parts.0) other in
       let here : is_metric s.metric (number_in s.functions.names c.fluent.name.name) ≡ false =
       ap (λ (o : Option ℕ). is_metric o (number_in s.functions.names c.fluent.name.name)) metric
@@ -173,20 +173,20 @@ changes_count : (s : Scope) (ps : Table ℕ) (m : List ℕ) (f : ℕ) (changed :
     → AllByRecursion (IsCostOf schemas f) (changes_in s ps es)
 changes_count s ps m f changed schemas alone is metric [] e r = tt
 changes_count s ps m f changed schemas alone is metric (effects.Add a ∷ es) e r =
-    changes_count s ps m f changed schemas alone is metric es (or_none (effect_fault s ps (effects.Add a)) (effects_fault s ps es) e).1 r
+    changes_count s ps m f changed schemas alone is metric es (option_or_none (effect_fault s ps (effects.Add a)) (effects_fault s ps es) e).1 r
 changes_count s ps m f changed schemas alone is metric (effects.Delete a ∷ es) e r =
-    changes_count s ps m f changed schemas alone is metric es (or_none (effect_fault s ps (effects.Delete a)) (effects_fault s ps es) e).1 r
+    changes_count s ps m f changed schemas alone is metric es (option_or_none (effect_fault s ps (effects.Delete a)) (effects_fault s ps es) e).1 r
 changes_count s ps m f changed schemas alone is metric (effects.Change c ∷ es) e r =
-    let parts = or_none (change_fault s ps c) (effects_fault s ps es) e in
-    let uses = or_none (misused_by_change changed m c) (misused_by_effect changed m es) r in
+    let parts = option_or_none (change_fault s ps c) (effects_fault s ps es) e in
+    let uses = option_or_none (misused_by_change changed m c) (misused_by_effect changed m es) r in
     (counts s ps m f changed schemas alone is metric c parts.0 uses.0, changes_count s ps m f changed schemas alone is metric es parts.1 uses.1)
 
 schema_counts : (s : Scope) (ps : Table ℕ) (m : List ℕ) (f : ℕ) (changed : List (List ℕ)) (schemas : List Schema) → AreAlone s changed schemas → position (bytes_eq m) s.functions.names ≡ Some f
     → s.metric ≡ Some f → (a : Action) → body_fault s ps a ≡ None → misused_by_action changed m a ≡ None → CountsCost schemas f (schema_with s ps a)
 unfolding body_fault schema_with
 schema_counts s ps m f changed schemas alone is metric a e r =
-    let parts = or_none (condition_fault s ps a.precondition) (effects_fault s ps a.effect) e in
-    let uses = or_none (read_by_condition m a.precondition) (misused_by_effect changed m a.effect) r in
+    let parts = option_or_none (condition_fault s ps a.precondition) (effects_fault s ps a.effect) e in
+    let uses = option_or_none (read_by_condition m a.precondition) (misused_by_effect changed m a.effect) r in
     record {
       comparisons = compares_not s ps m f is a.precondition parts.0 uses.0;
       effects = changes_count s ps m f changed schemas alone is metric a.effect parts.1 uses.1;
@@ -196,7 +196,7 @@ action_counts : (s : Scope) (m : List ℕ) (f : ℕ) (changed : List (List ℕ))
     → s.metric ≡ Some f → (a : Action) → action_fault s a ≡ None → misused_by_action changed m a ≡ None → CountsCost schemas f (lifted_schema s a)
 unfolding action_fault lifted_schema
 action_counts s m f changed schemas alone is metric a e r =
-    let parts = or_none (declared_fault kinds.Variable s.types [] a.parameters) (body_fault s (parameters_in s a) a) e in
+    let parts = option_or_none (declared_fault kinds.Variable s.types [] a.parameters) (body_fault s (parameters_in s a) a) e in
     schema_counts s (parameters_in s a) m f changed schemas alone is metric a parts.1 r
 
 -- actions that use the metric's function as they may
@@ -205,9 +205,9 @@ pub actions_count : (s : Scope) (m : List ℕ) (f : ℕ) (changed : List (List �
     → misused_by_actions changed m as' ≡ None → AllByRecursion (CountsCost schemas f) (map (lifted_schema s) as')
 actions_count s m f changed schemas alone is metric names [] e r = tt
 actions_count s m f changed schemas alone is metric names (a ∷ as') e r =
-    let parts = or_none (duplicate_in kinds.Name names a.name) (action_fault s a or actions_fault s (names ++ a.name.name ∷ []) as') e in
-    let later = or_none (action_fault s a) (actions_fault s (names ++ a.name.name ∷ []) as') parts.1 in
-    let uses = or_none (misused_by_action changed m a) (misused_by_actions changed m as') r in
+    let parts = option_or_none (duplicate_in kinds.Name names a.name) (action_fault s a or actions_fault s (names ++ a.name.name ∷ []) as') e in
+    let later = option_or_none (action_fault s a) (actions_fault s (names ++ a.name.name ∷ []) as') parts.1 in
+    let uses = option_or_none (misused_by_action changed m a) (misused_by_actions changed m as') r in
     (action_counts s m f changed schemas alone is metric a later.0 uses.0, actions_count s m f changed schemas alone is metric (names ++ a.name.name ∷ []) as' later.1 uses.1)
 
 -- ---- first values
@@ -226,5 +226,5 @@ values_without s f metric (inits.Atom a ∷ is) = values_without s f metric is
 values_without s f metric (inits.NotAtom a ∷ is) = values_without s f metric is
 values_without s f metric (inits.Value v ∷ is) =
     other_value f (number_in s.functions.names v.fluent.name.name) (is_metric s.metric (number_in s.functions.names v.fluent.name.name))
-    (record { fluent = valued s v; value = v.value }) (values_in s is)
+    (record { fluent = fluent_of s v; value = v.value }) (values_in s is)
     (ap (λ (o : Option ℕ). is_metric o (number_in s.functions.names v.fluent.name.name)) metric) refl (values_without s f metric is)

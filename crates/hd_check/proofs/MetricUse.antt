@@ -1,4 +1,5 @@
 -- The metric of texts without a fault.
+use Rattle.hd_base.proofs.Options.{IsSomeAnd-weaker, option_or_none, true-from_none}
 use Rattle.std.proofs.Common.{◌≡◌, ℕ, ◌<◌, ◌==◌, List, [], length, Option, Some, None, refl, sym, ap, ◌∙◌, subst, arith}
 use Rattle.std.proofs.lemmas.Bool.{eqb-true}
 use Rattle.std.proofs.lemmas.Option.{none-some}
@@ -14,8 +15,9 @@ use Rattle.hd_lifted.specs.declared.task.Signature.{Signature}
 use Rattle.hd_check.specs.declared.fault.Source.TheVariants.{Domain, Problem}
 use Rattle.hd_names.specs.declared.fault.Fault.TheVariants.{UnknownName, WrongArity, BadMetric}
 use Rattle.hd_names.specs.declared.table.Table.{Table}
-use Rattle.hd_names.specs.Fault.{◌or◌}
-use Rattle.hd_names.specs.Names.{is_named, number_in, or_zero, unknown_in, spelled, declared_fault}
+use Rattle.hd_base.specs.Options.{◌or◌}
+use Rattle.hd_base.specs.Names.{is_named}
+use Rattle.hd_names.specs.Names.{number_in, or_zero, unknown_in, spelled, declared_fault}
 use Rattle.hd_names.specs.Scope.{scope_of, with_objects, scope_fault, metric_in, type_names, parents_of}
 use Rattle.hd_check.specs.Terms.{parameters_of}
 use Rattle.hd_check.specs.Conditions.{condition_fault}
@@ -24,8 +26,8 @@ use Rattle.hd_check.specs.Initial.{no_parameters, initial_fault}
 use Rattle.hd_metric.specs.Metric.{changed_by, read_by_condition, nonzero_in, missing_in, misused_in_domain, misused_in_problem, misused_by_actions}
 use Rattle.hd_check.specs.MetricName.{metric_name_fault, bad_metric}
 use Rattle.hd_check.specs.Whole.{domain_in, lifted_domain, problem_in, lifted_problem, task_with, task_behind, task_below, lifted_task, in_text, domain_fault, fault_in_problem, problem_fault, metric_fault, fault_behind, fault_below, IsFaultless}
-use Rattle.hd_check.specs.MetricUse.{IsCostFunction}
-use Rattle.hd_check.proofs.Arguments.{Lists, or_none, if_none, some_and, named-number, signature-there}
+use Rattle.hd_lifted.specs.MetricUse.{IsCostFunction}
+use Rattle.hd_check.proofs.Arguments.{Lists, named-number, signature-there}
 use Rattle.hd_check.proofs.Faultless.{text_none, domain_agrees}
 use Rattle.hd_check.proofs.Changed.{actions_alone}
 use Rattle.hd_check.proofs.MetricNames.{compares_not, actions_count, values_without}
@@ -35,10 +37,10 @@ no_parameters_asked : (symbols : List Signature) (table : Table (List ℕ)) → 
     → position (bytes_eq m.name) table.names ≡ Some f → metric_name_fault table (Some m) ≡ None
     → IsSomeAnd (slice_get symbols f) (λ (s : Signature). length s.parameters ≡ 0)
 no_parameters_asked symbols table lists m f is e =
-    let parts = or_none (unknown_in kinds.Name table.names m) (if length (parameters_of table m) == 0 then None else Some (WrongArity m.name m.at)) e in
-    let named = if_none (is_named table.names m.name) (UnknownName (spelled kinds.Name m.name) m.at) parts.0 in
+    let parts = option_or_none (unknown_in kinds.Name table.names m) (if length (parameters_of table m) == 0 then None else Some (WrongArity m.name m.at)) e in
+    let named = true-from_none (is_named table.names m.name) (UnknownName (spelled kinds.Name m.name) m.at) parts.0 in
     let none : length (parameters_of table m) ≡ 0 =
-    eqb-true (length (parameters_of table m)) 0 (if_none (length (parameters_of table m) == 0) (WrongArity m.name m.at) parts.1) in
+    eqb-true (length (parameters_of table m)) 0 (true-from_none (length (parameters_of table m) == 0) (WrongArity m.name m.at) parts.1) in
     let within = named-number table.names m.name named in
     let few : number_in table.names m.name < length table.items = omega (arith, within, lists.long) in
     let there : IsSomeAnd (slice_get symbols (number_in table.names m.name)) (λ (x : Signature). x.parameters ≡ parameters_of table m) =
@@ -46,7 +48,7 @@ no_parameters_asked symbols table lists m f is e =
     (sym lists.same) (signature-there symbols (number_in table.names m.name)) few in
     let number : number_in table.names m.name ≡ f = ap or_zero is in
     subst (λ k. IsSomeAnd (slice_get symbols k) (λ (s : Signature). length s.parameters ≡ 0)) number
-    (some_and (λ (x : Signature). x.parameters ≡ parameters_of table m) (λ (s : Signature). length s.parameters ≡ 0)
+    (IsSomeAnd-weaker (λ (x : Signature). x.parameters ≡ parameters_of table m) (λ (s : Signature). length s.parameters ≡ 0)
     (slice_get symbols (number_in table.names m.name)) (λ x same. ap length same ∙ none) there)
 
 bad_none : (at : Option ℕ) → bad_metric at ≡ None → at ≡ None
@@ -65,27 +67,27 @@ names_metric : (functions : Table (List ℕ)) (d : DomainAst) (p : ProblemAst) (
     → metric_name_fault functions o ≡ None → misused_in_domain o d ≡ None → misused_in_problem o p ≡ None → NamesMetric functions d p f
 names_metric functions d p None f is asked domain problem = absurd (none-some f is)
 names_metric functions d p (Some m) f is asked domain problem =
-    let later = or_none (nonzero_in m.name p.init) (read_by_condition m.name p.goal or missing_in m p.init) problem in
-    let reads = or_none (read_by_condition m.name p.goal) (missing_in m p.init) later.1 in
+    let later = option_or_none (nonzero_in m.name p.init) (read_by_condition m.name p.goal or missing_in m p.init) problem in
+    let reads = option_or_none (read_by_condition m.name p.goal) (missing_in m p.init) later.1 in
     record { name = m; is = is; asked = asked; actions = domain; goal = reads.0 }
 
 below : (types : List (List ℕ)) (parents : List ℕ) (d : DomainAst) (p : ProblemAst) (f : ℕ) → fault_below types parents d p ≡ None
     → (task_below types parents d p).metric ≡ Some f → IsCostFunction (task_below types parents d p) f
 unfolding scope_of with_objects fault_below fault_behind problem_fault fault_in_problem domain_fault metric_fault lifted_domain domain_in lifted_problem problem_in task_with task_behind task_below
 below types parents d p f e metric =
-    let parts = or_none (in_text Domain (domain_fault types parents d p.metric)) (fault_behind (lifted_domain types parents d p.metric) d p) e in
-    let domain = or_none (scope_fault types d) (actions_fault (scope_of types parents d p.metric) [] d.actions) (text_none Domain (domain_fault types parents d p.metric) parts.0) in
-    let behind = or_none (in_text Problem (problem_fault (scope_of types parents d p.metric) p)) (metric_fault d p) parts.1 in
+    let parts = option_or_none (in_text Domain (domain_fault types parents d p.metric)) (fault_behind (lifted_domain types parents d p.metric) d p) e in
+    let domain = option_or_none (scope_fault types d) (actions_fault (scope_of types parents d p.metric) [] d.actions) (text_none Domain (domain_fault types parents d p.metric) parts.0) in
+    let behind = option_or_none (in_text Problem (problem_fault (scope_of types parents d p.metric) p)) (metric_fault d p) parts.1 in
     let problem =
-    or_none (declared_fault kinds.Name (scope_of types parents d p.metric).types (scope_of types parents d p.metric).objects.names p.objects)
+    option_or_none (declared_fault kinds.Name (scope_of types parents d p.metric).types (scope_of types parents d p.metric).objects.names p.objects)
     (fault_in_problem (with_objects (scope_of types parents d p.metric) p.objects) p) (text_none Problem (problem_fault (scope_of types parents d p.metric) p) behind.0) in
     let inner =
-    or_none (initial_fault (with_objects (scope_of types parents d p.metric) p.objects) [] p.init)
+    option_or_none (initial_fault (with_objects (scope_of types parents d p.metric) p.objects) [] p.init)
     (condition_fault (with_objects (scope_of types parents d p.metric) p.objects) no_parameters p.goal or metric_name_fault (with_objects (scope_of types parents d p.metric) p.objects).functions p.metric) problem.1 in
     let last =
-    or_none (condition_fault (with_objects (scope_of types parents d p.metric) p.objects) no_parameters p.goal)
+    option_or_none (condition_fault (with_objects (scope_of types parents d p.metric) p.objects) no_parameters p.goal)
     (metric_name_fault (with_objects (scope_of types parents d p.metric) p.objects).functions p.metric) inner.1 in
-    let uses = or_none (in_text Domain (bad_metric (misused_in_domain p.metric d))) (in_text Problem (bad_metric (misused_in_problem p.metric p))) behind.1 in
+    let uses = option_or_none (in_text Domain (bad_metric (misused_in_domain p.metric d))) (in_text Problem (bad_metric (misused_in_problem p.metric p))) behind.1 in
     let n =
     names_metric (scope_of types parents d p.metric).functions d p p.metric f metric last.1
     (bad_none (misused_in_domain p.metric d) (text_none Domain (bad_metric (misused_in_domain p.metric d)) uses.0))

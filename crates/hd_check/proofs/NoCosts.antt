@@ -17,7 +17,7 @@ use Rattle.hd_names.specs.Names.{number_in}
 use Rattle.hd_names.specs.Scope.{type_names, parents_of, scope_of, with_objects}
 use Rattle.hd_check.specs.Effects.{is_metric, lifted_change, changes_in}
 use Rattle.hd_check.specs.Schemas.{parameters_in, schema_with, lifted_schema}
-use Rattle.hd_check.specs.MetricUse.{HasNoCost}
+use Rattle.hd_lifted.specs.MetricUse.{HasNoCost}
 use Rattle.hd_check.specs.Whole.{domain_in, lifted_domain, problem_in, lifted_problem, task_with, task_behind, task_below, lifted_task}
 
 no_cost : (metric : Option ℕ) (f : ℕ) (c : words.Change) → metric ≡ None → is_cost (lifted_change (is_metric metric f) c) ≡ false

@@ -1,5 +1,5 @@
 -- What conditions stand for, and their first faults. (The rules of names are those of PDDL 2.1.)
-use Rattle.std.specs.Prelude.{ℕ, Bool, true, false, List, [], ◌∷◌, ◌++◌, Option, None}
+use Rattle.std.specs.Prelude.{ℕ, Bool, true, false, List, [], ◌∷◌, ◌++◌, Option, None, Result}
 use Rattle.hd_terms.specs.declared.tree.Atom.{Atom}
 use Rattle.hd_terms.specs.declared.tree.Condition as trees
 use Rattle.hd_terms.specs.declared.tree.Comparison as compared
@@ -9,10 +9,16 @@ use Rattle.hd_lifted.specs.declared.schema.Literal.{Literal}
 use Rattle.hd_lifted.specs.declared.schema.Equality.{Equality}
 use Rattle.hd_lifted.specs.declared.schema.Comparison.{Comparison}
 use Rattle.hd_lifted.specs.declared.schema.Condition.{Condition}
+use Rattle.hd_check.specs.declared.conditions.Found.{Found}
+use Rattle.hd_check.specs.Lifting.{within}
+use Rattle.hd_check.specs.declared.context.Context.{Context}
 use Rattle.hd_names.specs.declared.scope.Scope.{Scope}
 use Rattle.hd_names.specs.declared.table.Table.{Table}
 use Rattle.hd_names.specs.declared.fault.Fault.{Fault}
-use Rattle.hd_names.specs.Fault.{◌or◌}
+use Rattle.hd_base.specs.Answers.{Checks, ChecksInto}
+use Rattle.hd_base.specs.Options.{◌or◌}
+use Rattle.hd_names.specs.declared.fault.Stop.{Stop}
+use Rattle.hd_names.specs.Fault.{StopsAt}
 use Rattle.hd_check.specs.Terms.{lifted_term, term_fault, applied_fault, lifted_applied, expression_fault, lifted_expression}
 
 -- the first fault of an equality of objects, which may be of any types
@@ -98,3 +104,26 @@ lifted_condition s ps cs = record {
   equalities = equalities_in s ps cs;
   comparisons = comparisons_in s ps cs;
 }
+
+-- ---- what calls answer
+
+abbrev pub LiftsLiteral : Result Literal Stop → Context → Bool → Atom → Type 0
+LiftsLiteral result c positive a =
+    Checks StopsAt result (within c (applied_fault c.scope.now.predicates) a) (within c lifted_literal positive a)
+
+abbrev pub LiftsEquality : Result Equality Stop → Context → Bool → Term → Term → Type 0
+LiftsEquality result c positive t u =
+    Checks StopsAt result (within c equality_fault t u) (within c lifted_equality positive t u)
+
+-- what was found of a condition, with what a part stands for behind it
+abbrev pub GathersLiterals : {R : Type 0} → Result R Stop → Found → Found → Context → trees.Condition → Type 0
+GathersLiterals result old new c part =
+    ChecksInto StopsAt result new.literals.items (within c part_fault part) (old.literals.items ++ within c literals_of part)
+
+abbrev pub GathersEqualities : {R : Type 0} → Result R Stop → Found → Found → Context → trees.Condition → Type 0
+GathersEqualities result old new c part =
+    ChecksInto StopsAt result new.equalities.items (within c part_fault part) (old.equalities.items ++ within c equalities_of part)
+
+abbrev pub GathersComparisons : {R : Type 0} → Result R Stop → Found → Found → Context → trees.Condition → Type 0
+GathersComparisons result old new c part =
+    ChecksInto StopsAt result new.comparisons.items (within c part_fault part) (old.comparisons.items ++ within c comparisons_of part)

@@ -1,5 +1,5 @@
 -- What effects stand for, and their first faults. (The rules of names are those of PDDL 2.1.)
-use Rattle.std.specs.Prelude.{ℕ, ◌==◌, Bool, false, if◌then◌else◌, List, [], ◌∷◌, ◌++◌, Option, Some, None}
+use Rattle.std.specs.Prelude.{ℕ, ◌==◌, Bool, false, if◌then◌else◌, List, [], ◌∷◌, ◌++◌, Option, Some, None, Result}
 use Rattle.hd_forms.specs.declared.word.Change as words
 use Rattle.hd_forms.specs.declared.word.Change.TheVariants as changes
 use Rattle.hd_terms.specs.declared.tree.Effect.{Effect}
@@ -10,10 +10,16 @@ use Rattle.hd_lifted.specs.declared.schema.Change.{Change}
 use Rattle.hd_lifted.specs.declared.schema.Change.TheVariants.{Assign, ScaleUp, Increase, Decrease, Cost}
 use Rattle.hd_lifted.specs.declared.schema.NumericEffect.{NumericEffect}
 use Rattle.hd_check.specs.declared.effects.Effects.{Effects}
+use Rattle.hd_check.specs.declared.effects.Found.{Found}
+use Rattle.hd_check.specs.Lifting.{within}
+use Rattle.hd_check.specs.declared.context.Context.{Context}
 use Rattle.hd_names.specs.declared.scope.Scope.{Scope}
 use Rattle.hd_names.specs.declared.table.Table.{Table}
 use Rattle.hd_names.specs.declared.fault.Fault.{Fault}
-use Rattle.hd_names.specs.Fault.{◌or◌}
+use Rattle.hd_base.specs.Answers.{ChecksInto}
+use Rattle.hd_base.specs.Options.{◌or◌}
+use Rattle.hd_names.specs.declared.fault.Stop.{Stop}
+use Rattle.hd_names.specs.Fault.{StopsAt}
 use Rattle.hd_names.specs.Names.{number_in}
 use Rattle.hd_check.specs.Terms.{applied_fault, lifted_applied, expression_fault, lifted_expression}
 
@@ -88,3 +94,17 @@ changes_in s ps (e ∷ es) = changes_of s ps e ++ changes_in s ps es
 -- what an effect stands for
 abbrev pub lifted_effects : Scope → Table ℕ → List Effect → Effects
 lifted_effects s ps es = record { deletes = deletes_in s ps es; adds = adds_in s ps es; changes = changes_in s ps es }
+
+-- ---- what calls answer: what was found of an effect, with what a part stands for behind it
+
+abbrev pub GathersDeletes : {R : Type 0} → Result R Stop → Found → Found → Context → Effect → Type 0
+GathersDeletes result old new c e =
+    ChecksInto StopsAt result new.deletes.items (within c effect_fault e) (old.deletes.items ++ within c deletes_of e)
+
+abbrev pub GathersAdds : {R : Type 0} → Result R Stop → Found → Found → Context → Effect → Type 0
+GathersAdds result old new c e =
+    ChecksInto StopsAt result new.adds.items (within c effect_fault e) (old.adds.items ++ within c adds_of e)
+
+abbrev pub GathersChanges : {R : Type 0} → Result R Stop → Found → Found → Context → Effect → Type 0
+GathersChanges result old new c e =
+    ChecksInto StopsAt result new.changes.items (within c effect_fault e) (old.changes.items ++ within c changes_of e)

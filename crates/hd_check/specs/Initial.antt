@@ -1,7 +1,7 @@
 -- What holds at first, and its first faults. (The initial state is that of PDDL 2.1; the range is our own.)
-use Rattle.std.specs.Prelude.{ℕ, ◌^◌, if◌then◌else◌, List, [], ◌∷◌, ◌++◌, map, Option, Some, None, nat_abs, nat_le}
-use Rattle.std.specs.List.{list_any}
-use Rattle.std.specs.Str.{bytes_eq}
+use Rattle.std.specs.Prelude.{ℕ, if◌then◌else◌, List, [], ◌∷◌, ◌++◌, map, Option, Some, None, Result}
+use Rattle.hd_base.specs.Names.{is_named}
+use Rattle.hd_base.specs.Numbers.{in_range}
 use Rattle.hd_terms.specs.declared.tree.Atom.{Atom}
 use Rattle.hd_pddl.specs.declared.tree.Init.{Init}
 use Rattle.hd_pddl.specs.declared.tree.Init.TheVariants as inits
@@ -16,7 +16,10 @@ use Rattle.hd_names.specs.declared.scope.Scope.{Scope}
 use Rattle.hd_names.specs.declared.table.Table.{Table}
 use Rattle.hd_names.specs.declared.fault.Fault.{Fault}
 use Rattle.hd_names.specs.declared.fault.Fault.TheVariants.{Duplicate, InitOutOfRange}
-use Rattle.hd_names.specs.Fault.{◌or◌}
+use Rattle.hd_base.specs.Answers.{Checks, ChecksInto}
+use Rattle.hd_base.specs.Options.{◌or◌}
+use Rattle.hd_names.specs.declared.fault.Stop.{Stop}
+use Rattle.hd_names.specs.Fault.{StopsAt}
 use Rattle.hd_names.specs.Names.{number_in}
 use Rattle.hd_check.specs.Terms.{applied_fault, lifted_applied}
 use Rattle.hd_check.specs.Effects.{is_metric}
@@ -31,37 +34,37 @@ object_in (Object o) = o
 object_in (Parameter k) = 0
 
 -- an atom or a fluent of objects
-abbrev pub grounded : Applied → Ground
-grounded a = record { symbol = a.symbol; objects = map object_in a.arguments }
+abbrev pub ground_form : Applied → Ground
+ground_form a = record { symbol = a.symbol; objects = map object_in a.arguments }
 
 -- what an atom, or a fluent, outside of actions stands for
 abbrev pub ground_of : Table (List ℕ) → Scope → Atom → Ground
-ground_of symbols s a = grounded (lifted_applied symbols s no_parameters a)
+ground_of symbols s a = ground_form (lifted_applied symbols s no_parameters a)
 
 -- a predicate or a function, and then its objects
 abbrev pub key_of : Ground → List ℕ
 key_of g = g.symbol ∷ g.objects
 
--- the first value has to be in the range, from -10^15 to 10^15
+-- the first value has to be in the range
 abbrev pub range_fault : trees.InitialValue → Option Fault
-range_fault v = if nat_le (nat_abs v.value) (10 ^ 15) then None else Some (InitOutOfRange v.at)
+range_fault v = if in_range v.value then None else Some (InitOutOfRange v.at)
 
 -- a fluent can't be one of those that have a value
 abbrev pub second_value : List (List ℕ) → List ℕ → Atom → Option Fault
-second_value given key a = if list_any (bytes_eq key) given then Some (Duplicate a.name.name a.name.at) else None
+second_value given key a = if is_named given key then Some (Duplicate a.name.name a.name.at) else None
 
 -- the fluent that has this first value
-abbrev pub valued : Scope → trees.InitialValue → Ground
-valued s v = ground_of s.functions s v.fluent
+abbrev pub fluent_of : Scope → trees.InitialValue → Ground
+fluent_of s v = ground_of s.functions s v.fluent
 
 -- the fluents that have a value, with that of this one
 abbrev pub with_value : Scope → List (List ℕ) → trees.InitialValue → List (List ℕ)
-with_value s given v = given ++ key_of (valued s v) ∷ []
+with_value s given v = given ++ key_of (fluent_of s v) ∷ []
 
 -- the first fault of a value: of its fluent, then that the fluent has a value already, then the range
 abbrev pub value_fault : Scope → List (List ℕ) → trees.InitialValue → Option Fault
 value_fault s given v =
-    applied_fault s.functions s no_parameters v.fluent or second_value given (key_of (valued s v)) v.fluent or range_fault v
+    applied_fault s.functions s no_parameters v.fluent or second_value given (key_of (fluent_of s v)) v.fluent or range_fault v
 
 -- the first fault of what holds at first, behind values of these fluents
 abbrev pub initial_fault : Scope → List (List ℕ) → List Init → Option Fault
@@ -82,7 +85,7 @@ atoms_in s (inits.Value v ∷ is) = atoms_in s is
 abbrev pub value_in : Scope → trees.InitialValue → List InitialValue
 value_in s v =
     if is_metric s.metric (number_in s.functions.names v.fluent.name.name) then []
-    else record { fluent = valued s v; value = v.value } ∷ []
+    else record { fluent = fluent_of s v; value = v.value } ∷ []
 
 -- the first values of fluents
 abbrev pub values_in : Scope → List Init → List InitialValue
@@ -94,3 +97,27 @@ values_in s (inits.Value v ∷ is) = value_in s v ++ values_in s is
 -- what holds at first
 abbrev pub lifted_initial : Scope → List Init → Initial
 lifted_initial s is = record { atoms = atoms_in s is; values = values_in s is }
+
+-- ---- what calls answer
+
+abbrev pub LiftsGround : Result Ground Stop → Table (List ℕ) → Scope → Atom → Type 0
+LiftsGround result symbols s a = Checks StopsAt result (applied_fault symbols s no_parameters a) (ground_of symbols s a)
+
+-- a fluent that is given no second value is noted among the old ones, which leaves the new ones
+abbrev pub Notes : {R : Type 0} → Result R Stop → List (List ℕ) → List (List ℕ) → Ground → Atom → Type 0
+Notes result old new g a = ChecksInto StopsAt result new (second_value old (key_of g) a) (old ++ key_of g ∷ [])
+
+-- the fluent of a first value, and the fluents that have one, with that
+abbrev pub LiftsFluent : Result Ground Stop → List (List ℕ) → Scope → trees.InitialValue → Type 0
+LiftsFluent result given s v = Checks StopsAt result (value_fault s given v) (fluent_of s v)
+
+abbrev pub NotesFluent : {R : Type 0} → Result R Stop → List (List ℕ) → List (List ℕ) → Scope → trees.InitialValue → Type 0
+NotesFluent result old new s v = ChecksInto StopsAt result new (value_fault s old v) (with_value s old v)
+
+-- the values, with this one behind them
+abbrev pub Gathers
+    : {R : Type 0} → Result R Stop → List InitialValue → List InitialValue → List (List ℕ) → Scope → trees.InitialValue → Type 0
+Gathers result old new given s v = ChecksInto StopsAt result new (value_fault s given v) (old ++ value_in s v)
+
+abbrev pub LiftsInitial : Result Initial Stop → Scope → List Init → Type 0
+LiftsInitial result s is = Checks StopsAt result (initial_fault s [] is) (lifted_initial s is)

@@ -2,9 +2,8 @@ pub mod Conditions
 pub mod Effects
 pub mod Fault
 pub mod Initial
+pub mod Lifting
 pub mod MetricName
-pub mod MetricUse
 pub mod Schemas
 pub mod Terms
-pub mod WellFormed
 pub mod Whole

@@ -5,7 +5,7 @@ use Rattle.hd_terms.specs.declared.typed.ItemKind.TheVariants as kinds
 use Rattle.hd_names.specs.declared.table.Table.{Table}
 use Rattle.hd_names.specs.declared.fault.Fault.{Fault}
 use Rattle.hd_names.specs.declared.fault.Fault.TheVariants.{WrongArity, BadMetric}
-use Rattle.hd_names.specs.Fault.{◌or◌}
+use Rattle.hd_base.specs.Options.{◌or◌}
 use Rattle.hd_names.specs.Names.{unknown_in}
 use Rattle.hd_check.specs.Terms.{parameters_of}
 

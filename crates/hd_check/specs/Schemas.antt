@@ -1,12 +1,15 @@
 -- What actions stand for, and their first faults. (Our own.)
-use Rattle.std.specs.Prelude.{ℕ, List, [], ◌∷◌, ◌++◌, Option, None}
+use Rattle.std.specs.Prelude.{ℕ, List, [], ◌∷◌, ◌++◌, Option, None, Result, map}
 use Rattle.hd_terms.specs.declared.typed.ItemKind.TheVariants as kinds
 use Rattle.hd_pddl.specs.declared.tree.Action.{Action}
 use Rattle.hd_lifted.specs.declared.schema.Schema.{Schema}
 use Rattle.hd_names.specs.declared.scope.Scope.{Scope}
 use Rattle.hd_names.specs.declared.table.Table.{Table}
 use Rattle.hd_names.specs.declared.fault.Fault.{Fault}
-use Rattle.hd_names.specs.Fault.{◌or◌}
+use Rattle.hd_base.specs.Answers.{Checks}
+use Rattle.hd_base.specs.Options.{◌or◌}
+use Rattle.hd_names.specs.declared.fault.Stop.{Stop}
+use Rattle.hd_names.specs.Fault.{StopsAt}
 use Rattle.hd_names.specs.Names.{declared_fault, duplicate_in}
 use Rattle.hd_names.specs.Scope.{typed_table}
 use Rattle.hd_check.specs.Conditions.{condition_fault, lifted_condition}
@@ -44,3 +47,15 @@ schema_with s ps a = record {
 -- what an action stands for
 unfoldable pub lifted_schema : Scope → Action → Schema
 lifted_schema s a = schema_with s (parameters_in s a) a
+
+-- what actions stand for
+abbrev pub lifted_schemas : Scope → List Action → List Schema
+lifted_schemas s as' = map (lifted_schema s) as'
+
+-- ---- what calls answer
+
+abbrev pub LiftsBody : Result Schema Stop → Scope → Table ℕ → Action → Type 0
+LiftsBody result s ps a = Checks StopsAt result (body_fault s ps a) (schema_with s ps a)
+
+abbrev pub LiftsActions : Result (List Schema) Stop → Scope → List Action → Type 0
+LiftsActions result s as' = Checks StopsAt result (actions_fault s [] as') (lifted_schemas s as')

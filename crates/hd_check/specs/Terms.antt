@@ -1,21 +1,29 @@
 -- What terms, atoms and expressions stand for, and their first faults. (The rules of types are those of PDDL 2.1.)
-use Rattle.std.specs.Prelude.{ℕ, ◌==◌, if◌then◌else◌, List, [], ◌∷◌, map, length, slice_index_or, Option, Some, None}
+use Rattle.std.specs.Prelude.{ℕ, ◌==◌, if◌then◌else◌, List, [], ◌∷◌, map, length, slice_index_or, Option, Some, None, Result}
 use Rattle.hd_forms.specs.declared.names.NameAt.{NameAt}
 use Rattle.hd_terms.specs.declared.typed.ItemKind.TheVariants as kinds
 use Rattle.hd_terms.specs.declared.tree.Term.{Term}
 use Rattle.hd_terms.specs.declared.tree.Term.TheVariants.{Name, Variable}
 use Rattle.hd_terms.specs.declared.tree.Atom.{Atom}
-use Rattle.hd_terms.specs.Expression as trees
+use Rattle.hd_base.specs.declared.expression.Operand.{Operand}
+use Rattle.hd_base.specs.declared.expression.Operand.TheVariants as operands
+use Rattle.hd_base.specs.Expression.{Expression, leaf, negate, binary}
+use Rattle.hd_terms.specs.declared.tree.Leaf.{Leaf}
+use Rattle.hd_terms.specs.declared.tree.Leaf.TheVariants.{Number, Fluent}
 use Rattle.hd_lifted.specs.declared.schema.Argument.{Argument}
 use Rattle.hd_lifted.specs.declared.schema.Argument.TheVariants.{Parameter, Object}
 use Rattle.hd_lifted.specs.declared.schema.Applied.{Applied}
-use Rattle.hd_lifted.specs.Expression.{Expression, number, fluent, negate, binary}
 use Rattle.hd_lifted.specs.Types.{is_subtype}
+use Rattle.hd_check.specs.Lifting.{within}
+use Rattle.hd_check.specs.declared.context.Context.{Context}
 use Rattle.hd_names.specs.declared.scope.Scope.{Scope}
 use Rattle.hd_names.specs.declared.table.Table.{Table}
 use Rattle.hd_names.specs.declared.fault.Fault.{Fault}
 use Rattle.hd_names.specs.declared.fault.Fault.TheVariants.{WrongArity, WrongType}
-use Rattle.hd_names.specs.Fault.{◌or◌}
+use Rattle.hd_base.specs.Answers.{Checks}
+use Rattle.hd_base.specs.Options.{◌or◌}
+use Rattle.hd_names.specs.declared.fault.Stop.{Stop}
+use Rattle.hd_names.specs.Fault.{StopsAt}
 use Rattle.hd_names.specs.Names.{number_in, unknown_in, spelled}
 
 -- ---- terms, among these parameters
@@ -81,15 +89,29 @@ lifted_applied symbols s ps a = record {
 -- ---- expressions
 
 -- the first fault, from the left
-abbrev pub expression_fault : Scope → Table ℕ → trees.Expression → Option Fault
-expression_fault s ps (trees.number v at) = None
-expression_fault s ps (trees.fluent a) = applied_fault s.functions s ps a
-expression_fault s ps (trees.negate x) = expression_fault s ps x
-expression_fault s ps (trees.binary o x y) = expression_fault s ps x or expression_fault s ps y
+abbrev pub expression_fault : Scope → Table ℕ → Expression Leaf → Option Fault
+expression_fault s ps (leaf (Number v at)) = None
+expression_fault s ps (leaf (Fluent a)) = applied_fault s.functions s ps a
+expression_fault s ps (negate x) = expression_fault s ps x
+expression_fault s ps (binary o x y) = expression_fault s ps x or expression_fault s ps y
 
 -- what an expression stands for
-abbrev pub lifted_expression : Scope → Table ℕ → trees.Expression → Expression
-lifted_expression s ps (trees.number v at) = number v
-lifted_expression s ps (trees.fluent a) = fluent (lifted_applied s.functions s ps a)
-lifted_expression s ps (trees.negate x) = negate (lifted_expression s ps x)
-lifted_expression s ps (trees.binary o x y) = binary o (lifted_expression s ps x) (lifted_expression s ps y)
+abbrev pub lifted_expression : Scope → Table ℕ → Expression Leaf → Expression (Operand Applied)
+lifted_expression s ps (leaf (Number v at)) = leaf (operands.Number v)
+lifted_expression s ps (leaf (Fluent a)) = leaf (operands.Fluent (lifted_applied s.functions s ps a))
+lifted_expression s ps (negate x) = negate (lifted_expression s ps x)
+lifted_expression s ps (binary o x y) = binary o (lifted_expression s ps x) (lifted_expression s ps y)
+
+-- ---- what calls answer
+
+-- an argument for a parameter of this type, and arguments for parameters of these types
+abbrev pub LiftsArgument : Result Argument Stop → Context → Term → ℕ → Type 0
+LiftsArgument result c t wanted = Checks StopsAt result (within c argument_fault t wanted) (within c lifted_term t)
+
+abbrev pub LiftsArguments : Result (List Argument) Stop → Context → List Term → List ℕ → Type 0
+LiftsArguments result c ts wanted = Checks StopsAt result (within c arguments_fault ts wanted) (map (within c lifted_term) ts)
+
+-- an atom or a fluent, of the predicates or the functions
+abbrev pub LiftsApplied : Result Applied Stop → Table (List ℕ) → Context → Atom → Type 0
+LiftsApplied result symbols c a =
+    Checks StopsAt result (within c (applied_fault symbols) a) (within c (lifted_applied symbols) a)

@@ -22,8 +22,10 @@ use Rattle.hd_names.specs.declared.fault.Stop.{Stop}
 use Rattle.hd_check.specs.declared.fault.CheckError.{CheckError}
 use Rattle.hd_check.specs.declared.fault.CheckError.TheVariants.{In, NoMemory}
 use Rattle.hd_names.specs.declared.scope.Scope.{Scope}
-use Rattle.hd_names.specs.Fault.{◌or◌}
-use Rattle.hd_check.specs.Fault.{told_in}
+use Rattle.hd_base.specs.Answers.{Checks}
+use Rattle.hd_names.specs.Fault.{StopsAt}
+use Rattle.hd_base.specs.Options.{◌or◌}
+use Rattle.hd_check.specs.Fault.{TellsOf, error_in}
 use Rattle.hd_names.specs.Names.{type_number, types_of, declared_fault}
 use Rattle.hd_names.specs.Scope.{type_names, types_fault, parents_of, TellsCycle, scope_fault, scope_of, with_objects}
 use Rattle.hd_check.specs.Schemas.{actions_fault, lifted_schema}
@@ -41,6 +43,13 @@ lifted_object types t = record { name = t.name.name; of = type_number types t.of
 -- a predicate or a function with the types of its parameters
 abbrev pub lifted_signature : List (List ℕ) → Signature → lifted.Signature
 lifted_signature types s = record { name = s.name.name; parameters = types_of types s.parameters }
+
+-- objects, and predicates or functions
+abbrev pub lifted_objects : List (List ℕ) → List Typed → List Object
+lifted_objects types ts = map (lifted_object types) ts
+
+abbrev pub lifted_signatures : List (List ℕ) → List Signature → List lifted.Signature
+lifted_signatures types ss = map (lifted_signature types) ss
 
 -- what a domain's actions stand for in this scope
 unfoldable pub domain_in : Scope → DomainAst → DomainPart
@@ -156,24 +165,33 @@ pub record IsOfTexts (task : LiftedTask) : Type 0 where
   pub faultless : IsFaultless domain problem
   pub stands : task ≡ lifted_task domain problem
 
+-- no error tells of a fault in the texts
+abbrev pub HasNoFault : DomainAst → ProblemAst → Type 0
+HasNoFault d p = (e : CheckError) → Stands d p e → ⊥
+
+-- it holds of the task of each domain and problem without a fault
+abbrev pub HoldsOfFaultless : (LiftedTask → Type 0) → Type 0
+HoldsOfFaultless P = (d : DomainAst) (p : ProblemAst) → IsFaultless d p → P (lifted_task d p)
+
 -- ---- what a check answers
 
--- the first fault, unless memory runs out; where there is none, what the part stands for
-abbrev pub ChecksTexts : {R : Type 0} → Result R CheckError → Option CheckError → R → Type 0
-ChecksTexts (Ok r) fault said = (fault ≡ None) × (r ≡ said)
-ChecksTexts (Err (In source f)) fault said = fault ≡ Some (In source f)
-ChecksTexts (Err NoMemory) fault said = Unit {0}
+-- the names of the types, where no fault comes before the cycles of types
+abbrev pub ChecksNames : Result (List (List ℕ)) CheckError → DomainAst → ProblemAst → Type 0
+ChecksNames result d p = Checks TellsOf result (fault_before_cycles d p) (type_names d.types)
 
--- the hierarchy of the types, or a type on a cycle, told of the domain; want of memory says nothing
-abbrev pub ClimbsText : Result (List ℕ) CheckError → List Typed → Type 0
-ClimbsText (Ok h) ts = (h ≡ parents_of ts) × IsAcyclic (parents_of ts)
-ClimbsText (Err (In source f)) ts = (source ≡ Domain) × TellsCycle ts f
-ClimbsText (Err NoMemory) ts = Unit {0}
+-- what a domain's actions stand for in this scope
+abbrev pub ChecksActions : Result DomainPart Stop → Scope → DomainAst → Type 0
+ChecksActions result s d = Checks StopsAt result (actions_fault s [] d.actions) (domain_in s d)
+
+-- what a domain's part stands for, whose types have these names and parents
+abbrev pub ChecksDomain : Result DomainPart Stop → List (List ℕ) → List ℕ → DomainAst → Option NameAt → Type 0
+ChecksDomain result types parents d metric =
+    Checks StopsAt result (domain_fault types parents d metric) (lifted_domain types parents d metric)
 
 -- what a part answers, told of its text
-abbrev pub told : {R : Type 0} → Source → Result R Stop → Result R CheckError
-told source (Ok r) = Ok r
-told source (Err stop) = Err (told_in source stop)
+abbrev pub of_text : {R : Type 0} → Source → Result R Stop → Result R CheckError
+of_text source (Ok r) = Ok r
+of_text source (Err stop) = Err (error_in source stop)
 
 -- the lifted task where no fault stands, else a fault that does; want of memory says nothing
 abbrev pub Answers : DomainAst → ProblemAst → Result LiftedTask CheckError → Type 0

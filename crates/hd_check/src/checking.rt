@@ -1,21 +1,20 @@
 //! The check of a domain and a problem.
-ghost use Rattle.std.specs.Prelude.{◌≡◌, ◌++◌, [], None, map, IfOk};
-ghost use Rattle.hd_names.specs.Fault.{Checks};
-ghost use Rattle.hd_check.specs.declared.fault.Source.TheVariants as sources;
-ghost use Rattle.hd_names.specs.Scope.{type_names, scope_fault, scope_of, with_objects};
+ghost use Rattle.std.specs.Prelude.{◌≡◌, ◌++◌, IfOk};
+ghost use Rattle.hd_base.specs.Answers.{Checks};
+ghost use Rattle.hd_check.specs.Lifting.{LiftsIn};
+ghost use Rattle.hd_check.specs.Fault.{TellsOf};
 ghost use Rattle.hd_check.specs.MetricName.{bad_metric};
-ghost use Rattle.hd_check.specs.Schemas.{actions_fault};
-ghost use Rattle.hd_check.specs.Whole.{ChecksTexts, ClimbsText, told, in_text, lifted_object, lifted_signature, domain_in, lifted_domain, problem_in, lifted_problem, task_with, task_behind, task_below, fault_before_cycles, domain_fault, fault_in_problem, problem_fault, metric_fault, fault_behind, fault_below, Answers};
+ghost use Rattle.hd_check.specs.Whole.{of_text, in_text, lifted_objects, lifted_signatures, problem_in, lifted_problem, task_with, fault_in_problem, problem_fault, metric_fault, ChecksNames, ChecksActions, ChecksDomain, Answers};
 
-use crate::checked::Checked;
 use crate::conditions::condition_of;
-use crate::fault::{CheckError, Source, told_in};
+use crate::context::Context;
+use crate::fault::{CheckError, Source, error_in};
 use crate::initial::{Initial, initial_of, no_parameters};
 use crate::metric::check_metric_name;
 use crate::schemas::schemas_of;
+use hd_base::Sequence;
 use hd_forms::NameAt;
-use hd_lifted::{Condition, Hierarchy, LiftedTask, Object, Schema, Signature};
-use hd_list::Sequence;
+use hd_lifted::{Checked, Condition, Hierarchy, LiftedTask, Object, Schema, Signature};
 use hd_metric::{misused_in_domain, misused_in_problem};
 use hd_names::{
     Fault, Names, Scope, Stop, hierarchy_of, number_of_type, numbers_of_types, scope_of, types_of,
@@ -41,27 +40,23 @@ pub struct ProblemPart {
 }
 
 /// What a part answers, told of its text.
-fn in_text<T>(source: Source, answer: Result<T, Stop>) -> Result<T, CheckError>
-    ensures { result ≡ told source answer }
+fn of_text<T>(source: Source, answer: Result<T, Stop>) -> Result<T, CheckError>
+    ensures { result ≡ of_text source answer }
 {
     match answer {
         Ok(value) => Ok(value),
-        Err(stop) => Err(told_in(source, stop)),
+        Err(stop) => Err(error_in(source, stop)),
     }
 }
 
 /// The names of the types, where the problem belongs to the domain.
 #[tactic(auto, unfolding(crate::specs::Whole::fault_before_cycles), using(crate::proofs::Telling::told_of))]
-fn before_cycles(
-    alloc: Global,
-    domain: &DomainAst,
-    problem: &ProblemAst,
-) -> Result<Names, CheckError>
-    ensures { ChecksTexts result (fault_before_cycles domain.now problem.now) (type_names domain.now.types) }
+fn check_names(alloc: Global, domain: &DomainAst, problem: &ProblemAst) -> Result<Names, CheckError>
+    ensures { ChecksNames result domain.now problem.now }
 {
     if problem.domain.name == domain.name.name {
         let types = types_of(alloc, domain.types.as_slice());
-        in_text(Source::Domain, types)
+        of_text(Source::Domain, types)
     } else {
         let fault = Fault::DomainMismatch(problem.domain.at);
         Err(CheckError::In(Source::Problem, fault))
@@ -71,7 +66,7 @@ fn before_cycles(
 /// What a domain's actions stand for in this scope.
 #[tactic(auto, unfolding(crate::specs::Whole::domain_in))]
 fn domain_in(alloc: Global, scope: Scope, domain: &DomainAst) -> Result<DomainPart, Stop>
-    ensures { Checks result (actions_fault scope [] domain.now.actions) (domain_in scope domain.now) }
+    ensures { ChecksActions result scope domain.now }
 {
     let schemas = schemas_of(alloc, &scope, domain.actions.as_slice())?;
     Ok(DomainPart { scope, schemas })
@@ -86,7 +81,7 @@ fn domain_part(
     domain: &DomainAst,
     metric: &Option<NameAt>,
 ) -> Result<DomainPart, Stop>
-    ensures { Checks result (domain_fault types hierarchy domain.now metric.now) (lifted_domain types hierarchy domain.now metric.now) }
+    ensures { ChecksDomain result types hierarchy domain.now metric.now }
 {
     let scope = scope_of(alloc, types, hierarchy, domain, metric)?;
     domain_in(alloc, scope, domain)
@@ -95,11 +90,15 @@ fn domain_part(
 /// What a problem's part stands for in this scope, which has its objects.
 #[tactic(auto, unfolding(crate::specs::Whole::problem_in, crate::specs::Whole::fault_in_problem))]
 fn problem_in(alloc: Global, scope: Scope, problem: &ProblemAst) -> Result<ProblemPart, Stop>
-    ensures { Checks result (fault_in_problem scope problem.now) (problem_in scope problem.now) }
+    ensures { LiftsIn result fault_in_problem problem_in scope problem.now }
 {
     let initial = initial_of(alloc, &scope, problem.init.as_slice())?;
     let none = no_parameters(alloc);
-    let goal = condition_of(alloc, &scope, &none, problem.goal.as_slice())?;
+    let context = Context {
+        scope: &scope,
+        parameters: &none,
+    };
+    let goal = condition_of(alloc, context, problem.goal.as_slice())?;
     check_metric_name(alloc, &scope.functions, &problem.metric)?;
     Ok(ProblemPart {
         scope,
@@ -111,7 +110,7 @@ fn problem_in(alloc: Global, scope: Scope, problem: &ProblemAst) -> Result<Probl
 /// What a problem's part stands for, by the scope of its domain.
 #[tactic(auto, unfolding(crate::specs::Whole::lifted_problem, crate::specs::Whole::problem_fault))]
 fn problem_part(alloc: Global, scope: Scope, problem: &ProblemAst) -> Result<ProblemPart, Stop>
-    ensures { Checks result (problem_fault scope problem.now) (lifted_problem scope problem.now) }
+    ensures { LiftsIn result problem_fault lifted_problem scope problem.now }
 {
     let scope = with_objects(alloc, scope, problem.objects.as_slice())?;
     problem_in(alloc, scope, problem)
@@ -119,7 +118,7 @@ fn problem_part(alloc: Global, scope: Scope, problem: &ProblemAst) -> Result<Pro
 
 /// Tells that the metric's function is misused at this place, if there is one.
 fn check_metric(source: Source, place: Option<usize>) -> Result<(), CheckError>
-    ensures { ChecksTexts result (in_text source (bad_metric place)) tt }
+    ensures { Checks TellsOf result (in_text source (bad_metric place)) tt }
 {
     match place {
         Some(at) => Err(CheckError::In(source, Fault::BadMetric(at))),
@@ -134,7 +133,7 @@ fn objects_of(
     mut found: Vec<Object>,
     declared: &[Typed],
 ) -> Result<Vec<Object>, AllocError>
-    ensures { IfOk result (λ v. v.items ≡ found.items ++ map (lifted_object types.now) declared.now) }
+    ensures { IfOk result (λ v. v.items ≡ found.items ++ lifted_objects types.now declared.now) }
 {
     for item in declared {
         let name = item.name.name.copied(alloc)?;
@@ -150,7 +149,7 @@ fn signatures_in(
     types: &Names,
     declared: &[hd_pddl::Signature],
 ) -> Result<Sequence<Signature>, AllocError>
-    ensures { IfOk result (λ s. s ≡ map (lifted_signature types.now) declared.now) }
+    ensures { IfOk result (λ s. s ≡ lifted_signatures types.now declared.now) }
 {
     let mut signatures = Vec::new(alloc);
     for item in declared {
@@ -198,7 +197,7 @@ fn task_of(
 /// Asks that the metric's function is used as it may be.
 #[tactic(auto, unfolding(crate::specs::Whole::metric_fault))]
 fn check_uses(alloc: Global, domain: &DomainAst, problem: &ProblemAst) -> Result<(), CheckError>
-    ensures { ChecksTexts result (metric_fault domain.now problem.now) tt }
+    ensures { Checks TellsOf result (metric_fault domain.now problem.now) tt }
 {
     let place = misused_in_domain(alloc, &problem.metric, domain)?;
     check_metric(Source::Domain, place)?;
@@ -206,118 +205,6 @@ fn check_uses(alloc: Global, domain: &DomainAst, problem: &ProblemAst) -> Result
         Source::Problem,
         misused_in_problem(&problem.metric, problem),
     )
-}
-
-/// What a domain's part stands for, or a fault of the domain.
-#[tactic(auto, using(crate::proofs::Telling::told_of))]
-fn domain_text(
-    alloc: Global,
-    types: Names,
-    hierarchy: Hierarchy,
-    domain: &DomainAst,
-    metric: &Option<NameAt>,
-) -> Result<DomainPart, CheckError>
-    ensures { ChecksTexts result (in_text sources.Domain (domain_fault types hierarchy domain.now metric.now)) (lifted_domain types hierarchy domain.now metric.now) }
-{
-    let part = domain_part(alloc, types, hierarchy, domain, metric);
-    in_text(Source::Domain, part)
-}
-
-/// What a problem's part stands for, or a fault of the problem.
-#[tactic(auto, using(crate::proofs::Telling::told_of))]
-fn problem_text(
-    alloc: Global,
-    scope: Scope,
-    problem: &ProblemAst,
-) -> Result<ProblemPart, CheckError>
-    ensures { ChecksTexts result (in_text sources.Problem (problem_fault scope problem.now)) (lifted_problem scope problem.now) }
-{
-    let part = problem_part(alloc, scope, problem);
-    in_text(Source::Problem, part)
-}
-
-/// The lifted task, where the metric's function is used as it may be.
-fn behind_problem(
-    alloc: Global,
-    schemas: Sequence<Schema>,
-    part: ProblemPart,
-    domain: &DomainAst,
-    problem: &ProblemAst,
-) -> Result<LiftedTask, CheckError>
-    ensures { ChecksTexts result (metric_fault domain.now problem.now) (task_with domain.now problem.now schemas part) }
-{
-    check_uses(alloc, domain, problem)?;
-    Ok(task_of(alloc, domain, problem, schemas, part)?)
-}
-
-/// The check of a problem whose domain's part stands for this.
-#[tactic(auto, unfolding(crate::specs::Whole::task_behind, crate::specs::Whole::fault_behind))]
-fn behind_domain(
-    alloc: Global,
-    part: DomainPart,
-    domain: &DomainAst,
-    problem: &ProblemAst,
-) -> Result<LiftedTask, CheckError>
-    ensures { ChecksTexts result (fault_behind part domain.now problem.now) (task_behind part domain.now problem.now) }
-{
-    let DomainPart { scope, schemas } = part;
-    let part = problem_text(alloc, scope, problem)?;
-    behind_problem(alloc, schemas, part, domain, problem)
-}
-
-/// The rest of the check, where no type lies on a cycle.
-#[tactic(auto, unfolding(crate::specs::Whole::task_below, crate::specs::Whole::fault_below))]
-fn behind_cycles(
-    alloc: Global,
-    types: Names,
-    hierarchy: Hierarchy,
-    domain: &DomainAst,
-    problem: &ProblemAst,
-) -> Result<LiftedTask, CheckError>
-    ensures { ChecksTexts result (fault_below types hierarchy domain.now problem.now) (task_below types hierarchy domain.now problem.now) }
-{
-    let part = domain_text(alloc, types, hierarchy, domain, &problem.metric)?;
-    behind_domain(alloc, part, domain, problem)
-}
-
-/// The hierarchy of a domain's types, or a type on a cycle.
-fn hierarchy_text(alloc: Global, types: &Names, domain: &DomainAst) -> Result<Hierarchy, CheckError>
-    requires { types.now ≡ type_names domain.now.types }
-    ensures { ClimbsText result domain.now.types }
-{
-    let hierarchy = hierarchy_of(alloc, types, domain.types.as_slice());
-    in_text(Source::Domain, hierarchy)
-}
-
-/// The check of texts in which no fault comes before the cycles of types.
-fn behind_names(
-    alloc: Global,
-    types: Names,
-    domain: &DomainAst,
-    problem: &ProblemAst,
-) -> Result<LiftedTask, CheckError>
-    requires names { types ≡ type_names domain.now.types }
-    requires clean { fault_before_cycles domain.now problem.now ≡ None }
-    ensures { Answers domain.now problem.now result }
-{
-    match hierarchy_text(alloc, &types, domain) {
-        Ok(hierarchy) => behind_cycles(alloc, types, hierarchy, domain, problem),
-        Err(error) => Err(error),
-    }
-}
-
-/// The lifted task of a domain and a problem, or a fault.
-fn task_in(
-    alloc: Global,
-    domain: &DomainAst,
-    problem: &ProblemAst,
-) -> Result<LiftedTask, CheckError>
-    ensures { Answers domain.now problem.now result }
-{
-    match before_cycles(alloc, domain, problem) {
-        Ok(types) => behind_names(alloc, types, domain, problem),
-        Err(error) => Err(error),
-    }
 }
 
 /// Checks a domain and a problem: their names, types and metric.
@@ -331,8 +218,13 @@ fn task_in(
 pub fn check(alloc: Global, domain: DomainAst, problem: ProblemAst) -> Result<Checked, CheckError>
     ensures { Answers domain problem result }
 {
-    match task_in(alloc, &domain, &problem) {
-        Ok(task) => Ok(Checked::new(task)),
-        Err(error) => Err(error),
-    }
+    let types = check_names(alloc, &domain, &problem)?;
+    let climbed = hierarchy_of(alloc, &types, domain.types.as_slice());
+    let hierarchy = of_text(Source::Domain, climbed)?;
+    let first = domain_part(alloc, types, hierarchy, &domain, &problem.metric);
+    let first = of_text(Source::Domain, first)?;
+    let second = of_text(Source::Problem, problem_part(alloc, first.scope, &problem))?;
+    check_uses(alloc, &domain, &problem)?;
+    let task = task_of(alloc, &domain, &problem, first.schemas, second)?;
+    Ok(Checked::new(task))
 }

@@ -1,14 +1,15 @@
 //! Effects.
-ghost use Rattle.std.specs.Prelude.{◌≡◌, ◌++◌};
-ghost use Rattle.hd_names.specs.Fault.{Checks, Leaves};
-ghost use Rattle.hd_check.specs.Effects.{is_metric, lifted_change, change_fault, effect_fault, effects_fault, lifted_effect};
-ghost use Rattle.hd_check.specs.Effects.{deletes_of, adds_of, changes_of, lifted_effects};
+ghost use Rattle.std.specs.Prelude.{◌≡◌};
+ghost use Rattle.hd_check.specs.Lifting.{Lifts};
+ghost use Rattle.hd_check.specs.Effects.{is_metric, lifted_change, change_fault, effects_fault, lifted_effect, lifted_effects};
+ghost use Rattle.hd_check.specs.Effects.{GathersDeletes, GathersAdds, GathersChanges};
 
+use crate::context::Context;
 use crate::expressions::expression_of;
 use crate::terms::applied_of;
+use hd_base::Sequence;
 use hd_lifted::{Applied, Change, NumericEffect};
-use hd_list::Sequence;
-use hd_names::{Scope, Stop, Table};
+use hd_names::Stop;
 use hd_terms::{Effect, FluentChange};
 use std::alloc::Global;
 
@@ -46,15 +47,14 @@ fn change_of(cost: bool, change: hd_forms::Change) -> Change
 /// What a change of a fluent stands for.
 fn effect_of(
     alloc: Global,
-    scope: &Scope,
-    parameters: &Table<usize>,
+    context: Context<'_>,
     said: &FluentChange,
 ) -> Result<NumericEffect, Stop>
-    ensures { Checks result (change_fault scope.now parameters.now said.now) (lifted_effect scope.now parameters.now said.now) }
+    ensures { Lifts result change_fault lifted_effect context.entry said.now }
 {
-    let fluent = applied_of(alloc, &scope.functions, scope, parameters, &said.fluent)?;
-    let cost = is_metric(scope.metric, fluent.symbol);
-    let amount = expression_of(alloc, scope, parameters, &said.amount)?;
+    let fluent = applied_of(alloc, &context.scope.functions, context, &said.fluent)?;
+    let cost = is_metric(context.scope.metric, fluent.symbol);
+    let amount = expression_of(alloc, context, &said.amount)?;
     Ok(NumericEffect {
         change: change_of(cost, said.change),
         fluent,
@@ -72,27 +72,20 @@ struct Found {
 
 impl Found {
     /// Adds what a part stands for.
-    fn add(
-        &mut self,
-        alloc: Global,
-        scope: &Scope,
-        parameters: &Table<usize>,
-        part: &Effect,
-    ) -> Result<(), Stop>
-        ensures deletes { Leaves result self.new.deletes.items (effect_fault scope.now parameters.now part.now) (self.old.deletes.items ++ deletes_of scope.now parameters.now part.now) }
-        ensures adds { Leaves result self.new.adds.items (effect_fault scope.now parameters.now part.now) (self.old.adds.items ++ adds_of scope.now parameters.now part.now) }
-        ensures changes { Leaves result self.new.changes.items (effect_fault scope.now parameters.now part.now) (self.old.changes.items ++ changes_of scope.now parameters.now part.now) }
+    fn add(&mut self, alloc: Global, context: Context<'_>, part: &Effect) -> Result<(), Stop>
+        ensures deletes { GathersDeletes result self.old self.new context.entry part.now }
+        ensures adds { GathersAdds result self.old self.new context.entry part.now }
+        ensures changes { GathersChanges result self.old self.new context.entry part.now }
     {
         match part {
             Effect::Add(atom) => {
-                self.adds.push(applied_of(alloc, &scope.predicates, scope, parameters, atom)?)?;
+                self.adds.push(applied_of(alloc, &context.scope.predicates, context, atom)?)?;
             }
             Effect::Delete(atom) => {
-                self.deletes.push(applied_of(alloc, &scope.predicates, scope, parameters, atom)?)?;
+                self.deletes.push(applied_of(alloc, &context.scope.predicates, context, atom)?)?;
             }
             Effect::Change(said) => {
-                self.changes
-                    .push(effect_of(alloc, scope, parameters, said)?)?;
+                self.changes.push(effect_of(alloc, context, said)?)?;
             }
         }
         Ok(())
@@ -100,13 +93,8 @@ impl Found {
 }
 
 /// What an effect stands for.
-pub fn effects_of(
-    alloc: Global,
-    scope: &Scope,
-    parameters: &Table<usize>,
-    parts: &[Effect],
-) -> Result<Effects, Stop>
-    ensures { Checks result (effects_fault scope.now parameters.now parts.now) (lifted_effects scope.now parameters.now parts.now) }
+pub fn effects_of(alloc: Global, context: Context<'_>, parts: &[Effect]) -> Result<Effects, Stop>
+    ensures { Lifts result effects_fault lifted_effects context.entry parts.now }
 {
     let mut found = Found {
         deletes: Vec::new(alloc),
@@ -115,7 +103,7 @@ pub fn effects_of(
     };
     let mut rest = parts;
     while let [part, after @ ..] = rest {
-        found.add(alloc, scope, parameters, part)?;
+        found.add(alloc, context, part)?;
         rest = after;
     }
     Ok(Effects {

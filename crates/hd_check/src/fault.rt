@@ -1,6 +1,6 @@
 //! Why a domain and a problem are not accepted.
 ghost use Rattle.std.specs.Prelude.{◌≡◌, Some};
-ghost use Rattle.hd_check.specs.Fault.{error_text, source_text, told_in};
+ghost use Rattle.hd_check.specs.Fault.{error_text, source_text, error_in};
 ghost use Rattle.hd_check.specs.declared.fault.CheckError.TheVariants as errors;
 
 use hd_names::{Fault, Stop};
@@ -65,8 +65,8 @@ impl<T: Drop> From<AllocFailed<T>> for CheckError {
 }
 
 /// What stopped the check of this text.
-pub fn told_in(source: Source, stop: Stop) -> CheckError
-    ensures { result ≡ told_in source stop }
+pub fn error_in(source: Source, stop: Stop) -> CheckError
+    ensures { result ≡ error_in source stop }
 {
     match stop {
         Stop::At(fault) => CheckError::In(source, fault),

@@ -1,22 +1,21 @@
 //! What holds at first.
-ghost use Rattle.std.specs.Prelude.{◌≡◌, ◌∷◌, ◌++◌, [], IfOk};
-ghost use Rattle.hd_names.specs.Fault.{Checks, Leaves};
-ghost use Rattle.hd_check.specs.Terms.{applied_fault};
-ghost use Rattle.hd_check.specs.Initial.{no_parameters, object_in, grounded, ground_of, key_of, range_fault, second_value, valued, with_value, value_fault, value_in, initial_fault, lifted_initial};
+ghost use Rattle.std.specs.Prelude.{◌≡◌, IfOk};
+ghost use Rattle.hd_base.specs.Answers.{Checks};
+ghost use Rattle.hd_names.specs.Fault.{StopsAt};
+ghost use Rattle.hd_check.specs.Initial.{no_parameters, object_in, ground_form, range_fault};
+ghost use Rattle.hd_check.specs.Initial.{LiftsGround, Notes, LiftsFluent, NotesFluent, Gathers, LiftsInitial};
 
+use crate::context::Context;
 use crate::effects::is_metric;
 use crate::keys::Keys;
 use crate::terms::applied_of;
-use hd_lifted::{Applied, Argument, Ground, InitialValue, Tuple};
-use hd_list::Sequence;
+use hd_base::{Sequence, Tuple, in_range};
+use hd_lifted::{Applied, Argument, Ground, InitialValue};
 use hd_names::{Fault, Names, Scope, Stop, Table, duplicate};
 use hd_pddl::Init;
 use hd_terms::{Atom, ItemKind};
 use smallvec::SmallVec;
 use std::alloc::{AllocError, Global};
-
-/// The least and the greatest first value, up to the sign.
-const RANGE_END: u64 = 1_000_000_000_000_000;
 
 /// What holds at first. Both lists are in the text's order.
 #[derive(Debug, Drop)]
@@ -46,8 +45,8 @@ fn object_in(argument: Argument) -> usize
 }
 
 /// An atom or a fluent of objects.
-fn grounded(alloc: Global, applied: &Applied) -> Result<Ground, AllocError>
-    ensures { IfOk result (λ g. g ≡ grounded applied.now) }
+fn ground_form(alloc: Global, applied: &Applied) -> Result<Ground, AllocError>
+    ensures { IfOk result (λ g. g ≡ ground_form applied.now) }
 {
     let mut objects = SmallVec::new(alloc);
     for argument in applied.arguments.as_slice() {
@@ -66,18 +65,22 @@ fn ground_of(
     scope: &Scope,
     atom: &Atom,
 ) -> Result<Ground, Stop>
-    ensures { Checks result (applied_fault symbols.now scope.now no_parameters atom.now) (ground_of symbols.now scope.now atom.now) }
+    ensures { LiftsGround result symbols.now scope.now atom.now }
 {
     let parameters = no_parameters(alloc);
-    let applied = applied_of(alloc, symbols, scope, &parameters, atom)?;
-    Ok(grounded(alloc, &applied)?)
+    let context = Context {
+        scope,
+        parameters: &parameters,
+    };
+    let applied = applied_of(alloc, symbols, context, atom)?;
+    Ok(ground_form(alloc, &applied)?)
 }
 
 /// Asks that a first value is in the range.
 fn check_range(value: &hd_pddl::InitialValue) -> Result<(), Stop>
-    ensures { Checks result (range_fault value.now) tt }
+    ensures { Checks StopsAt result (range_fault value.now) tt }
 {
-    if value.value.unsigned_abs() <= RANGE_END {
+    if in_range(value.value) {
         Ok(())
     } else {
         Err(Stop::At(Fault::InitOutOfRange(value.at)))
@@ -86,7 +89,7 @@ fn check_range(value: &hd_pddl::InitialValue) -> Result<(), Stop>
 
 /// Asks that a fluent has no value yet, and notes that it has one now.
 fn note_value(alloc: Global, given: &mut Keys, fluent: &Ground, said: &Atom) -> Result<(), Stop>
-    ensures { Leaves result given.new (second_value given.old (key_of fluent.now) said.now) (given.old ++ key_of fluent.now ∷ []) }
+    ensures { Notes result given.old given.new fluent.now said.now }
 {
     if given.add(alloc, fluent)? {
         Ok(())
@@ -96,14 +99,14 @@ fn note_value(alloc: Global, given: &mut Keys, fluent: &Ground, said: &Atom) -> 
 }
 
 /// The fluent that has a first value.
-fn valued(
+fn fluent_of(
     alloc: Global,
     scope: &Scope,
     given: &mut Keys,
     value: &hd_pddl::InitialValue,
 ) -> Result<Ground, Stop>
-    ensures fluent { Checks result (value_fault scope.now given.old value.now) (valued scope.now value.now) }
-    ensures given { Leaves result given.new (value_fault scope.now given.old value.now) (with_value scope.now given.old value.now) }
+    ensures fluent { LiftsFluent result given.old scope.now value.now }
+    ensures given { NotesFluent result given.old given.new scope.now value.now }
 {
     let fluent = ground_of(alloc, &scope.functions, scope, &value.fluent)?;
     note_value(alloc, given, &fluent, &value.fluent)?;
@@ -116,17 +119,17 @@ fn add_value(
     alloc: Global,
     scope: &Scope,
     given: &mut Keys,
-    values: &mut Vec<InitialValue>,
-    value: &hd_pddl::InitialValue,
+    found: &mut Vec<InitialValue>,
+    said: &hd_pddl::InitialValue,
 ) -> Result<(), Stop>
-    ensures given { Leaves result given.new (value_fault scope.now given.old value.now) (with_value scope.now given.old value.now) }
-    ensures values { Leaves result values.new.items (value_fault scope.now given.old value.now) (values.old.items ++ value_in scope.now value.now) }
+    ensures given { NotesFluent result given.old given.new scope.now said.now }
+    ensures found { Gathers result found.old.items found.new.items given.old scope.now said.now }
 {
-    let fluent = valued(alloc, scope, given, value)?;
+    let fluent = fluent_of(alloc, scope, given, said)?;
     if !is_metric(scope.metric, fluent.symbol) {
-        values.push(InitialValue {
+        found.push(InitialValue {
             fluent,
-            value: value.value,
+            value: said.value,
         })?;
     }
     Ok(())
@@ -134,7 +137,7 @@ fn add_value(
 
 /// What holds at first.
 pub fn initial_of(alloc: Global, scope: &Scope, init: &[Init]) -> Result<Initial, Stop>
-    ensures { Checks result (initial_fault scope.now [] init.now) (lifted_initial scope.now init.now) }
+    ensures { LiftsInitial result scope.now init.now }
 {
     let mut given = Keys::none(alloc);
     let mut atoms = Vec::new(alloc);

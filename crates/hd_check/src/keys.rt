@@ -1,7 +1,6 @@
 //! Sets of fluents.
 ghost use Rattle.std.specs.Prelude.{◌≡◌, [], not, IfOk};
-ghost use Rattle.std.specs.List.{list_any};
-ghost use Rattle.std.specs.Str.{bytes_eq};
+ghost use Rattle.hd_base.specs.Names.{is_named};
 ghost use Rattle.hd_check.specs.Initial.{key_of};
 ghost use Rattle.hd_names.specs.Names.{with_name};
 
@@ -40,7 +39,7 @@ impl Keys {
 
     /// One fluent more, if it is none of them yet: whether it was none.
     pub fn add(&mut self, alloc: Global, fluent: &Ground) -> Result<bool, AllocError>
-        ensures new { IfOk result (λ new. new ≡ not (list_any (bytes_eq (key_of fluent.now)) self.old)) }
+        ensures new { IfOk result (λ new. new ≡ not (is_named self.old (key_of fluent.now))) }
         ensures keys { IfOk result (λ _. self.new ≡ with_name self.old (key_of fluent.now)) }
     {
         let key = key_of(alloc, fluent)?;

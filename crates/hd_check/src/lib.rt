@@ -3,9 +3,9 @@
 //! `check` answers the lifted task that they stand for, with each name by its number, or the first fault.
 #![tactic(auto)]
 
-mod checked;
 mod checking;
 mod conditions;
+mod context;
 mod effects;
 mod expressions;
 mod fault;
@@ -16,14 +16,7 @@ mod metric;
 mod schemas;
 mod terms;
 
-pub use checked::Checked;
 pub use checking::check;
 pub use fault::{CheckError, Source};
+pub use hd_lifted::Checked;
 pub use hd_names::Fault;
-
-#[cfg(test)]
-mod rendering;
-#[cfg(test)]
-mod tests;
-#[cfg(test)]
-mod told;

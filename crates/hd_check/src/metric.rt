@@ -1,10 +1,11 @@
 //! The metric's name.
-ghost use Rattle.hd_names.specs.Fault.{Checks};
+ghost use Rattle.hd_base.specs.Answers.{Checks};
+ghost use Rattle.hd_names.specs.Fault.{StopsAt};
 ghost use Rattle.hd_check.specs.MetricName.{metric_name_fault};
 
 use crate::terms::{parameters_of, wrong_arity};
+use hd_base::Sequence;
 use hd_forms::NameAt;
-use hd_list::Sequence;
 use hd_names::{Stop, Table, known};
 use hd_terms::ItemKind;
 use std::alloc::Global;
@@ -15,7 +16,7 @@ pub fn check_metric_name(
     functions: &Table<Sequence<usize>>,
     metric: &Option<NameAt>,
 ) -> Result<(), Stop>
-    ensures { Checks result (metric_name_fault functions.now metric.now) tt }
+    ensures { Checks StopsAt result (metric_name_fault functions.now metric.now) tt }
 {
     let Some(name) = metric else {
         return Ok(());

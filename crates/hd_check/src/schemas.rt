@@ -1,12 +1,12 @@
 //! Actions.
-ghost use Rattle.std.specs.Prelude.{[], map};
-ghost use Rattle.hd_names.specs.Fault.{Checks};
-ghost use Rattle.hd_check.specs.Schemas.{parameters_in, body_fault, action_fault, actions_fault, schema_with, lifted_schema};
+ghost use Rattle.hd_check.specs.Lifting.{LiftsIn};
+ghost use Rattle.hd_check.specs.Schemas.{action_fault, lifted_schema, LiftsBody, LiftsActions};
 
 use crate::conditions::condition_of;
+use crate::context::Context;
 use crate::effects::effects_of;
+use hd_base::Sequence;
 use hd_lifted::Schema;
-use hd_list::Sequence;
 use hd_names::{Names, Scope, Stop, Table, declare, table_of};
 use hd_pddl::Action;
 use hd_terms::ItemKind;
@@ -20,11 +20,15 @@ fn schema_with(
     parameters: Table<usize>,
     action: &Action,
 ) -> Result<Schema, Stop>
-    ensures { Checks result (body_fault scope.now parameters action.now) (schema_with scope.now parameters action.now) }
+    ensures { LiftsBody result scope.now parameters action.now }
 {
     let precondition = action.precondition.as_slice();
-    let condition = condition_of(alloc, scope, &parameters, precondition)?;
-    let effects = effects_of(alloc, scope, &parameters, action.effect.as_slice())?;
+    let context = Context {
+        scope,
+        parameters: &parameters,
+    };
+    let condition = condition_of(alloc, context, precondition)?;
+    let effects = effects_of(alloc, context, action.effect.as_slice())?;
     let name = action.name.name.copied(alloc)?;
     Ok(Schema {
         name,
@@ -39,7 +43,7 @@ fn schema_with(
 /// What an action stands for.
 #[tactic(auto, unfolding(crate::specs::Schemas::lifted_schema, crate::specs::Schemas::action_fault))]
 fn schema_of(alloc: Global, scope: &Scope, action: &Action) -> Result<Schema, Stop>
-    ensures { Checks result (action_fault scope.now action.now) (lifted_schema scope.now action.now) }
+    ensures { LiftsIn result action_fault lifted_schema scope.now action.now }
 {
     let declared = action.parameters.as_slice();
     let parameters = table_of(alloc, ItemKind::Variable, &scope.types, declared)?;
@@ -52,7 +56,7 @@ pub fn schemas_of(
     scope: &Scope,
     actions: &[Action],
 ) -> Result<Sequence<Schema>, Stop>
-    ensures { Checks result (actions_fault scope.now [] actions.now) (map (lifted_schema scope.now) actions.now) }
+    ensures { LiftsActions result scope.now actions.now }
 {
     let mut names = Names::none(alloc);
     let mut schemas = Vec::new(alloc);

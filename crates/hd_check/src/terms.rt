@@ -1,51 +1,48 @@
 //! Terms, atoms and fluents.
-ghost use Rattle.std.specs.Prelude.{◌≡◌, Some, length, map};
-ghost use Rattle.hd_names.specs.Fault.{Checks, StopsAt};
-ghost use Rattle.hd_check.specs.Terms.{lifted_term, term_fault, type_of_term, wrong_type, type_fault, argument_fault, arguments_fault, parameters_of, arity_fault, applied_fault, lifted_applied};
+ghost use Rattle.std.specs.Prelude.{◌≡◌, Some, length};
+ghost use Rattle.hd_names.specs.Fault.{StopsAt};
+ghost use Rattle.hd_check.specs.Lifting.{Lifts, within};
+ghost use Rattle.hd_check.specs.Terms.{lifted_term, term_fault, type_of_term, wrong_type, parameters_of, LiftsArgument, LiftsArguments, LiftsApplied};
 ghost use Rattle.hd_names.specs.declared.fault.Fault.TheVariants.{WrongArity};
 
+use crate::context::Context;
+use hd_base::Sequence;
 use hd_forms::NameAt;
 use hd_lifted::{Applied, Argument, Tuple};
-use hd_list::Sequence;
-use hd_names::{Fault, Scope, Stop, Table, known, spelled};
+use hd_names::{Fault, Stop, Table, known, spelled};
 use hd_terms::{Atom, ItemKind, Term};
 use smallvec::SmallVec;
 use std::alloc::Global;
 
 /// What a term stands for.
-pub fn term_of(
-    alloc: Global,
-    scope: &Scope,
-    parameters: &Table<usize>,
-    term: &Term,
-) -> Result<Argument, Stop>
-    ensures { Checks result (term_fault scope.now parameters.now term.now) (lifted_term scope.now parameters.now term.now) }
+pub fn term_of(alloc: Global, context: Context<'_>, term: &Term) -> Result<Argument, Stop>
+    ensures { Lifts result term_fault lifted_term context.entry term.now }
 {
     match term {
         Term::Name(name) => {
-            let number = known(alloc, ItemKind::Name, &scope.objects.names, name)?;
+            let number = known(alloc, ItemKind::Name, &context.scope.objects.names, name)?;
             Ok(Argument::Object(number))
         }
         Term::Variable(name) => {
-            let place = known(alloc, ItemKind::Variable, &parameters.names, name)?;
+            let place = known(alloc, ItemKind::Variable, &context.parameters.names, name)?;
             Ok(Argument::Parameter(place))
         }
     }
 }
 
 /// The declared type of a term.
-fn type_of_term(scope: &Scope, parameters: &Table<usize>, term: &Term) -> usize
-    ensures { result ≡ type_of_term scope.now parameters.now term.now }
+fn type_of_term(context: Context<'_>, term: &Term) -> usize
+    ensures { result ≡ within context.entry type_of_term term.now }
 {
     match term {
         Term::Name(name) => {
-            let number = scope.objects.names.number_of(&name.name);
-            let types = scope.objects.items.as_slice();
+            let number = context.scope.objects.names.number_of(&name.name);
+            let types = context.scope.objects.items.as_slice();
             types.get(number).copied().unwrap_or(0)
         }
         Term::Variable(name) => {
-            let place = parameters.names.number_of(&name.name);
-            let types = parameters.items.as_slice();
+            let place = context.parameters.names.number_of(&name.name);
+            let types = context.parameters.items.as_slice();
             types.get(place).copied().unwrap_or(0)
         }
     }
@@ -68,16 +65,15 @@ fn wrong_type(alloc: Global, term: &Term) -> Stop
 /// What an argument for a parameter of this type stands for.
 fn argument_of(
     alloc: Global,
-    scope: &Scope,
-    parameters: &Table<usize>,
+    context: Context<'_>,
     term: &Term,
     wanted: usize,
 ) -> Result<Argument, Stop>
-    ensures { Checks result (argument_fault scope.now parameters.now term.now wanted) (lifted_term scope.now parameters.now term.now) }
+    ensures { LiftsArgument result context.entry term.now wanted }
 {
-    let argument = term_of(alloc, scope, parameters, term)?;
-    let declared = type_of_term(scope, parameters, term);
-    if scope.hierarchy.is_subtype(declared, wanted) {
+    let argument = term_of(alloc, context, term)?;
+    let declared = type_of_term(context, term);
+    if context.scope.hierarchy.is_subtype(declared, wanted) {
         Ok(argument)
     } else {
         Err(wrong_type(alloc, term))
@@ -87,19 +83,18 @@ fn argument_of(
 /// What arguments for parameters of these types stand for.
 fn arguments_of(
     alloc: Global,
-    scope: &Scope,
-    parameters: &Table<usize>,
+    context: Context<'_>,
     terms: &[Term],
     wanted: &[usize],
 ) -> Result<Tuple<Argument>, Stop>
     requires { length terms.now ≡ length wanted.now }
-    ensures { Checks result (arguments_fault scope.now parameters.now terms.now wanted.now) (map (lifted_term scope.now parameters.now) terms.now) }
+    ensures { LiftsArguments result context.entry terms.now wanted.now }
 {
     let mut arguments = SmallVec::new(alloc);
     let mut rest = terms;
     let mut types = wanted;
     while let ([term, after @ ..], [first, others @ ..]) = (rest, types) {
-        let argument = argument_of(alloc, scope, parameters, term, *first)?;
+        let argument = argument_of(alloc, context, term, *first)?;
         arguments.push(argument)?;
         rest = after;
         types = others;
@@ -132,11 +127,10 @@ pub fn wrong_arity(alloc: Global, name: &NameAt) -> Stop
 pub fn applied_of(
     alloc: Global,
     symbols: &Table<Sequence<usize>>,
-    scope: &Scope,
-    parameters: &Table<usize>,
+    context: Context<'_>,
     atom: &Atom,
 ) -> Result<Applied, Stop>
-    ensures { Checks result (applied_fault symbols.now scope.now parameters.now atom.now) (lifted_applied symbols.now scope.now parameters.now atom.now) }
+    ensures { LiftsApplied result symbols.now context.entry atom.now }
 {
     let symbol = known(alloc, ItemKind::Name, &symbols.names, &atom.name)?;
     let types = parameters_of(symbols, &atom.name);
@@ -144,6 +138,6 @@ pub fn applied_of(
         return Err(wrong_arity(alloc, &atom.name));
     }
     let terms = atom.terms.as_slice();
-    let arguments = arguments_of(alloc, scope, parameters, terms, types)?;
+    let arguments = arguments_of(alloc, context, terms, types)?;
     Ok(Applied { symbol, arguments })
 }

@@ -1,6 +1,8 @@
 -- From whole texts to trees. The rule of the grammar and its reading are parameters, since domains and problems share all of it.
 use Rattle.std.proofs.Common.{◌≡◌, ◌⊎◌, inl, inr, ℕ, List, length, Option, Some, None, Result, Ok, Err, refl, sym, ap, ◌∙◌}
 use Rattle.std.specs.Prelude.{IfOk, IfErr, MatchResult}
+use Rattle.hd_base.specs.Answers.{Gives}
+use Rattle.std.proofs.lemmas.Option.{same_Some}
 use Rattle.hd_lex.specs.Text.{AreTokens, IsFault}
 use Rattle.hd_lex.specs.declared.error.LexError.{LexError}
 use Rattle.hd_lex.specs.declared.error.LexError.TheVariants as lexing
@@ -10,7 +12,7 @@ use Rattle.hd_forms.specs.declared.error.ReadError.{ReadError}
 use Rattle.hd_forms.specs.declared.error.ReadError.TheVariants as errors
 use Rattle.hd_forms.specs.Error.{of_lexer}
 use Rattle.hd_forms.specs.Forms.{Mark, Forms, marks_of, marks_from, parenthesis_fault, Tells}
-use Rattle.hd_forms.specs.Reading.{Gives}
+use Rattle.hd_forms.specs.Reading.{Refuses}
 use Rattle.hd_forms.specs.Text.{HasMarks, IsFormsText, IsTextOf, IsUnbalanced, IsOutside, Explains, ExplainsForms}
 use Rattle.hd_forms.proofs.OneForm.{same_forms}
 
@@ -65,9 +67,6 @@ pub record IsReadBy {Tree : Type 0} (Says : Forms → Tree → Type 0) (read : F
   pub complete : (f : Forms) (t : Tree) → Says f t → read f ≡ Some t
   pub sound : (f : Forms) (t : Tree) → read f ≡ Some t → Says f t
 
-some_is : {A : Type 0} (x y : A) → Some x ≡ Some y → x ≡ y
-some_is x y e = cc
-
 -- what a text says is what is read of its forms
 read_of : {Tree : Type 0} {Says : Forms → Tree → Type 0} {read : Forms → Option Tree} (by : IsReadBy Says read)
     (text : List ℕ) (fs : Forms) (t : Tree) → IsFormsText text fs → IsTextOf Says text t → read fs ≡ Some t
@@ -77,10 +76,10 @@ read_of {read = read} by text fs t h d =
 pub one_tree : {Tree : Type 0} {Says : Forms → Tree → Type 0} {read : Forms → Option Tree} (by : IsReadBy Says read)
     (text : List ℕ) (a b : Tree) → IsTextOf Says text a → IsTextOf Says text b → a ≡ b
 one_tree by text a b h k =
-    some_is a b (sym (by.complete h.forms a h.says) ∙ read_of by text h.forms b h.written k)
+    same_Some a b (sym (by.complete h.forms a h.says) ∙ read_of by text h.forms b h.written k)
 
 pub found_of : {Tree : Type 0} {Says : Forms → Tree → Type 0} {read : Forms → Option Tree} (by : IsReadBy Says read)
-    (text : List ℕ) (fs : Forms) (r : Result Tree ReadError) → IsFormsText text fs → Gives (λ x. x) r (read fs)
+    (text : List ℕ) (fs : Forms) (r : Result Tree ReadError) → IsFormsText text fs → Gives Refuses (λ x. x) r (read fs)
     → IfOk r (IsTextOf Says text)
 found_of by text fs (Ok t) h gives = record { forms = fs; written = h; says = by.sound fs t gives }
 found_of by text fs (Err e) h gives = tt
@@ -91,7 +90,7 @@ outside_of {read = read} by text fs h e =
     record { forms = fs; written = h; outside = λ t d. let is : read fs ≡ Some t = read_of by text fs t h d in absurd cc }
 
 pub refusal_of : {Tree : Type 0} {Says : Forms → Tree → Type 0} {read : Forms → Option Tree} (by : IsReadBy Says read)
-    (text : List ℕ) (fs : Forms) (r : Result Tree ReadError) → IsFormsText text fs → Gives (λ x. x) r (read fs)
+    (text : List ℕ) (fs : Forms) (r : Result Tree ReadError) → IsFormsText text fs → Gives Refuses (λ x. x) r (read fs)
     → IfErr r (Explains Says text)
 refusal_of by text fs (Ok t) h gives = tt
 refusal_of by text fs (Err errors.NoMemory) h gives = tt
@@ -151,7 +150,7 @@ bad_word_of Says text (Err (errors.TooDeep at)) found told fault is = absurd (no
 one_fault : (text : List ℕ) (a b : ReadError) → IsUnbalanced text a → IsUnbalanced text b → a ≡ b
 one_fault text a b h k =
     let same = same_marks text h.marks k.marks h.has_marks k.has_marks in
-    some_is a b (sym h.fault ∙ ap (parenthesis_fault (length text)) same ∙ k.fault)
+    same_Some a b (sym h.fault ∙ ap (parenthesis_fault (length text)) same ∙ k.fault)
 
 -- a fault of the parentheses is told
 pub bad_parentheses_of : {Tree : Type 0} (Says : Forms → Tree → Type 0) (text : List ℕ) (r : Result Tree ReadError)

@@ -11,7 +11,7 @@ use Rattle.hd_forms.specs.declared.forms.OpenForm.{OpenForm}
 use Rattle.hd_forms.specs.declared.word.Word.{Word}
 use Rattle.hd_forms.specs.Forms.{Mark, opening, closing, symbol, Forms, none, word, list, append, marks_of, mark_of, marks_from, fault_from, parenthesis_fault}
 use Rattle.hd_forms.specs.View.{form_view, forms_view}
-use Rattle.hd_forms.specs.Nesting.{open_marks, written}
+use Rattle.hd_forms.specs.Nesting.{open_marks, marks_written}
 
 -- ---- one form more
 
@@ -50,17 +50,17 @@ marks-push : (fs : List Form) (f : Form)
 marks-push fs f = ap marks_of (view-push fs f) ∙ marks-append (forms_view fs) (form_view f)
 
 -- a word behind what was read
-pub written-word : (os : List OpenForm) (fs : List Form) (at : ℕ) (w : Word)
-    → written os (fs ++ forms.Word at w ∷ []) ≡ written os fs ++ symbol at w ∷ []
-written-word os fs at w =
+pub marks_written-word : (os : List OpenForm) (fs : List Form) (at : ℕ) (w : Word)
+    → marks_written os (fs ++ forms.Word at w ∷ []) ≡ marks_written os fs ++ symbol at w ∷ []
+marks_written-word os fs at w =
     ap (λ (ms : List Mark). flat_map open_marks os ++ ms)
     (marks-push fs (forms.Word at w) ∙ ap (λ (f : Forms). marks_of (forms_view fs) ++ marks_of f) (view-word at w))
     ∙ sym (append_assoc (flat_map open_marks os) (marks_of (forms_view fs)) (symbol at w ∷ []))
 
 -- a form closed behind what was read
-pub written-finish : (os : List OpenForm) (o : OpenForm) (inside : Vec Form Global) (to : ℕ)
-    → written os (o.before.items ++ forms.List o.from inside to ∷ []) ≡ written (os ++ o ∷ []) inside.items ++ closing to ∷ []
-written-finish os o inside to =
+pub marks_written-finish : (os : List OpenForm) (o : OpenForm) (inside : Vec Form Global) (to : ℕ)
+    → marks_written os (o.before.items ++ forms.List o.from inside to ∷ []) ≡ marks_written (os ++ o ∷ []) inside.items ++ closing to ∷ []
+marks_written-finish os o inside to =
     let outer = flat_map open_marks os in
     let front = marks_of (forms_view o.before.items) in
     let within = marks_of (forms_view inside.items) in

@@ -6,6 +6,7 @@ use Rattle.hd_lex.specs.declared.token.Word as lexer
 use Rattle.hd_lex.specs.declared.token.Word.TheVariants as tokens
 use Rattle.hd_forms.specs.declared.error.ReadError.{ReadError}
 use Rattle.hd_forms.specs.declared.error.ReadError.TheVariants as errors
+use Rattle.hd_forms.specs.declared.forms.TheConstants.{MOST_OPEN}
 use Rattle.hd_forms.specs.declared.word.Word.{Word}
 use Rattle.hd_forms.specs.declared.word.Word.TheVariants as words
 use Rattle.hd_forms.specs.Word.{name_word}
@@ -61,13 +62,13 @@ size (word at w rest) = 1 + size rest
 size (list from inside to rest) = 1 + size inside + size rest
 
 -- the first fault of the parentheses in these marks, where so many forms are open before them and the text ends at this place:
--- the end while a form is open, a '(' that would be the 65th open one, or a ')' where none is open (own)
+-- the end while a form is open, a '(' that would be one open form too many, or a ')' where none is open (own)
 abbrev pub fault_from : ℕ → ℕ → List Mark → Option ReadError
 fault_from end zero [] = None
 fault_from end (suc depth) [] = Some (errors.Unbalanced end)
 fault_from end depth (symbol at w ∷ marks) = fault_from end depth marks
 fault_from end depth (opening at ∷ marks) =
-    if depth == 64 then Some (errors.TooDeep at) else fault_from end (suc depth) marks
+    if depth == MOST_OPEN then Some (errors.TooDeep at) else fault_from end (suc depth) marks
 fault_from end zero (closing at ∷ marks) = Some (errors.Unbalanced at)
 fault_from end (suc depth) (closing at ∷ marks) = fault_from end depth marks
 

@@ -11,5 +11,5 @@ abbrev pub open_marks : OpenForm → List Mark
 open_marks form = marks_of (forms_view form.before.items) ++ opening form.from ∷ []
 
 -- the marks that were read, where these forms are open, the innermost last, and these stand in the innermost (own)
-abbrev pub written : List OpenForm → List Form → List Mark
-written around forms = flat_map open_marks around ++ marks_of (forms_view forms)
+abbrev pub marks_written : List OpenForm → List Form → List Mark
+marks_written around forms = flat_map open_marks around ++ marks_of (forms_view forms)

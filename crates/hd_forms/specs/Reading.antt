@@ -1,19 +1,14 @@
 -- What is read of forms from the left, as functions (all own).
 -- Public contracts of the crates above cite their grammars in the place of these.
-use Rattle.std.specs.Prelude.{◌≡◌, ℕ, ℤ, List, Option, Some, None, Result, Ok, Err, if◌then◌else◌}
+use Rattle.std.specs.Prelude.{◌≡◌, ℕ, ℤ, List, Option, Some, None, if◌then◌else◌}
 use Rattle.std.specs.Str.{bytes_eq}
+use Rattle.hd_base.specs.Options.{◌>>=◌}
 use Rattle.hd_forms.specs.declared.error.ReadError.{ReadError}
 use Rattle.hd_forms.specs.declared.error.ReadError.TheVariants as errors
 use Rattle.hd_forms.specs.declared.names.NameAt.{NameAt}
 use Rattle.hd_forms.specs.declared.word.Word.{Word}
 use Rattle.hd_forms.specs.declared.word.Word.TheVariants as words
 use Rattle.hd_forms.specs.Forms.{Forms, none, word, list}
-
-infixl 10 ◌>>=◌
--- what follows a value, if there is one
-abbrev pub ◌>>=◌ : {A B : Type 0} → Option A → (A → Option B) → Option B
-(Some x) >>= f = f x
-None >>= f = None
 
 -- the errors of the grammar, and want of memory
 abbrev pub IsOfGrammar : ReadError → Type 0
@@ -32,16 +27,6 @@ Refuses (errors.Unbalanced at) read = ⊥
 Refuses (errors.Unexpected at) read = read ≡ None
 Refuses (errors.Unsupported w at) read = read ≡ None
 Refuses (errors.TooDeep at) read = ⊥
-
--- the result, seen by the view, is what is read, unless memory ran out
-abbrev pub Gives : {X Y : Type 0} → (X → Y) → Result X ReadError → Option Y → Type 0
-Gives view (Ok x) read = read ≡ Some (view x)
-Gives view (Err e) read = Refuses e read
-
--- the call left what is read, unless memory ran out
-abbrev pub Leaves : {X Y : Type 0} → Result X ReadError → Y → Option Y → Type 0
-Leaves (Ok x) left read = read ≡ Some left
-Leaves (Err e) left read = Refuses e read
 
 -- ---- single words
 
@@ -96,13 +81,13 @@ number_in (words.Number v) = Some v
 -- ---- what stands first
 
 -- a name and its place (own)
-abbrev pub named : List ℕ → ℕ → NameAt
-named name at = record { name = name; at = at }
+abbrev pub placed_name : List ℕ → ℕ → NameAt
+placed_name name at = record { name = name; at = at }
 
 -- a name, and what follows it
 abbrev pub name_at : Forms → Option (NameAt × Forms)
 name_at none = None
-name_at (word at w rest) = name_in w >>= λ n. Some (named n at, rest)
+name_at (word at w rest) = name_in w >>= λ n. Some (placed_name n at, rest)
 name_at (list a inside b rest) = None
 
 -- a number, its place, and what follows it

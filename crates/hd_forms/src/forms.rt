@@ -2,7 +2,7 @@
 
 ghost use Rattle.std.specs.Prelude.{◌≡◌, ℕ, ◌+◌, ◌++◌, ◌∷◌, [], List, None, IfOk, IfErr, OnOk, vec_len};
 ghost use Rattle.hd_forms.specs.Forms.{Mark, marks_of, marks_from, mark_of, opening, closing, symbol, fault_from, parenthesis_fault, Tells};
-ghost use Rattle.hd_forms.specs.Nesting.{written};
+ghost use Rattle.hd_forms.specs.Nesting.{marks_written};
 ghost use Rattle.hd_forms.specs.View.{forms_view};
 ghost use Rattle.hd_forms.specs.declared.forms.OpenForm.{OpenForm};
 
@@ -43,8 +43,8 @@ fn begin(
     forms: &mut Vec<Form>,
     at: usize,
 ) -> Result<(), ReadError>
-    ensures written { OnOk result
-        (written around.new.items forms.new.items ≡ written around.old.items forms.old.items ++ opening at ∷ []) }
+    ensures written { OnOk result (marks_written around.new.items forms.new.items
+        ≡ marks_written around.old.items forms.old.items ++ opening at ∷ []) }
     ensures depth { OnOk result (vec_len around.new ≡ vec_len around.old + 1) }
     ensures no_memory { IfErr result (λ e. e ≡ ReadError.NoMemory) }
 {
@@ -56,7 +56,8 @@ fn begin(
 /// Adds a word to the innermost form.
 fn add(forms: &mut Vec<Form>, at: usize, word: Word) -> Result<(), ReadError>
     ensures written { OnOk result ((around : List OpenForm)
-        → written around forms.new.items ≡ written around forms.old.items ++ symbol at word ∷ []) }
+        → marks_written around forms.new.items
+        ≡ marks_written around forms.old.items ++ symbol at word ∷ []) }
     ensures no_memory { IfErr result (λ e. e ≡ ReadError.NoMemory) }
 {
     forms.push(Form::Word { at, word })?;
@@ -66,7 +67,8 @@ fn add(forms: &mut Vec<Form>, at: usize, word: Word) -> Result<(), ReadError>
 /// Closes the innermost form at this place.
 fn finish(last: OpenForm, forms: &mut Vec<Form>, at: usize) -> Result<(), ReadError>
     ensures written { OnOk result ((around : List OpenForm)
-        → written around forms.new.items ≡ written (around ++ last ∷ []) forms.old.items ++ closing at ∷ []) }
+        → marks_written around forms.new.items
+        ≡ marks_written (around ++ last ∷ []) forms.old.items ++ closing at ∷ []) }
     ensures no_memory { IfErr result (λ e. e ≡ ReadError.NoMemory) }
 {
     let OpenForm { from, before } = last;
@@ -86,11 +88,12 @@ fn take(
     forms: &mut Vec<Form>,
     token: Token,
 ) -> Result<(), ReadError>
-    ensures written { OnOk result
-        (written around.new.items forms.new.items ≡ written around.old.items forms.old.items ++ mark_of token ∷ []) }
+    ensures written { OnOk result (marks_written around.new.items forms.new.items
+        ≡ marks_written around.old.items forms.old.items ++ mark_of token ∷ []) }
     // The fault of what follows stays the same.
     ensures goes_on { OnOk result ((end : ℕ) (rest : List Mark)
-        → fault_from end (vec_len around.old) (mark_of token ∷ rest) ≡ fault_from end (vec_len around.new) rest) }
+        → fault_from end (vec_len around.old) (mark_of token ∷ rest)
+        ≡ fault_from end (vec_len around.new) rest) }
     ensures fault { IfErr result (λ e. (end : ℕ) (rest : List Mark)
         → Tells e (fault_from end (vec_len around.old) (mark_of token ∷ rest))) }
 {
@@ -117,7 +120,8 @@ fn take(
 
 /// The forms that these tokens write, or the first fault of their parentheses, in a text of this length in bytes.
 pub fn forms_of(alloc: Global, tokens: Vec<Token>, end: usize) -> Result<Vec<Form>, ReadError>
-    ensures written { IfOk result (λ forms. marks_of (forms_view forms.items) ≡ marks_from tokens.items) }
+    ensures written { IfOk result (λ forms.
+        marks_of (forms_view forms.items) ≡ marks_from tokens.items) }
     ensures balanced { OnOk result (parenthesis_fault end (marks_from tokens.items) ≡ None) }
     ensures fault { IfErr result (λ e. Tells e (parenthesis_fault end (marks_from tokens.items))) }
 {

@@ -7,6 +7,7 @@
 
 mod error;
 mod forms;
+mod law;
 mod names;
 mod refusal;
 mod text;
@@ -14,12 +15,11 @@ mod word;
 
 pub use error::ReadError;
 pub use forms::Form;
+pub use law::forms_are_shallow;
 pub use names::{
-    NameAt, behind_keyword, behind_name, end_of, find_keyword, group_of, name_of, named, number_of,
+    NameAt, behind_keyword, behind_name, end_at, find_keyword, group_at, name_at, number_at,
+    placed_name,
 };
 pub use refusal::{first_refusal, form_refusal};
 pub use text::text_forms;
 pub use word::{Change, Word};
-
-#[cfg(test)]
-mod tests;

@@ -1,14 +1,15 @@
 //! What may stand first: a name, a keyword, a number, a form, or nothing.
 
 ghost use Rattle.std.specs.Prelude.{◌≡◌, Some, None, MatchOption, IfOk};
-ghost use Rattle.hd_forms.specs.Reading.{Gives, named, name_at, number_at, group_at, end_at, behind_name, behind_keyword};
+ghost use Rattle.hd_base.specs.Answers.{Gives};
+ghost use Rattle.hd_forms.specs.Reading.{Refuses, placed_name, name_at, number_at, group_at, end_at, behind_name, behind_keyword};
 ghost use Rattle.hd_forms.specs.View.{forms_view};
 
 use crate::error::ReadError;
 use crate::forms::Form;
 use crate::refusal::{first_refusal, form_refusal};
 use crate::word::Word;
-use hd_list::Name;
+use hd_base::Name;
 use std::alloc::{AllocError, Global};
 
 /// A name in lower case, and the place of its first byte in the text, counted from 0.
@@ -19,16 +20,17 @@ pub struct NameAt {
 }
 
 /// The name at this place, in memory of its own.
-pub fn named(alloc: Global, name: &Name, at: usize) -> Result<NameAt, AllocError>
-    ensures { IfOk result (λ n. n ≡ named name.now at) }
+pub fn placed_name(alloc: Global, name: &Name, at: usize) -> Result<NameAt, AllocError>
+    ensures { IfOk result (λ n. n ≡ placed_name name.now at) }
 {
-    let name = Name::from_string(String::from_str(alloc, name.as_str())?);
+    let name = name.copied(alloc)?;
     Ok(NameAt { name, at })
 }
 
 /// The first name, and what follows it. The place `end` is that behind the forms.
-pub fn name_of(alloc: Global, forms: &[Form], end: usize) -> Result<(NameAt, &[Form]), ReadError>
-    ensures { Gives (λ x. (x.0, forms_view x.1.now)) result (name_at (forms_view forms.now)) }
+pub fn name_at(alloc: Global, forms: &[Form], end: usize) -> Result<(NameAt, &[Form]), ReadError>
+    ensures { Gives Refuses (λ x. (x.0, forms_view x.1.now)) result
+        (name_at (forms_view forms.now)) }
 {
     match forms {
         [
@@ -38,7 +40,7 @@ pub fn name_of(alloc: Global, forms: &[Form], end: usize) -> Result<(NameAt, &[F
             },
             rest @ ..,
         ] => {
-            let name = named(alloc, name, *at)?;
+            let name = placed_name(alloc, name, *at)?;
             Ok((name, rest))
         }
         _ => Err(first_refusal(alloc, forms, end)),
@@ -46,12 +48,13 @@ pub fn name_of(alloc: Global, forms: &[Form], end: usize) -> Result<(NameAt, &[F
 }
 
 /// The first number, its place, and what follows it. The place `end` is that behind the forms.
-pub fn number_of(
+pub fn number_at(
     alloc: Global,
     forms: &[Form],
     end: usize,
 ) -> Result<(i64, usize, &[Form]), ReadError>
-    ensures { Gives (λ x. (x.0, x.1, forms_view x.2.now)) result (number_at (forms_view forms.now)) }
+    ensures { Gives Refuses (λ x. (x.0, x.1, forms_view x.2.now)) result
+        (number_at (forms_view forms.now)) }
 {
     match forms {
         [
@@ -66,12 +69,13 @@ pub fn number_of(
 }
 
 /// What stands in the first form, the place of its closing parenthesis, and what follows it.
-pub fn group_of(
+pub fn group_at(
     alloc: Global,
     forms: &[Form],
     end: usize,
 ) -> Result<(&[Form], usize, &[Form]), ReadError>
-    ensures { Gives (λ x. (forms_view x.0.now, forms_view x.2.now)) result (group_at (forms_view forms.now)) }
+    ensures { Gives Refuses (λ x. (forms_view x.0.now, forms_view x.2.now)) result
+        (group_at (forms_view forms.now)) }
 {
     match forms {
         [Form::List { inside, to, .. }, rest @ ..] => Ok((inside.as_slice(), *to, rest)),
@@ -80,8 +84,8 @@ pub fn group_of(
 }
 
 /// Asks that nothing follows.
-pub fn end_of(alloc: Global, forms: &[Form]) -> Result<(), ReadError>
-    ensures { Gives (λ _. tt) result (end_at (forms_view forms.now)) }
+pub fn end_at(alloc: Global, forms: &[Form]) -> Result<(), ReadError>
+    ensures { Gives Refuses (λ _. tt) result (end_at (forms_view forms.now)) }
 {
     match forms {
         [] => Ok(()),
@@ -97,7 +101,8 @@ pub fn behind_name<'a>(
     forms: &'a [Form],
     end: usize,
 ) -> Result<&'a [Form], ReadError>
-    ensures { Gives (λ x. forms_view x.now) result (behind_name text.now (forms_view forms.now)) }
+    ensures { Gives Refuses (λ x. forms_view x.now) result
+        (behind_name text.now (forms_view forms.now)) }
 {
     match forms {
         [
@@ -148,7 +153,8 @@ pub fn behind_keyword<'a>(
     forms: &'a [Form],
     end: usize,
 ) -> Result<&'a [Form], ReadError>
-    ensures { Gives (λ x. forms_view x.now) result (behind_keyword text.now (forms_view forms.now)) }
+    ensures { Gives Refuses (λ x. forms_view x.now) result
+        (behind_keyword text.now (forms_view forms.now)) }
 {
     match find_keyword(text, forms) {
         Some(rest) => Ok(rest),

@@ -3,8 +3,8 @@
 ghost use Rattle.std.specs.Prelude.{◌≡◌};
 ghost use Rattle.hd_forms.specs.Word.{is_unsupported_name, name_word};
 
+use hd_base::Name;
 use hd_lex::Operator;
-use hd_list::Name;
 
 /// How an effect changes a number.
 #[derive(Clone, Copy, Debug, PartialEq, Eq)]

@@ -1,7 +1,7 @@
 -- What a text says, read from its front.
-use Rattle.std.proofs.Common.{◌≡◌, ℕ, suc, ◌+◌, ◌<◌, List, [], ◌∷◌, ◌++◌, length, get_or, take, drop, true, Result, Ok, Err, refl, sym, ap, ◌∙◌, append_assoc, arith}
+use Rattle.std.proofs.Common.{◌≡◌, ℕ, ◌+◌, ◌<◌, List, [], ◌∷◌, ◌++◌, length, get_or, take, drop, true, Result, Ok, Err, refl, sym, ap, ◌∙◌, append_assoc, arith}
 use Rattle.std.specs.List.{prefix_len}
-use Rattle.std.proofs.lemmas.List.{append-nil}
+use Rattle.std.proofs.lemmas.List.{append-nil, drop-drop}
 use Rattle.std.proofs.lemmas.List.Folds.{length-prefix_len}
 use Rattle.std.proofs.lemmas.Bool.Decides.{nat_tests}
 use Rattle.hd_lex.specs.declared.byte.Class.TheVariants as classes
@@ -19,10 +19,6 @@ use Rattle.hd_lex.proofs.Cutting.{word-some, words_of}
 moved : {to to' : ℕ} {rest rest' : List ℕ} {words : List Placed} → to ≡ to' → rest ≡ rest'
     → AreWords to rest words → AreWords to' rest' words
 moved e f are = rw (← e, ← f) are
-
--- one byte more
-drop-one : (n x : ℕ) (xs : List ℕ) → drop (1 + n) (x ∷ xs) ≡ drop n xs
-drop-one n x xs = let one : 1 + n ≡ suc n = omega arith in ap (λ (k : ℕ). drop k (x ∷ xs)) one
 
 with_front-nil : (said : Result (List Token) LexError) → with_front [] said ≡ said
 with_front-nil (Ok tokens) = refl
@@ -51,11 +47,11 @@ read-comment at len (x ∷ xs) some is has words are =
     let line = prefix_len is_line_byte xs in
     let n : len ≡ 1 + line = has ∙ comment-len x xs is in
     let place : at + len ≡ at + 1 + length (take line xs) = omega (arith, length-prefix_len is_line_byte xs) in
-    let later : drop len (x ∷ xs) ≡ drop line xs = ap (λ (k : ℕ). drop k (x ∷ xs)) n ∙ drop-one line x xs in
+    let later : drop len (x ∷ xs) ≡ drop line xs = ap (λ (k : ℕ). drop k (x ∷ xs)) n ∙ sym (drop-drop line 1 (x ∷ xs)) in
     record {
       words = words;
       are_words =
-          texts.comment is (run_of is_line_byte xs) (moved place (ap (λ (k : ℕ). drop k (x ∷ xs)) n ∙ drop-one line x xs) are);
+          texts.comment is (run_of is_line_byte xs) (moved place (ap (λ (k : ℕ). drop k (x ∷ xs)) n ∙ sym (drop-drop line 1 (x ∷ xs))) are);
       tokens = sym (with_front-nil _);
     }
 

@@ -3,23 +3,11 @@ use Rattle.std.proofs.Common.{◌≡◌, ℕ, suc, ◌+◌, List, [], ◌∷◌,
 use Rattle.std.proofs.Math.Seq.{take-append_seam, drop-append_seam}
 use Rattle.std.proofs.lemmas.List.{take-append-drop}
 use Rattle.std.specs.List.{prefix_len, list_all}
+use Rattle.std.proofs.lemmas.Bool.{and_parts}
+use Rattle.hd_base.proofs.Tests.{list_all-take_while}
 use Rattle.hd_lex.specs.Text.{IsEnd, IsRun}
-use Rattle.hd_lex.proofs.Digits.{both}
 
--- the longest front that passes passes
-front-passes_one : (test : ℕ → Bool) (x : ℕ) (xs : List ℕ) (b : Bool) → test x ≡ b
-    → list_all test (take (prefix_len test xs) xs) ≡ true
-    → list_all test (take (prefix_len test (x ∷ xs)) (x ∷ xs)) ≡ true
-front-passes_one test x xs true e more =
-    let one : 1 + prefix_len test xs ≡ suc (prefix_len test xs) = omega arith in
-    rw (e, one, e) more
-front-passes_one test x xs false e more = rw e refl
-
-front-passes : (test : ℕ → Bool) (xs : List ℕ) → list_all test (take (prefix_len test xs) xs) ≡ true
-front-passes test [] = refl
-front-passes test (x ∷ xs) = front-passes_one test x xs (test x) refl (front-passes test xs)
-
--- and behind it the test fails
+-- behind the longest front that passes the test fails
 front-ends_one : (test : ℕ → Bool) (x : ℕ) (xs : List ℕ) (b : Bool) → test x ≡ b
     → IsEnd test (drop (prefix_len test xs) xs)
     → IsEnd test (drop (prefix_len test (x ∷ xs)) (x ∷ xs))
@@ -37,7 +25,7 @@ pub run_of : (test : ℕ → Bool) (text : List ℕ)
     → IsRun test text (take (prefix_len test text) text) (drop (prefix_len test text) text)
 run_of test text = record {
   parts = sym (take-append-drop (prefix_len test text) text);
-  all = front-passes test text;
+  all = list_all-take_while test text;
   longest = front-ends test text;
 }
 
@@ -47,7 +35,7 @@ run-len : (test : ℕ → Bool) (run rest : List ℕ) → list_all test run ≡ 
 run-len test [] [] all end = refl
 run-len test [] (y ∷ ys) all end = rw end refl
 run-len test (x ∷ xs) rest all end =
-    let p = both (test x) (list_all test xs) all in
+    let p = and_parts (test x) (list_all test xs) all in
     let more : prefix_len test (xs ++ rest) ≡ length xs = run-len test xs rest p.1 end in
     rw (p.0, more) (omega arith)
 

@@ -1,8 +1,7 @@
 -- The spans of a text's tokens.
-use Rattle.std.proofs.Common.{◌≡◌, ℕ, ◌+◌, ◌-◌, ◌≤◌, List, [], ◌∷◌, ◌++◌, length, take, drop, Ok, sym, ap, ap₂, ◌∙◌, arith, slice_range}
-use Rattle.std.proofs.Math.Seq.{take-append_seam, drop-append_seam}
-use Rattle.std.proofs.lemmas.List.{drop-drop}
+use Rattle.std.proofs.Common.{◌≡◌, ℕ, ◌+◌, ◌≤◌, List, [], ◌∷◌, ◌++◌, length, drop, Ok, ap, ◌∙◌, arith}
 use Rattle.std.specs.List.{AllByRecursion}
+use Rattle.hd_base.proofs.Lists.{drop_behind, slice_range_at}
 use Rattle.hd_lex.specs.declared.token.Token.{Token}
 use Rattle.hd_lex.specs.Byte.{is_word_byte, is_line_byte}
 use Rattle.hd_lex.specs.Reading.{tokens_of}
@@ -43,19 +42,6 @@ tokens-in_order (texts.word {at = at} {words = words} some run more) tokens e =
 
 -- ---- at their bytes
 
--- what follows the front of a text
-behind : (whole : List ℕ) (at : ℕ) (front rest : List ℕ) → drop at whole ≡ front ++ rest
-    → drop (at + length front) whole ≡ rest
-behind whole at front rest here =
-    sym (drop-drop (length front) at whole) ∙ ap (drop (length front)) here ∙ drop-append_seam front rest
-
--- a span of the text is the bytes there
-bytes_there : (whole : List ℕ) (at : ℕ) (front rest : List ℕ) → drop at whole ≡ front ++ rest
-    → slice_range whole at (at + length front) ≡ front
-bytes_there whole at front rest here =
-    let size : at + length front - at ≡ length front = omega arith in
-    ap₂ (λ (n : ℕ) (xs : List ℕ). take n xs) size here ∙ take-append_seam front rest
-
 -- each token of a text is what the bytes of its span say
 pub tokens-at_bytes : (whole : List ℕ) {at : ℕ} {text : List ℕ} {words : List Placed} → AreWords at text words
     → drop at whole ≡ text
@@ -65,21 +51,21 @@ tokens-at_bytes whole texts.nothing here tokens e =
     let none : [] ≡ tokens = cc in
     rw (← none) tt
 tokens-at_bytes whole (texts.blank {at = at} {byte = byte} {rest = rest} is more) here tokens e =
-    tokens-at_bytes whole more (behind whole at (byte ∷ []) rest here) tokens e
+    tokens-at_bytes whole more (drop_behind whole at (byte ∷ []) rest here) tokens e
 tokens-at_bytes whole (texts.comment {at = at} {byte = byte} {line = line} {rest = rest} is run more) here tokens e =
     let place : at + 1 + length line ≡ at + length (byte ∷ line) = omega arith in
     let parts : drop at whole ≡ (byte ∷ line) ++ rest = here ∙ ap (λ (xs : List ℕ). byte ∷ xs) run.parts in
-    let later : drop (at + 1 + length line) whole ≡ rest = rw place (behind whole at (byte ∷ line) rest parts) in
+    let later : drop (at + 1 + length line) whole ≡ rest = rw place (drop_behind whole at (byte ∷ line) rest parts) in
     tokens-at_bytes whole more later tokens e
 tokens-at_bytes whole (texts.parenthesis {at = at} {byte = byte} {rest = rest} {words = words} is more) here tokens e =
     let first = first_of_tokens _ words tokens e in
     rw (← first.all) (
-      rw (bytes_there whole at (byte ∷ []) rest here) (word-is at first.is),
-      tokens-at_bytes whole more (behind whole at (byte ∷ []) rest here) first.rest first.are,
+      rw (slice_range_at whole at (byte ∷ []) rest here) (word-is at first.is),
+      tokens-at_bytes whole more (drop_behind whole at (byte ∷ []) rest here) first.rest first.are,
     )
 tokens-at_bytes whole (texts.word {at = at} {bytes = bytes} {rest = rest} {words = words} some run more) here tokens e =
     let first = first_of_tokens _ words tokens e in
     rw (← first.all) (
-      rw (bytes_there whole at bytes rest (here ∙ run.parts)) (word-is at first.is),
-      tokens-at_bytes whole more (behind whole at bytes rest (here ∙ run.parts)) first.rest first.are,
+      rw (slice_range_at whole at bytes rest (here ∙ run.parts)) (word-is at first.is),
+      tokens-at_bytes whole more (drop_behind whole at bytes rest (here ∙ run.parts)) first.rest first.are,
     )

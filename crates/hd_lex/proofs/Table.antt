@@ -1,25 +1,18 @@
 -- What is read of a word is what the table says, and its fault is the one that the table says.
-use Rattle.std.proofs.Common.{◌≡◌, ◌⊎◌, inl, inr, ℕ, ◌<◌, ◌≤◌, List, [], ◌∷◌, length, Bool, true, false, ◌==◌, ◌&&◌, nat_le, if◌then◌else◌, Option, Some, None, Result, Ok, Err, refl, sym, ap, subst, ◌∙◌, arith, pos, neg_ℤ}
+use Rattle.std.proofs.Common.{◌≡◌, ◌⊎◌, inl, inr, ℕ, ◌<◌, List, [], ◌∷◌, length, Bool, true, false, ◌==◌, ◌&&◌, nat_le, if◌then◌else◌, Option, Some, None, Result, Ok, Err, refl, sym, ap, subst, ◌∙◌, arith, pos, neg_ℤ}
 use Rattle.std.specs.Char.{is_ascii_alphabetic, is_ascii_digit}
 use Rattle.std.specs.Str.Parse.{digits_value}
 use Rattle.std.proofs.lemmas.Bool.Decides.{nat_tests}
+use Rattle.hd_lex.specs.declared.word.TheConstants.{LONGEST_NAME}
+use Rattle.std.proofs.lemmas.Bool.{and_parts, false_from_ne_true, le-leb, lt-leb, eqb-true}
 use Rattle.hd_lex.specs.declared.error.LexError.{LexError}
 use Rattle.hd_lex.specs.declared.error.LexError.TheVariants.{BadByte, BadNumber, NameTooLong}
 use Rattle.hd_lex.specs.declared.token.Word.{Word}
 use Rattle.hd_lex.specs.declared.token.Word.TheVariants as words
-use Rattle.hd_lex.specs.Reading.{name_of, number_of, negative_of, sign_of, sign_or_fault, worded, word_of}
+use Rattle.hd_lex.specs.Reading.{name_of, number_of, negative_of, sign_of, sign_or_fault, word_by, word_of}
 use Rattle.hd_lex.specs.Word as table
 use Rattle.hd_lex.specs.Word.{is_name, is_number, begins_with_digit, begins_as_number, IsSign, IsName, IsWord, IsLongName, IsBad}
-use Rattle.hd_lex.proofs.Digits.{both, number_parts}
-
--- a test that can't be true is false
-false_if : (b : Bool) → (b ≡ true → ⊥) → b ≡ false
-false_if true never = absurd (never refl)
-false_if false never = refl
-
--- a number that passes the test is the one
-is_same : (x k : ℕ) → (x == k) ≡ true → x ≡ k
-is_same x k e = grind (arith, nat_tests)
+use Rattle.hd_lex.proofs.Digits.{number_parts}
 
 -- ---- what is in the table is read
 
@@ -83,7 +76,7 @@ digit-first-no_sign : (x : ℕ) (xs : List ℕ) → is_ascii_digit x ≡ true �
 digit-first-no_sign x xs e = no_sign x xs (digit-no_sign x (digit-above x e) (omega (arith, digit-below x e)))
 
 same-no_sign : (x k : ℕ) (xs : List ℕ) → IsNoSign k → (x == k) ≡ true → sign_of (x ∷ xs) ≡ None
-same-no_sign x k xs apart e = ap (λ (j : ℕ). sign_of (j ∷ xs)) (is_same x k e) ∙ no_sign k xs apart
+same-no_sign x k xs apart e = ap (λ (j : ℕ). sign_of (j ∷ xs)) (eqb-true x k e) ∙ no_sign k xs apart
 
 -- '-' before a digit is no sign
 minus_digit-no_sign : (xs : List ℕ) → begins_with_digit xs ≡ true → sign_of (45 ∷ xs) ≡ None
@@ -93,8 +86,8 @@ minus_digit-no_sign (y ∷ z ∷ rest) e = refl
 
 minus-no_sign : (x : ℕ) (xs : List ℕ) → ((x == 45) && begins_with_digit xs) ≡ true → sign_of (x ∷ xs) ≡ None
 minus-no_sign x xs e =
-    let p = both (x == 45) (begins_with_digit xs) e in
-    ap (λ (j : ℕ). sign_of (j ∷ xs)) (is_same x 45 p.0) ∙ minus_digit-no_sign xs p.1
+    let p = and_parts (x == 45) (begins_with_digit xs) e in
+    ap (λ (j : ℕ). sign_of (j ∷ xs)) (eqb-true x 45 p.0) ∙ minus_digit-no_sign xs p.1
 
 -- a sign is the one of its bytes
 sign-of : {bytes : List ℕ} {word : Word} → IsSign bytes word → sign_of bytes ≡ Some word
@@ -128,11 +121,11 @@ tested bytes false word others is found = found
 
 -- the byte is the sign's
 byte_is : (x k : ℕ) (word : Word) → IsSign (k ∷ []) word → (x == k) ≡ true → IsSign (x ∷ []) word
-byte_is x k word is e = rw (is_same x k e) is
+byte_is x k word is e = rw (eqb-true x k e) is
 
 bytes_are : (x y k l : ℕ) (word : Word) → IsSign (k ∷ l ∷ []) word → ((x == k) && (y == l)) ≡ true
     → IsSign (x ∷ y ∷ []) word
-bytes_are x y k l word is e = let p = both (x == k) (y == l) e in rw (is_same x k p.0, is_same y l p.1) is
+bytes_are x y k l word is e = let p = and_parts (x == k) (y == l) e in rw (eqb-true x k p.0, eqb-true y l p.1) is
 
 sign-found : (bytes : List ℕ) → AllFound bytes (sign_of bytes)
 sign-found [] = none_found []
@@ -156,54 +149,48 @@ sign-read : (at : ℕ) (bytes : List ℕ) (word : Word) → sign_of bytes ≡ So
 unfolding word_of
 sign-read at [] word is = absurd cc
 sign-read at (x ∷ xs) word is =
-    let letter : is_ascii_alphabetic x ≡ false = false_if _ (λ e. let none = letter-no_sign x xs e in cc) in
+    let letter : is_ascii_alphabetic x ≡ false = false_from_ne_true _ (λ e. let none = letter-no_sign x xs e in cc) in
     let question_mark = above_62-no_sign 63 (omega arith) in
     let colon = digit-no_sign 58 (omega arith) (omega arith) in
-    let variable : (x == 63) ≡ false = false_if _ (λ e. let none = same-no_sign x 63 xs question_mark e in cc) in
-    let keyword : (x == 58) ≡ false = false_if _ (λ e. let none = same-no_sign x 58 xs colon e in cc) in
-    let digit : is_ascii_digit x ≡ false = false_if _ (λ e. let none = digit-first-no_sign x xs e in cc) in
-    let minus : ((x == 45) && begins_with_digit xs) ≡ false = false_if _ (λ e. let none = minus-no_sign x xs e in cc) in
+    let variable : (x == 63) ≡ false = false_from_ne_true _ (λ e. let none = same-no_sign x 63 xs question_mark e in cc) in
+    let keyword : (x == 58) ≡ false = false_from_ne_true _ (λ e. let none = same-no_sign x 58 xs colon e in cc) in
+    let digit : is_ascii_digit x ≡ false = false_from_ne_true _ (λ e. let none = digit-first-no_sign x xs e in cc) in
+    let minus : ((x == 45) && begins_with_digit xs) ≡ false = false_from_ne_true _ (λ e. let none = minus-no_sign x xs e in cc) in
     rw (letter, variable, keyword, digit, minus) (ap (sign_or_fault at) is)
-
-short-test : (n : ℕ) → n ≤ 255 → nat_le n 255 ≡ true
-short-test n h = grind (arith, nat_tests)
-
-long-test : (n : ℕ) → 255 < n → nat_le n 255 ≡ false
-long-test n h = grind (arith, nat_tests)
 
 name-read : (at : ℕ) (bytes name : List ℕ) → IsName bytes name → name_of at bytes ≡ Ok name
 unfolding name_of
-name-read at bytes name is = rw (is.spelled, short-test (length bytes) is.short) (ap Ok (sym is.folded))
+name-read at bytes name is = rw (is.spelled, le-leb (length bytes) 255 is.short) (ap Ok (sym is.folded))
 
-long-read : (at : ℕ) (bytes : List ℕ) → is_name bytes ≡ true → 255 < length bytes
+long-read : (at : ℕ) (bytes : List ℕ) → is_name bytes ≡ true → LONGEST_NAME < length bytes
     → name_of at bytes ≡ Err (NameTooLong at)
 unfolding name_of
-long-read at bytes spelled long = rw (spelled, long-test (length bytes) long) refl
+long-read at bytes spelled long = rw (spelled, lt-leb (length bytes) 255 long) refl
 
 -- a name is read by its first letter
-by_letter : (at : ℕ) (bytes : List ℕ) → is_name bytes ≡ true → word_of at bytes ≡ worded words.Name (name_of at bytes)
+by_letter : (at : ℕ) (bytes : List ℕ) → is_name bytes ≡ true → word_of at bytes ≡ word_by words.Name (name_of at bytes)
 unfolding word_of
 by_letter at [] e = absurd cc
-by_letter at (x ∷ xs) e = let letter : is_ascii_alphabetic x ≡ true = (both _ _ e).0 in rw letter refl
+by_letter at (x ∷ xs) e = let letter : is_ascii_alphabetic x ≡ true = (and_parts _ _ e).0 in rw letter refl
 
-by_question_mark : (at : ℕ) (xs : List ℕ) → word_of at (63 ∷ xs) ≡ worded words.Variable (name_of at xs)
+by_question_mark : (at : ℕ) (xs : List ℕ) → word_of at (63 ∷ xs) ≡ word_by words.Variable (name_of at xs)
 unfolding word_of
 by_question_mark at xs = refl
 
-by_colon : (at : ℕ) (xs : List ℕ) → word_of at (58 ∷ xs) ≡ worded words.Keyword (name_of at xs)
+by_colon : (at : ℕ) (xs : List ℕ) → word_of at (58 ∷ xs) ≡ word_by words.Keyword (name_of at xs)
 unfolding word_of
 by_colon at xs = refl
 
 -- a number is read by its first digit
 first_digit : (bytes : List ℕ) → is_number bytes ≡ true → begins_with_digit bytes ≡ true
 first_digit [] e = absurd cc
-first_digit (x ∷ xs) e = (both _ _ (number_parts (x ∷ xs) e).digits).0
+first_digit (x ∷ xs) e = (and_parts _ _ (number_parts (x ∷ xs) e).digits).0
 
 digit-no_letter : (x : ℕ) → is_ascii_digit x ≡ true → is_ascii_alphabetic x ≡ false
-digit-no_letter x e = false_if _ (λ h. let a = letter-above x h in let b = digit-below x e in absurd (omega arith))
+digit-no_letter x e = false_from_ne_true _ (λ h. let a = letter-above x h in let b = digit-below x e in absurd (omega arith))
 
 by_digit : (at : ℕ) (bytes : List ℕ) → begins_with_digit bytes ≡ true
-    → word_of at bytes ≡ worded words.Number (number_of at bytes)
+    → word_of at bytes ≡ word_by words.Number (number_of at bytes)
 unfolding word_of
 by_digit at [] digit = absurd cc
 by_digit at (x ∷ xs) digit =
@@ -218,7 +205,7 @@ value-read at bytes e = rw e refl
 
 number-read : (at : ℕ) (bytes : List ℕ) → is_number bytes ≡ true
     → word_of at bytes ≡ Ok (words.Number (pos (digits_value 10 bytes)))
-number-read at bytes e = by_digit at bytes (first_digit bytes e) ∙ ap (worded words.Number) (value-read at bytes e)
+number-read at bytes e = by_digit at bytes (first_digit bytes e) ∙ ap (word_by words.Number) (value-read at bytes e)
 
 signed_number-read : (at : ℕ) (bytes : List ℕ) → is_number bytes ≡ true
     → word_of at (45 ∷ bytes) ≡ Ok (words.SignedNumber (neg_ℤ (pos (digits_value 10 bytes))))
@@ -229,22 +216,22 @@ signed_number-read at bytes e = rw (first_digit bytes e, e) refl
 pub word-read : (at : ℕ) {bytes : List ℕ} {word : Word} → IsWord bytes word → word_of at bytes ≡ Ok word
 word-read at (table.sign {bytes = bytes} {word = word} is) = sign-read at bytes word (sign-of is)
 word-read at (table.IsWord.name {bytes =
-    bytes} {name = name} is) = by_letter at bytes is.spelled ∙ ap (worded words.Name) (name-read at bytes name is)
+    bytes} {name = name} is) = by_letter at bytes is.spelled ∙ ap (word_by words.Name) (name-read at bytes name is)
 word-read at (table.IsWord.variable {bytes =
-    bytes} {name = name} is) = by_question_mark at bytes ∙ ap (worded words.Variable) (name-read at bytes name is)
+    bytes} {name = name} is) = by_question_mark at bytes ∙ ap (word_by words.Variable) (name-read at bytes name is)
 word-read at (table.IsWord.keyword {bytes =
-    bytes} {name = name} is) = by_colon at bytes ∙ ap (worded words.Keyword) (name-read at bytes name is)
+    bytes} {name = name} is) = by_colon at bytes ∙ ap (word_by words.Keyword) (name-read at bytes name is)
 word-read at (table.number {bytes = bytes} is) = number-read at bytes is
 word-read at (table.signed_number {bytes = bytes} is) = signed_number-read at bytes is
 
 -- a name that is too long is told
 pub long_name-told : (at : ℕ) {bytes : List ℕ} → IsLongName bytes → word_of at bytes ≡ Err (NameTooLong at)
 long_name-told at (table.IsLongName.name {bytes =
-    bytes} spelled long) = by_letter at bytes spelled ∙ ap (worded words.Name) (long-read at bytes spelled long)
+    bytes} spelled long) = by_letter at bytes spelled ∙ ap (word_by words.Name) (long-read at bytes spelled long)
 long_name-told at (table.IsLongName.variable {bytes =
-    bytes} spelled long) = by_question_mark at bytes ∙ ap (worded words.Variable) (long-read at bytes spelled long)
+    bytes} spelled long) = by_question_mark at bytes ∙ ap (word_by words.Variable) (long-read at bytes spelled long)
 long_name-told at (table.IsLongName.keyword {bytes =
-    bytes} spelled long) = by_colon at bytes ∙ ap (worded words.Keyword) (long-read at bytes spelled long)
+    bytes} spelled long) = by_colon at bytes ∙ ap (word_by words.Keyword) (long-read at bytes spelled long)
 
 -- ---- what is read is in the table, and what is told is so
 
@@ -261,11 +248,11 @@ IsSo at bytes (Err error) = IsWhy at bytes error
 
 -- the bytes behind a mark, or all of them, as a name
 named-so : (at : ℕ) (bytes whole : List ℕ) (make : List ℕ → Word) (spelled short : Bool)
-    → is_name bytes ≡ spelled → nat_le (length bytes) 255 ≡ short
+    → is_name bytes ≡ spelled → nat_le (length bytes) LONGEST_NAME ≡ short
     → begins_as_number whole ≡ false
     → ((name : List ℕ) → IsName bytes name → IsWord whole (make name))
-    → (is_name bytes ≡ true → 255 < length bytes → IsLongName whole)
-    → IsSo at whole (worded make (name_of at bytes))
+    → (is_name bytes ≡ true → LONGEST_NAME < length bytes → IsLongName whole)
+    → IsSo at whole (word_by make (name_of at bytes))
 unfolding name_of
 named-so at bytes whole make true true is_spelled is_short other good long =
     rw (is_spelled, is_short) (good _ (record {
@@ -279,14 +266,14 @@ named-so at bytes whole make true false is_spelled is_short other good long =
 named-so at bytes whole make false short is_spelled is_short other good long = rw is_spelled (as_other other)
 
 number-so : (at : ℕ) (bytes : List ℕ) (b : Bool) → is_number bytes ≡ b → begins_as_number bytes ≡ true
-    → IsSo at bytes (worded words.Number (number_of at bytes))
+    → IsSo at bytes (word_by words.Number (number_of at bytes))
 unfolding number_of
 number-so at bytes true is first = rw is (table.number is)
 number-so at bytes false is first = rw is (as_number first)
 
 negative-so : (at : ℕ) (bytes : List ℕ) (b : Bool) → is_number bytes ≡ b
     → begins_as_number (45 ∷ bytes) ≡ true
-    → IsSo at (45 ∷ bytes) (worded words.SignedNumber (negative_of at bytes))
+    → IsSo at (45 ∷ bytes) (word_by words.SignedNumber (negative_of at bytes))
 unfolding negative_of
 negative-so at bytes true is first = rw is (table.signed_number is)
 negative-so at bytes false is first = rw is (as_number first)
@@ -299,7 +286,7 @@ sign-so at bytes None is other = as_other other
 letter-no_number : (x : ℕ) (xs : List ℕ) → is_ascii_alphabetic x ≡ true → begins_as_number (x ∷ xs) ≡ false
 letter-no_number x xs e =
     let above = letter-above x e in
-    let digit : is_ascii_digit x ≡ false = false_if _ (λ h. let below = digit-below x h in absurd (omega arith)) in
+    let digit : is_ascii_digit x ≡ false = false_from_ne_true _ (λ h. let below = digit-below x h in absurd (omega arith)) in
     let minus : (x == 45) ≡ false = (above_62-no_sign x (omega (arith, letter-above x e))).not_45 in
     rw (digit, minus) refl
 
@@ -308,52 +295,52 @@ letter-no_number x xs e =
 -- what is said behind the test for a digit, for ':', for '?' and for a letter
 abbrev behind_digit : ℕ → ℕ → List ℕ → Result Word LexError
 behind_digit at x xs =
-    if (x == 45) && begins_with_digit xs then worded words.SignedNumber (negative_of at xs)
+    if (x == 45) && begins_with_digit xs then word_by words.SignedNumber (negative_of at xs)
     else sign_or_fault at (sign_of (x ∷ xs))
 
 abbrev behind_colon : ℕ → ℕ → List ℕ → Result Word LexError
-behind_colon at x xs = if is_ascii_digit x then worded words.Number (number_of at (x ∷ xs)) else behind_digit at x xs
+behind_colon at x xs = if is_ascii_digit x then word_by words.Number (number_of at (x ∷ xs)) else behind_digit at x xs
 
 abbrev behind_mark : ℕ → ℕ → List ℕ → Result Word LexError
-behind_mark at x xs = if x == 58 then worded words.Keyword (name_of at xs) else behind_colon at x xs
+behind_mark at x xs = if x == 58 then word_by words.Keyword (name_of at xs) else behind_colon at x xs
 
 minus-so : (at x : ℕ) (xs : List ℕ) (b : Bool) → ((x == 45) && begins_with_digit xs) ≡ b → is_ascii_digit x ≡ false
-    → IsSo at (x ∷ xs) (if b then worded words.SignedNumber (negative_of at xs) else sign_or_fault at (sign_of (x ∷ xs)))
+    → IsSo at (x ∷ xs) (if b then word_by words.SignedNumber (negative_of at xs) else sign_or_fault at (sign_of (x ∷ xs)))
 minus-so at x xs true e digit =
-    let p = both (x == 45) (begins_with_digit xs) e in
+    let p = and_parts (x == 45) (begins_with_digit xs) e in
     let first : begins_as_number (45 ∷ xs) ≡ true = p.1 in
-    rw (is_same x 45 p.0) (negative-so at xs (is_number xs) refl first)
+    rw (eqb-true x 45 p.0) (negative-so at xs (is_number xs) refl first)
 minus-so at x xs false e digit =
     let other : begins_as_number (x ∷ xs) ≡ false = rw (digit, e) refl in
     sign-so at (x ∷ xs) (sign_of (x ∷ xs)) refl other
 
 digit-so : (at x : ℕ) (xs : List ℕ) (b : Bool) → is_ascii_digit x ≡ b
-    → IsSo at (x ∷ xs) (if b then worded words.Number (number_of at (x ∷ xs)) else behind_digit at x xs)
+    → IsSo at (x ∷ xs) (if b then word_by words.Number (number_of at (x ∷ xs)) else behind_digit at x xs)
 digit-so at x xs true e =
     let first : begins_as_number (x ∷ xs) ≡ true = rw e refl in
     number-so at (x ∷ xs) (is_number (x ∷ xs)) refl first
 digit-so at x xs false e = minus-so at x xs ((x == 45) && begins_with_digit xs) refl e
 
 colon-so : (at x : ℕ) (xs : List ℕ) (b : Bool) → (x == 58) ≡ b
-    → IsSo at (x ∷ xs) (if b then worded words.Keyword (name_of at xs) else behind_colon at x xs)
+    → IsSo at (x ∷ xs) (if b then word_by words.Keyword (name_of at xs) else behind_colon at x xs)
 colon-so at x xs true e =
-    rw (is_same x 58 e)
-    (named-so at xs (58 ∷ xs) words.Keyword (is_name xs) (nat_le (length xs) 255) refl refl refl
+    rw (eqb-true x 58 e)
+    (named-so at xs (58 ∷ xs) words.Keyword (is_name xs) (nat_le (length xs) LONGEST_NAME) refl refl refl
     (λ name is. table.IsWord.keyword is) (λ spelled long. table.IsLongName.keyword spelled long))
 colon-so at x xs false e = digit-so at x xs (is_ascii_digit x) refl
 
 mark-so : (at x : ℕ) (xs : List ℕ) (b : Bool) → (x == 63) ≡ b
-    → IsSo at (x ∷ xs) (if b then worded words.Variable (name_of at xs) else behind_mark at x xs)
+    → IsSo at (x ∷ xs) (if b then word_by words.Variable (name_of at xs) else behind_mark at x xs)
 mark-so at x xs true e =
-    rw (is_same x 63 e)
-    (named-so at xs (63 ∷ xs) words.Variable (is_name xs) (nat_le (length xs) 255) refl refl refl
+    rw (eqb-true x 63 e)
+    (named-so at xs (63 ∷ xs) words.Variable (is_name xs) (nat_le (length xs) LONGEST_NAME) refl refl refl
     (λ name is. table.IsWord.variable is) (λ spelled long. table.IsLongName.variable spelled long))
 mark-so at x xs false e = colon-so at x xs (x == 58) refl
 
 letter-so : (at x : ℕ) (xs : List ℕ) (b : Bool) → is_ascii_alphabetic x ≡ b → IsSo at (x ∷ xs) (word_of at (x ∷ xs))
 unfolding word_of
 letter-so at x xs true e =
-    rw e (named-so at (x ∷ xs) (x ∷ xs) words.Name (is_name (x ∷ xs)) (nat_le (length (x ∷ xs)) 255) refl refl
+    rw e (named-so at (x ∷ xs) (x ∷ xs) words.Name (is_name (x ∷ xs)) (nat_le (length (x ∷ xs)) LONGEST_NAME) refl refl
     (letter-no_number x xs e) (λ name is. table.IsWord.name is) (λ spelled long. table.IsLongName.name spelled long))
 letter-so at x xs false e = rw e (mark-so at x xs (x == 63) refl)
 
@@ -382,7 +369,7 @@ bad-is at {bytes =
 -- a name that is too long begins as no number
 long_name-first : {bytes : List ℕ} → IsLongName bytes → begins_as_number bytes ≡ false
 long_name-first (table.IsLongName.name {bytes = []} spelled long) = refl
-long_name-first (table.IsLongName.name {bytes = x ∷ xs} spelled long) = letter-no_number x xs (both _ _ spelled).0
+long_name-first (table.IsLongName.name {bytes = x ∷ xs} spelled long) = letter-no_number x xs (and_parts _ _ spelled).0
 long_name-first (table.IsLongName.variable spelled long) = refl
 long_name-first (table.IsLongName.keyword spelled long) = refl
 
@@ -435,7 +422,7 @@ fault_unique at bytes a b is also =
     let other = bad-read also in
     cc
 
--- and never both
+-- and never and_parts
 pub word_not_bad : (at : ℕ) (bytes : List ℕ) (word : Word) (fault : LexError) → IsWord bytes word
     → IsBad at bytes fault → ⊥
 word_not_bad at bytes word fault is bad =

@@ -1,11 +1,12 @@
 -- What the words of a text give together: their tokens, or the fault of the first bad one.
 use Rattle.std.proofs.Common.{◌≡◌, ◌⊎◌, inl, inr, ℕ, ◌+◌, List, [], ◌∷◌, ◌++◌, length, Result, Ok, Err, refl, sym, ap, ◌∙◌}
 use Rattle.std.specs.List.{AllByRecursion, AllZip}
+use Rattle.hd_base.specs.Results.{◌>>=◌}
 use Rattle.hd_lex.specs.declared.error.LexError.{LexError}
 use Rattle.hd_lex.specs.declared.error.LexError.TheVariants as errors
 use Rattle.hd_lex.specs.declared.token.Token.{Token}
 use Rattle.hd_lex.specs.declared.token.Word.{Word}
-use Rattle.hd_lex.specs.Reading.{◌>>=◌, word_of, token_of, tokens_of, Says, IsRefusal}
+use Rattle.hd_lex.specs.Reading.{word_of, token_of, tokens_of, Says, IsRefusal}
 use Rattle.hd_lex.specs.Text.{Placed, IsTokenOf, AreTokens, IsGood, IsFirstFault, IsFault}
 use Rattle.hd_lex.specs.Word.{IsBad}
 use Rattle.hd_lex.proofs.Cutting.{words_of, words_unique}

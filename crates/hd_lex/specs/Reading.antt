@@ -2,8 +2,10 @@
 use Rattle.std.specs.Prelude.{◌≡◌, ℕ, ◌+◌, List, [], ◌∷◌, ◌++◌, length, map, ◌==◌, ◌&&◌, nat_le, if◌then◌else◌, Option, Some, None, Result, Ok, Err, ℤ, pos, neg_ℤ}
 use Rattle.std.specs.Char.{is_ascii_alphabetic, is_ascii_digit, to_ascii_lowercase}
 use Rattle.std.specs.Str.Parse.{digits_value}
+use Rattle.hd_base.specs.Results.{◌>>=◌}
 use Rattle.hd_lex.specs.Text.{Placed, AreWords}
 use Rattle.hd_lex.specs.Word.{is_name, begins_with_digit, is_number}
+use Rattle.hd_lex.specs.declared.word.TheConstants.{LONGEST_NAME}
 use Rattle.hd_lex.specs.declared.error.LexError.{LexError}
 use Rattle.hd_lex.specs.declared.error.LexError.TheVariants.{BadByte, BadNumber, NameTooLong, NoMemory}
 use Rattle.hd_lex.specs.declared.token.Token.{Token}
@@ -19,16 +21,11 @@ IsFailure (BadByte at) meaning = meaning ≡ Err (BadByte at)
 IsFailure (BadNumber at) meaning = meaning ≡ Err (BadNumber at)
 IsFailure (NameTooLong at) meaning = meaning ≡ Err (NameTooLong at)
 
--- the result is the meaning, unless memory ran out
-abbrev pub Gives : {A : Type 0} → Result A LexError → Result A LexError → Type 0
-Gives (Ok value) meaning = meaning ≡ Ok value
-Gives (Err error) meaning = IsFailure error meaning
-
 -- the name that the bytes spell, or the fault at this place where they spell none
 unfoldable pub name_of : ℕ → List ℕ → Result (List ℕ) LexError
 name_of at bytes =
     if is_name bytes
-    then (if nat_le (length bytes) 255 then Ok (map to_ascii_lowercase bytes) else Err (NameTooLong at))
+    then (if nat_le (length bytes) LONGEST_NAME then Ok (map to_ascii_lowercase bytes) else Err (NameTooLong at))
     else Err (BadByte at)
 
 -- the number that the digits write, or a fault where they are none
@@ -65,26 +62,20 @@ sign_or_fault at None = Err (BadByte at)
 sign_or_fault at (Some word) = Ok word
 
 -- a word made of what was read, or the same fault
-abbrev pub worded : {A : Type 0} → (A → Word) → Result A LexError → Result Word LexError
-worded make (Ok x) = Ok (make x)
-worded make (Err error) = Err error
+abbrev pub word_by : {A : Type 0} → (A → Word) → Result A LexError → Result Word LexError
+word_by make (Ok x) = Ok (make x)
+word_by make (Err error) = Err error
 
 -- what the word at this place is, or its fault
 unfoldable pub word_of : ℕ → List ℕ → Result Word LexError
 word_of at [] = Err (BadByte at)
 word_of at (x ∷ xs) =
-    if is_ascii_alphabetic x then worded Name (name_of at (x ∷ xs))
-    else (if x == 63 then worded Variable (name_of at xs)
-    else (if x == 58 then worded Keyword (name_of at xs)
-    else (if is_ascii_digit x then worded Number (number_of at (x ∷ xs))
-    else (if (x == 45) && begins_with_digit xs then worded SignedNumber (negative_of at xs)
+    if is_ascii_alphabetic x then word_by Name (name_of at (x ∷ xs))
+    else (if x == 63 then word_by Variable (name_of at xs)
+    else (if x == 58 then word_by Keyword (name_of at xs)
+    else (if is_ascii_digit x then word_by Number (number_of at (x ∷ xs))
+    else (if (x == 45) && begins_with_digit xs then word_by SignedNumber (negative_of at xs)
     else sign_or_fault at (sign_of (x ∷ xs))))))
-
-infixl 10 ◌>>=◌
--- what follows a value, or the same fault
-abbrev pub ◌>>=◌ : {A B : Type 0} → Result A LexError → (A → Result B LexError) → Result B LexError
-(Ok x) >>= f = f x
-(Err error) >>= f = Err error
 
 -- the token of a word: its place, the place behind it, and what it is
 abbrev pub token_of : Placed → Result Token LexError

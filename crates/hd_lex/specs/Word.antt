@@ -5,6 +5,7 @@ use Rattle.std.specs.List.{list_all}
 use Rattle.std.specs.Char.{is_ascii_alphabetic, is_ascii_digit, to_ascii_lowercase}
 use Rattle.std.specs.Str.Parse.{digits_value}
 use Rattle.hd_lex.specs.Byte.{is_name_byte}
+use Rattle.hd_lex.specs.declared.word.TheConstants.{LONGEST_NAME, MOST_DIGITS}
 use Rattle.hd_lex.specs.declared.error.LexError.{LexError}
 use Rattle.hd_lex.specs.declared.error.LexError.TheVariants.{BadByte, BadNumber, NameTooLong}
 use Rattle.hd_lex.specs.declared.token.Operator.TheVariants.{Plus, Minus, Times, Divide, Less, LessOrEqual, Equal, GreaterOrEqual, Greater}
@@ -18,7 +19,7 @@ is_name (first ∷ rest) = is_ascii_alphabetic first && list_all is_name_byte re
 
 -- 1 to 18 digits (the number of the BNF, without a fraction; the bound is own)
 abbrev pub is_number : List ℕ → Bool
-is_number bytes = not (length bytes == 0) && nat_le (length bytes) 18 && list_all is_ascii_digit bytes
+is_number bytes = not (length bytes == 0) && nat_le (length bytes) MOST_DIGITS && list_all is_ascii_digit bytes
 
 -- a digit stands first (own)
 abbrev pub begins_with_digit : List ℕ → Bool
@@ -47,7 +48,7 @@ pub data IsSign : List ℕ → Word → Type 0 where
 -- these bytes spell this name: at most 255 bytes, and its letters are folded to lower case (BNF; the bound and the folding are own)
 pub record IsName (bytes name : List ℕ) : Type 0 where
   pub spelled : is_name bytes ≡ true
-  pub short : length bytes ≤ 255
+  pub short : length bytes ≤ LONGEST_NAME
   pub folded : name ≡ map to_ascii_lowercase bytes
 
 -- the table of words: these bytes are this word (BNF; a minus sign of a number is own)
@@ -68,9 +69,9 @@ pub data IsWord : List ℕ → Word → Type 0 where
 
 -- these bytes are a name of more than 255 bytes, alone or behind '?' or ':' (own)
 pub data IsLongName : List ℕ → Type 0 where
-  name : {bytes : List ℕ} → is_name bytes ≡ true → 255 < length bytes → IsLongName bytes
-  variable : {bytes : List ℕ} → is_name bytes ≡ true → 255 < length bytes → IsLongName (63 ∷ bytes)
-  keyword : {bytes : List ℕ} → is_name bytes ≡ true → 255 < length bytes → IsLongName (58 ∷ bytes)
+  name : {bytes : List ℕ} → is_name bytes ≡ true → LONGEST_NAME < length bytes → IsLongName bytes
+  variable : {bytes : List ℕ} → is_name bytes ≡ true → LONGEST_NAME < length bytes → IsLongName (63 ∷ bytes)
+  keyword : {bytes : List ℕ} → is_name bytes ≡ true → LONGEST_NAME < length bytes → IsLongName (58 ∷ bytes)
 
 -- the word of these bytes, the first of which stands at this place, has this fault (own)
 pub data IsBad : ℕ → List ℕ → LexError → Type 0 where

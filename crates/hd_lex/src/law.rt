@@ -6,6 +6,7 @@ ghost use Rattle.hd_lex.specs.Word.{IsWord, IsBad};
 ghost use Rattle.hd_lex.specs.declared.error.LexError.{LexError};
 ghost use Rattle.hd_lex.specs.declared.token.Token.{Token};
 ghost use Rattle.hd_lex.specs.declared.token.Word.{Word};
+ghost use Rattle.hd_lex.specs.declared.word.TheConstants.{LONGEST_NAME, MOST_DIGITS};
 
 /// Any bytes are one word of the table or have one fault, and never both.
 pub fn each_word_is_good_or_bad()
@@ -28,9 +29,17 @@ pub fn each_text_has_its_words()
 /// Every text has its tokens, just these, or the fault of its first bad word, just this, and never both.
 pub fn each_text_is_good_or_bad()
     ensures good_or_bad { (text : List ℕ)
-        → ((tokens : List Token) × AreTokens text tokens) ⊎ ((fault : LexError) × IsFault text fault) }
-    ensures one_answer { (text : List ℕ) (a b : List Token) → AreTokens text a → AreTokens text b → a ≡ b }
+        → ((tokens : List Token) × AreTokens text tokens)
+        ⊎ ((fault : LexError) × IsFault text fault) }
+    ensures one_answer { (text : List ℕ) (a b : List Token)
+        → AreTokens text a → AreTokens text b → a ≡ b }
     ensures one_fault { (text : List ℕ) (a b : LexError) → IsFault text a → IsFault text b → a ≡ b }
     ensures not_both { (text : List ℕ) (tokens : List Token) (fault : LexError)
         → AreTokens text tokens → IsFault text fault → ⊥ }
+{}
+
+/// The longest name has 255 bytes, and the longest number 18 digits.
+pub fn words_are_short()
+    ensures name { LONGEST_NAME ≡ 255 }
+    ensures number { MOST_DIGITS ≡ 18 }
 {}

@@ -1,7 +1,8 @@
 //! The tokens of a whole text.
 
 ghost use Rattle.std.specs.Prelude.{◌≡◌, ◌⊎◌, ℕ, ◌+◌, ◌<◌, ◌≤◌, ◌^◌, All, List, length, take, drop, IfOk, IfErr, MatchResult};
-ghost use Rattle.hd_lex.specs.Reading.{Gives, token_of, IsRefusal, IsReadTo};
+ghost use Rattle.hd_base.specs.Answers.{Means};
+ghost use Rattle.hd_lex.specs.Reading.{IsFailure, token_of, IsRefusal, IsReadTo};
 ghost use Rattle.hd_lex.specs.Text.{AreTokens, IsFault, AreInOrder, IsAtItsBytes};
 ghost use Rattle.hd_lex.specs.declared.error.LexError.{LexError};
 ghost use Rattle.hd_lex.specs.declared.token.Token.{Token};
@@ -16,7 +17,7 @@ use std::alloc::Global;
 fn token_of(alloc: Global, text: &[u8], at: usize, len: usize) -> Result<Token, LexError>
     requires within { len ≤ length text.now }
     requires place { at + len < 2 ^ 64 }
-    ensures { Gives result (token_of (record { at = at; bytes = take len text.now })) }
+    ensures { Means IsFailure result (token_of (record { at = at; bytes = take len text.now })) }
 {
     let word = word_of(alloc, &text[..len], at)?;
     Ok(Token {
@@ -26,8 +27,8 @@ fn token_of(alloc: Global, text: &[u8], at: usize, len: usize) -> Result<Token, 
     })
 }
 
-/// Reads what stands at the front of a text whose first byte stands at this place, and answers how many bytes it has.
-/// A blank or a comment adds no token, and a word adds its token.
+/// Reads what stands at the front of a text whose first byte stands at this place, and answers how
+/// many bytes it has. A blank or a comment adds no token, and a word adds its token.
 fn read_front(
     alloc: Global,
     tokens: &mut Vec<Token>,

@@ -1,6 +1,6 @@
 //! What a text is made of.
 
-use hd_list::Name;
+use hd_base::Name;
 
 /// A sign of arithmetic or of a comparison, or `-` before a type.
 #[derive(Clone, Copy, Debug, PartialEq, Eq)]

@@ -5,14 +5,16 @@ ghost use Rattle.std.specs.Char.{is_ascii_digit, to_ascii_lowercase};
 ghost use Rattle.std.specs.List.{list_all};
 ghost use Rattle.std.specs.Str.{IsAscii};
 ghost use Rattle.std.specs.Str.Parse.{digits_value};
+ghost use Rattle.hd_base.specs.Answers.{Means};
 ghost use Rattle.hd_lex.specs.Byte.{is_name_byte};
-ghost use Rattle.hd_lex.specs.Reading.{Gives, name_of, number_of, negative_of, sign_of, word_of};
+ghost use Rattle.hd_lex.specs.Reading.{IsFailure, name_of, number_of, negative_of, sign_of, word_of};
 ghost use Rattle.hd_lex.specs.Word.{is_name, begins_with_digit, is_number};
+ghost use Rattle.hd_lex.specs.declared.word.TheConstants.{MOST_DIGITS};
 
 use crate::byte::is_name_byte;
 use crate::error::LexError;
 use crate::token::{Operator, Word};
-use hd_list::Name;
+use hd_base::Name;
 use std::alloc::Global;
 
 /// The most bytes that a name has.
@@ -40,7 +42,7 @@ fn is_name(text: &[u8]) -> bool
 /// The name with its letters folded.
 fn lower_case(alloc: Global, text: &[u8]) -> Result<Name, LexError>
     requires { IsAscii text.now }
-    ensures { Gives result (Ok (map to_ascii_lowercase text.now)) }
+    ensures { Means IsFailure result (Ok (map to_ascii_lowercase text.now)) }
 {
     let Ok(text) = str::from_utf8(text) else {
         unreachable!()
@@ -53,7 +55,7 @@ fn lower_case(alloc: Global, text: &[u8]) -> Result<Name, LexError>
 /// The name that these bytes of the word at this place spell.
 #[tactic(auto, unfolding(crate::specs::Reading::name_of))]
 fn name_of(alloc: Global, text: &[u8], at: usize) -> Result<Name, LexError>
-    ensures { Gives result (name_of at text.now) }
+    ensures { Means IsFailure result (name_of at text.now) }
 {
     if !is_name(text) {
         return Err(LexError::BadByte(at));
@@ -90,7 +92,7 @@ fn is_number(text: &[u8]) -> bool
 fn value_of(digits: &[u8]) -> u64
     requires { is_number digits.now ≡ true }
     ensures value { result ≡ digits_value 10 digits.now }
-    ensures small { result < 10 ^ 18 }
+    ensures small { result < 10 ^ MOST_DIGITS }
 {
     let Ok(text) = str::from_utf8(digits) else {
         unreachable!()
@@ -104,7 +106,7 @@ fn value_of(digits: &[u8]) -> u64
 /// The number that these bytes of the word at this place write.
 #[tactic(auto, unfolding(crate::specs::Reading::number_of))]
 fn number_of(digits: &[u8], at: usize) -> Result<i64, LexError>
-    ensures { Gives result (number_of at digits.now) }
+    ensures { Means IsFailure result (number_of at digits.now) }
 {
     if is_number(digits) {
         Ok(value_of(digits) as i64)
@@ -116,7 +118,7 @@ fn number_of(digits: &[u8], at: usize) -> Result<i64, LexError>
 /// The number behind a minus sign that these bytes of the word at this place write.
 #[tactic(auto, unfolding(crate::specs::Reading::negative_of))]
 fn negative_of(digits: &[u8], at: usize) -> Result<i64, LexError>
-    ensures { Gives result (negative_of at digits.now) }
+    ensures { Means IsFailure result (negative_of at digits.now) }
 {
     if is_number(digits) {
         Ok(-(value_of(digits) as i64))
@@ -148,7 +150,7 @@ fn sign_of(text: &[u8]) -> Option<Word>
 /// What the word at this place is.
 #[tactic(auto, unfolding(crate::specs::Reading::word_of))]
 pub fn word_of(alloc: Global, text: &[u8], at: usize) -> Result<Word, LexError>
-    ensures { Gives result (word_of at text.now) }
+    ensures { Means IsFailure result (word_of at text.now) }
 {
     let [first, rest @ ..] = text else {
         return Err(LexError::BadByte(at));

@@ -1,21 +1,21 @@
--- When a condition holds (PDDL 2.1, sections 4 and 8), and when it departs from the range. The parameters stand for a list
--- of objects, which is empty for a goal.
-use Rattle.std.specs.Prelude.{ℕ, Bool, false, not, ◌&&◌, ◌==◌, if◌then◌else◌, List, Option, Some, None, ℤ, int_lt, int_le}
+-- When a condition holds (PDDL 2.1), and when it departs from the range. The parameters stand for a list of objects, which is
+-- empty for a goal.
+use Rattle.std.specs.Prelude.{ℕ, Bool, false, not, ◌&&◌, ◌==◌, if◌then◌else◌, List, Option, Some, None, ℤ}
 use Rattle.std.specs.List.{list_all}
-use Rattle.hd_terms.specs.declared.tree.Relation.{Relation}
-use Rattle.hd_terms.specs.declared.tree.Relation.TheVariants.{Less, LessOrEqual, Equal, GreaterOrEqual, Greater}
+use Rattle.hd_base.specs.declared.relation.Relation.{Relation}
+use Rattle.hd_base.specs.Numbers.{relation_holds}
 use Rattle.hd_lifted.specs.declared.schema.Ground.{Ground}
 use Rattle.hd_lifted.specs.declared.schema.Literal.{Literal}
 use Rattle.hd_lifted.specs.declared.schema.Equality.{Equality}
 use Rattle.hd_lifted.specs.declared.schema.Comparison.{Comparison}
 use Rattle.hd_lifted.specs.declared.schema.Condition.{Condition}
-use Rattle.hd_lifted.specs.States.{Values, State, object_of, instantiated}
+use Rattle.hd_lifted.specs.States.{Values, State, object_of, ground_form_of}
 use Rattle.hd_lifted.specs.Expressions.{value_of, stays_in_range}
 
 -- a positive literal asks that its atom is true, a negative one that it is false
 abbrev pub literal_holds : (Ground → Bool) → List ℕ → Literal → Bool
 literal_holds atoms objects l =
-    if l.positive then atoms (instantiated objects l.atom) else not (atoms (instantiated objects l.atom))
+    if l.positive then atoms (ground_form_of objects l.atom) else not (atoms (ground_form_of objects l.atom))
 
 -- a positive equality asks that both arguments are the same object, a negative one that they are not
 abbrev pub equality_holds : List ℕ → Equality → Bool
@@ -23,23 +23,15 @@ equality_holds objects e =
     if e.positive then object_of objects e.left == object_of objects e.right
     else not (object_of objects e.left == object_of objects e.right)
 
--- how two integers compare
-abbrev pub related : Relation → ℤ → ℤ → Bool
-related Less x y = int_lt x y
-related LessOrEqual x y = int_le x y
-related Equal x y = int_le x y && int_le y x
-related GreaterOrEqual x y = int_le y x
-related Greater x y = int_lt y x
-
 -- how two values compare: where one is missing, no relation holds
-abbrev pub both_related : Relation → Option ℤ → Option ℤ → Bool
-both_related r None y = false
-both_related r (Some x) None = false
-both_related r (Some x) (Some y) = related r x y
+abbrev pub relation_holds_if : Relation → Option ℤ → Option ℤ → Bool
+relation_holds_if r None y = false
+relation_holds_if r (Some x) None = false
+relation_holds_if r (Some x) (Some y) = relation_holds r x y
 
 -- a comparison holds by the values of its sides
 abbrev pub comparison_holds : Values → List ℕ → Comparison → Bool
-comparison_holds v objects c = both_related c.relation (value_of v objects c.left) (value_of v objects c.right)
+comparison_holds v objects c = relation_holds_if c.relation (value_of v objects c.left) (value_of v objects c.right)
 
 -- each subexpression of a comparison is in the range
 abbrev pub comparison_stays : Values → List ℕ → Comparison → Bool

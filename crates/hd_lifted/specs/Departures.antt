@@ -2,7 +2,7 @@
 use Rattle.std.specs.Prelude.{ℕ, Bool, false, not, ◌&&◌, ◌||◌, List, [], Option, Some, None, slice_get}
 use Rattle.hd_lifted.specs.declared.schema.Schema.{Schema}
 use Rattle.hd_lifted.specs.declared.task.LiftedTask.{LiftedTask}
-use Rattle.hd_lifted.specs.Expressions.{fits}
+use Rattle.hd_base.specs.Numbers.{fits}
 use Rattle.hd_lifted.specs.Conditions.{holds, condition_departs}
 use Rattle.hd_lifted.specs.Effects.{effects_stay}
 use Rattle.hd_lifted.specs.Steps.{Reached, cost_after}

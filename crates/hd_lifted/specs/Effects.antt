@@ -1,7 +1,8 @@
--- What an action does to a state, and what it costs (PDDL 2.1, sections 4, 5 and 8). The schema's parameters stand for a
--- list of objects.
+-- What an action does to a state, and what it costs (PDDL 2.1). The schema's parameters stand for a list of objects.
 use Rattle.std.specs.Prelude.{ℕ, Bool, true, false, not, ◌&&◌, ◌||◌, if◌then◌else◌, List, [], ◌∷◌, Option, Some, is_some, ℤ, pos, ◌+ℤ◌, ◌-ℤ◌, ◌*ℤ◌}
 use Rattle.std.specs.List.{list_any, list_all, fold}
+use Rattle.hd_base.specs.Numbers.{fits}
+use Rattle.hd_base.specs.Values.{of_both}
 use Rattle.hd_lifted.specs.declared.schema.Applied.{Applied}
 use Rattle.hd_lifted.specs.declared.schema.Ground.{Ground}
 use Rattle.hd_lifted.specs.declared.schema.Change.{Change}
@@ -9,14 +10,14 @@ use Rattle.hd_lifted.specs.declared.schema.Change.TheVariants.{Assign, ScaleUp, 
 use Rattle.hd_lifted.specs.declared.schema.NumericEffect.{NumericEffect}
 use Rattle.hd_lifted.specs.declared.schema.Schema.{Schema}
 use Rattle.hd_lifted.specs.declared.task.LiftedTask.{LiftedTask}
-use Rattle.hd_lifted.specs.States.{Values, State, same, instantiated}
-use Rattle.hd_lifted.specs.Expressions.{of_both, value_of, fits, stays_in_range}
+use Rattle.hd_lifted.specs.States.{Values, State, same, ground_form_of}
+use Rattle.hd_lifted.specs.Expressions.{value_of, stays_in_range}
 
 -- ---- atoms
 
 -- whether a list of atoms has this one
 abbrev pub names_atom : List ℕ → List Applied → Ground → Bool
-names_atom objects atoms g = list_any (λ a. same (instantiated objects a) g) atoms
+names_atom objects atoms g = list_any (λ a. same (ground_form_of objects a) g) atoms
 
 -- (s minus Del) union Add: the action adds the atom, or it was true and the action doesn't delete it
 abbrev pub atoms_after : (Ground → Bool) → Schema → List ℕ → Ground → Bool
@@ -35,7 +36,7 @@ stands_alone Cost = false
 -- two effects are on one fluent, and one of them would have to be alone there
 abbrev pub clash : List ℕ → NumericEffect → NumericEffect → Bool
 clash objects e f =
-    same (instantiated objects e.fluent) (instantiated objects f.fluent) && (stands_alone e.change || stands_alone f.change)
+    same (ground_form_of objects e.fluent) (ground_form_of objects f.fluent) && (stands_alone e.change || stands_alone f.change)
 
 -- two effects of a list clash, the same assignment twice among them. (Our own: such an action is no instance)
 abbrev pub effects_clash : List ℕ → List NumericEffect → Bool
@@ -46,17 +47,17 @@ effects_clash objects (e ∷ es) = list_any (clash objects e) es || effects_clas
 
 -- what a change makes of a value by an amount. Only an assignment gives a value to a fluent that has none; an amount without
 -- a value leaves its fluent without one, and the step stays defined
-abbrev pub changed : Change → Option ℤ → Option ℤ → Option ℤ
-changed Assign x amount = amount
-changed ScaleUp x amount = of_both (λ x y. x *ℤ y) x amount
-changed Increase x amount = of_both (λ x y. x +ℤ y) x amount
-changed Decrease x amount = of_both (λ x y. x -ℤ y) x amount
-changed Cost x amount = x
+abbrev pub value_by_change : Change → Option ℤ → Option ℤ → Option ℤ
+value_by_change Assign x amount = amount
+value_by_change ScaleUp x amount = of_both (λ x y. x *ℤ y) x amount
+value_by_change Increase x amount = of_both (λ x y. x +ℤ y) x amount
+value_by_change Decrease x amount = of_both (λ x y. x -ℤ y) x amount
+value_by_change Cost x amount = x
 
 -- what an effect makes of the value x of the fluent g, its amount by the values v from before the action
 abbrev pub with_effect : Values → List ℕ → Ground → Option ℤ → NumericEffect → Option ℤ
 with_effect v objects g x e =
-    if same (instantiated objects e.fluent) g then changed e.change x (value_of v objects e.amount) else x
+    if same (ground_form_of objects e.fluent) g then value_by_change e.change x (value_of v objects e.amount) else x
 
 -- the value of a fluent after an action: increases and decreases add up, and an assignment or a scaling is the only effect
 -- on its fluent, so that the order of the effects doesn't matter
@@ -95,7 +96,7 @@ step_cost t v a objects = if is_some t.metric then sum_of_costs v a objects else
 -- changes no value
 abbrev pub effect_stays : Values → Schema → List ℕ → NumericEffect → Bool
 effect_stays v a objects e =
-    stays_in_range v objects e.amount && (is_cost e.change || fits (value_after v a objects (instantiated objects e.fluent)))
+    stays_in_range v objects e.amount && (is_cost e.change || fits (value_after v a objects (ground_form_of objects e.fluent)))
 
 -- each subexpression of an action's effects, its costs among them, and each new value is in the range
 unfoldable pub effects_stay : Values → Schema → List ℕ → Bool

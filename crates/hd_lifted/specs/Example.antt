@@ -1,8 +1,8 @@
 -- Small tasks on which the definitions are computed.
 use Rattle.std.specs.Prelude.{ℕ, Bool, true, false, List, [], ◌∷◌, codes, Option, Some, None, ℤ, pos}
-use Rattle.hd_terms.specs.declared.tree.Operation.TheVariants.{Multiply}
-use Rattle.hd_terms.specs.declared.tree.Relation.{Relation}
-use Rattle.hd_terms.specs.declared.tree.Relation.TheVariants.{GreaterOrEqual}
+use Rattle.hd_base.specs.declared.operation.Operation.TheVariants.{Multiply}
+use Rattle.hd_base.specs.declared.relation.Relation.{Relation}
+use Rattle.hd_base.specs.declared.relation.Relation.TheVariants.{GreaterOrEqual}
 use Rattle.hd_lifted.specs.declared.schema.Argument.TheVariants.{Parameter, Object}
 use Rattle.hd_lifted.specs.declared.schema.Applied.{Applied}
 use Rattle.hd_lifted.specs.declared.schema.Ground.{Ground}
@@ -18,9 +18,14 @@ use Rattle.hd_lifted.specs.declared.task.Object.{Object as TaskObject}
 use Rattle.hd_lifted.specs.declared.task.Signature.{Signature}
 use Rattle.hd_lifted.specs.declared.task.InitialValue.{InitialValue}
 use Rattle.hd_lifted.specs.declared.task.LiftedTask.{LiftedTask}
-use Rattle.hd_lifted.specs.Expression.{Expression, number, fluent, binary as operation}
-use Rattle.hd_lifted.specs.Steps.{Reached}
+use Rattle.hd_base.specs.declared.expression.Operand.{Operand}
+use Rattle.hd_base.specs.declared.expression.Operand.TheVariants.{Number, Fluent}
+use Rattle.hd_base.specs.Expression.{Expression, leaf, binary as operation}
+use Rattle.hd_lifted.specs.States.{initial_state}
+use Rattle.hd_lifted.specs.Conditions.{comparison_holds, comparison_stays}
+use Rattle.hd_lifted.specs.Steps.{Reached, start}
 use Rattle.hd_lifted.specs.Plans.{Instance}
+use Rattle.hd_lifted.specs.Departures.{goal_departs, instance_departs}
 
 -- ---- parts
 
@@ -50,7 +55,14 @@ when literals = record { literals = literals; equalities = []; comparisons = [] 
 abbrev always : Condition
 always = when []
 
-abbrev effect : Change → Applied → Expression → NumericEffect
+-- the expressions that are a number, and the value of a fluent
+abbrev number : ℤ → Expression (Operand Applied)
+number n = leaf (Number n)
+
+abbrev fluent : Applied → Expression (Operand Applied)
+fluent a = leaf (Fluent a)
+
+abbrev effect : Change → Applied → Expression (Operand Applied) → NumericEffect
 effect change target amount = record { change = change; fluent = target; amount = amount }
 
 abbrev signature : List ℕ → List ℕ → Signature
@@ -107,7 +119,7 @@ journey fuel = record {
   metric = Some 2;
 }
 
--- its steps, of which the last has no road; the fuel, and being at a
+-- its steps, of which the last has no road
 abbrev pub a_to_b : Instance
 a_to_b = instance 0 (0 ∷ 1 ∷ [])
 
@@ -116,6 +128,10 @@ b_to_c = instance 0 (1 ∷ 2 ∷ [])
 
 abbrev pub a_to_c : Instance
 a_to_c = instance 0 (0 ∷ 2 ∷ [])
+
+-- the way by b, the fuel, and being at a
+abbrev pub way_by_b : List Instance
+way_by_b = a_to_b ∷ b_to_c ∷ []
 
 abbrev pub the_fuel : Ground
 the_fuel = ground_form 0 []
@@ -231,6 +247,20 @@ first_is_q = record { left = Parameter 0; right = Object 1; positive = true }
 -- how x and y compare
 abbrev pub x_and_y : Relation → Comparison
 x_and_y relation = record { relation = relation; left = fluent (alone 0); right = fluent (alone 1) }
+
+-- whether they compare so at first, and whether that stays in the range
+abbrev pub compares : LiftedTask → Relation → Bool
+compares t relation = comparison_holds (initial_state t).values [] (x_and_y relation)
+
+abbrev pub compares_in_range : LiftedTask → Relation → Bool
+compares_in_range t relation = comparison_stays (initial_state t).values [] (x_and_y relation)
+
+-- whether the one instance, or the goal, departs from the range at first
+abbrev pub action_departs : LiftedTask → Bool
+action_departs t = instance_departs t (start t) only
+
+abbrev pub departs_at_first : LiftedTask → Bool
+departs_at_first t = goal_departs t (start t)
 
 -- x is this at first, and these atoms are true; the goal asks for a, and that the square of x is not negative
 abbrev pub squared : ℤ → List Ground → LiftedTask

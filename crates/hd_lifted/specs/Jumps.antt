@@ -1,5 +1,6 @@
 -- Shortcuts up the types: depths and jumps. Only private contracts cite these definitions.
 use Rattle.std.specs.Prelude.{◌≡◌, ℕ, zero, suc, ◌+◌, ◌⊎◌, List, length, slice_index_or}
+use Rattle.hd_lifted.specs.declared.shortcuts.Shortcuts.{Shortcuts}
 use Rattle.hd_lifted.specs.Types.{entry_of, parent_of, IsSubtype}
 
 -- the steps that lead from a type to `object`, of which no more than a number are counted
@@ -17,6 +18,10 @@ abbrev pub depth_of : List ℕ → ℕ → ℕ
 depth_of depths zero = 0
 depth_of depths (suc t) = slice_index_or depths t 1
 
+-- the list has a type's depth
+abbrev pub HasDepth : List ℕ → List ℕ → ℕ → Type 0
+HasDepth parents depths t = depth_of depths t ≡ depth_in parents t
+
 -- the type to which the jump from a type leads
 abbrev pub jump_of : List ℕ → ℕ → ℕ
 jump_of jumps t = entry_of jumps t
@@ -29,6 +34,10 @@ AreJumps parents jumps = (t : ℕ) → IsSubtype parents (parent_of parents t) (
 pub record AreShortcuts (parents depths jumps : List ℕ) : Type 0 where
   pub deep : (t : ℕ) → depth_of depths t ≡ depth_in parents t
   pub jumping : AreJumps parents jumps
+
+-- the same of both lists together
+abbrev pub HasShortcuts : List ℕ → Shortcuts → Type 0
+HasShortcuts parents s = AreShortcuts parents s.depths.items s.jumps.items
 
 -- the same while the lists are filled, where a type may still have the depth 0
 pub record AreFilling (parents depths jumps : List ℕ) : Type 0 where

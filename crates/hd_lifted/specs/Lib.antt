@@ -1,8 +1,3 @@
-pub mod Expression
-pub mod Code
-pub mod Node
-pub mod ExprParts
-pub mod Depth
 pub mod Types
 pub mod Walks
 pub mod Jumps
@@ -14,4 +9,7 @@ pub mod Effects
 pub mod Steps
 pub mod Plans
 pub mod Departures
+pub mod WellFormed
+pub mod MetricUse
+pub mod Checked
 pub mod Example

@@ -1,4 +1,4 @@
--- Instances and plans: execution, cost, validity and optimality (PDDL 2.1, section 8). A plan is a list of instances, one
+-- Instances and plans: execution, cost, validity and optimality (PDDL 2.1). A plan is a list of instances, one
 -- after the other; it has no times. (The profile is our own.)
 use Rattle.std.specs.Prelude.{◌≡◌, ℕ, false, IsTrue, List, [], ◌∷◌, All, Option, Some, None, slice_get, option_and_then, ℤ, ◌≤ℤ◌}
 use Rattle.hd_lifted.specs.declared.schema.Schema.{Schema}
@@ -63,3 +63,13 @@ pub record IsOptimal (t : LiftedTask) (p : List Instance) : Type 0 where
 -- no plan is valid, at whatever cost
 abbrev pub HasNoPlan : LiftedTask → Type 0
 HasNoPlan t = (q : List Instance) → IsValid t q → ⊥
+
+-- ---- costs
+
+-- a plan is valid at no two costs
+abbrev pub HasOneCost : LiftedTask → List Instance → Type 0
+HasOneCost t p = (c d : ℤ) → IsValidAt t p c → IsValidAt t p d → c ≡ d
+
+-- two plans cost the same if both are optimal
+abbrev pub CostTheSame : LiftedTask → List Instance → List Instance → Type 0
+CostTheSame t p q = (best : IsOptimal t p) (other : IsOptimal t q) → best.cost ≡ other.cost

@@ -1,4 +1,4 @@
--- The states of a lifted task: which ground atoms are true, and what values the ground fluents have (PDDL 2.1, section 8).
+-- The states of a lifted task: which ground atoms are true, and what values the ground fluents have (PDDL 2.1).
 use Rattle.std.specs.Prelude.{ℕ, Bool, ◌&&◌, ◌==◌, List, map, Option, ℤ, find, nat_eq, option_map, slice_index_or}
 use Rattle.std.specs.List.{list_any}
 use Rattle.std.specs.Cmp.Lexicographic.{pointwise}
@@ -30,8 +30,8 @@ object_of objects (Parameter k) = slice_index_or objects k 0
 object_of objects (Object o) = o
 
 -- an atom or a fluent with objects in the place of its arguments
-abbrev pub instantiated : List ℕ → Applied → Ground
-instantiated objects a = record { symbol = a.symbol; objects = map (object_of objects) a.arguments }
+abbrev pub ground_form_of : List ℕ → Applied → Ground
+ground_form_of objects a = record { symbol = a.symbol; objects = map (object_of objects) a.arguments }
 
 -- ---- the initial state
 

@@ -1,9 +1,9 @@
--- Steps: where an action leads, and at what cost (PDDL 2.1, section 8).
+-- Steps: where an action leads, and at what cost (PDDL 2.1).
 use Rattle.std.specs.Prelude.{ℕ, if◌then◌else◌, List, Option, Some, None, ℤ, pos, ◌+ℤ◌}
 use Rattle.hd_lifted.specs.declared.schema.Schema.{Schema}
 use Rattle.hd_lifted.specs.declared.task.LiftedTask.{LiftedTask}
 use Rattle.hd_lifted.specs.States.{State, initial_state}
-use Rattle.hd_lifted.specs.Expressions.{of_both}
+use Rattle.hd_base.specs.Values.{of_both}
 use Rattle.hd_lifted.specs.Conditions.{holds}
 use Rattle.hd_lifted.specs.Effects.{state_after, step_cost}
 

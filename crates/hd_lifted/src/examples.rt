@@ -1,19 +1,18 @@
 //! Worked examples of the definitions, each a checked fact. The functions do nothing.
-ghost use Rattle.std.specs.Prelude.{◌≡◌, [], ◌∷◌, true, false, pos, Some, None};
-ghost use Rattle.hd_terms.specs.declared.tree.Relation.TheVariants.{Less, LessOrEqual, Equal, GreaterOrEqual, Greater};
+ghost use Rattle.std.specs.Prelude.{◌≡◌, ◌-◌, [], ◌∷◌, true, false, pos, Some, None};
+ghost use Rattle.hd_base.specs.declared.range.TheConstants.{RANGE_END};
+ghost use Rattle.hd_base.specs.declared.relation.Relation.TheVariants.{Less, LessOrEqual, Equal, GreaterOrEqual, Greater};
 ghost use Rattle.hd_lifted.specs.Types.{IsSubtype, is_subtype};
 ghost use Rattle.hd_lifted.specs.States.{initial_state};
-ghost use Rattle.hd_lifted.specs.Conditions.{literal_holds, equality_holds, comparison_holds, comparison_stays};
-ghost use Rattle.hd_lifted.specs.Steps.{start};
+ghost use Rattle.hd_lifted.specs.Conditions.{literal_holds, equality_holds};
 ghost use Rattle.hd_lifted.specs.Plans.{IsInstance, exec, IsValidAt};
-ghost use Rattle.hd_lifted.specs.Departures.{goal_departs, instance_departs};
-ghost use Rattle.hd_lifted.specs.Example.{value_at, is_true_at, cost_at, journey, a_to_b, b_to_c, a_to_c, the_fuel, the_start, only, the_x, the_y, the_atom, swapping, up_and_down, one_up, missing_amount, first_assignment, delete_and_add, mixing, p_with_p, p_with_q, scaling, not_the_atom, parameters_are, first_is_q, x_and_y, squared, three_types};
+ghost use Rattle.hd_lifted.specs.Example.{value_at, is_true_at, cost_at, journey, a_to_b, a_to_c, way_by_b, the_fuel, the_start, only, the_x, the_y, the_atom, swapping, up_and_down, one_up, missing_amount, first_assignment, delete_and_add, mixing, p_with_p, p_with_q, scaling, not_the_atom, parameters_are, first_is_q, compares, compares_in_range, action_departs, departs_at_first, squared, three_types};
 
 /// The definitions on the small tasks of `specs/Example.antt`.
 pub fn examples_compute()
     // From a to b and on to c: the goal holds there, and the plan costs the fuel that it uses up.
-    ensures arrives { IsValidAt (journey (pos 9)) (a_to_b ∷ b_to_c ∷ []) (pos 9) }
-    ensures uses_up { value_at the_fuel (exec (journey (pos 9)) (a_to_b ∷ b_to_c ∷ [])) ≡ Some (pos 0) }
+    ensures arrives { IsValidAt (journey (pos 9)) way_by_b (pos 9) }
+    ensures uses_up { value_at the_fuel (exec (journey (pos 9)) way_by_b) ≡ Some (pos 0) }
     ensures leaves_a { is_true_at the_start (exec (journey (pos 9)) (a_to_b ∷ [])) ≡ false }
 
     // There is no road from a to c.
@@ -21,7 +20,7 @@ pub fn examples_compute()
 
     // With less fuel the first step is defined, and the second is not.
     ensures to_b { cost_at (exec (journey (pos 8)) (a_to_b ∷ [])) ≡ Some (pos 4) }
-    ensures no_fuel { exec (journey (pos 8)) (a_to_b ∷ b_to_c ∷ []) ≡ None }
+    ensures no_fuel { exec (journey (pos 8)) way_by_b ≡ None }
 
     // Effects read the values before the action.
     ensures swaps_x { value_at the_x (exec swapping (only ∷ [])) ≡ Some (pos 2) }
@@ -44,8 +43,8 @@ pub fn examples_compute()
     ensures mixes { IsInstance mixing p_with_q }
 
     // The end of the range is in it.
-    ensures departs { instance_departs (one_up (pos 1000000000000000)) (start (one_up (pos 1000000000000000))) only ≡ true }
-    ensures reaches_end { instance_departs (one_up (pos 999999999999999)) (start (one_up (pos 999999999999999))) only ≡ false }
+    ensures departs { action_departs (one_up (pos RANGE_END)) ≡ true }
+    ensures reaches_end { action_departs (one_up (pos (RANGE_END - 1))) ≡ false }
 {}
 
 /// Conditions, departures of the goal and types, on the same tasks.
@@ -60,23 +59,23 @@ pub fn conditions_compute()
     ensures is_q { equality_holds (1 ∷ []) first_is_q ≡ true }
 
     // 1 and 2 compare so.
-    ensures less { comparison_holds (initial_state swapping).values [] (x_and_y Less) ≡ true }
-    ensures no_more { comparison_holds (initial_state swapping).values [] (x_and_y LessOrEqual) ≡ true }
-    ensures equal { comparison_holds (initial_state swapping).values [] (x_and_y Equal) ≡ false }
-    ensures no_less { comparison_holds (initial_state swapping).values [] (x_and_y GreaterOrEqual) ≡ false }
-    ensures more { comparison_holds (initial_state swapping).values [] (x_and_y Greater) ≡ false }
+    ensures less { compares swapping Less ≡ true }
+    ensures no_more { compares swapping LessOrEqual ≡ true }
+    ensures equal { compares swapping Equal ≡ false }
+    ensures no_less { compares swapping GreaterOrEqual ≡ false }
+    ensures more { compares swapping Greater ≡ false }
 
     // A comparison that reads a fluent without a value does not hold, and does not leave the range.
-    ensures no_value { comparison_holds (initial_state missing_amount).values [] (x_and_y GreaterOrEqual) ≡ false }
-    ensures no_departure { comparison_stays (initial_state missing_amount).values [] (x_and_y GreaterOrEqual) ≡ true }
+    ensures no_value { compares missing_amount GreaterOrEqual ≡ false }
+    ensures no_departure { compares_in_range missing_amount GreaterOrEqual ≡ true }
 
     // A scaling multiplies.
     ensures scales { value_at the_x (exec scaling (only ∷ [])) ≡ Some (pos 15) }
 
     // A goal departs where a subexpression leaves the range, though the comparison holds; but not where its atoms do not hold.
-    ensures square_departs { goal_departs (squared (pos 100000000) (the_atom ∷ [])) (start (squared (pos 100000000) (the_atom ∷ []))) ≡ true }
-    ensures square_stays { goal_departs (squared (pos 10000000) (the_atom ∷ [])) (start (squared (pos 10000000) (the_atom ∷ []))) ≡ false }
-    ensures atoms_first { goal_departs (squared (pos 100000000) []) (start (squared (pos 100000000) [])) ≡ false }
+    ensures square_departs { departs_at_first (squared (pos 100000000) (the_atom ∷ [])) ≡ true }
+    ensures square_stays { departs_at_first (squared (pos 10000000) (the_atom ∷ [])) ≡ false }
+    ensures atoms_first { departs_at_first (squared (pos 100000000) []) ≡ false }
 
     // A type is below its parent and `object`, and not the other way round.
     ensures below_parent { IsSubtype three_types 1 2 }

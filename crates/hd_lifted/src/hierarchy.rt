@@ -3,11 +3,11 @@
 //! Type 0 is `object`. Each other type has a number from 1 on, and one parent.
 ghost use Rattle.std.specs.Prelude.{◌≡◌, ◌≢◌, ℕ, ◌+◌, ◌<◌, ◌≤◌, ◌↔◌, IsTrue, IfOk, IfErr, IfSome, MatchOption, None, length, replicate, min};
 ghost use Rattle.hd_lifted.specs.Types.{IsSubtype, IsOnCycle, IsAcyclic, IsRooted, is_subtype};
-ghost use Rattle.hd_lifted.specs.Walks.{stamp_of, AreRootedBy, OnlyStamps, AreVisited};
-ghost use Rattle.hd_lifted.specs.Jumps.{AreShortcuts};
+ghost use Rattle.hd_lifted.specs.Walks.{stamp_of, OnlyStamps, AreVisited, StaysRootedBy, IsUnvisited, IsRootedUnless};
+ghost use Rattle.hd_lifted.specs.Jumps.{HasShortcuts};
 
 use crate::shortcuts::{Shortcuts, depth_of, entry_of};
-use hd_list::NoMemory;
+use hd_base::NoMemory;
 use std::alloc::Global;
 use std::marker::Model;
 
@@ -23,13 +23,13 @@ pub struct Hierarchy {
 impl Model for Hierarchy {
     ghost use Rattle.std.specs.Prelude.{List, ℕ};
     ghost use Rattle.hd_lifted.specs.Types.{IsRooted};
-    ghost use Rattle.hd_lifted.specs.Jumps.{AreShortcuts};
+    ghost use Rattle.hd_lifted.specs.Jumps.{HasShortcuts};
 
     ghost Value = { List ℕ };
 
     ghost view = { λ h. h.parents.items };
 
-    ghost invariant = { λ h. IsRooted h.parents.items × AreShortcuts h.parents.items h.shortcuts.depths.items h.shortcuts.jumps.items };
+    ghost invariant = { λ h. IsRooted h.parents.items × HasShortcuts h.parents.items h.shortcuts };
 }
 
 impl Hierarchy {
@@ -75,7 +75,7 @@ impl Hierarchy {
 /// Whether steps from a type to its parent lead from `lower` to `upper`. A jump is taken where it leads no higher than `upper`.
 fn leads_to(parents: &[usize], shortcuts: &Shortcuts, lower: usize, upper: usize) -> bool
     requires rooted { IsRooted parents.now }
-    requires shortcuts { AreShortcuts parents.now shortcuts.now.depths.items shortcuts.now.jumps.items }
+    requires shortcuts { HasShortcuts parents.now shortcuts.now }
     ensures yes { IsTrue result → IsSubtype parents.now lower upper }
     ensures no { IsSubtype parents.now lower upper → IsTrue result }
 {
@@ -96,7 +96,7 @@ fn leads_to(parents: &[usize], shortcuts: &Shortcuts, lower: usize, upper: usize
 
 /// The least type that lies on a cycle, if there is one.
 fn least_on_cycles(alloc: Global, parents: &[usize]) -> Result<Option<usize>, NoMemory>
-    ensures { IfOk result (λ found. MatchOption found (IsRooted parents.now) (IsOnCycle parents.now)) }
+    ensures { IfOk result (IsRootedUnless parents.now) }
 {
     let mut stamps = vec![in alloc; 0; parents.len()]?;
     Ok(walk_all(parents, stamps.as_mut_slice()))
@@ -105,7 +105,7 @@ fn least_on_cycles(alloc: Global, parents: &[usize]) -> Result<Option<usize>, No
 /// Walks up from each type, and tells the least type on a cycle, if there is one. At first there are no stamps.
 fn walk_all(parents: &[usize], stamps: &mut [usize]) -> Option<usize>
     requires { stamps.old ≡ replicate (length parents.now) 0 }
-    ensures { MatchOption result (IsRooted parents.now) (IsOnCycle parents.now) }
+    ensures { IsRootedUnless parents.now result }
 {
     let mut found = None;
     for before in 0..parents.len() {
@@ -139,7 +139,7 @@ fn walk(parents: &[usize], stamps: &mut [usize], start: usize) -> Option<usize>
     requires new_stamp { (t : ℕ) → stamp_of stamps.old t < start }
     ensures stamps { OnlyStamps start stamps.old stamps.new }
     ensures visited { start ≤ length parents.now → stamp_of stamps.new start ≢ 0 }
-    ensures ends { result ≡ None → AreRootedBy parents.now stamps.old → AreRootedBy parents.now stamps.new }
+    ensures ends { result ≡ None → StaysRootedBy parents.now stamps.old stamps.new }
     ensures closes { IfSome result (IsOnCycle parents.now) }
 {
     let mut kind = start;
@@ -156,7 +156,7 @@ fn walk(parents: &[usize], stamps: &mut [usize], start: usize) -> Option<usize>
 
 /// Whether a type other than `object` stands in the list and no walk came to it.
 fn is_unvisited(stamps: &[usize], kind: usize) -> bool
-    ensures { IsTrue result ↔ ((0 < kind) × (kind ≤ length stamps.now) × (stamp_of stamps.now kind ≡ 0)) }
+    ensures { IsTrue result ↔ IsUnvisited stamps.now kind }
 {
     kind > 0 && kind <= stamps.len() && stamps[kind - 1] == 0
 }

@@ -1,14 +1,13 @@
 //! Laws over the definitions. Each function does nothing: its contract is the law, for every task and every plan.
-ghost use Rattle.std.specs.Prelude.{◌≡◌, ℕ, ℤ, List};
+ghost use Rattle.std.specs.Prelude.{ℕ, List};
 ghost use Rattle.hd_lifted.specs.Types.{IsRooted, IsAcyclic};
 ghost use Rattle.hd_lifted.specs.declared.task.LiftedTask.{LiftedTask};
-ghost use Rattle.hd_lifted.specs.Plans.{Instance, IsValidAt, IsOptimal};
+ghost use Rattle.hd_lifted.specs.Plans.{Instance, HasOneCost, CostTheSame};
 
 /// A plan that is valid at a cost is valid at no other cost, and all optimal plans cost the same.
 pub fn costs_are_unique()
-    ensures one_cost { (t : LiftedTask) (p : List Instance) (c d : ℤ) → IsValidAt t p c → IsValidAt t p d → c ≡ d }
-    ensures optimal { (t : LiftedTask) (p q : List Instance)
-        → (best : IsOptimal t p) (other : IsOptimal t q) → best.cost ≡ other.cost }
+    ensures one_cost { (t : LiftedTask) (p : List Instance) → HasOneCost t p }
+    ensures optimal { (t : LiftedTask) (p q : List Instance) → CostTheSame t p q }
 {}
 
 /// Where steps lead from each type to `object`, no type lies on a cycle.

@@ -5,25 +5,19 @@
 //! is (PDDL 2.1, level 2, Fox and Long 2003), over the task as it stands here.
 #![tactic(auto)]
 
+mod checked;
 pub mod examples;
-mod expression;
 mod hierarchy;
 pub mod laws;
 mod schema;
 mod shortcuts;
 mod task;
-mod tuple;
 
-pub use expression::{Expr, ExprParts};
+pub use checked::Checked;
+pub use hd_base::{ExprParts, Name, Operand, Operation, Relation, Sequence, Tuple};
 pub use hierarchy::Hierarchy;
 pub use schema::{
-    Applied, Argument, Change, Comparison, Condition, Equality, Ground, Literal, NumericEffect,
-    Schema,
+    Applied, Argument, Change, Comparison, Condition, Equality, Expr, Ground, Literal,
+    NumericEffect, Schema,
 };
 pub use task::{InitialValue, LiftedTask, Object, Signature};
-pub use tuple::Tuple;
-
-#[cfg(test)]
-mod hierarchy_tests;
-#[cfg(test)]
-mod tests;

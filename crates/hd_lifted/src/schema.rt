@@ -2,10 +2,7 @@
 ghost use Rattle.std.specs.Prelude.{◌≡◌};
 ghost use Rattle.hd_lifted.specs.declared.schema.Argument.TheVariants.{Object};
 
-use crate::expression::Expr;
-use crate::tuple::Tuple;
-use hd_list::{Name, Sequence};
-use hd_terms::Relation;
+use hd_base::{Name, Operand, Relation, Sequence, Tuple};
 
 /// What stands for an object.
 #[derive(Clone, Copy, Debug, PartialEq, Eq)]
@@ -58,6 +55,9 @@ pub struct Equality {
     /// Whether they have to be the same.
     pub positive: bool,
 }
+
+/// A numeric expression over numbers and fluents with arguments.
+pub type Expr = hd_base::Expr<Operand<Applied>>;
 
 /// A comparison of two numbers.
 #[derive(Debug, Drop)]

@@ -4,9 +4,9 @@
 //! and jumps, in number about the logarithm of the depth, lead from a type to any type above it.
 ghost use Rattle.std.specs.Prelude.{◌≡◌, ℕ, ◌<◌, ◌≤◌, List, OnOk, IfOk, length};
 ghost use Rattle.hd_lifted.specs.Types.{entry_of, parent_of, IsSubtype, IsRooted};
-ghost use Rattle.hd_lifted.specs.Jumps.{depth_in, depth_of, AreJumps, AreShortcuts, AreFilling, StaysRight};
+ghost use Rattle.hd_lifted.specs.Jumps.{depth_in, depth_of, AreJumps, HasDepth, HasShortcuts, AreFilling, StaysRight};
 
-use hd_list::NoMemory;
+use hd_base::NoMemory;
 use std::alloc::Global;
 
 /// How deep the types 1, 2, .. stand, and where their jumps lead.
@@ -26,7 +26,7 @@ impl Shortcuts {
     /// Want of memory.
     pub fn new(alloc: Global, parents: &[usize]) -> Result<Shortcuts, NoMemory>
         requires { IsRooted parents.now }
-        ensures { IfOk result (λ made. AreShortcuts parents.now made.depths.items made.jumps.items) }
+        ensures { IfOk result (HasShortcuts parents.now) }
     {
         let mut depths = vec![in alloc; 0; parents.len()]?;
         let mut jumps = vec![in alloc; 0; parents.len()]?;
@@ -78,7 +78,7 @@ fn fill_from(
     requires rooted { IsRooted parents.now }
     requires before { AreFilling parents.now depths.old jumps.old }
     ensures after { OnOk result (AreFilling parents.now depths.new jumps.new) }
-    ensures filled { OnOk result (depth_of depths.new start ≡ depth_in parents.now start) }
+    ensures filled { OnOk result (HasDepth parents.now depths.new start) }
     ensures kept { OnOk result (StaysRight parents.now depths.old depths.new) }
 {
     let mut waiting = Vec::new(alloc);
@@ -98,7 +98,7 @@ fn fill_from(
 fn fill(parents: &[usize], depths: &mut [usize], jumps: &mut [usize], kind: usize)
     requires rooted { IsRooted parents.now }
     requires listed { (0 < kind) × (kind ≤ length parents.now) }
-    requires parent { depth_of depths.old (parent_of parents.now kind) ≡ depth_in parents.now (parent_of parents.now kind) }
+    requires parent { HasDepth parents.now depths.old (parent_of parents.now kind) }
     requires before { AreFilling parents.now depths.old jumps.old }
     ensures after { AreFilling parents.now depths.new jumps.new }
     ensures filled { depth_of depths.new kind ≡ depth_in parents.now kind }

@@ -2,7 +2,7 @@
 
 use crate::hierarchy::Hierarchy;
 use crate::schema::{Condition, Ground, Schema};
-use hd_list::{Name, Sequence};
+use hd_base::{Name, Sequence};
 
 /// An object of the task: a constant of the domain or an object of the problem.
 #[derive(Debug, Drop)]
@@ -24,7 +24,7 @@ pub struct Signature {
 #[derive(Debug, Drop)]
 pub struct InitialValue {
     pub fluent: Ground,
-    /// From -10^15 to 10^15, where the task was checked.
+    /// In the range, where the task was checked.
     pub value: i64,
 }
 

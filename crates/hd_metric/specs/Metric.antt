@@ -11,14 +11,17 @@ use Rattle.hd_terms.specs.declared.tree.Condition.TheVariants as conditions
 use Rattle.hd_terms.specs.declared.tree.Effect.{Effect}
 use Rattle.hd_terms.specs.declared.tree.Effect.TheVariants as effects
 use Rattle.hd_terms.specs.declared.tree.FluentChange.{FluentChange}
-use Rattle.hd_terms.specs.Expression.{Expression, number, fluent, negate, binary}
+use Rattle.hd_terms.specs.declared.tree.Leaf.{Leaf}
+use Rattle.hd_terms.specs.declared.tree.Leaf.TheVariants.{Number, Fluent}
+use Rattle.hd_base.specs.Expression.{Expression, leaf, negate, binary}
 use Rattle.hd_pddl.specs.declared.tree.Action.{Action}
 use Rattle.hd_pddl.specs.declared.tree.DomainAst.{DomainAst}
 use Rattle.hd_pddl.specs.declared.tree.ProblemAst.{ProblemAst}
 use Rattle.hd_pddl.specs.declared.tree.Init.{Init}
 use Rattle.hd_pddl.specs.declared.tree.Init.TheVariants as inits
-use Rattle.hd_names.specs.Fault.{◌or◌}
-use Rattle.hd_names.specs.Names.{is_named, with_name}
+use Rattle.hd_base.specs.Options.{◌or◌}
+use Rattle.hd_base.specs.Names.{is_named}
+use Rattle.hd_names.specs.Names.{with_name}
 
 -- ---- the functions that actions change
 
@@ -41,9 +44,9 @@ changed_by names (a ∷ as') = changed_by (changed_in names a.effect) as'
 -- ---- the first place where the function f is used as it may not be
 
 -- where an expression reads it
-abbrev pub read_in : List ℕ → Expression → Option ℕ
-read_in f (number v at) = None
-read_in f (fluent a) = if bytes_eq a.name.name f then Some a.name.at else None
+abbrev pub read_in : List ℕ → Expression Leaf → Option ℕ
+read_in f (leaf (Number v at)) = None
+read_in f (leaf (Fluent a)) = if bytes_eq a.name.name f then Some a.name.at else None
 read_in f (negate x) = read_in f x
 read_in f (binary o x y) = read_in f x or read_in f y
 
@@ -61,9 +64,9 @@ read_by_condition f [] = None
 read_by_condition f (c ∷ cs) = read_by_part f c or read_by_condition f cs
 
 -- an amount is the same in every state: a number, or a fluent of a function that no action changes
-abbrev pub is_fixed : List (List ℕ) → Expression → Bool
-is_fixed changed (number v at) = true
-is_fixed changed (fluent a) = not (is_named changed a.name.name)
+abbrev pub is_fixed : List (List ℕ) → Expression Leaf → Bool
+is_fixed changed (leaf (Number v at)) = true
+is_fixed changed (leaf (Fluent a)) = not (is_named changed a.name.name)
 is_fixed changed (negate x) = false
 is_fixed changed (binary o x y) = false
 

@@ -4,6 +4,3 @@
 mod metric;
 
 pub use metric::{misused_in_domain, misused_in_problem};
-
-#[cfg(test)]
-mod tests;

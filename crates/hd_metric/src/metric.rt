@@ -3,11 +3,11 @@ ghost use Rattle.std.specs.Prelude.{◌≡◌, [], IfOk};
 ghost use Rattle.std.specs.List.{list_any};
 ghost use Rattle.hd_metric.specs.Metric.{with_changed, changed_in, changed_by, read_in, read_by_part, read_by_condition, is_fixed, change_of_metric, misused_by_part, misused_by_effect, misused_by_action, misused_by_actions, is_value_of, nonzero_at, nonzero_in, missing_in, misused_in_domain, misused_in_problem};
 
+use hd_base::Name;
 use hd_forms::{Change, NameAt};
-use hd_list::Name;
 use hd_names::Names;
 use hd_pddl::{Action, DomainAst, Init, ProblemAst};
-use hd_terms::{Condition, Effect, Expr, ExprParts, FluentChange};
+use hd_terms::{Condition, Effect, Expr, ExprParts, FluentChange, Leaf};
 use std::alloc::{AllocError, Global};
 
 /// The function that a part of an effect changes, with others.
@@ -51,8 +51,8 @@ fn read_in(function: &Name, expression: &Expr) -> Option<usize>
     ensures { result ≡ read_in function.now expression.now }
 {
     match expression.parts() {
-        ExprParts::Number(_, _) => None,
-        ExprParts::Fluent(fluent) => {
+        ExprParts::Leaf(Leaf::Number(_, _)) => None,
+        ExprParts::Leaf(Leaf::Fluent(fluent)) => {
             if fluent.name.name == *function {
                 Some(fluent.name.at)
             } else {
@@ -102,8 +102,8 @@ fn is_fixed(changed: &Names, amount: &Expr) -> bool
     ensures { result ≡ is_fixed changed.now amount.now }
 {
     match amount.parts() {
-        ExprParts::Number(_, _) => true,
-        ExprParts::Fluent(fluent) => !changed.has(&fluent.name.name),
+        ExprParts::Leaf(Leaf::Number(_, _)) => true,
+        ExprParts::Leaf(Leaf::Fluent(fluent)) => !changed.has(&fluent.name.name),
         ExprParts::Negate(_) => false,
         ExprParts::Binary(_, _, _) => false,
     }

@@ -1,13 +1,15 @@
 -- The types above others: how many there are, and the cycles of those that are listed.
-use Rattle.std.proofs.Common.{◌≡◌, ◌≢◌, ℕ, zero, suc, ◌+◌, ◌-◌, ◌<◌, ◌≤◌, Bool, true, false, inl, inr, List, [], ◌∷◌, ◌++◌, map, length, replicate, Option, Some, None, refl, sym, ap, ◌∙◌, arith}
+use Rattle.std.proofs.Common.{◌≡◌, ◌≢◌, ℕ, zero, suc, ◌+◌, ◌-◌, ◌<◌, ◌≤◌, Bool, true, false, inl, inr, List, [], ◌∷◌, ◌++◌, length, replicate, Option, Some, None, refl, sym, ap, ◌∙◌, arith}
 use Rattle.std.specs.Prelude.{slice_index_or, if◌then◌else◌, codes}
 use Rattle.std.proofs.lemmas.Bool.{cases_lt}
 use Rattle.std.proofs.lemmas.List.{length-map, length-append, length-replicate, get_or-append_right}
+use Rattle.hd_base.proofs.Lists.{get_or-replicate_same}
 use Rattle.hd_forms.specs.declared.names.NameAt.{NameAt}
 use Rattle.hd_terms.specs.declared.tree.Typed.{Typed}
 use Rattle.hd_lifted.specs.Types.{parent_of, ancestor, IsOnCycle}
 use Rattle.hd_lifted.proofs.Types.{ancestor-object}
-use Rattle.hd_names.specs.Names.{is_named, with_name, names_of, type_number, types_of}
+use Rattle.hd_base.specs.Names.{is_named}
+use Rattle.hd_names.specs.Names.{with_name, names_of, types_of}
 use Rattle.hd_names.specs.Scope.{with_supertype, with_supertypes, type_names, parents_of_others, parents_of}
 
 -- ---- how many types there are
@@ -48,18 +50,13 @@ types_long ts =
 
 -- ---- cycles
 
-zeros : (n i : ℕ) → slice_index_or {A = ℕ} (replicate n 0) i 0 ≡ zero
-zeros zero i = refl
-zeros (suc n) zero = refl
-zeros (suc n) (suc i) = zeros n i
-
 -- above the types that are not listed is `object`
 others_below_object : (ts : List Typed) (t : ℕ) → length ts < t → parent_of (parents_of ts) t ≡ 0
 others_below_object ts zero lt = refl
 others_below_object ts (suc t) lt =
     let listed : length (types_of (type_names ts) ts) ≡ length ts = length-map ts _ in
     get_or-append_right (types_of (type_names ts) ts) (parents_of_others ts) (length ts) t 0 listed (omega arith)
-    ∙ zeros (length (type_names ts) - 1 - length ts) (t - length ts)
+    ∙ get_or-replicate_same (length (type_names ts) - 1 - length ts) (t - length ts) 0
 
 -- a type on a cycle is listed
 pub cycle_listed : (ts : List Typed) (t : ℕ) → IsOnCycle (parents_of ts) t → (0 < t) × (t ≤ length ts)

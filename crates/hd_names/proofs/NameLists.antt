@@ -1,44 +1,30 @@
 -- Names as texts and as their bytes.
-use Rattle.std.proofs.Common.{◌≡◌, ℕ, ◌+◌, Bool, true, false, not, ◌||◌, cond, List, [], ◌∷◌, map, Option, refl, sym, ap, ◌∙◌, string_bytes, String}
-use Rattle.std.proofs.lemmas.List.{map-append, length-map}
-use Rattle.std.specs.List.{list_any, position, prefix_len}
+use Rattle.std.proofs.Common.{◌≡◌, ℕ, Bool, true, false, List, [], ◌∷◌, map, Option, refl, sym, ap, ◌∙◌, string_bytes, String}
+use Rattle.std.proofs.lemmas.List.{map-append}
+use Rattle.std.specs.List.{list_any, position}
 use Rattle.std.specs.Str.{bytes_eq}
 use Rattle.std.specs.String.{string_eq}
+use Rattle.hd_base.proofs.Tests.{list_any-map, position-map}
 use Rattle.indexmap.specs.IndexSet.{insert_key}
-use Rattle.hd_names.specs.Names.{is_named, with_name, or_zero, number_in}
-
--- a test of views finds among things what it finds among their views
-pub any-views : {X V : Type 0} (view : X → V) (test : V → Bool) (xs : List X) → list_any test (map view xs) ≡ list_any (λ x. test (view x)) xs
-any-views view test [] = refl
-any-views view test (x ∷ xs) = ap (λ b. test (view x) || b) (any-views view test xs)
-
-prefix-views : {X V : Type 0} (view : X → V) (test : V → Bool) (xs : List X) → prefix_len test (map view xs) ≡ prefix_len (λ x. test (view x)) xs
-prefix-views view test [] = refl
-prefix-views view test (x ∷ xs) = ap (λ n. cond (test (view x)) (1 + n) 0) (prefix-views view test xs)
-
-pub position-views : {X V : Type 0} (view : X → V) (test : V → Bool) (xs : List X) → position test (map view xs) ≡ position (λ x. test (view x)) xs
-position-views view test xs =
-    let place = prefix-views view (λ v. not (test v)) xs in
-    rw (place, length-map xs view) refl
-
--- ---- names as texts
+use Rattle.hd_base.specs.Names.{is_named}
+use Rattle.hd_names.specs.Names.{with_name, or_zero, number_in}
 
 -- a test of a name's bytes among texts, where the text that is looked for has those bytes
 pub any-texts : {Z : Type 0} (ks : List (String Z)) (names : List (List ℕ)) (text name : List ℕ) (found : Bool)
     → names ≡ map string_bytes ks → text ≡ name → found ≡ list_any (λ k. bytes_eq text (string_bytes k)) ks
     → found ≡ is_named names name
-any-texts ks names text name found view same is = is ∙ sym (rw (view, ← same, any-views string_bytes (bytes_eq text) ks) refl)
+any-texts ks names text name found view same is = is ∙ sym (rw (view, ← same, list_any-map (bytes_eq text) string_bytes ks) refl)
 
 pub position-texts : {Z : Type 0} (ks : List (String Z)) (names : List (List ℕ)) (text name : List ℕ) (found : Option ℕ)
     → names ≡ map string_bytes ks → text ≡ name → found ≡ position (λ k. bytes_eq text (string_bytes k)) ks
     → found ≡ position (bytes_eq name) names
-position-texts ks names text name found view same is = is ∙ sym (rw (view, ← same, position-views string_bytes (bytes_eq text) ks) refl)
+position-texts ks names text name found view same is = is ∙ sym (rw (view, ← same, position-map (bytes_eq text) string_bytes ks) refl)
 
 -- a new text goes last
 pub names-insert : {Z : Type 0} (ks : List (String Z)) (k : String Z) → is_named (map string_bytes ks) (string_bytes k) ≡ false
     → map string_bytes (insert_key string_eq ks k) ≡ with_name (map string_bytes ks) (string_bytes k)
 names-insert ks k new =
-    let absent : list_any (string_eq k) ks ≡ false = sym (any-views string_bytes (bytes_eq (string_bytes k)) ks) ∙ new in
+    let absent : list_any (string_eq k) ks ≡ false = sym (list_any-map (bytes_eq (string_bytes k)) string_bytes ks) ∙ new in
     rw (absent, new) (map-append string_bytes ks (k ∷ []))
 
 -- a name that is there stays as it is

@@ -1,5 +1,5 @@
--- Faults of names and of what else a check asks, how they are printed, and what a part of a check answers. (Our own.)
-use Rattle.std.specs.Prelude.{◌≡◌, ℕ, List, ◌++◌, Option, Some, None, Result, Ok, Err, codes, decimal}
+-- Faults of names and of what else a check asks, how they are printed, and where a part of a check stops. (Our own.)
+use Rattle.std.specs.Prelude.{◌≡◌, ℕ, List, ◌++◌, Option, Some, codes, decimal}
 use Rattle.hd_names.specs.declared.fault.Fault.{Fault}
 use Rattle.hd_names.specs.declared.fault.Fault.TheVariants.{UnknownName, Duplicate, WrongArity, WrongType, TypeCycle, BadMetric, DomainMismatch, InitOutOfRange}
 use Rattle.hd_names.specs.declared.fault.Stop.{Stop}
@@ -15,24 +15,6 @@ text_of (TypeCycle name at) = codes "12 TypeCycle(" ++ name ++ codes ", " ++ dec
 text_of (BadMetric at) = codes "13 BadMetric(" ++ decimal at ++ codes ")"
 text_of (DomainMismatch at) = codes "14 DomainMismatch(" ++ decimal at ++ codes ")"
 text_of (InitOutOfRange at) = codes "18 InitOutOfRange(" ++ decimal at ++ codes ")"
-
-infixr 10 ◌or◌
--- the first of two faults
-abbrev pub ◌or◌ : {A : Type 0} → Option A → Option A → Option A
-(Some f) or g = Some f
-None or g = g
-
--- the call tells the first fault, unless memory runs out; where there is none, it gives what the part stands for
-abbrev pub Checks : {R : Type 0} → Result R Stop → Option Fault → R → Type 0
-Checks (Ok r) fault said = (fault ≡ None) × (r ≡ said)
-Checks (Err (stops.At f)) fault said = fault ≡ Some f
-Checks (Err stops.NoMemory) fault said = Unit {0}
-
--- the same of a call that changes what it is given
-abbrev pub Leaves : {R S : Type 0} → Result R Stop → S → Option Fault → S → Type 0
-Leaves (Ok r) left fault said = (fault ≡ None) × (left ≡ said)
-Leaves (Err (stops.At f)) left fault said = fault ≡ Some f
-Leaves (Err stops.NoMemory) left fault said = Unit {0}
 
 -- the stop is at the first fault; want of memory says nothing
 abbrev pub StopsAt : Stop → Option Fault → Type 0

@@ -1,18 +1,18 @@
 -- Names, each once, numbered in their order; and the faults of names. (Our own.)
-use Rattle.std.specs.Prelude.{ℕ, Bool, if◌then◌else◌, List, [], ◌∷◌, ◌++◌, map, Option, Some, None}
-use Rattle.std.specs.List.{list_any, position}
+use Rattle.std.specs.Prelude.{ℕ, if◌then◌else◌, List, [], ◌∷◌, ◌++◌, map, Option, Some, None, Result}
+use Rattle.std.specs.List.{position}
 use Rattle.std.specs.Str.{bytes_eq}
+use Rattle.hd_base.specs.Answers.{Checks, ChecksInto}
+use Rattle.hd_base.specs.Names.{is_named}
+use Rattle.hd_base.specs.Options.{◌or◌}
 use Rattle.hd_forms.specs.declared.names.NameAt.{NameAt}
 use Rattle.hd_terms.specs.declared.typed.ItemKind.{ItemKind}
 use Rattle.hd_terms.specs.declared.typed.ItemKind.TheVariants as kinds
 use Rattle.hd_terms.specs.declared.tree.Typed.{Typed}
 use Rattle.hd_names.specs.declared.fault.Fault.{Fault}
 use Rattle.hd_names.specs.declared.fault.Fault.TheVariants.{UnknownName, Duplicate}
-use Rattle.hd_names.specs.Fault.{◌or◌}
-
--- whether a name is one of these
-abbrev pub is_named : List (List ℕ) → List ℕ → Bool
-is_named names n = list_any (bytes_eq n) names
+use Rattle.hd_names.specs.declared.fault.Stop.{Stop}
+use Rattle.hd_names.specs.Fault.{StopsAt}
 
 -- the names with one more, if it is none of them yet
 abbrev pub with_name : List (List ℕ) → List ℕ → List (List ℕ)
@@ -63,3 +63,26 @@ names_of ts = map (λ t. t.name.name) ts
 -- the numbers of their types
 abbrev pub types_of : List (List ℕ) → List Typed → List ℕ
 types_of types ts = map (λ t. type_number types t.of) ts
+
+-- ---- what calls answer: a value where there is no fault, else a stop at the fault
+
+-- a name that is used is known by its number
+abbrev pub Knows : Result ℕ Stop → ItemKind → List (List ℕ) → NameAt → Type 0
+Knows result k names n = Checks StopsAt result (unknown_in k names n) (number_in names n.name)
+
+-- so is a type, where one is given
+abbrev pub KnowsType : Result ℕ Stop → List (List ℕ) → Option NameAt → Type 0
+KnowsType result types n = Checks StopsAt result (unknown_type types n) (type_number types n)
+
+-- one name more is declared behind the old ones, and leaves the new ones
+abbrev pub Declares : {R : Type 0} → Result R Stop → List (List ℕ) → ItemKind → List (List ℕ) → NameAt → Type 0
+Declares result new k old n = ChecksInto StopsAt result new (duplicate_in k old n) (old ++ n.name ∷ [])
+
+-- names with their types are declared behind the old ones, and leave the new ones
+abbrev pub DeclaresNames
+    : {R : Type 0} → Result R Stop → List (List ℕ) → ItemKind → List (List ℕ) → List (List ℕ) → List Typed → Type 0
+DeclaresNames result new k types old ts = ChecksInto StopsAt result new (declared_fault k types old ts) (old ++ names_of ts)
+
+-- so they give the numbers of their types
+abbrev pub DeclaresTypes : Result (List ℕ) Stop → ItemKind → List (List ℕ) → List (List ℕ) → List Typed → Type 0
+DeclaresTypes result k types names ts = Checks StopsAt result (declared_fault k types names ts) (types_of types ts)

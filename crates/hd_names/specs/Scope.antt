@@ -2,7 +2,10 @@
 use Rattle.std.specs.Prelude.{◌≡◌, ℕ, suc, List, [], ◌∷◌, ◌++◌, map, slice_get, Option, Some, None, Result, Ok, Err, codes, ◌-◌, length, replicate}
 use Rattle.std.specs.List.{position}
 use Rattle.std.specs.Str.{bytes_eq}
+use Rattle.hd_base.specs.Answers.{Checks, ChecksInto}
+use Rattle.hd_base.specs.Options.{◌or◌}
 use Rattle.hd_forms.specs.declared.names.NameAt.{NameAt}
+use Rattle.hd_terms.specs.declared.typed.ItemKind.{ItemKind}
 use Rattle.hd_terms.specs.declared.typed.ItemKind.TheVariants as kinds
 use Rattle.hd_terms.specs.declared.tree.Typed.{Typed}
 use Rattle.hd_pddl.specs.declared.tree.DomainAst.{DomainAst}
@@ -14,7 +17,7 @@ use Rattle.hd_names.specs.declared.fault.Fault.TheVariants.{TypeCycle}
 use Rattle.hd_names.specs.declared.fault.Stop.{Stop}
 use Rattle.hd_names.specs.declared.fault.Stop.TheVariants as stops
 use Rattle.hd_lifted.specs.Types.{IsOnCycle, IsAcyclic}
-use Rattle.hd_names.specs.Fault.{◌or◌}
+use Rattle.hd_names.specs.Fault.{StopsAt}
 use Rattle.hd_names.specs.Names.{with_name, names_of, types_of, declared_fault, duplicate_in}
 
 -- ---- types
@@ -118,3 +121,28 @@ unfoldable pub scope_fault : List (List ℕ) → DomainAst → Option Fault
 scope_fault types d =
     declared_fault kinds.Name types [] d.constants or signatures_fault types [] d.predicates
     or signatures_fault types [] d.functions
+
+-- ---- what calls answer: a value where there is no fault, else a stop at the fault
+
+-- listed types are declared behind the old names, and leave the new ones
+abbrev pub DeclaresListed : {R : Type 0} → Result R Stop → List (List ℕ) → List (List ℕ) → List Typed → Type 0
+DeclaresListed result new old ts = ChecksInto StopsAt result new (types_fault old ts) (old ++ names_of ts)
+
+-- the names of all types
+abbrev pub ChecksTypes : Result (List (List ℕ)) Stop → List Typed → Type 0
+ChecksTypes result ts = Checks StopsAt result (types_fault (codes "object" ∷ []) ts) (type_names ts)
+
+-- the table of declared names, and of predicates or functions
+abbrev pub ChecksTable : Result (Table ℕ) Stop → ItemKind → List (List ℕ) → List Typed → Type 0
+ChecksTable result k types ts = Checks StopsAt result (declared_fault k types [] ts) (typed_table types ts)
+
+abbrev pub ChecksSignatures : Result (Table (List ℕ)) Stop → List (List ℕ) → List Signature → Type 0
+ChecksSignatures result types ss = Checks StopsAt result (signatures_fault types [] ss) (signature_table types ss)
+
+-- the scope of a domain, and that scope with objects behind its constants
+abbrev pub ChecksScope : Result Scope Stop → List (List ℕ) → List ℕ → DomainAst → Option NameAt → Type 0
+ChecksScope result types parents d metric = Checks StopsAt result (scope_fault types d) (scope_of types parents d metric)
+
+abbrev pub ChecksObjects : Result Scope Stop → Scope → List Typed → Type 0
+ChecksObjects result s os =
+    Checks StopsAt result (declared_fault kinds.Name s.types s.objects.names os) (with_objects s os)

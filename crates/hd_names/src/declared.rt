@@ -1,14 +1,13 @@
 //! Declared names with their types: constants, objects, parameters, predicates and functions.
-ghost use Rattle.std.specs.Prelude.{◌++◌, []};
+ghost use Rattle.std.specs.Prelude.{[]};
 ghost use Rattle.hd_terms.specs.declared.typed.ItemKind.TheVariants as kinds;
-ghost use Rattle.hd_names.specs.Fault.{Checks, Leaves};
-ghost use Rattle.hd_names.specs.Names.{declared_fault, types_of, names_of};
-ghost use Rattle.hd_names.specs.Scope.{typed_table, signatures_fault, signature_table};
+ghost use Rattle.hd_names.specs.Names.{DeclaresNames, DeclaresTypes};
+ghost use Rattle.hd_names.specs.Scope.{ChecksTable, ChecksSignatures};
 
 use crate::fault::Stop;
 use crate::names::{Names, declare, type_of};
 use crate::table::Table;
-use hd_list::Sequence;
+use hd_base::Sequence;
 use hd_pddl::Signature;
 use hd_terms::{ItemKind, Typed};
 use std::alloc::Global;
@@ -21,8 +20,8 @@ pub fn declare_all(
     names: &mut Names,
     declared: &[Typed],
 ) -> Result<Sequence<usize>, Stop>
-    ensures names { Leaves result names.new (declared_fault kind types.now names.old declared.now) (names.old ++ names_of declared.now) }
-    ensures types { Checks result (declared_fault kind types.now names.old declared.now) (types_of types.now declared.now) }
+    ensures names { DeclaresNames result names.new kind types.now names.old declared.now }
+    ensures types { DeclaresTypes result kind types.now names.old declared.now }
 {
     let mut numbers = Vec::new(alloc);
     let mut rest = declared;
@@ -41,7 +40,7 @@ pub fn table_of(
     types: &Names,
     declared: &[Typed],
 ) -> Result<Table<usize>, Stop>
-    ensures { Checks result (declared_fault kind types.now [] declared.now) (typed_table types.now declared.now) }
+    ensures { ChecksTable result kind types.now declared.now }
 {
     let mut names = Names::none(alloc);
     let items = declare_all(alloc, kind, types, &mut names, declared)?;
@@ -54,7 +53,7 @@ fn parameter_types(
     types: &Names,
     declared: &[Typed],
 ) -> Result<Sequence<usize>, Stop>
-    ensures { Checks result (declared_fault kinds.Variable types.now [] declared.now) (types_of types.now declared.now) }
+    ensures { DeclaresTypes result kinds.Variable types.now [] declared.now }
 {
     let mut names = Names::none(alloc);
     declare_all(alloc, ItemKind::Variable, types, &mut names, declared)
@@ -66,7 +65,7 @@ pub fn signatures_of(
     types: &Names,
     declared: &[Signature],
 ) -> Result<Table<Sequence<usize>>, Stop>
-    ensures { Checks result (signatures_fault types.now [] declared.now) (signature_table types.now declared.now) }
+    ensures { ChecksSignatures result types.now declared.now }
 {
     let mut names = Names::none(alloc);
     let mut items = Vec::new(alloc);

@@ -3,7 +3,7 @@ ghost use Rattle.std.specs.Prelude.{◌≡◌, Some};
 ghost use Rattle.hd_names.specs.Fault.{text_of};
 ghost use Rattle.hd_names.specs.declared.fault.Stop.TheVariants as stops;
 
-use hd_list::Name;
+use hd_base::Name;
 use std::alloc::{AllocError, AllocFailed};
 use std::fmt;
 
@@ -25,7 +25,7 @@ pub enum Fault {
     BadMetric(usize),
     /// The problem belongs to a domain of another name.
     DomainMismatch(usize),
-    /// A first value out of the range from -10^15 to 10^15.
+    /// A first value out of the range.
     InitOutOfRange(usize),
 }
 

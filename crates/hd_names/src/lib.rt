@@ -15,6 +15,3 @@ pub use names::{Names, declare, duplicate, known, spelled};
 pub use scope::{Scope, scope_of, with_objects};
 pub use table::Table;
 pub use types::{hierarchy_of, number_of_type, numbers_of_types, types_of};
-
-#[cfg(test)]
-mod tests;

@@ -1,14 +1,15 @@
 //! The numbers of names, and the faults of names.
-ghost use Rattle.std.specs.Prelude.{◌≡◌, ◌++◌, ◌∷◌, [], Some, IfOk, length};
+ghost use Rattle.std.specs.Prelude.{◌≡◌, [], Some, IfOk, length};
 ghost use Rattle.std.specs.List.{position};
 ghost use Rattle.std.specs.Str.{bytes_eq};
-ghost use Rattle.hd_names.specs.Fault.{Checks, Leaves, StopsAt};
-ghost use Rattle.hd_names.specs.Names.{is_named, number_in, spelled, unknown_in, duplicate_in, unknown_type, type_number, with_name};
+ghost use Rattle.hd_base.specs.Names.{is_named};
+ghost use Rattle.hd_names.specs.Fault.{StopsAt};
+ghost use Rattle.hd_names.specs.Names.{number_in, spelled, with_name, Knows, KnowsType, Declares};
 ghost use Rattle.hd_names.specs.declared.fault.Fault.TheVariants.{UnknownName, Duplicate};
 
 use crate::fault::{Fault, Stop};
+use hd_base::Name;
 use hd_forms::NameAt;
-use hd_list::Name;
 use hd_terms::ItemKind;
 use indexmap::IndexSet;
 use std::alloc::{AllocError, Global};
@@ -116,7 +117,7 @@ pub fn duplicate(alloc: Global, kind: ItemKind, name: &NameAt) -> Stop
 
 /// The number of a name that is used.
 pub fn known(alloc: Global, kind: ItemKind, names: &Names, name: &NameAt) -> Result<usize, Stop>
-    ensures { Checks result (unknown_in kind names.now name.now) (number_in names.now name.now.name) }
+    ensures { Knows result kind names.now name.now }
 {
     if names.has(&name.name) {
         Ok(names.number_of(&name.name))
@@ -127,7 +128,7 @@ pub fn known(alloc: Global, kind: ItemKind, names: &Names, name: &NameAt) -> Res
 
 /// One name more, which can't be one of them yet.
 pub fn declare(alloc: Global, kind: ItemKind, names: &mut Names, name: &NameAt) -> Result<(), Stop>
-    ensures { Leaves result names.new (duplicate_in kind names.old name.now) (names.old ++ name.now.name ∷ []) }
+    ensures { Declares result names.new kind names.old name.now }
 {
     if names.has(&name.name) {
         Err(duplicate(alloc, kind, name))
@@ -139,7 +140,7 @@ pub fn declare(alloc: Global, kind: ItemKind, names: &mut Names, name: &NameAt) 
 
 /// The number of a type that is named: `object`, which is 0, where none is.
 pub fn type_of(alloc: Global, types: &Names, of: &Option<NameAt>) -> Result<usize, Stop>
-    ensures { Checks result (unknown_type types.now of.now) (type_number types.now of.now) }
+    ensures { KnowsType result types.now of.now }
 {
     match of {
         None => Ok(0),

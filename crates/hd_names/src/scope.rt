@@ -1,17 +1,14 @@
 //! What names stand for in a text.
 ghost use Rattle.std.specs.Prelude.{◌≡◌};
-ghost use Rattle.hd_terms.specs.declared.typed.ItemKind.TheVariants as kinds;
-ghost use Rattle.hd_names.specs.Fault.{Checks};
-ghost use Rattle.hd_names.specs.Names.{declared_fault};
-ghost use Rattle.hd_names.specs.Scope.{metric_in, scope_fault, scope_of, with_objects};
+ghost use Rattle.hd_names.specs.Scope.{metric_in, ChecksScope, ChecksObjects};
 
 use crate::declared::{declare_all, signatures_of, table_of};
 use crate::fault::Stop;
 use crate::names::Names;
 use crate::table::Table;
+use hd_base::Sequence;
 use hd_forms::NameAt;
 use hd_lifted::Hierarchy;
-use hd_list::Sequence;
 use hd_pddl::DomainAst;
 use hd_terms::{ItemKind, Typed};
 use std::alloc::Global;
@@ -55,7 +52,7 @@ pub fn scope_of(
     domain: &DomainAst,
     metric: &Option<NameAt>,
 ) -> Result<Scope, Stop>
-    ensures { Checks result (scope_fault types domain.now) (scope_of types hierarchy domain.now metric.now) }
+    ensures { ChecksScope result types hierarchy domain.now metric.now }
 {
     let objects = table_of(alloc, ItemKind::Name, &types, domain.constants.as_slice())?;
     let predicates = signatures_of(alloc, &types, domain.predicates.as_slice())?;
@@ -77,7 +74,7 @@ pub fn scope_of(
 /// The first fault of these objects.
 #[tactic(auto, unfolding(crate::specs::Scope::with_objects))]
 pub fn with_objects(alloc: Global, scope: Scope, declared: &[Typed]) -> Result<Scope, Stop>
-    ensures { Checks result (declared_fault kinds.Name scope.types scope.objects.names declared.now) (with_objects scope declared.now) }
+    ensures { ChecksObjects result scope declared.now }
 {
     let Scope {
         types,

@@ -1,7 +1,7 @@
 //! Names with what is declared of each.
 
 use crate::names::Names;
-use hd_list::Sequence;
+use hd_base::Sequence;
 
 /// Names, each once, and what is declared of each, in the same order.
 #[derive(Debug, Drop)]

@@ -1,16 +1,16 @@
 //! The types of a domain.
-ghost use Rattle.std.specs.Prelude.{◌≡◌, ◌<◌, ◌≤◌, ◌++◌, ◌∷◌, [], Some, codes, length, IfOk};
+ghost use Rattle.std.specs.Prelude.{◌≡◌, ◌<◌, ◌≤◌, ◌∷◌, [], Some, codes, length, IfOk};
 ghost use Rattle.hd_lifted.specs.Types.{IsOnCycle};
-ghost use Rattle.hd_names.specs.Fault.{Checks, Leaves, StopsAt};
-ghost use Rattle.hd_names.specs.Names.{names_of, type_number, types_of};
-ghost use Rattle.hd_names.specs.Scope.{with_supertype, with_supertypes, type_names, types_fault, parents_of, StopsOnCycle, Climbs};
+ghost use Rattle.hd_names.specs.Fault.{StopsAt};
+ghost use Rattle.hd_names.specs.Names.{type_number, types_of};
+ghost use Rattle.hd_names.specs.Scope.{with_supertype, with_supertypes, type_names, parents_of, DeclaresListed, ChecksTypes, StopsOnCycle, Climbs};
 ghost use Rattle.hd_names.specs.declared.fault.Fault.TheVariants.{TypeCycle};
 
 use crate::fault::{Fault, Stop};
 use crate::names::{Names, declare, spelled};
+use hd_base::{Name, Sequence};
 use hd_forms::NameAt;
 use hd_lifted::Hierarchy;
-use hd_list::{Name, Sequence};
 use hd_terms::{ItemKind, Typed};
 use std::alloc::{AllocError, Global};
 
@@ -48,7 +48,7 @@ fn add_supertypes(alloc: Global, names: &mut Names, listed: &[Typed]) -> Result<
 
 /// The types that are listed, behind those that are there.
 fn declare_types(alloc: Global, names: &mut Names, listed: &[Typed]) -> Result<(), Stop>
-    ensures { Leaves result names.new (types_fault names.old listed.now) (names.old ++ names_of listed.now) }
+    ensures { DeclaresListed result names.new names.old listed.now }
 {
     let mut rest = listed;
     while let [first, after @ ..] = rest {
@@ -60,7 +60,7 @@ fn declare_types(alloc: Global, names: &mut Names, listed: &[Typed]) -> Result<(
 
 /// The names of all types, by number.
 pub fn types_of(alloc: Global, listed: &[Typed]) -> Result<Names, Stop>
-    ensures { Checks result (types_fault (codes "object" ∷ []) listed.now) (type_names listed.now) }
+    ensures { ChecksTypes result listed.now }
 {
     let mut names = object_alone(alloc)?;
     declare_types(alloc, &mut names, listed)?;

@@ -1,18 +1,21 @@
 -- The children of a node are its steps.
-use Rattle.std.proofs.Common.{◌≡◌, ℕ, ◌^◌, ◌≤◌, nat_le, Bool, true, false, cond, not, ◌&&◌, ◌||◌, List, [], ◌∷◌, map, filter, length, Option, Some, None, is_some, Contains, ◌⊎◌, inl, inr, refl, sym, ap, ◌∙◌, subst, slice_get}
+use Rattle.std.proofs.Common.{◌≡◌, ℕ, ◌≤◌, nat_le, Bool, true, false, cond, not, ◌&&◌, ◌||◌, List, [], ◌∷◌, map, filter, length, Option, Some, None, is_some, Contains, ◌⊎◌, inl, inr, refl, sym, ap, ◌∙◌, subst, slice_get}
 use Rattle.std.specs.List.{filter_map, cons_option, range_with_len}
 use Rattle.std.proofs.lemmas.Bool.{true≢false, and_parts, leb-true}
 use Rattle.std.proofs.lemmas.Option.{none-some, same_Some}
-use Rattle.hd_list.proofs.Members.{cases, among_nothing}
+use Rattle.hd_base.proofs.Members.{Contains-cons_cases, Contains-nil}
+use Rattle.hd_base.specs.declared.range.TheConstants.{RANGE_END}
+use Rattle.hd_base.proofs.Truth.{not-not}
+use Rattle.hd_base.proofs.Options.{cond_then_some}
 use Rattle.hd_task.specs.declared.action.Action.{Action}
 use Rattle.hd_task.specs.declared.task.Task.{Task}
 use Rattle.hd_task.specs.Conditions.{holds, condition_departs}
 use Rattle.hd_task.specs.Effects.{effects_stay, step_cost}
-use Rattle.hd_task.specs.Plans.{Node, after_step, step, step_of, step_by}
+use Rattle.hd_task.specs.Plans.{Node, node, after_step, step, step_of, step_by}
 use Rattle.hd_task.specs.Departures.{cost_stays, departs_by, action_departs}
 use Rattle.hd_task.specs.Expansions.{is_applicable, applicable_at}
 use Rattle.hd_node.specs.declared.expansion.Child.{Child}
-use Rattle.hd_node.specs.Children.{node, child_to, child_at, children_at}
+use Rattle.hd_node.specs.Children.{child_to, child_at, children_at}
 
 abbrev action_of : Child → ℕ
 action_of c = c.action
@@ -51,10 +54,10 @@ child_is t r n false c eb e = absurd (none-some c e)
 
 among_option : (o : Option Child) (xs : List Child) (c : Child) → Contains (cons_option o xs) c → (o ≡ Some c) ⊎ Contains xs c
 among_option None xs c k = inr k
-among_option (Some x) xs c k = elim (cases x xs c k) [ inl e ↦ inl (ap Some e) | inr k ↦ inr k ]
+among_option (Some x) xs c k = elim (Contains-cons_cases x xs c k) [ inl e ↦ inl (ap Some e) | inr k ↦ inr k ]
 
 steps_among : (t : Task) (r : Node) (ns : List ℕ) (c : Child) → Contains (filter_map (child_at t r) ns) c → IsStep t r c
-steps_among t r [] c k = absurd (among_nothing c k)
+steps_among t r [] c k = absurd (Contains-nil c k)
 steps_among t r (n ∷ ns) c k =
     elim (among_option (child_at t r n) (filter_map (child_at t r) ns) c k) [
       | inl e ↦ child_is t r n (is_applicable t (Some r) n) c refl e
@@ -67,33 +70,25 @@ children_step t r c k = steps_among t r (range_with_len 0 (length t.actions)) c 
 
 -- ---- a step that does not depart costs no more than the range
 
-not_not : (b : Bool) → not (not b) ≡ true → b ≡ true
-not_not true e = refl
-not_not false e = e
-
-within : (d h es : Bool) (o : Option Node) (to : Node) → h ≡ true → o ≡ Some to → not (d || (h && not (es && cost_stays o))) ≡ true → nat_le to.cost (10 ^ 15) ≡ true
+within : (d h es : Bool) (o : Option Node) (to : Node) → h ≡ true → o ≡ Some to → not (d || (h && not (es && cost_stays o))) ≡ true → nat_le to.cost RANGE_END ≡ true
 within true h es o to eh e s = absurd (true≢false (sym s))
 within false false es o to eh e s = absurd (true≢false (sym eh))
 within false true false o to eh e s = absurd (true≢false (sym s))
 within false true true None to eh e s = absurd (none-some to e)
 within false true true (Some x) to eh e s =
-    ap (λ (y : Node). nat_le y.cost (10 ^ 15)) (sym (same_Some x to e)) ∙ not_not (nat_le x.cost (10 ^ 15)) s
-
-tested : (h : Bool) (o : Option Node) (to : Node) → cond h o None ≡ Some to → h ≡ true
-tested true o to e = refl
-tested false o to e = absurd (none-some to e)
+    ap (λ (y : Node). nat_le y.cost RANGE_END) (sym (same_Some x to e)) ∙ (sym (not-not (nat_le x.cost RANGE_END)) ∙ s)
 
 holds_at : (t : Task) (r : Node) (a : Action) (to : Node) → step t r a ≡ Some to → holds r.state a.condition ≡ true
 unfolding step
-holds_at t r a to e = tested (holds r.state a.condition) (after_step t r a (step_cost t r.state a)) to e
+holds_at t r a to e = (cond_then_some (holds r.state a.condition) (after_step t r a (step_cost t r.state a)) to e).0
 
-in_range_of : (t : Task) (r : Node) (o : Option Action) (to : Node) → step_of t r o ≡ Some to → not (departs_by t r o) ≡ true → nat_le to.cost (10 ^ 15) ≡ true
+in_range_of : (t : Task) (r : Node) (o : Option Action) (to : Node) → step_of t r o ≡ Some to → not (departs_by t r o) ≡ true → nat_le to.cost RANGE_END ≡ true
 in_range_of t r None to e stays = absurd (none-some to e)
 in_range_of t r (Some a) to e stays =
     within (condition_departs r.state a.condition) (holds r.state a.condition) (effects_stay r.state a) (step t r a) to (holds_at t r a to e) e stays
 
-pub step_in_range : (t : Task) (r : Node) (n : ℕ) (to : Node) → step_by t r n ≡ Some to → is_applicable t (Some r) n ≡ true → to.cost ≤ 10 ^ 15
+pub step_in_range : (t : Task) (r : Node) (n : ℕ) (to : Node) → step_by t r n ≡ Some to → is_applicable t (Some r) n ≡ true → to.cost ≤ RANGE_END
 unfolding step_by action_departs
 step_in_range t r n to e applies =
-    leb-true to.cost (10 ^ 15)
+    leb-true to.cost RANGE_END
     (in_range_of t r (slice_get t.actions n) to e (and_parts (is_some (step_by t r n)) (not (action_departs t r n)) applies).1)

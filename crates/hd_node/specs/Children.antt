@@ -1,19 +1,16 @@
--- What an expansion finds: where each applicable action leads. (HDA*, Kishimoto, Fukunaga and Botea 2013, section 3.)
+-- What an expansion finds: where each applicable action leads. (HDA*, Kishimoto, Fukunaga and Botea 2013.)
 use Rattle.std.specs.Prelude.{ℕ, if◌then◌else◌, List, [], ◌∷◌, length, Option, Some, None}
 use Rattle.std.specs.List.{filter_map}
 use Rattle.hd_task.specs.declared.state.State.{State}
 use Rattle.hd_task.specs.declared.task.Task.{Task}
 use Rattle.hd_task.specs.declared.departure.DepartsBy.{DepartsBy}
-use Rattle.hd_task.specs.declared.departure.DepartsBy.TheVariants.{Action}
+use Rattle.hd_task.specs.declared.departure.DepartsBy.TheVariants.{Goal, Action}
+use Rattle.hd_task.specs.Conditions.{condition_departs}
 use Rattle.hd_task.specs.Effects.{numbers_below}
 use Rattle.hd_task.specs.Plans.{Node, step_by}
 use Rattle.hd_task.specs.Departures.{action_departs}
 use Rattle.hd_task.specs.Expansions.{is_applicable}
 use Rattle.hd_node.specs.declared.expansion.Child.{Child}
-
--- where a plan leads, by its state and cost
-abbrev pub node : State → ℕ → Node
-node s cost = record { state = s; cost = cost }
 
 -- the child that a step leads to
 abbrev pub child_to : ℕ → Option Node → Option Child
@@ -28,6 +25,10 @@ child_at t r n = if is_applicable t (Some r) n then child_to n (step_by t r n) e
 unfoldable pub children_at : Task → Node → List Child
 children_at t r = filter_map (child_at t r) (numbers_below (length t.actions))
 
+-- that the goal departs at a node, where it does
+abbrev pub departing_by_goal : Task → State → List DepartsBy
+departing_by_goal t s = if condition_departs s t.goal then Goal ∷ [] else []
+
 -- that an action departs at a node, where it does
-abbrev pub departing : Task → Node → ℕ → List DepartsBy
-departing t r n = if action_departs t r n then Action n ∷ [] else []
+abbrev pub departing_by : Task → Node → ℕ → List DepartsBy
+departing_by t r n = if action_departs t r n then Action n ∷ [] else []

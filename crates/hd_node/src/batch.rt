@@ -1,9 +1,11 @@
 //! Outcomes, and batches of them.
 ghost use Rattle.std.specs.Prelude.{◌≡◌, ◌≤◌, length};
+ghost use Rattle.hd_node.specs.declared.batch.TheConstants.{MAX_OUTCOMES};
 ghost use Rattle.hd_node.specs.Outcome.{kid_of};
 
 use crate::{Estimate, Expansion};
-use hd_task::{Kid, Sequence};
+use hd_base::Sequence;
+use hd_task::Kid;
 
 /// The greatest number of outcomes in a batch.
 pub const MAX_OUTCOMES: usize = 1024;
@@ -47,15 +49,15 @@ pub struct Batch<'t> {
     pub outcomes: Sequence<Outcome<'t>>,
     // There is one at least.
     ghost some: { 1 ≤ length outcomes },
-    // There are 1,024 at most.
-    ghost few: { length outcomes ≤ 1024 },
+    // There are `MAX_OUTCOMES` at most.
+    ghost few: { length outcomes ≤ MAX_OUTCOMES },
 }
 
 impl<'t> Batch<'t> {
     /// The batch of these outcomes, in their order.
     pub fn of(outcomes: Vec<Outcome<'t>>) -> Batch<'t>
         requires some { 1 ≤ length outcomes.items }
-        requires few { length outcomes.items ≤ 1024 }
+        requires few { length outcomes.items ≤ MAX_OUTCOMES }
         ensures { result.outcomes ≡ outcomes.entry.items }
     {
         Batch {

@@ -1,16 +1,12 @@
 //! Expansions: the children and the departures of a plan.
-ghost use Rattle.std.specs.Prelude.{◌≡◌, ◌+◌, ◌<◌, ◌^◌, ◌++◌, [], ◌∷◌, nat_le, true, false, if◌then◌else◌, length, Some, MatchOption, IfOk, IfErr, OnOk};
-ghost use Rattle.std.specs.Option.{option_to_list};
-ghost use Rattle.hd_task.specs.Conditions.{condition_departs};
-ghost use Rattle.hd_task.specs.Plans.{IsStateOf};
+ghost use Rattle.std.specs.Prelude.{◌≡◌, Some, IfOk, IfErr};
+ghost use Rattle.hd_task.specs.Plans.{IsStateOf, node};
 ghost use Rattle.hd_task.specs.Expansions.{departing_at};
-ghost use Rattle.hd_node.specs.Children.{node, child_at, children_at, departing};
+ghost use Rattle.hd_node.specs.Children.{children_at, departing_by_goal};
 
 use crate::Parcel;
-use hd_task::{
-    ActionId, Applied, DepartsBy, GoalTest, Kid, NoMemory, RANGE_END, Sequence, State, Task, apply,
-    goal,
-};
+use hd_base::{NoMemory, Sequence};
+use hd_task::{ActionId, DepartsBy, GoalTest, Kid, Reached, State, Task, goal, step};
 use std::alloc::Global;
 
 /// Where an applicable action leads from an expanded plan.
@@ -43,52 +39,11 @@ pub struct Expansion<'t> {
     ghost all_departures: { departures ≡ departing_at task.now (Some (node state cost)) },
 }
 
-/// A cost with a step's, if it is in the range.
-fn total(cost: u64, step: u128) -> Option<u64>
-    ensures { MatchOption result (nat_le (cost + step) (10 ^ 15) ≡ false) (λ c. (nat_le (cost + step) (10 ^ 15) ≡ true) × (c ≡ cost + step)) }
-{
-    if cost <= RANGE_END && step <= u128::from(RANGE_END - cost) {
-        Some(cost + step as u64)
-    } else {
-        None
-    }
-}
-
-/// One action more: where it leads from a node, or that it departs there.
-fn explore_action(
-    alloc: Global,
-    task: &Task,
-    state: &State,
-    cost: u64,
-    action: u32,
-    children: &mut Vec<Child>,
-    departures: &mut Vec<DepartsBy>,
-) -> Result<(), NoMemory>
-    requires of_task { IsStateOf task.now state.now }
-    requires known { action < length task.now.actions }
-    ensures children { OnOk result (children.new.items ≡ children.old.items ++ option_to_list (child_at task.now (node state.now cost) action)) }
-    ensures departures { OnOk result (departures.new.items ≡ departures.old.items ++ departing task.now (node state.now cost) action) }
-{
-    match apply(alloc, task, state, ActionId(action))? {
-        Applied::No => {}
-        Applied::Departs => departures.push(DepartsBy::Action(action))?,
-        Applied::Next(state, step) => match total(cost, step) {
-            Some(cost) => children.push(Child {
-                action,
-                state,
-                cost,
-            })?,
-            None => departures.push(DepartsBy::Action(action))?,
-        },
-    }
-    Ok(())
-}
-
 /// What departs at a node before any action: the goal, if it does.
-#[tactic(auto, unfolding(hd_task::specs::Applying::tested))]
+#[tactic(auto, unfolding(hd_task::specs::Applying::test_of))]
 fn goal_departure(alloc: Global, task: &Task, state: &State) -> Result<Vec<DepartsBy>, NoMemory>
     requires { IsStateOf task.now state.now }
-    ensures { IfOk result (λ v. v.items ≡ (if condition_departs state.now task.now.goal then DepartsBy.Goal ∷ [] else [])) }
+    ensures { IfOk result (λ v. v.items ≡ departing_by_goal task.now state.now) }
 {
     let mut departures = Vec::new(alloc);
     if let GoalTest::Departs = goal(task, state) {
@@ -103,25 +58,25 @@ fn explore(
     task: &Task,
     state: &State,
     cost: u64,
-) -> Result<(Vec<Child>, Vec<DepartsBy>), NoMemory>
+) -> Result<(Sequence<Child>, Sequence<DepartsBy>), NoMemory>
     requires { IsStateOf task.now state.now }
-    ensures children { IfOk result (λ r. r.0.items ≡ children_at task.now (node state.now cost)) }
-    ensures departures { IfOk result (λ r. r.1.items ≡ departing_at task.now (Some (node state.now cost))) }
+    ensures children { IfOk result (λ r. r.0 ≡ children_at task.now (node state.now cost)) }
+    ensures departs { IfOk result (λ r. r.1 ≡ departing_at task.now (Some (node state.now cost))) }
 {
     let mut children = Vec::new(alloc);
     let mut departures = goal_departure(alloc, task, state)?;
     for action in 0..task.actions.len() as u32 {
-        explore_action(
-            alloc,
-            task,
-            state,
-            cost,
-            action,
-            &mut children,
-            &mut departures,
-        )?;
+        match step(alloc, task, state, cost, ActionId(action))? {
+            Reached::No => {}
+            Reached::Departs => departures.push(DepartsBy::Action(action))?,
+            Reached::Next(state, cost) => children.push(Child {
+                action,
+                state,
+                cost,
+            })?,
+        }
     }
-    Ok((children, departures))
+    Ok((Sequence::from_vec(children), Sequence::from_vec(departures)))
 }
 
 impl<'t> Expansion<'t> {
@@ -149,8 +104,8 @@ impl<'t> Expansion<'t> {
                     kid,
                     state,
                     cost,
-                    children: Sequence::from_vec(children),
-                    departures: Sequence::from_vec(departures),
+                    children,
+                    departures,
                 })
             }
             Err(error) => Err((parcel, error)),

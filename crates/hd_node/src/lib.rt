@@ -12,6 +12,3 @@ pub use batch::{Batch, By, MAX_OUTCOMES, Outcome};
 pub use estimate::{Estimate, EstimateValue};
 pub use expansion::{Child, Expansion};
 pub use parcel::Parcel;
-
-#[cfg(test)]
-mod tests;

@@ -5,7 +5,7 @@ use Rattle.hd_lex.specs.declared.token.Operator.TheVariants.{Minus}
 use Rattle.hd_forms.specs.declared.names.NameAt.{NameAt}
 use Rattle.hd_forms.specs.declared.word.Word.TheVariants.{Name, Keyword, Operator}
 use Rattle.hd_forms.specs.Forms.{Forms, none, word, list}
-use Rattle.hd_forms.specs.Reading.{named}
+use Rattle.hd_forms.specs.Reading.{placed_name}
 use Rattle.hd_terms.specs.declared.tree.Condition.{Condition}
 use Rattle.hd_terms.specs.declared.tree.Effect.{Effect}
 use Rattle.hd_terms.specs.declared.tree.Typed.{Typed}
@@ -26,7 +26,7 @@ made_signature n ps = record { name = n; parameters = ps }
 pub data IsSignature : Forms → Signature → Type 0 where
   signature : {at : ℕ} {n : List ℕ} {rest : Forms} {ps : List Typed}
       → AreTyped kinds.Variable rest ps
-      → IsSignature (word at (Name n) rest) (made_signature (named n at) ps)
+      → IsSignature (word at (Name n) rest) (made_signature (placed_name n at) ps)
 
 -- ( signature )* (BNF)
 pub data AreSignatures : Forms → List Signature → Type 0 where
@@ -61,7 +61,7 @@ pub data IsAction : Forms → Action → Type 0 where
       → IsAction
       (word a (Keyword (codes "action"))
       (word at (Name n) (word b (Keyword (codes "parameters")) (list c parameters d more))))
-      (made_action (named n at) vs ps es)
+      (made_action (placed_name n at) vs ps es)
 
 -- ( action )* (BNF)
 pub data AreActions : Forms → List Action → Type 0 where

@@ -5,7 +5,7 @@ use Rattle.hd_lex.specs.declared.token.Operator.TheVariants.{Equal}
 use Rattle.hd_forms.specs.declared.names.NameAt.{NameAt}
 use Rattle.hd_forms.specs.declared.word.Word.TheVariants.{Not, Name, Operator, Number}
 use Rattle.hd_forms.specs.Forms.{Forms, none, word, list}
-use Rattle.hd_forms.specs.Reading.{named}
+use Rattle.hd_forms.specs.Reading.{placed_name}
 use Rattle.hd_terms.specs.declared.tree.Atom.{Atom}
 use Rattle.hd_terms.specs.declared.tree.Condition.{Condition}
 use Rattle.hd_terms.specs.declared.tree.Typed.{Typed}
@@ -22,11 +22,11 @@ use Rattle.hd_pddl.specs.Sections.{IsSection, HasItems, SkipsRequirements, IsDef
 pub data HasDomainName : Forms → NameAt → Forms → Type 0 where
   domain : {f more : Forms} {at : ℕ} {n : List ℕ}
       → IsSection (codes "domain") f (word at (Name n) none) more
-      → HasDomainName f (named n at) more
+      → HasDomainName f (placed_name n at) more
 
 -- a fluent's first value, whose number stands at this place
-abbrev pub valued : Atom → ℤ → ℕ → Init
-valued t v at = inits.Value (record { fluent = t; value = v; at = at })
+abbrev pub initial_value : Atom → ℤ → ℕ → Init
+initial_value t v at = inits.Value (record { fluent = t; value = v; at = at })
 
 -- what stands in an initial fact (BNF; that 'not' may stand there is own)
 pub data IsInitial : Forms → Init → Type 0 where
@@ -39,7 +39,7 @@ pub data IsInitial : Forms → Init → Type 0 where
   -- = fluent NUMBER
   value : {a c d at : ℕ} {inside : Forms} {t : Atom} {v : ℤ}
       → IsAtom inside t
-      → IsInitial (word a (Operator Equal) (list c inside d (word at (Number v) none))) (valued t v at)
+      → IsInitial (word a (Operator Equal) (list c inside d (word at (Number v) none))) (initial_value t v at)
 
 -- ( initial fact )* (BNF)
 pub data AreInitial : Forms → List Init → Type 0 where
@@ -66,7 +66,7 @@ pub data IsMetric : Forms → Option NameAt → Type 0 where
   absent : IsMetric none None
   present : {f : Forms} {a b c at : ℕ} {n : List ℕ}
       → IsSection (codes "metric") f (word a (Name (codes "minimize")) (list b (word at (Name n) none) c none)) none
-      → IsMetric f (Some (named n at))
+      → IsMetric f (Some (placed_name n at))
 
 -- a problem of these parts
 abbrev pub made_problem : NameAt → NameAt → List Typed → List Init → List Condition → Option NameAt → ProblemAst

@@ -5,12 +5,13 @@ use Rattle.std.specs.Str.{bytes_eq}
 use Rattle.hd_forms.specs.declared.names.NameAt.{NameAt}
 use Rattle.hd_forms.specs.declared.word.Word.TheVariants.{Not, Operator}
 use Rattle.hd_forms.specs.Forms.{Forms, none, word, list}
-use Rattle.hd_forms.specs.Reading.{◌>>=◌, name_in, keyword_in, name_at, number_at, group_at, end_at, behind_name, behind_keyword}
+use Rattle.hd_base.specs.Options.{◌>>=◌}
+use Rattle.hd_forms.specs.Reading.{name_in, keyword_in, name_at, number_at, group_at, end_at, behind_name, behind_keyword}
 use Rattle.hd_terms.specs.declared.tree.Condition.{Condition}
 use Rattle.hd_terms.specs.declared.tree.Effect.{Effect}
 use Rattle.hd_terms.specs.declared.tree.Typed.{Typed}
 use Rattle.hd_terms.specs.declared.typed.ItemKind.TheVariants as kinds
-use Rattle.hd_terms.specs.Reading.{is_minus, is_equal, typed_after, atom_of, negated_atom, condition_at, effect_at}
+use Rattle.hd_terms.specs.Reading.{is_minus, is_equal, typed_after, atom_of, negated_atom_of, condition_at, effect_at}
 use Rattle.hd_pddl.specs.declared.tree.Action.{Action}
 use Rattle.hd_pddl.specs.declared.tree.DomainAst.{DomainAst}
 use Rattle.hd_pddl.specs.declared.tree.Init.{Init}
@@ -19,7 +20,7 @@ use Rattle.hd_pddl.specs.declared.tree.ProblemAst.{ProblemAst}
 use Rattle.hd_pddl.specs.declared.tree.Signature.{Signature}
 use Rattle.hd_pddl.specs.Sections.{is_requirement}
 use Rattle.hd_pddl.specs.Domain.{made_signature, made_action, made_domain}
-use Rattle.hd_pddl.specs.Problem.{valued, made_problem}
+use Rattle.hd_pddl.specs.Problem.{initial_value, made_problem}
 
 -- ---- definitions and sections
 
@@ -187,11 +188,11 @@ value_of rest = do
   t ← atom_of g.0
   v ← number_at g.1
   _ ← end_at v.2
-  Some (valued t v.0 v.1)
+  Some (initial_value t v.0 v.1)
 
 -- what stands in an initial fact
 unfoldable pub initial_of : Forms → Option Init
-initial_of (word at Not rest) = negated_atom rest >>= λ t. Some (inits.NotAtom t)
+initial_of (word at Not rest) = negated_atom_of rest >>= λ t. Some (inits.NotAtom t)
 initial_of (word at (Operator o) rest) = if is_equal o then value_of rest else None
 initial_of inside = atom_of inside >>= λ t. Some (inits.Atom t)
 

@@ -5,7 +5,7 @@ use Rattle.std.specs.Str.{bytes_eq}
 use Rattle.hd_forms.specs.declared.names.NameAt.{NameAt}
 use Rattle.hd_forms.specs.declared.word.Word.TheVariants.{Name, Keyword}
 use Rattle.hd_forms.specs.Forms.{Forms, none, word, list}
-use Rattle.hd_forms.specs.Reading.{named}
+use Rattle.hd_forms.specs.Reading.{placed_name}
 
 -- ( :KEYWORD .. ), and more: what stands behind the keyword (BNF)
 pub data IsSection (k : List ℕ) : Forms → Forms → Forms → Type 0 where
@@ -50,4 +50,4 @@ pub data IsDefinition : List ℕ → Forms → NameAt → Forms → Type 0 where
   define : {kind : List ℕ} {a b c d e f at : ℕ} {n : List ℕ} {sections : Forms}
       → IsDefinition kind
       (list a (word b (Name (codes "define")) (list c (word d (Name kind) (word at (Name n) none)) e sections)) f none)
-      (named n at) sections
+      (placed_name n at) sections

@@ -1,16 +1,17 @@
 //! Actions.
 
 ghost use Rattle.std.specs.Prelude.{◌≡◌, []};
-ghost use Rattle.hd_forms.specs.Reading.{Gives};
+ghost use Rattle.hd_base.specs.Answers.{Gives};
+ghost use Rattle.hd_forms.specs.Reading.{Refuses};
 ghost use Rattle.hd_forms.specs.View.{forms_view};
 ghost use Rattle.hd_pddl.specs.Reading.{precondition_at, action_effect_at, action_head_at, action_of, actions_after};
 
 use crate::tree::Action;
+use hd_base::Sequence;
 use hd_forms::{
-    Form, NameAt, ReadError, behind_keyword, end_of, find_keyword, form_refusal, group_of, name_of,
+    Form, NameAt, ReadError, behind_keyword, end_at, find_keyword, form_refusal, group_at, name_at,
 };
-use hd_list::Sequence;
-use hd_terms::{Condition, Effect, ItemKind, Typed, condition_of, effect_of, typed_of};
+use hd_terms::{Condition, Effect, ItemKind, Typed, condition_at, effect_at, typed_of};
 use std::alloc::Global;
 
 /// The parts of the precondition, none where it is absent, and what follows. The place `end` is that behind the forms.
@@ -20,42 +21,45 @@ fn precondition_at(
     forms: &[Form],
     end: usize,
 ) -> Result<(Sequence<Condition>, &[Form]), ReadError>
-    ensures { Gives (λ x. (x.0, forms_view x.1.now)) result (precondition_at (forms_view forms.now)) }
+    ensures { Gives Refuses (λ x. (x.0, forms_view x.1.now)) result
+        (precondition_at (forms_view forms.now)) }
 {
     match find_keyword("precondition", forms) {
-        Some(rest) => condition_of(alloc, rest, end),
+        Some(rest) => condition_at(alloc, rest, end),
         None => Ok((Sequence::empty(alloc), forms)),
     }
 }
 
 /// The parts of the effect, none where it is absent, and what follows. The place `end` is that behind the forms.
 #[tactic(auto, unfolding(crate::specs::Reading::action_effect_at))]
-fn effect_at(
+fn action_effect_at(
     alloc: Global,
     forms: &[Form],
     end: usize,
 ) -> Result<(Sequence<Effect>, &[Form]), ReadError>
-    ensures { Gives (λ x. (x.0, forms_view x.1.now)) result (action_effect_at (forms_view forms.now)) }
+    ensures { Gives Refuses (λ x. (x.0, forms_view x.1.now)) result
+        (action_effect_at (forms_view forms.now)) }
 {
     match find_keyword("effect", forms) {
-        Some(rest) => effect_of(alloc, rest, end),
+        Some(rest) => effect_at(alloc, rest, end),
         None => Ok((Sequence::empty(alloc), forms)),
     }
 }
 
 /// The name and the parameters of the action in a form which ends at the place `to`, and what follows them.
 #[tactic(auto, unfolding(crate::specs::Reading::action_head_at))]
-fn action_head_of(
+fn action_head_at(
     alloc: Global,
     inside: &[Form],
     to: usize,
 ) -> Result<(NameAt, Sequence<Typed>, &[Form]), ReadError>
-    ensures { Gives (λ x. (x.0, x.1, forms_view x.2.now)) result (action_head_at (forms_view inside.now)) }
+    ensures { Gives Refuses (λ x. (x.0, x.1, forms_view x.2.now)) result
+        (action_head_at (forms_view inside.now)) }
 {
     let rest = behind_keyword(alloc, "action", inside, to)?;
-    let (name, rest) = name_of(alloc, rest, to)?;
+    let (name, rest) = name_at(alloc, rest, to)?;
     let rest = behind_keyword(alloc, "parameters", rest, to)?;
-    let (parameters, parameters_to, rest) = group_of(alloc, rest, to)?;
+    let (parameters, parameters_to, rest) = group_at(alloc, rest, to)?;
     let parameters = typed_of(alloc, ItemKind::Variable, parameters, parameters_to)?;
     Ok((name, parameters, rest))
 }
@@ -63,12 +67,12 @@ fn action_head_of(
 /// The action that stands in a form which ends at the place `to`.
 #[tactic(auto, unfolding(crate::specs::Reading::action_of))]
 fn action_of(alloc: Global, inside: &[Form], to: usize) -> Result<Action, ReadError>
-    ensures { Gives (λ x. x) result (action_of (forms_view inside.now)) }
+    ensures { Gives Refuses (λ x. x) result (action_of (forms_view inside.now)) }
 {
-    let (name, parameters, rest) = action_head_of(alloc, inside, to)?;
+    let (name, parameters, rest) = action_head_at(alloc, inside, to)?;
     let (precondition, rest) = precondition_at(alloc, rest, to)?;
-    let (effect, rest) = effect_at(alloc, rest, to)?;
-    end_of(alloc, rest)?;
+    let (effect, rest) = action_effect_at(alloc, rest, to)?;
+    end_at(alloc, rest)?;
     Ok(Action {
         name,
         parameters,
@@ -80,7 +84,7 @@ fn action_of(alloc: Global, inside: &[Form], to: usize) -> Result<Action, ReadEr
 /// The actions that these forms are, one each.
 #[tactic(auto, unfolding(crate::specs::Reading::actions_after))]
 pub fn actions_of(alloc: Global, forms: &[Form]) -> Result<Sequence<Action>, ReadError>
-    ensures { Gives (λ x. x) result (actions_after (forms_view forms.now) []) }
+    ensures { Gives Refuses (λ x. x) result (actions_after (forms_view forms.now) []) }
 {
     let mut actions = Vec::new(alloc);
     let mut rest = forms;

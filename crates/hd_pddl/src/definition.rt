@@ -1,46 +1,49 @@
 //! What domains and problems share.
 
 ghost use Rattle.std.specs.Prelude.{◌≡◌, Some, None, MatchOption};
-ghost use Rattle.hd_forms.specs.Reading.{Gives, IsOfGrammar};
+ghost use Rattle.hd_base.specs.Answers.{Gives};
+ghost use Rattle.hd_forms.specs.Reading.{Refuses, IsOfGrammar};
 ghost use Rattle.hd_forms.specs.View.{forms_view};
 ghost use Rattle.hd_pddl.specs.Sections.{is_requirement};
 ghost use Rattle.hd_pddl.specs.Reading.{head_at, section_at, requirements_of, behind_requirements};
 
 use hd_forms::{
-    Form, NameAt, ReadError, Word, behind_keyword, behind_name, end_of, find_keyword, form_refusal,
-    group_of, name_of,
+    Form, NameAt, ReadError, Word, behind_keyword, behind_name, end_at, find_keyword, form_refusal,
+    group_at, name_at,
 };
 use std::alloc::Global;
 
 /// The name in the head of a definition of this kind, which ends at the place `to`, and what follows the head.
 #[tactic(auto, unfolding(crate::specs::Reading::head_at))]
-pub fn head_of<'a>(
+pub fn head_at<'a>(
     alloc: Global,
     kind: &str,
     inside: &'a [Form],
     to: usize,
 ) -> Result<(NameAt, &'a [Form]), ReadError>
-    ensures { Gives (λ x. (x.0, forms_view x.1.now)) result (head_at kind.now (forms_view inside.now)) }
+    ensures { Gives Refuses (λ x. (x.0, forms_view x.1.now)) result
+        (head_at kind.now (forms_view inside.now)) }
 {
     let rest = behind_name(alloc, "define", inside, to)?;
-    let (title, title_to, rest) = group_of(alloc, rest, to)?;
+    let (title, title_to, rest) = group_at(alloc, rest, to)?;
     let title = behind_name(alloc, kind, title, title_to)?;
-    let (name, more) = name_of(alloc, title, title_to)?;
-    end_of(alloc, more)?;
+    let (name, more) = name_at(alloc, title, title_to)?;
+    end_at(alloc, more)?;
     Ok((name, rest))
 }
 
 /// What stands behind this keyword in the first form, the place of the form's closing parenthesis, and what follows it.
 #[tactic(auto, unfolding(crate::specs::Reading::section_at))]
-pub fn section_of<'a>(
+pub fn section_at<'a>(
     alloc: Global,
     keyword: &str,
     forms: &'a [Form],
     end: usize,
 ) -> Result<(&'a [Form], usize, &'a [Form]), ReadError>
-    ensures { Gives (λ x. (forms_view x.0.now, forms_view x.2.now)) result (section_at keyword.now (forms_view forms.now)) }
+    ensures { Gives Refuses (λ x. (forms_view x.0.now, forms_view x.2.now)) result
+        (section_at keyword.now (forms_view forms.now)) }
 {
-    let (inside, to, rest) = group_of(alloc, forms, end)?;
+    let (inside, to, rest) = group_at(alloc, forms, end)?;
     let inside = behind_keyword(alloc, keyword, inside, to)?;
     Ok((inside, to, rest))
 }
@@ -50,7 +53,8 @@ pub fn section_of<'a>(
 pub fn find_section<'a>(keyword: &str, forms: &'a [Form]) -> Option<(&'a [Form], usize, &'a [Form])>
     ensures { MatchOption result
         (section_at keyword.now (forms_view forms.now) ≡ None)
-        (λ x. section_at keyword.now (forms_view forms.now) ≡ Some (forms_view x.0.now, forms_view x.2.now)) }
+        (λ x. section_at keyword.now (forms_view forms.now)
+        ≡ Some (forms_view x.0.now, forms_view x.2.now)) }
 {
     match forms {
         [Form::List { inside, to, .. }, rest @ ..] => match find_keyword(keyword, inside) {
@@ -93,7 +97,7 @@ fn requirement_refusal(alloc: Global, form: &Form) -> ReadError
 /// Asks that these forms are requirements, which say nothing.
 #[tactic(auto, unfolding(crate::specs::Reading::requirements_of))]
 fn requirements_of(alloc: Global, forms: &[Form]) -> Result<(), ReadError>
-    ensures { Gives (λ _. tt) result (requirements_of (forms_view forms.now)) }
+    ensures { Gives Refuses (λ _. tt) result (requirements_of (forms_view forms.now)) }
 {
     let mut rest = forms;
     while let [first, after @ ..] = rest {
@@ -116,7 +120,8 @@ fn requirements_of(alloc: Global, forms: &[Form]) -> Result<(), ReadError>
 /// What follows the list of requirements, if it stands first.
 #[tactic(auto, unfolding(crate::specs::Reading::behind_requirements))]
 pub fn behind_requirements(alloc: Global, forms: &[Form]) -> Result<&[Form], ReadError>
-    ensures { Gives (λ x. forms_view x.now) result (behind_requirements (forms_view forms.now)) }
+    ensures { Gives Refuses (λ x. forms_view x.now) result
+        (behind_requirements (forms_view forms.now)) }
 {
     match find_section("requirements", forms) {
         Some((words, _, rest)) => {

@@ -3,7 +3,8 @@
 ghost use Rattle.std.specs.Prelude.{◌≡◌, ◌⊎◌, [], IfOk, IfErr, MatchResult};
 ghost use Rattle.hd_lex.specs.Text.{IsFault};
 ghost use Rattle.hd_lex.specs.declared.error.LexError.{LexError};
-ghost use Rattle.hd_forms.specs.Reading.{Gives};
+ghost use Rattle.hd_base.specs.Answers.{Gives};
+ghost use Rattle.hd_forms.specs.Reading.{Refuses};
 ghost use Rattle.hd_forms.specs.Text.{IsUnbalanced, Explains};
 ghost use Rattle.hd_forms.specs.View.{forms_view};
 ghost use Rattle.hd_forms.specs.declared.error.ReadError.{ReadError};
@@ -13,18 +14,18 @@ ghost use Rattle.hd_pddl.specs.Text.{IsDomainText};
 ghost use Rattle.hd_pddl.specs.declared.tree.DomainAst.{DomainAst};
 
 use crate::actions::actions_of;
-use crate::definition::{behind_requirements, head_of};
+use crate::definition::{behind_requirements, head_at};
 use crate::sections::{functions_at, names_at, predicates_at};
 use crate::tree::DomainAst;
-use hd_forms::{Form, ReadError, end_of, group_of, text_forms};
+use hd_forms::{Form, ReadError, end_at, group_at, text_forms};
 use std::alloc::Global;
 
 /// The domain that stands in a form which ends at the place `to`.
 #[tactic(auto, unfolding(crate::specs::Reading::domain_in))]
 fn domain_in(alloc: Global, inside: &[Form], to: usize) -> Result<DomainAst, ReadError>
-    ensures { Gives (λ x. x) result (domain_in (forms_view inside.now)) }
+    ensures { Gives Refuses (λ x. x) result (domain_in (forms_view inside.now)) }
 {
-    let (name, rest) = head_of(alloc, "domain", inside, to)?;
+    let (name, rest) = head_at(alloc, "domain", inside, to)?;
     let rest = behind_requirements(alloc, rest)?;
     let (types, rest) = names_at(alloc, "types", rest)?;
     let (constants, rest) = names_at(alloc, "constants", rest)?;
@@ -44,11 +45,11 @@ fn domain_in(alloc: Global, inside: &[Form], to: usize) -> Result<DomainAst, Rea
 /// The domain that these forms, all of a text of this length in bytes, are.
 #[tactic(auto, unfolding(crate::specs::Reading::domain_of))]
 fn domain_of(alloc: Global, forms: &[Form], end: usize) -> Result<DomainAst, ReadError>
-    ensures { Gives (λ x. x) result (domain_of (forms_view forms.now)) }
+    ensures { Gives Refuses (λ x. x) result (domain_of (forms_view forms.now)) }
 {
-    let (inside, to, rest) = group_of(alloc, forms, end)?;
+    let (inside, to, rest) = group_at(alloc, forms, end)?;
     let domain = domain_in(alloc, inside, to)?;
-    end_of(alloc, rest)?;
+    end_at(alloc, rest)?;
     Ok(domain)
 }
 
@@ -67,7 +68,8 @@ pub fn read_domain(alloc: Global, text: &[u8]) -> Result<DomainAst, ReadError>
 
     // A bad word is told, and in a text without one a fault of the parentheses, unless memory ran out.
     ensures bad_word { (fault : LexError) → IsFault text.now fault
-        → MatchResult result (λ _. ⊥) (λ error. (error ≡ ReadError.NoMemory) ⊎ (error ≡ ReadError.Lex fault)) }
+        → MatchResult result (λ _. ⊥)
+        (λ error. (error ≡ ReadError.NoMemory) ⊎ (error ≡ ReadError.Lex fault)) }
     ensures bad_parentheses { (fault : ReadError) → IsUnbalanced text.now fault
         → MatchResult result (λ _. ⊥) (λ error. (error ≡ ReadError.NoMemory) ⊎ (error ≡ fault)) }
 {

@@ -17,16 +17,9 @@ mod tree;
 pub use domain::read_domain;
 pub use hd_forms::{Change, NameAt, ReadError};
 pub use hd_terms::{
-    Atom, Comparison, Condition, Effect, Expr, ExprParts, FluentChange, Operation, Relation, Term,
-    Typed,
+    Atom, Comparison, Condition, Effect, Expr, ExprParts, FluentChange, Leaf, Operation, Relation,
+    Term, Typed,
 };
 pub use law::{each_text_says_one_domain, each_text_says_one_problem};
 pub use problem::read_problem;
 pub use tree::{Action, DomainAst, Init, InitialValue, ProblemAst, Signature};
-
-#[cfg(test)]
-mod rendering;
-#[cfg(test)]
-mod samples;
-#[cfg(test)]
-mod tests;

@@ -3,7 +3,8 @@
 ghost use Rattle.std.specs.Prelude.{◌≡◌, ◌⊎◌, [], IfOk, IfErr, MatchResult};
 ghost use Rattle.hd_lex.specs.Text.{IsFault};
 ghost use Rattle.hd_lex.specs.declared.error.LexError.{LexError};
-ghost use Rattle.hd_forms.specs.Reading.{Gives};
+ghost use Rattle.hd_base.specs.Answers.{Gives};
+ghost use Rattle.hd_forms.specs.Reading.{Refuses};
 ghost use Rattle.hd_forms.specs.Text.{IsUnbalanced, Explains};
 ghost use Rattle.hd_forms.specs.View.{forms_view};
 ghost use Rattle.hd_forms.specs.declared.error.ReadError.{ReadError};
@@ -12,48 +13,49 @@ ghost use Rattle.hd_pddl.specs.Reading.{problem_domain_at, value_of, initial_of,
 ghost use Rattle.hd_pddl.specs.Text.{IsProblemText};
 ghost use Rattle.hd_pddl.specs.declared.tree.ProblemAst.{ProblemAst};
 
-use crate::definition::{behind_requirements, head_of, section_of};
+use crate::definition::{behind_requirements, head_at, section_at};
 use crate::sections::names_at;
 use crate::tree::{Init, InitialValue, ProblemAst};
+use hd_base::Sequence;
 use hd_forms::{
-    Form, NameAt, ReadError, Word, behind_keyword, behind_name, end_of, first_refusal,
-    form_refusal, group_of, name_of, number_of, text_forms,
+    Form, NameAt, ReadError, Word, behind_keyword, behind_name, end_at, first_refusal,
+    form_refusal, group_at, name_at, number_at, text_forms,
 };
-use hd_list::Sequence;
-use hd_terms::{Condition, atom_of, condition_of, is_equal, negated_atom_of};
+use hd_terms::{Condition, atom_of, condition_at, is_equal, negated_atom_of};
 use std::alloc::Global;
 
 /// The name of the problem's domain, and what follows. The place `end` is that behind the forms.
 #[tactic(auto, unfolding(crate::specs::Reading::problem_domain_at))]
-fn problem_domain_of(
+fn problem_domain_at(
     alloc: Global,
     forms: &[Form],
     end: usize,
 ) -> Result<(NameAt, &[Form]), ReadError>
-    ensures { Gives (λ x. (x.0, forms_view x.1.now)) result (problem_domain_at (forms_view forms.now)) }
+    ensures { Gives Refuses (λ x. (x.0, forms_view x.1.now)) result
+        (problem_domain_at (forms_view forms.now)) }
 {
-    let (inside, to, rest) = section_of(alloc, "domain", forms, end)?;
-    let (name, more) = name_of(alloc, inside, to)?;
-    end_of(alloc, more)?;
+    let (inside, to, rest) = section_at(alloc, "domain", forms, end)?;
+    let (name, more) = name_at(alloc, inside, to)?;
+    end_at(alloc, more)?;
     Ok((name, rest))
 }
 
 /// A fluent and its first value, in a form that ends at the place `to`.
 #[tactic(auto, unfolding(crate::specs::Reading::value_of))]
 fn value_of(alloc: Global, rest: &[Form], to: usize) -> Result<Init, ReadError>
-    ensures { Gives (λ x. x) result (value_of (forms_view rest.now)) }
+    ensures { Gives Refuses (λ x. x) result (value_of (forms_view rest.now)) }
 {
-    let (inside, inside_to, rest) = group_of(alloc, rest, to)?;
+    let (inside, inside_to, rest) = group_at(alloc, rest, to)?;
     let fluent = atom_of(alloc, inside, inside_to)?;
-    let (value, at, rest) = number_of(alloc, rest, to)?;
-    end_of(alloc, rest)?;
+    let (value, at, rest) = number_at(alloc, rest, to)?;
+    end_at(alloc, rest)?;
     Ok(Init::Value(InitialValue { fluent, value, at }))
 }
 
 /// The initial fact that stands in a form which ends at the place `to`.
 #[tactic(auto, unfolding(crate::specs::Reading::initial_of))]
 fn initial_of(alloc: Global, inside: &[Form], to: usize) -> Result<Init, ReadError>
-    ensures { Gives (λ x. x) result (initial_of (forms_view inside.now)) }
+    ensures { Gives Refuses (λ x. x) result (initial_of (forms_view inside.now)) }
 {
     match inside {
         [
@@ -83,7 +85,7 @@ fn initial_of(alloc: Global, inside: &[Form], to: usize) -> Result<Init, ReadErr
 /// The initial facts that these forms are, one each.
 #[tactic(auto, unfolding(crate::specs::Reading::initial_after))]
 fn initial_in(alloc: Global, forms: &[Form]) -> Result<Sequence<Init>, ReadError>
-    ensures { Gives (λ x. x) result (initial_after (forms_view forms.now) []) }
+    ensures { Gives Refuses (λ x. x) result (initial_after (forms_view forms.now) []) }
 {
     let mut facts = Vec::new(alloc);
     let mut rest = forms;
@@ -99,58 +101,60 @@ fn initial_in(alloc: Global, forms: &[Form]) -> Result<Sequence<Init>, ReadError
 
 /// The initial facts, and what follows. The place `end` is that behind the forms.
 #[tactic(auto, unfolding(crate::specs::Reading::init_at))]
-fn init_of(
+fn init_at(
     alloc: Global,
     forms: &[Form],
     end: usize,
 ) -> Result<(Sequence<Init>, &[Form]), ReadError>
-    ensures { Gives (λ x. (x.0, forms_view x.1.now)) result (init_at (forms_view forms.now)) }
+    ensures { Gives Refuses (λ x. (x.0, forms_view x.1.now)) result
+        (init_at (forms_view forms.now)) }
 {
-    let (inside, _, rest) = section_of(alloc, "init", forms, end)?;
+    let (inside, _, rest) = section_at(alloc, "init", forms, end)?;
     let facts = initial_in(alloc, inside)?;
     Ok((facts, rest))
 }
 
 /// The parts of the goal, and what follows. The place `end` is that behind the forms.
 #[tactic(auto, unfolding(crate::specs::Reading::goal_at))]
-fn goal_of(
+fn goal_at(
     alloc: Global,
     forms: &[Form],
     end: usize,
 ) -> Result<(Sequence<Condition>, &[Form]), ReadError>
-    ensures { Gives (λ x. (x.0, forms_view x.1.now)) result (goal_at (forms_view forms.now)) }
+    ensures { Gives Refuses (λ x. (x.0, forms_view x.1.now)) result
+        (goal_at (forms_view forms.now)) }
 {
-    let (inside, to, rest) = section_of(alloc, "goal", forms, end)?;
-    let (goal, more) = condition_of(alloc, inside, to)?;
-    end_of(alloc, more)?;
+    let (inside, to, rest) = section_at(alloc, "goal", forms, end)?;
+    let (goal, more) = condition_at(alloc, inside, to)?;
+    end_at(alloc, more)?;
     Ok((goal, rest))
 }
 
 /// The function of the metric that stands in a form which ends at the place `to`.
 #[tactic(auto, unfolding(crate::specs::Reading::metric_in))]
 fn metric_in(alloc: Global, inside: &[Form], to: usize) -> Result<NameAt, ReadError>
-    ensures { Gives (λ x. x) result (metric_in (forms_view inside.now)) }
+    ensures { Gives Refuses (λ x. x) result (metric_in (forms_view inside.now)) }
 {
     let rest = behind_keyword(alloc, "metric", inside, to)?;
     let rest = behind_name(alloc, "minimize", rest, to)?;
-    let (group, group_to, rest) = group_of(alloc, rest, to)?;
-    let (name, more) = name_of(alloc, group, group_to)?;
-    end_of(alloc, more)?;
-    end_of(alloc, rest)?;
+    let (group, group_to, rest) = group_at(alloc, rest, to)?;
+    let (name, more) = name_at(alloc, group, group_to)?;
+    end_at(alloc, more)?;
+    end_at(alloc, rest)?;
     Ok(name)
 }
 
 /// The function of the metric, if these forms are one and not none.
 #[tactic(auto, unfolding(crate::specs::Reading::metric_of))]
 fn metric_of(alloc: Global, forms: &[Form]) -> Result<Option<NameAt>, ReadError>
-    ensures { Gives (λ x. x) result (metric_of (forms_view forms.now)) }
+    ensures { Gives Refuses (λ x. x) result (metric_of (forms_view forms.now)) }
 {
     match forms {
         [] => Ok(None),
         [form @ Form::Word { .. }, ..] => Err(form_refusal(alloc, form)),
         [Form::List { inside, to, .. }, rest @ ..] => {
             let name = metric_in(alloc, inside, *to)?;
-            end_of(alloc, rest)?;
+            end_at(alloc, rest)?;
             Ok(Some(name))
         }
     }
@@ -159,14 +163,14 @@ fn metric_of(alloc: Global, forms: &[Form]) -> Result<Option<NameAt>, ReadError>
 /// The problem that stands in a form which ends at the place `to`.
 #[tactic(auto, unfolding(crate::specs::Reading::problem_in))]
 fn problem_in(alloc: Global, inside: &[Form], to: usize) -> Result<ProblemAst, ReadError>
-    ensures { Gives (λ x. x) result (problem_in (forms_view inside.now)) }
+    ensures { Gives Refuses (λ x. x) result (problem_in (forms_view inside.now)) }
 {
-    let (name, rest) = head_of(alloc, "problem", inside, to)?;
-    let (domain, rest) = problem_domain_of(alloc, rest, to)?;
+    let (name, rest) = head_at(alloc, "problem", inside, to)?;
+    let (domain, rest) = problem_domain_at(alloc, rest, to)?;
     let rest = behind_requirements(alloc, rest)?;
     let (objects, rest) = names_at(alloc, "objects", rest)?;
-    let (init, rest) = init_of(alloc, rest, to)?;
-    let (goal, rest) = goal_of(alloc, rest, to)?;
+    let (init, rest) = init_at(alloc, rest, to)?;
+    let (goal, rest) = goal_at(alloc, rest, to)?;
     let metric = metric_of(alloc, rest)?;
     Ok(ProblemAst {
         name,
@@ -181,11 +185,11 @@ fn problem_in(alloc: Global, inside: &[Form], to: usize) -> Result<ProblemAst, R
 /// The problem that these forms, all of a text of this length in bytes, are.
 #[tactic(auto, unfolding(crate::specs::Reading::problem_of))]
 fn problem_of(alloc: Global, forms: &[Form], end: usize) -> Result<ProblemAst, ReadError>
-    ensures { Gives (λ x. x) result (problem_of (forms_view forms.now)) }
+    ensures { Gives Refuses (λ x. x) result (problem_of (forms_view forms.now)) }
 {
-    let (inside, to, rest) = group_of(alloc, forms, end)?;
+    let (inside, to, rest) = group_at(alloc, forms, end)?;
     let problem = problem_in(alloc, inside, to)?;
-    end_of(alloc, rest)?;
+    end_at(alloc, rest)?;
     Ok(problem)
 }
 
@@ -204,7 +208,8 @@ pub fn read_problem(alloc: Global, text: &[u8]) -> Result<ProblemAst, ReadError>
 
     // A bad word is told, and in a text without one a fault of the parentheses, unless memory ran out.
     ensures bad_word { (fault : LexError) → IsFault text.now fault
-        → MatchResult result (λ _. ⊥) (λ error. (error ≡ ReadError.NoMemory) ⊎ (error ≡ ReadError.Lex fault)) }
+        → MatchResult result (λ _. ⊥)
+        (λ error. (error ≡ ReadError.NoMemory) ⊎ (error ≡ ReadError.Lex fault)) }
     ensures bad_parentheses { (fault : ReadError) → IsUnbalanced text.now fault
         → MatchResult result (λ _. ⊥) (λ error. (error ≡ ReadError.NoMemory) ⊎ (error ≡ fault)) }
 {

@@ -1,14 +1,15 @@
 //! Sections of names, of predicates and of functions.
 
 ghost use Rattle.std.specs.Prelude.{◌≡◌, []};
-ghost use Rattle.hd_forms.specs.Reading.{Gives};
+ghost use Rattle.hd_base.specs.Answers.{Gives};
+ghost use Rattle.hd_forms.specs.Reading.{Refuses};
 ghost use Rattle.hd_forms.specs.View.{forms_view};
 ghost use Rattle.hd_pddl.specs.Reading.{names_of, names_at, signature_of, signatures_of, predicates_at, functions_of, functions_at};
 
 use crate::definition::find_section;
 use crate::tree::Signature;
-use hd_forms::{Form, ReadError, Word, first_refusal, form_refusal, name_of};
-use hd_list::Sequence;
+use hd_base::Sequence;
+use hd_forms::{Form, ReadError, Word, first_refusal, form_refusal, name_at};
 use hd_terms::{ItemKind, Typed, is_minus, typed_of};
 use std::alloc::Global;
 
@@ -19,7 +20,8 @@ pub fn names_at<'a>(
     keyword: &str,
     forms: &'a [Form],
 ) -> Result<(Sequence<Typed>, &'a [Form]), ReadError>
-    ensures { Gives (λ x. (x.0, forms_view x.1.now)) result (names_at keyword.now (forms_view forms.now)) }
+    ensures { Gives Refuses (λ x. (x.0, forms_view x.1.now)) result
+        (names_at keyword.now (forms_view forms.now)) }
 {
     match find_section(keyword, forms) {
         Some((inside, to, rest)) => {
@@ -33,9 +35,9 @@ pub fn names_at<'a>(
 /// The signature that stands in a form which ends at the place `to`.
 #[tactic(auto, unfolding(crate::specs::Reading::signature_of))]
 fn signature_of(alloc: Global, inside: &[Form], to: usize) -> Result<Signature, ReadError>
-    ensures { Gives (λ x. x) result (signature_of (forms_view inside.now)) }
+    ensures { Gives Refuses (λ x. x) result (signature_of (forms_view inside.now)) }
 {
-    let (name, rest) = name_of(alloc, inside, to)?;
+    let (name, rest) = name_at(alloc, inside, to)?;
     let parameters = typed_of(alloc, ItemKind::Variable, rest, to)?;
     Ok(Signature { name, parameters })
 }
@@ -43,7 +45,7 @@ fn signature_of(alloc: Global, inside: &[Form], to: usize) -> Result<Signature, 
 /// The signatures that these forms are, one each.
 #[tactic(auto, unfolding(crate::specs::Reading::signatures_of, crate::specs::Reading::signatures_after))]
 fn signatures_of(alloc: Global, forms: &[Form]) -> Result<Sequence<Signature>, ReadError>
-    ensures { Gives (λ x. x) result (signatures_of (forms_view forms.now)) }
+    ensures { Gives Refuses (λ x. x) result (signatures_of (forms_view forms.now)) }
 {
     let mut signatures = Vec::new(alloc);
     let mut rest = forms;
@@ -63,7 +65,8 @@ pub fn predicates_at(
     alloc: Global,
     forms: &[Form],
 ) -> Result<(Sequence<Signature>, &[Form]), ReadError>
-    ensures { Gives (λ x. (x.0, forms_view x.1.now)) result (predicates_at (forms_view forms.now)) }
+    ensures { Gives Refuses (λ x. (x.0, forms_view x.1.now)) result
+        (predicates_at (forms_view forms.now)) }
 {
     match find_section("predicates", forms) {
         Some((inside, _, rest)) => {
@@ -77,7 +80,7 @@ pub fn predicates_at(
 /// The functions that these forms are, each with `- number` behind it or not. The place `end` is that behind the forms.
 #[tactic(auto, unfolding(crate::specs::Reading::functions_of, crate::specs::Reading::functions_after))]
 fn functions_of(alloc: Global, forms: &[Form], end: usize) -> Result<Sequence<Signature>, ReadError>
-    ensures { Gives (λ x. x) result (functions_of (forms_view forms.now)) }
+    ensures { Gives Refuses (λ x. x) result (functions_of (forms_view forms.now)) }
 {
     let mut functions = Vec::new(alloc);
     let mut behind = false;
@@ -120,7 +123,8 @@ pub fn functions_at(
     alloc: Global,
     forms: &[Form],
 ) -> Result<(Sequence<Signature>, &[Form]), ReadError>
-    ensures { Gives (λ x. (x.0, forms_view x.1.now)) result (functions_at (forms_view forms.now)) }
+    ensures { Gives Refuses (λ x. (x.0, forms_view x.1.now)) result
+        (functions_at (forms_view forms.now)) }
 {
     match find_section("functions", forms) {
         Some((inside, to, rest)) => {

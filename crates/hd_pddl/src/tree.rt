@@ -1,7 +1,7 @@
 //! What texts say, each list in the text's order. A place is that of a first byte in the text, counted from 0.
 
+use hd_base::Sequence;
 use hd_forms::NameAt;
-use hd_list::Sequence;
 use hd_terms::{Atom, Condition, Effect, Typed};
 
 /// A predicate or a function that is declared. Its parameters are variables, without their `?`.

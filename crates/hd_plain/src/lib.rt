@@ -10,6 +10,3 @@ mod task;
 
 pub use error::PlainError;
 pub use task::plain_task;
-
-#[cfg(test)]
-mod tests;

@@ -1,10 +1,11 @@
 //! The parts of the task that a lifted one is: each schema is an action, each predicate an atom.
-ghost use Rattle.std.specs.Prelude.{◌≡◌, ◌≤◌, ◌^◌, IfOk, map, length};
+ghost use Rattle.std.specs.Prelude.{◌≡◌, ◌≤◌, IfOk, map, length};
+ghost use Rattle.hd_task.specs.declared.task.TheConstants.{MAX_ACTIONS};
 ghost use Rattle.hd_task.specs.Effects.{numbers_below};
 ghost use Rattle.hd_plain.specs.Parts.{atom_number, literal_of, atom_of, condition_of, form_at, action_of, actions_from, initial_bits, names_in};
 
+use hd_base::{Name, NoMemory, Sequence};
 use hd_lifted::{Applied, Ground, LiftedTask, Schema, Signature};
-use hd_list::{Name, NoMemory, Sequence};
 use hd_task::{Action, Condition, GroundForm, Literal, Names};
 use std::alloc::Global;
 
@@ -80,7 +81,7 @@ fn action_of(alloc: Global, number: u32, schema: &Schema) -> Result<Action, NoMe
 
 /// The actions that are these schemas, in order.
 pub fn actions_of(alloc: Global, schemas: &[Schema]) -> Result<Sequence<Action>, NoMemory>
-    requires { length schemas.now ≤ 2 ^ 20 }
+    requires { length schemas.now ≤ MAX_ACTIONS }
     ensures { IfOk result (λ s. s ≡ actions_from 0 schemas.now) }
 {
     let mut actions = Vec::new(alloc);

@@ -1,8 +1,8 @@
 -- The bound is the cost of some goal plan of the list, and no goal plan of the list costs less.
 use Rattle.std.proofs.Common.{◌≡◌, ℕ, ◌≤◌, List, [], ◌∷◌, Option, Some, None, Contains, inl, inr, refl, ap, ◌∙◌, subst, arith, min}
-use Rattle.std.proofs.lemmas.Bool.{cases_lt}
 use Rattle.std.proofs.lemmas.Option.{none-some, same_Some}
-use Rattle.hd_list.proofs.Members.{here, later, cases, among_nothing}
+use Rattle.hd_base.proofs.Members.{Contains-first, Contains-later, Contains-cons_cases, Contains-nil}
+use Rattle.hd_base.proofs.Numbers.{min_both}
 use Rattle.hd_task.specs.declared.task.Task.{Task}
 use Rattle.hd_task.specs.Plans.{exec}
 use Rattle.hd_task.specs.Expansions.{lesser, goal_cost, bound_of}
@@ -25,9 +25,9 @@ lesser_right (Some a) (Some b) c k = record { value = min a b; is = refl; least 
 
 -- a goal plan of the list bounds the bound
 pub bound_up_to : (t : Task) (expanded : List (List ℕ)) (p : List ℕ) (c : ℕ) → Contains expanded p → goal_cost t (exec t p) ≡ Some c → IsSomeUpTo (bound_of t expanded) c
-bound_up_to t [] p c among e = absurd (among_nothing p among)
+bound_up_to t [] p c among e = absurd (Contains-nil p among)
 bound_up_to t (q ∷ expanded) p c among e =
-    elim (cases q expanded p among) [
+    elim (Contains-cons_cases q expanded p among) [
       | inl same ↦ lesser_left (goal_cost t (exec t q)) (bound_of t expanded) c (ap (λ p. goal_cost t (exec t p)) same ∙ e)
       | inr rest ↦ lesser_right (goal_cost t (exec t q)) (bound_of t expanded) c (bound_up_to t expanded p c rest e)
     ]
@@ -39,25 +39,17 @@ pub record IsAtBound (t : Task) (expanded : List (List ℕ)) (c : ℕ) : Type 0 
   pub is : goal_cost t (exec t plan) ≡ Some c
 
 from_later : (t : Task) (q : List ℕ) (expanded : List (List ℕ)) (c : ℕ) → IsAtBound t expanded c → IsAtBound t (q ∷ expanded) c
-from_later t q expanded c k = record { plan = k.plan; among = later q expanded k.plan k.among; is = k.is }
-
-at_min : (P : ℕ → Type 0) (a b c : ℕ) → min a b ≡ c → P a → P b → P c
-at_min P a b c e pa pb =
-    elim (cases_lt b a) [
-      | inl h ↦ subst P (let k : b ≡ c = omega arith in k) pb
-      | inr h ↦ subst P (let k : a ≡ c = omega arith in k) pa
-    ]
+from_later t q expanded c k = record { plan = k.plan; among = Contains-later q expanded k.plan k.among; is = k.is }
 
 lesser_from :
     (t : Task) (q : List ℕ) (expanded : List (List ℕ)) (c : ℕ) (a b : Option ℕ) → goal_cost t (exec t q) ≡ a → bound_of t expanded ≡ b
     → ((c : ℕ) → bound_of t expanded ≡ Some c → IsAtBound t expanded c)
     → lesser a b ≡ Some c → IsAtBound t (q ∷ expanded) c
 lesser_from t q expanded c None b ea eb rest e = from_later t q expanded c (rest c (eb ∙ e))
-lesser_from t q expanded c (Some a) None ea eb rest e = record { plan = q; among = here q expanded; is = ea ∙ e }
+lesser_from t q expanded c (Some a) None ea eb rest e = record { plan = q; among = Contains-first q expanded; is = ea ∙ e }
 lesser_from t q expanded c (Some a) (Some b) ea eb rest e =
-    at_min (IsAtBound t (q ∷ expanded)) a b c (same_Some (min a b) c e)
-    (record { plan = q; among = here q expanded; is = ea })
-    (from_later t q expanded b (rest b eb))
+    subst (IsAtBound t (q ∷ expanded)) (same_Some (min a b) c e)
+    (min_both (IsAtBound t (q ∷ expanded)) a b (record { plan = q; among = Contains-first q expanded; is = ea }) (from_later t q expanded b (rest b eb)))
 
 pub bound_from : (t : Task) (expanded : List (List ℕ)) (c : ℕ) → bound_of t expanded ≡ Some c → IsAtBound t expanded c
 bound_from t [] c e = absurd (none-some c e)

@@ -1,5 +1,7 @@
 -- What `apply` and `goal` answer decides what happens at a plan, given the plan's cost.
-use Rattle.std.proofs.Common.{◌≡◌, ℕ, ◌+◌, ◌^◌, nat_le, Bool, true, false, cond, not, ◌&&◌, ◌||◌, Option, Some, None, is_some, slice_get, refl, ap, ◌∙◌}
+use Rattle.std.proofs.Common.{◌≡◌, ℕ, ◌+◌, Bool, true, false, cond, not, ◌&&◌, ◌||◌, Option, Some, None, is_some, slice_get, refl, ap, ◌∙◌, ◌^◌, nat_le}
+use Rattle.hd_base.specs.Numbers.{cost_in_range}
+use Rattle.hd_base.proofs.Truth.{not-not}
 use Rattle.hd_task.specs.declared.state.State.{State}
 use Rattle.hd_task.specs.declared.action.Action.{Action}
 use Rattle.hd_task.specs.declared.task.Task.{Task}
@@ -9,12 +11,8 @@ use Rattle.hd_task.specs.Conditions.{holds, condition_departs}
 use Rattle.hd_task.specs.Effects.{state_after, step_cost, effects_stay}
 use Rattle.hd_task.specs.Plans.{Node, after_step, step, step_of, step_by}
 use Rattle.hd_task.specs.Departures.{cost_stays, departs_by, goal_departs, action_departs}
-use Rattle.hd_task.specs.Applying.{tested, goal_of, departs_aside, next_of, applied_of, applied_by, applied_at, goes_on, leaves_range, says_yes, says_departs}
+use Rattle.hd_task.specs.Applying.{test_of, goal_of, departs_aside, next_of, applied_of, applied_by, applied_at, goes_on, leaves_range, says_yes, says_departs}
 use Rattle.hd_task.specs.Expansions.{is_applicable, goal_cost}
-
-not_not : (b : Bool) → not (not b) ≡ b
-not_not true = refl
-not_not false = refl
 
 -- ---- an action: d says that its condition departs, h that it holds, es that its effects stay in the range
 
@@ -27,7 +25,7 @@ applicable_cases t r a true true es (Some c) = refl
 applicable_cases t r a true false es c = refl
 applicable_cases t r a false false es c = refl
 applicable_cases t r a false true true None = refl
-applicable_cases t r a false true true (Some c) = not_not (nat_le (r.cost + c) (10 ^ 15))
+applicable_cases t r a false true true (Some c) = not-not (cost_in_range (r.cost + c))
 applicable_cases t r a false true false None = refl
 applicable_cases t r a false true false (Some c) = refl
 
@@ -93,7 +91,7 @@ goal_cases false true cost = refl
 goal_cases false false cost = refl
 
 pub goal-is : (t : Task) (r : Node) → goal_cost t (Some r) ≡ cond (says_yes (goal_of t r.state)) (Some r.cost) None
-unfolding tested goal_departs
+unfolding test_of goal_departs
 goal-is t r = goal_cases (condition_departs r.state t.goal) (holds r.state t.goal) r.cost
 
 goal_departs_cases : (d h : Bool) → d ≡ says_departs (cond d Test.Departs (cond h Test.Yes Test.No))
@@ -102,5 +100,5 @@ goal_departs_cases false true = refl
 goal_departs_cases false false = refl
 
 pub goal_departs-is : (t : Task) (r : Node) → goal_departs t r ≡ says_departs (goal_of t r.state)
-unfolding tested goal_departs
+unfolding test_of goal_departs
 goal_departs-is t r = goal_departs_cases (condition_departs r.state t.goal) (holds r.state t.goal)

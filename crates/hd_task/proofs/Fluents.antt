@@ -1,10 +1,11 @@
 -- Effects written one after another, each by the values before, give each fluent the value of its one effect.
-use Rattle.std.proofs.Common.{◌≡◌, ℕ, ℤ, pos, ◌<◌, true, false, cond, ◌==◌, nat_lt, ◌&&◌, List, [], ◌∷◌, map, length, get_or, set, fold, Option, Some, None, refl, sym, ap, ◌∙◌, subst, arith, rules, get_or-set_same, get_or-set_other, length-set}
+use Rattle.std.proofs.Common.{◌≡◌, ℕ, ℤ, pos, ◌<◌, true, false, cond, ◌==◌, nat_lt, ◌&&◌, List, [], ◌∷◌, map, length, get_or, set, fold, Option, Some, None, refl, sym, ap, ◌∙◌, subst, arith, get_or-set_same, get_or-set_other, length-set}
 use Rattle.std.specs.Prelude.{find}
 use Rattle.std.specs.List.{list_all}
-use Rattle.std.proofs.lemmas.Bool.{eqb-true, eqb-false, ne_eqb, and_parts}
+use Rattle.std.proofs.lemmas.Bool.{eqb-true, eqb-false, ne_eqb, and_parts, lt-ltb}
 use borrow.Author.Tests.{ltb-true}
 use Rattle.std.proofs.lemmas.List.FromFn.{fill_by_all}
+use Rattle.hd_base.proofs.Lists.{length-fold}
 use Rattle.hd_task.specs.declared.state.State.{State}
 use Rattle.hd_task.specs.declared.effect.Effect.{Effect}
 use Rattle.hd_task.specs.declared.action.Action.{Action}
@@ -22,17 +23,10 @@ fluents_of es = map (λ (e : Effect). e.fluent) es
 abbrev effect_at : List Effect → ℕ → Option Effect
 effect_at es j = find (λ (e : Effect). e.fluent == j) es
 
-length-writes : (f : List ℤ) (es : List Effect) (g : List ℤ) → length (fold (write f) g es) ≡ length g
-length-writes f [] g = refl
-length-writes f (e ∷ es) g = length-writes f es (write f g e) ∙ length-set g e.fluent (new_value f e)
-
-lt-test : (m n : ℕ) → m < n → nat_lt m n ≡ true
-lt-test m n h = search rules
-
 -- a number below the first of rising numbers is none of them
 below_first : (x y : ℕ) (ys : List ℕ) → x < y → is_below_first y ys ≡ true → is_below_first x ys ≡ true
 below_first x y [] h b = refl
-below_first x y (z ∷ ys) h b = let k : y < z = ltb-true y z b in lt-test x z (omega arith)
+below_first x y (z ∷ ys) h b = let k : y < z = ltb-true y z b in lt-ltb x z (omega arith)
 
 none_at : (x : ℕ) (es : List Effect) → is_below_first x (fluents_of es) ≡ true → is_rising (fluents_of es) ≡ true → effect_at es x ≡ None
 none_at x [] b r = refl
@@ -71,7 +65,7 @@ value_or-is f k (Some e) = refl
 pub written_fluents : (t : Task) (s : State) (a : Action) (values : List ℤ) → length s.fluents ≡ length t.fluents → is_rising (fluents_of a.effects) ≡ true → values ≡ fold (write s.fluents) s.fluents a.effects → values ≡ fluents_after t s a
 written_fluents t s a values width rising is =
     fill_by_all (λ j. value_after s.fluents j (effect_at a.effects j)) values (length t.fluents) (pos 0)
-    (ap length is ∙ (length-writes s.fluents a.effects s.fluents ∙ width))
+    (ap length is ∙ (length-fold (write s.fluents) (λ (g : List ℤ) (e : Effect). length-set g e.fluent (new_value s.fluents e)) a.effects s.fluents ∙ width))
     (λ k h.
     let within : k < length s.fluents = omega (arith, width) in
     ap (λ xs. get_or xs k (pos 0)) is

@@ -3,11 +3,13 @@ use Rattle.std.proofs.Common.{◌≡◌, ◌≢◌, ℕ, zero, suc, ◌+◌, ◌
 use Rattle.std.specs.Prelude.{flat_map}
 use Rattle.std.specs.List.{range_with_len, AllPairs}
 use Rattle.std.proofs.lemmas.Bool.{cases_lt}
-use Rattle.std.proofs.lemmas.List.{take-append-le, get_or_append_left, get_or_at, take_all}
+use Rattle.std.proofs.lemmas.List.{take-append-le, get_or_append_left, get_or_at, take_all, length-take, take_at, same_from_push}
 use Rattle.std.proofs.lemmas.List.Concat.{flat_map-append}
 use Rattle.std.proofs.lemmas.List.Elements.{Contains-append_left, Contains-append_cases}
-use Rattle.hd_list.proofs.Members.{here, later, cases, among_nothing, from_map}
-use Rattle.hd_list.proofs.Distinct.{IsDistinct, IsDistinct-append, IsDistinct-map, IsDistinct-filter, IsDistinct-range, AllPairs-from_distinct}
+use Rattle.std.proofs.Math.Seq.{take-suc}
+use Rattle.hd_base.proofs.Members.{Contains-first, Contains-later, Contains-cons_cases, Contains-nil, IsFrom-from_map}
+use Rattle.hd_base.proofs.Distinct.{IsDistinct, IsDistinct-append, IsDistinct-map, IsDistinct-filter, IsDistinct-range_with_len, AllPairs-from_distinct}
+use Rattle.hd_base.proofs.Lists.{push_not_nil}
 use Rattle.hd_task.specs.declared.task.Task.{Task}
 use Rattle.hd_task.specs.Plans.{exec}
 use Rattle.hd_task.specs.Expansions.{is_applicable, applicable_at, followed_by, children, generated, IsNext, IsLegal, bound_of, departing_at, departure_at, departures_from, departures_of}
@@ -15,21 +17,6 @@ use Rattle.hd_task.specs.Covers.{Estimate, IsBounded, Dead, Reaches, IsJustified
 use Rattle.hd_task.proofs.Bounds.{IsSomeUpTo, bound_up_to, bound_from}
 
 -- ---- a plan and one more action
-
-not_nil : {X : Type 0} (p : List X) (a : X) → p ++ a ∷ [] ≡ [] → ⊥
-not_nil [] a e = cc
-not_nil (x ∷ p) a e = cc
-
-same_push : {X : Type 0} (p q : List X) (a b : X) → p ++ a ∷ [] ≡ q ++ b ∷ [] → (p ≡ q) × (a ≡ b)
-same_push [] [] a b e = (refl, cc)
-same_push [] (y ∷ q) a b e = let k : q ++ b ∷ [] ≡ [] = cc in absurd (not_nil q b k)
-same_push (x ∷ p) [] a b e = let k : p ++ a ∷ [] ≡ [] = cc in absurd (not_nil p a k)
-same_push (x ∷ p) (y ∷ q) a b e =
-    let k : p ++ a ∷ [] ≡ q ++ b ∷ [] = cc in
-    let r = same_push p q a b k in
-    let first : x ≡ y = cc in
-    let rest : p ≡ q = r.0 in
-    (cc, r.1)
 
 -- ---- what is generated
 
@@ -39,20 +26,20 @@ generated-push t expanded p =
     (flat_map-append (children t) expanded (p ∷ []) ∙ ap (λ xs. flat_map (children t) expanded ++ xs) (append-nil (children t p)))
 
 parent_among : (t : Task) (expanded : List (List ℕ)) (p : List ℕ) (n : ℕ) → Contains (flat_map (children t) expanded) (followed_by p n) → Contains expanded p
-parent_among t [] p n c = absurd (among_nothing (followed_by p n) c)
+parent_among t [] p n c = absurd (Contains-nil (followed_by p n) c)
 parent_among t (q ∷ expanded) p n c =
     elim (Contains-append_cases (children t q) (flat_map (children t) expanded) (followed_by p n) c) [
       | inl c ↦
-          let k = from_map (followed_by q) (applicable_at t (exec t q)) (followed_by p n) c in
-          subst (Contains (q ∷ expanded)) (same_push q p k.source n k.is).0 (here q expanded)
-      | inr c ↦ later q expanded p (parent_among t expanded p n c)
+          let k = IsFrom-from_map (followed_by q) (applicable_at t (exec t q)) (followed_by p n) c in
+          subst (Contains (q ∷ expanded)) (same_from_push q p k.source n k.is).0 (Contains-first q expanded)
+      | inr c ↦ Contains-later q expanded p (parent_among t expanded p n c)
     ]
 
 -- a generated plan is the empty one, or its parent is expanded
 pub generated_parent : (t : Task) (expanded : List (List ℕ)) (p : List ℕ) (n : ℕ) → Contains (generated t expanded) (followed_by p n) → Contains expanded p
 generated_parent t expanded p n c =
-    elim (cases [] (flat_map (children t) expanded) (followed_by p n) c) [
-      | inl e ↦ absurd (not_nil p n (sym e))
+    elim (Contains-cons_cases [] (flat_map (children t) expanded) (followed_by p n) c) [
+      | inl e ↦ absurd (push_not_nil p n (sym e))
       | inr c ↦ parent_among t expanded p n c
     ]
 
@@ -61,16 +48,10 @@ generated_parent t expanded p n c =
 -- a beginning of a legal list is legal
 pub legal_take : (t : Task) (expanded : List (List ℕ)) (m : ℕ) → IsLegal t expanded → IsLegal t (take m expanded)
 legal_take t expanded m legal i d h =
-    let k = shorter m expanded in
-    let lt : i < m = omega (arith, k.0) in
-    let short : i < length expanded = omega (arith, k.1) in
+    let lt : i < m = omega (arith, length-take m expanded) in
+    let short : i < length expanded = omega (arith, length-take m expanded) in
     let front : take i (take m expanded) ≡ take i expanded = take-take i m expanded (omega arith) in
     subst₂ (IsNext t) (sym front) (sym (get_or-take m expanded i d lt)) (legal i d short)
-  where
-    shorter : {X : Type 0} (m : ℕ) (xs : List X) → (length (take m xs) ≤ m) × (length (take m xs) ≤ length xs)
-    shorter zero xs = (omega arith, omega arith)
-    shorter (suc m) [] = (omega arith, omega arith)
-    shorter (suc m) (x ∷ xs) = let k = shorter m xs in (omega (arith, k.0), omega (arith, k.1))
 
 -- a legal list with one plan more that may be expanded next is legal
 pub legal_push : (t : Task) (expanded : List (List ℕ)) (p : List ℕ) → IsLegal t expanded → IsNext t expanded p → IsLegal t (expanded ++ p ∷ [])
@@ -82,42 +63,32 @@ legal_push t expanded p legal next n d h =
           subst₂ (IsNext t) (sym front) (sym at) (legal n d lt)
       | inr le ↦
           let same : n ≡ length expanded = omega (arith, length-append expanded (p ∷ [])) in
-          let front : take n (expanded ++ p ∷ []) ≡ expanded = ap (λ n. take n (expanded ++ p ∷ [])) same ∙ take_front expanded (p ∷ []) in
+          let front : take n (expanded ++ p ∷ []) ≡ expanded = ap (λ n. take n (expanded ++ p ∷ [])) same ∙ take_at expanded (p ∷ []) (length expanded) refl in
           let at : get_or (expanded ++ p ∷ []) n d ≡ p = get_or_at expanded p [] d n (sym same) in
           subst₂ (IsNext t) (sym front) (sym at) next
     ]
-  where
-    take_front : {X : Type 0} (xs ys : List X) → take (length xs) (xs ++ ys) ≡ xs
-    take_front [] ys = refl
-    take_front (x ∷ xs) ys = ap (λ zs. x ∷ zs) (take_front xs ys)
 
 -- ---- no plan is generated twice
 
 IsDistinct-children : (t : Task) (p : List ℕ) → IsDistinct (children t p)
 unfolding applicable_at
 IsDistinct-children t p =
-    IsDistinct-map (followed_by p) (λ a b e. (same_push p p a b e).1) (applicable_at t (exec t p))
-    (IsDistinct-filter (is_applicable t (exec t p)) (range_with_len 0 (length t.actions)) (IsDistinct-range 0 (length t.actions)))
+    IsDistinct-map (followed_by p) (λ a b e. (same_from_push p p a b e).1) (applicable_at t (exec t p))
+    (IsDistinct-filter (is_applicable t (exec t p)) (range_with_len 0 (length t.actions)) (IsDistinct-range_with_len 0 (length t.actions)))
 
 IsDistinct-push : (t : Task) (expanded : List (List ℕ)) (p : List ℕ) → IsNext t expanded p → IsDistinct (generated t expanded) → IsDistinct (generated t (expanded ++ p ∷ []))
 IsDistinct-push t expanded p next dis =
     subst IsDistinct (sym (generated-push t expanded p))
     (IsDistinct-append (generated t expanded) (children t p) dis (IsDistinct-children t p)
     (λ x g c.
-    let k = from_map (followed_by p) (applicable_at t (exec t p)) x c in
+    let k = IsFrom-from_map (followed_by p) (applicable_at t (exec t p)) x c in
     next.is_new (generated_parent t expanded p k.source (subst (Contains (generated t expanded)) (sym k.is) g))))
 
--- a list up to a place, and the element there
-take_more : {X : Type 0} (xs : List X) (n : ℕ) (d : X) → n < length xs → take (suc n) xs ≡ take n xs ++ get_or xs n d ∷ []
-take_more [] n d h = absurd (omega arith)
-take_more (x ∷ xs) zero d h = refl
-take_more (x ∷ xs) (suc n) d h = ap (λ ys. x ∷ ys) (take_more xs n d (omega arith))
-
 distinct_upto : (t : Task) (expanded : List (List ℕ)) → IsLegal t expanded → (n : ℕ) → n ≤ length expanded → IsDistinct (generated t (take n expanded))
-distinct_upto t expanded legal zero h = (λ c. among_nothing [] c, tt)
+distinct_upto t expanded legal zero h = (λ c. Contains-nil [] c, tt)
 distinct_upto t expanded legal (suc n) h =
     let lt : n < length expanded = omega arith in
-    subst (λ xs. IsDistinct (generated t xs)) (sym (take_more expanded n [] lt))
+    subst (λ xs. IsDistinct (generated t xs)) (sym (take-suc expanded n [] lt))
     (IsDistinct-push t (take n expanded) (get_or expanded n []) (legal n [] lt) (distinct_upto t expanded legal n (omega arith)))
 
 -- what a legal list generates holds no plan twice

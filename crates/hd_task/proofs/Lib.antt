@@ -4,5 +4,5 @@ pub mod Deciding
 pub mod Fluents
 pub mod Growing
 pub mod Optimal
+pub mod Reaching
 pub mod Runs
-pub mod Sums

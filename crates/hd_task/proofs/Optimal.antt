@@ -5,9 +5,10 @@
 -- the same steps lead on from there; or its cost and the estimate reach the bound.
 use Rattle.std.proofs.Common.{◌≡◌, ℕ, ◌+◌, ◌<◌, ◌≤◌, Bool, true, false, cond, not, ◌&&◌, IsTrue, List, [], ◌∷◌, ◌++◌, map, filter, length, Option, Some, None, Contains, ◌⊎◌, inl, inr, refl, sym, ap, ◌∙◌, subst, arith, is_some}
 use Rattle.std.specs.Prelude.{flat_map}
-use Rattle.std.proofs.lemmas.Bool.{and_parts, and_from, not_from_false, false_from_ne_true, cond-true}
+use Rattle.std.proofs.lemmas.Bool.{and_parts, and_from, not_from_false, cond-true}
 use Rattle.std.proofs.lemmas.Option.{none-some, same_Some, cond_some}
-use Rattle.hd_list.proofs.Members.{here, later, cases, among_nothing, Contains-map, Contains-filter, Contains-flat_map, Contains-range}
+use Rattle.hd_base.proofs.Members.{Contains-first, Contains-later, Contains-cons_cases, Contains-nil, Contains-map, Contains-filter, Contains-flat_map, Contains-range_with_len, fails-from_filter}
+use Rattle.hd_base.proofs.Lists.{nil_from_append, nil_from_map}
 use Rattle.hd_task.specs.declared.state.State.{State}
 use Rattle.hd_task.specs.declared.task.Task.{Task}
 use Rattle.hd_task.specs.declared.departure.DepartsBy.{DepartsBy}
@@ -29,20 +30,12 @@ zero_admissible t from p to of e goal = (0, refl, omega (arith, exec_from-dearer
 
 -- ---- nothing departs
 
-append_none : {X : Type 0} (xs ys : List X) → xs ++ ys ≡ [] → (xs ≡ []) × (ys ≡ [])
-append_none [] ys e = (refl, e)
-append_none (x ∷ xs) ys e = absurd (cc)
-
-map_none : {X Y : Type 0} (f : X → Y) (xs : List X) → map f xs ≡ [] → xs ≡ []
-map_none f [] e = refl
-map_none f (x ∷ xs) e = absurd (cc)
-
 none_at : (t : Task) (expanded : List (List ℕ)) (n : ℕ) (p : List ℕ) → departures_from t n expanded ≡ [] → Contains expanded p → departing_at t (exec t p) ≡ []
-none_at t [] n p e among = absurd (among_nothing p among)
+none_at t [] n p e among = absurd (Contains-nil p among)
 none_at t (q ∷ expanded) n p e among =
-    let both = append_none (map (departure_at n) (departing_at t (exec t q))) (departures_from t (n + 1) expanded) e in
-    elim (cases q expanded p among) [
-      | inl same ↦ ap (λ p. departing_at t (exec t p)) (sym same) ∙ map_none (departure_at n) (departing_at t (exec t q)) both.0
+    let both = nil_from_append (map (departure_at n) (departing_at t (exec t q))) (departures_from t (n + 1) expanded) e in
+    elim (Contains-cons_cases q expanded p among) [
+      | inl same ↦ ap (λ p. departing_at t (exec t p)) (sym same) ∙ nil_from_map (departure_at n) (departing_at t (exec t q)) both.0
       | inr rest ↦ none_at t expanded (n + 1) p both.1 rest
     ]
 
@@ -55,10 +48,6 @@ goal_none : (b : Bool) (rest : List DepartsBy) → cond b (Goal ∷ []) [] ++ re
 goal_none false rest e = (refl, e)
 goal_none true rest e = absurd (cc)
 
-filter_none : {X : Type 0} (p : X → Bool) (xs : List X) (x : X) → filter p xs ≡ [] → Contains xs x → p x ≡ false
-filter_none p xs x e c =
-    false_from_ne_true (p x) (λ t. among_nothing x (subst (λ ys. Contains ys x) e (Contains-filter p xs x c t)))
-
 in_range_at : (t : Task) (r : Node) → departing_at t (Some r) ≡ [] → IsInRange t r
 unfolding departing_at
 in_range_at t r e =
@@ -66,7 +55,7 @@ in_range_at t r e =
     let parts = goal_none (goal_departs t r) (map Action departing) e in
     record {
       goal = parts.0;
-      actions = λ n h. filter_none (action_departs t r) (numbers_below (length t.actions)) n (map_none Action departing parts.1) (Contains-range (length t.actions) n h);
+      actions = λ n h. fails-from_filter (action_departs t r) (numbers_below (length t.actions)) n (nil_from_map Action departing parts.1) (Contains-range_with_len (length t.actions) n h);
     }
 
 -- ---- a step from a plan of the list leads to a plan that the list generates
@@ -82,10 +71,10 @@ generated_by t expanded q r n to among is stays e =
     let applicable : is_applicable t (exec t q) n ≡ true =
     ap (λ o. is_applicable t o n) is ∙ and_from (is_some (step_by t r n)) (not (action_departs t r n)) defined in_range
     in
-    later [] (flat_map (children t) expanded) (followed_by q n)
+    Contains-later [] (flat_map (children t) expanded) (followed_by q n)
     (Contains-flat_map (children t) expanded q (followed_by q n) among
     (Contains-map (followed_by q) (applicable_at t (exec t q)) n
-    (Contains-filter (is_applicable t (exec t q)) (numbers_below (length t.actions)) n (Contains-range (length t.actions) n h) applicable)))
+    (Contains-filter (is_applicable t (exec t q)) (numbers_below (length t.actions)) n (Contains-range_with_len (length t.actions) n h) applicable)))
 
 -- ---- a plan at which the goal holds is valid
 
@@ -161,7 +150,7 @@ module _ (t : Task) (h : Estimate) (fair : IsAdmissible t h) (expanded : List (L
   from_start : (p : List ℕ) (cost : ℕ) → IsValidAt t p cost → IsSomeUpTo (bound_of t expanded) cost
   from_start p cost v =
       subst (IsSomeUpTo (bound_of t expanded)) v.costs
-      (found p (bounds p) [] (start t) v.end (here [] (flat_map (children t) expanded)) refl v.executes v.meets_goal)
+      (found p (bounds p) [] (start t) v.end (Contains-first [] (flat_map (children t) expanded)) refl v.executes v.meets_goal)
 
   -- each plan at which the goal holds at the bound's cost is optimal
   pub each_optimal : (c : ℕ) → bound_of t expanded ≡ Some c → (p : List ℕ) → goal_cost t (exec t p) ≡ Some c → IsOptimal t p

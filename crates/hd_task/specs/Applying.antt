@@ -1,5 +1,6 @@
 -- The answers of `goal` and `apply`, by the definitions of conditions, effects and departures.
-use Rattle.std.specs.Prelude.{ℕ, ◌+◌, ◌^◌, Bool, true, false, not, ◌&&◌, ◌||◌, nat_le, if◌then◌else◌, Option, Some, None, is_some, slice_get}
+use Rattle.std.specs.Prelude.{ℕ, ◌+◌, Bool, true, false, not, ◌&&◌, ◌||◌, if◌then◌else◌, Option, Some, None, is_some, slice_get, length}
+use Rattle.hd_base.specs.Numbers.{cost_in_range}
 use Rattle.hd_task.specs.declared.state.State.{State}
 use Rattle.hd_task.specs.declared.condition.Condition.{Condition}
 use Rattle.hd_task.specs.declared.action.Action.{Action}
@@ -8,16 +9,21 @@ use Rattle.hd_task.specs.declared.applying.GoalTest.{GoalTest}
 use Rattle.hd_task.specs.declared.applying.GoalTest.TheVariants as Test
 use Rattle.hd_task.specs.declared.applying.Applied.{Applied}
 use Rattle.hd_task.specs.declared.applying.Applied.TheVariants as Answer
+use Rattle.hd_task.specs.WellFormed.{action_fits}
 use Rattle.hd_task.specs.Conditions.{holds, condition_departs}
 use Rattle.hd_task.specs.Effects.{state_after, step_cost, effects_stay}
 
 -- the test of a condition: a departure is told before the answer
-unfoldable pub tested : State → Condition → GoalTest
-tested s c = if condition_departs s c then Test.Departs else if holds s c then Test.Yes else Test.No
+unfoldable pub test_of : State → Condition → GoalTest
+test_of s c = if condition_departs s c then Test.Departs else if holds s c then Test.Yes else Test.No
 
 -- what `goal` answers
 abbrev pub goal_of : Task → State → GoalTest
-goal_of t s = tested s t.goal
+goal_of t s = test_of s t.goal
+
+-- an action fits the task: what it adds, reads and changes is the task's
+abbrev pub fits_task : Task → Action → Bool
+fits_task t a = action_fits (length t.atoms) (length t.fluents) a
 
 -- an action departs in a state, the sum of a plan's cost aside
 unfoldable pub departs_aside : Task → State → Action → Bool
@@ -50,13 +56,13 @@ applied_at t s n = applied_by t s (slice_get t.actions n)
 -- the plan goes on by the action
 abbrev pub goes_on : ℕ → Applied → Bool
 goes_on cost Answer.No = false
-goes_on cost (Answer.Next s c) = nat_le (cost + c) (10 ^ 15)
+goes_on cost (Answer.Next s c) = cost_in_range (cost + c)
 goes_on cost Answer.Departs = false
 
 -- the action departs there
 abbrev pub leaves_range : ℕ → Applied → Bool
 leaves_range cost Answer.No = false
-leaves_range cost (Answer.Next s c) = not (nat_le (cost + c) (10 ^ 15))
+leaves_range cost (Answer.Next s c) = not (cost_in_range (cost + c))
 leaves_range cost Answer.Departs = true
 
 -- the goal's test says that it holds

@@ -1,12 +1,11 @@
--- When a condition holds (PDDL 2.1, sections 4 and 8), and when it departs from the range.
-use Rattle.std.specs.Prelude.{ℕ, Bool, false, not, ◌&&◌, if◌then◌else◌, List, slice_index_or, ℤ, int_lt, int_le}
+-- When a condition holds (PDDL 2.1), and when it departs from the range.
+use Rattle.std.specs.Prelude.{ℕ, Bool, false, not, ◌&&◌, if◌then◌else◌, List, slice_index_or, ℤ}
 use Rattle.std.specs.List.{list_all}
 use Rattle.hd_task.specs.declared.state.State.{State}
-use Rattle.hd_task.specs.declared.condition.Relation.{Relation}
-use Rattle.hd_task.specs.declared.condition.Relation.TheVariants.{Less, LessOrEqual, Equal, GreaterOrEqual, Greater}
 use Rattle.hd_task.specs.declared.condition.Comparison.{Comparison}
 use Rattle.hd_task.specs.declared.condition.Literal.{Literal}
 use Rattle.hd_task.specs.declared.condition.Condition.{Condition}
+use Rattle.hd_base.specs.Numbers.{relation_holds}
 use Rattle.hd_task.specs.Expressions.{value_of, stays_in_range}
 
 -- whether an atom is true: one that the state lacks is false
@@ -17,17 +16,9 @@ has_atom s i = slice_index_or s.atoms i false
 abbrev pub literal_holds : State → Literal → Bool
 literal_holds s l = if l.positive then has_atom s l.atom else not (has_atom s l.atom)
 
--- how two values compare
-abbrev pub related : Relation → ℤ → ℤ → Bool
-related Less x y = int_lt x y
-related LessOrEqual x y = int_le x y
-related Equal x y = int_le x y && int_le y x
-related GreaterOrEqual x y = int_le y x
-related Greater x y = int_lt y x
-
 -- a comparison holds by the values of its sides
 abbrev pub comparison_holds : List ℤ → Comparison → Bool
-comparison_holds f c = related c.relation (value_of f c.left) (value_of f c.right)
+comparison_holds f c = relation_holds c.relation (value_of f c.left) (value_of f c.right)
 
 -- each subexpression of a comparison is in the range
 abbrev pub comparison_stays : List ℤ → Comparison → Bool

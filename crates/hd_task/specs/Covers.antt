@@ -1,6 +1,6 @@
 -- When a search has looked at enough: each generated plan is expanded, or need not be. The estimate is a parameter: it
 -- gives a lower bound on the cost from a state to the goal, or none where it knows that there is no way.
--- (HDA*, section 3; the conditions are those of A*, Hart, Nilsson and Raphael 1968.)
+-- (HDA*; the conditions are those of A*, Hart, Nilsson and Raphael 1968.)
 use Rattle.std.specs.Prelude.{◌≡◌, ℕ, ◌+◌, ◌≤◌, IsTrue, List, Option, Some, None, Contains, ◌⊎◌}
 use Rattle.hd_task.specs.declared.state.State.{State}
 use Rattle.hd_task.specs.declared.task.Task.{Task}

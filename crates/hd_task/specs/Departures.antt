@@ -1,5 +1,6 @@
 -- When a number leaves the range at a plan. (Our own: PDDL 2.1 has no range.)
-use Rattle.std.specs.Prelude.{ℕ, ◌^◌, Bool, false, not, ◌&&◌, ◌||◌, Option, Some, None, slice_get, nat_le}
+use Rattle.std.specs.Prelude.{ℕ, Bool, false, not, ◌&&◌, ◌||◌, Option, Some, None, slice_get}
+use Rattle.hd_base.specs.Numbers.{cost_in_range}
 use Rattle.hd_task.specs.declared.action.Action.{Action}
 use Rattle.hd_task.specs.declared.task.Task.{Task}
 use Rattle.hd_task.specs.Conditions.{holds, condition_departs}
@@ -13,7 +14,7 @@ goal_departs t r = condition_departs r.state t.goal
 -- the cost of the plan with one more step is there, and in the range
 abbrev pub cost_stays : Option Node → Bool
 cost_stays None = false
-cost_stays (Some r) = nat_le r.cost (10 ^ 15)
+cost_stays (Some r) = cost_in_range r.cost
 
 -- an action departs where its condition does, or where its condition holds and a subexpression of an effect, a new
 -- value or the new plan's cost is out of the range

@@ -1,8 +1,7 @@
--- What an action does to a state, and what it costs (PDDL 2.1, sections 4, 5 and 8).
+-- What an action does to a state, and what it costs (PDDL 2.1).
 use Rattle.std.specs.Prelude.{ℕ, Bool, not, ◌&&◌, ◌||◌, ◌==◌, if◌then◌else◌, List, map, length, Option, Some, None, ℤ, pos, negsuc, ◌+ℤ◌, ◌-ℤ◌, ◌*ℤ◌, find}
 use Rattle.std.specs.List.{list_any, list_all, range_with_len, fold}
 use Rattle.hd_task.specs.declared.state.State.{State}
-use Rattle.hd_task.specs.declared.expression.Expr.{Expr}
 use Rattle.hd_task.specs.declared.effect.Term.{Term}
 use Rattle.hd_task.specs.declared.effect.Term.TheVariants.{Increase, Decrease}
 use Rattle.hd_task.specs.declared.effect.Change.{Change}
@@ -10,7 +9,8 @@ use Rattle.hd_task.specs.declared.effect.Change.TheVariants.{Assign, ScaleUp, Su
 use Rattle.hd_task.specs.declared.effect.Effect.{Effect}
 use Rattle.hd_task.specs.declared.action.Action.{Action}
 use Rattle.hd_task.specs.declared.task.Task.{Task}
-use Rattle.hd_task.specs.Expressions.{fluent_of, value_of, in_range, stays_in_range}
+use Rattle.hd_base.specs.Numbers.{in_range}
+use Rattle.hd_task.specs.Expressions.{Expr, fluent_of, value_of, stays_in_range}
 use Rattle.hd_task.specs.Conditions.{has_atom}
 
 -- 0, 1, and so on, n of them
@@ -39,14 +39,14 @@ with_term f v (Increase e) = v +ℤ value_of f e
 with_term f v (Decrease e) = v -ℤ value_of f e
 
 -- what a change makes of the value v, its amounts by the values f from before the action: increases and decreases add up
-abbrev pub changed : List ℤ → Change → ℤ → ℤ
-changed f (Assign e) v = value_of f e
-changed f (ScaleUp e) v = v *ℤ value_of f e
-changed f (Sum terms) v = fold (with_term f) v terms
+abbrev pub value_by_change : List ℤ → Change → ℤ → ℤ
+value_by_change f (Assign e) v = value_of f e
+value_by_change f (ScaleUp e) v = v *ℤ value_of f e
+value_by_change f (Sum terms) v = fold (with_term f) v terms
 
 -- the value that an effect gives its fluent
 abbrev pub new_value : List ℤ → Effect → ℤ
-new_value f e = changed f e.change (fluent_of f e.fluent)
+new_value f e = value_by_change f e.change (fluent_of f e.fluent)
 
 -- a fluent that no effect changes keeps its value
 abbrev pub value_after : List ℤ → ℕ → Option Effect → ℤ

@@ -1,9 +1,10 @@
 -- Small tasks on which the definitions are computed.
-use Rattle.std.specs.Prelude.{ℕ, Bool, true, false, List, [], ◌∷◌, codes, refl, ℤ, pos}
+use Rattle.std.specs.Prelude.{ℕ, Bool, true, false, List, [], ◌∷◌, ◌++◌, codes, refl, ℤ, pos}
+use Rattle.hd_base.specs.declared.expression.Operand.TheVariants.{Number, Fluent}
+use Rattle.hd_base.specs.Expression.{leaf}
 use Rattle.hd_task.specs.declared.state.State.{State}
 use Rattle.hd_task.specs.declared.form.GroundForm.{GroundForm}
 use Rattle.hd_task.specs.declared.form.Names.{Names}
-use Rattle.hd_task.specs.declared.expression.Expr.TheVariants.{Number, Fluent}
 use Rattle.hd_task.specs.declared.condition.Literal.{Literal}
 use Rattle.hd_task.specs.declared.condition.Condition.{Condition}
 use Rattle.hd_task.specs.declared.effect.Term.TheVariants.{Increase, Decrease}
@@ -12,6 +13,8 @@ use Rattle.hd_task.specs.declared.effect.Effect.{Effect}
 use Rattle.hd_task.specs.declared.action.Action.{Action}
 use Rattle.hd_task.specs.declared.plan.Kid.{Kid}
 use Rattle.hd_task.specs.declared.task.Task.{Task}
+use Rattle.hd_base.specs.declared.range.TheConstants.{RANGE_END}
+use Rattle.hd_task.specs.Plans.{Node, node}
 
 -- ---- parts
 
@@ -65,9 +68,17 @@ two_actions = record {
   costs_fixed = refl;
 }
 
+-- its state where both are true
+abbrev pub a_and_b : State
+a_and_b = atom_state (true ∷ true ∷ [])
+
 -- its three expansions, after which each generated plan is expanded or dominated
 abbrev pub three_expansions : List (List ℕ)
 three_expansions = [] ∷ (0 ∷ []) ∷ (0 ∷ 1 ∷ []) ∷ []
+
+-- what they generate: themselves, and one plan more, by `set-b` once more
+abbrev pub their_plans : List (List ℕ)
+their_plans = three_expansions ++ (0 ∷ 1 ∷ 1 ∷ []) ∷ []
 
 -- a pair that names a plan
 abbrev pub kid : ℕ → ℕ → Kid
@@ -75,8 +86,13 @@ kid parent action = record { parent = parent; action = action }
 
 -- ---- two ways to m: `dear` at cost 5, or `near` and `join` at cost 2, which use k up; then `fin` makes g true
 
+-- where m is true and nothing else
+abbrev pub only_m : State
+only_m = atom_state (true ∷ false ∷ false ∷ [])
+
+-- an action at a cost
 abbrev costing : Action → ℕ → Action
-costing a cost = record a { costs = Number (pos cost) ∷ [] }
+costing a cost = record a { costs = leaf (Number (pos cost)) ∷ [] }
 
 abbrev pub two_ways : Task
 two_ways = record {
@@ -103,7 +119,15 @@ two_ways = record {
   costs_fixed = refl;
 }
 
+-- its start, after so high a cost
+abbrev pub start_at : ℕ → Node
+start_at cost = node two_ways.initial cost
+
 -- ---- one action
+
+-- the state of one atom
+abbrev pub one_atom : Bool → State
+one_atom a = atom_state (a ∷ [])
 
 -- a task of one atom and some fluents, with one action and no goal
 abbrev forgets_and_sets : Action
@@ -115,7 +139,7 @@ delete_and_add = record {
   names = names (codes "set" ∷ []) (codes "a" ∷ []) [];
   atoms = form 0 ∷ [];
   fluents = [];
-  initial = atom_state (false ∷ []);
+  initial = one_atom false;
   actions = forgets_and_sets ∷ [];
   goal = always;
   metric = false;
@@ -130,8 +154,15 @@ delete_and_add = record {
 }
 
 -- the state of these values, without atoms
-abbrev pub number_state : List ℤ → State
+abbrev number_state : List ℤ → State
 number_state fluents = record { atoms = []; fluents = fluents }
+
+-- the states of one fluent, and of two
+abbrev pub one_number : ℕ → State
+one_number x = number_state (pos x ∷ [])
+
+abbrev pub two_numbers : ℕ → ℕ → State
+two_numbers x y = number_state (pos x ∷ pos y ∷ [])
 
 -- an action on fluents alone
 abbrev number_action : List Effect → Action
@@ -144,8 +175,8 @@ swapping = record {
   names = names (codes "swap" ∷ []) [] (codes "x" ∷ codes "y" ∷ []);
   atoms = [];
   fluents = form 0 ∷ form 1 ∷ [];
-  initial = number_state (pos 1 ∷ pos 2 ∷ []);
-  actions = number_action (record { fluent = 0; change = Assign (Fluent 1) } ∷ record { fluent = 1; change = Assign (Fluent 0) } ∷ []) ∷ [];
+  initial = two_numbers 1 2;
+  actions = number_action (record { fluent = 0; change = Assign (leaf (Fluent 1)) } ∷ record { fluent = 1; change = Assign (leaf (Fluent 0)) } ∷ []) ∷ [];
   goal = always;
   metric = false;
   limits = refl;
@@ -164,8 +195,8 @@ up_and_down = record {
   names = names (codes "move" ∷ []) [] (codes "x" ∷ []);
   atoms = [];
   fluents = form 0 ∷ [];
-  initial = number_state (pos 5 ∷ []);
-  actions = number_action (record { fluent = 0; change = Sum (Increase (Number (pos 3)) ∷ Decrease (Number (pos 1)) ∷ []) } ∷ []) ∷ [];
+  initial = one_number 5;
+  actions = number_action (record { fluent = 0; change = Sum (Increase (leaf (Number (pos 3))) ∷ Decrease (leaf (Number (pos 1))) ∷ []) } ∷ []) ∷ [];
   goal = always;
   metric = false;
   limits = refl;
@@ -191,7 +222,7 @@ one_up = record {
         condition = when (false_atom 0 ∷ []);
         deletes = [];
         adds = 0 ∷ [];
-        effects = record { fluent = 0; change = Sum (Increase (Number (pos 1)) ∷ []) } ∷ [];
+        effects = record { fluent = 0; change = Sum (Increase (leaf (Number (pos 1))) ∷ []) } ∷ [];
         costs = [];
       }
       ∷ [];
@@ -210,3 +241,7 @@ one_up = record {
 -- its state where b is false and x has this value
 abbrev pub with_x : ℕ → State
 with_x n = record { atoms = false ∷ []; fluents = pos n ∷ [] }
+
+-- where b is true and x is at the end of the range
+abbrev pub x_at_end : State
+x_at_end = record { atoms = true ∷ []; fluents = pos RANGE_END ∷ [] }

@@ -1,4 +1,4 @@
--- What a best-first search expands (HDA*, Kishimoto, Fukunaga and Botea 2013, section 3): a list of plans, in the order
+-- What a best-first search expands (HDA*, Kishimoto, Fukunaga and Botea 2013): a list of plans, in the order
 -- of their expansion.
 use Rattle.std.specs.Prelude.{ℕ, ◌+◌, ◌<◌, Bool, false, not, ◌&&◌, if◌then◌else◌, List, [], ◌∷◌, ◌++◌, Option, Some, None, is_some, length, take, map, filter, Contains, flat_map, slice_index_or, min}
 use Rattle.hd_task.specs.declared.task.Task.{Task}

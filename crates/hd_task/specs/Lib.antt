@@ -10,6 +10,7 @@ pub mod Expressions
 pub mod Judging
 pub mod Parts
 pub mod Plans
+pub mod Stepping
 pub mod Sums
 pub mod Verdicts
 pub mod WellFormed

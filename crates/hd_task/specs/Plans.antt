@@ -1,4 +1,4 @@
--- Steps and plans: execution, cost and validity (PDDL 2.1, section 8). A plan is a list of actions, one after the other,
+-- Steps and plans: execution, cost and validity (PDDL 2.1). A plan is a list of actions, one after the other,
 -- named by their numbers; it has no times. (The profile is our own.)
 use Rattle.std.specs.Prelude.{◌≡◌, ℕ, ◌+◌, IsTrue, if◌then◌else◌, List, [], ◌∷◌, Option, Some, None, length, slice_get, option_and_then}
 use Rattle.hd_task.specs.declared.state.State.{State}
@@ -16,6 +16,10 @@ pub record IsStateOf (t : Task) (s : State) : Type 0 where
 pub record Node : Type 0 where
   pub state : State
   pub cost : ℕ
+
+-- the node of a state and a cost
+abbrev pub node : State → ℕ → Node
+node s cost = record { state = s; cost = cost }
 
 -- the node after a step that costs so much
 abbrev pub after_step : Task → Node → Action → Option ℕ → Option Node

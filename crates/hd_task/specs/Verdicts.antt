@@ -1,5 +1,4 @@
--- True verdicts: what a planner may say of a task, in exact integers, whatever it searched. (PDDL 2.1, section 8, for
--- validity.)
+-- True verdicts: what a planner may say of a task, in exact integers, whatever it searched. (Validity is that of PDDL 2.1.)
 use Rattle.std.specs.Prelude.{◌≡◌, ℕ, ◌≤◌, List, []}
 use Rattle.hd_task.specs.declared.task.Task.{Task}
 use Rattle.hd_task.specs.Plans.{IsValidAt}

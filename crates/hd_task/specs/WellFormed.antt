@@ -1,11 +1,13 @@
 -- What a task keeps: its numbers name what it has, its costs are fixed. Tests that compute. (Our own.)
-use Rattle.std.specs.Prelude.{ℕ, ◌^◌, Bool, true, false, ◌&&◌, ◌||◌, ◌==◌, List, [], ◌∷◌, length, map, ℤ, pos, ◌+ℤ◌, int_le, nat_lt, nat_le}
+use Rattle.std.specs.Prelude.{ℕ, Bool, true, false, ◌&&◌, ◌||◌, ◌==◌, List, [], ◌∷◌, length, map, ℤ, pos, ◌+ℤ◌, int_le, nat_lt, nat_le}
 use Rattle.std.specs.List.{list_all, fold}
+use Rattle.hd_base.specs.declared.expression.Operand.{Operand}
+use Rattle.hd_base.specs.declared.expression.Operand.TheVariants.{Number, Fluent}
+use Rattle.hd_base.specs.Expression.{leaf, negate, binary}
+use Rattle.hd_base.specs.Numbers.{in_range}
 use Rattle.hd_task.specs.declared.state.State.{State}
 use Rattle.hd_task.specs.declared.form.GroundForm.{GroundForm}
 use Rattle.hd_task.specs.declared.form.Names.{Names}
-use Rattle.hd_task.specs.declared.expression.Expr.{Expr}
-use Rattle.hd_task.specs.declared.expression.Expr.TheVariants.{Number, Fluent, Negate', Add', Subtract', Multiply'}
 use Rattle.hd_task.specs.declared.condition.Literal.{Literal}
 use Rattle.hd_task.specs.declared.condition.Comparison.{Comparison}
 use Rattle.hd_task.specs.declared.condition.Condition.{Condition}
@@ -15,13 +17,14 @@ use Rattle.hd_task.specs.declared.effect.Change.{Change}
 use Rattle.hd_task.specs.declared.effect.Change.TheVariants.{Assign, ScaleUp, Sum}
 use Rattle.hd_task.specs.declared.effect.Effect.{Effect}
 use Rattle.hd_task.specs.declared.action.Action.{Action}
-use Rattle.hd_task.specs.Expressions.{value_of, in_range}
+use Rattle.hd_task.specs.declared.task.TheConstants.{MAX_ACTIONS, MAX_ATOMS, MAX_FLUENTS}
+use Rattle.hd_task.specs.Expressions.{Expr, value_of}
 
 -- ---- sizes
 
--- at most 2^20 atoms, 2^16 fluents and 2^20 actions
+-- a task may have so many atoms, fluents and actions
 abbrev pub within_limits : ℕ → ℕ → ℕ → Bool
-within_limits atoms fluents actions = nat_le atoms (2 ^ 20) && nat_le fluents (2 ^ 16) && nat_le actions (2 ^ 20)
+within_limits atoms fluents actions = nat_le atoms MAX_ATOMS && nat_le fluents MAX_FLUENTS && nat_le actions MAX_ACTIONS
 
 -- ---- names
 
@@ -38,14 +41,16 @@ are_named n atoms fluents actions =
 
 -- ---- fluents that are read and changed
 
+-- a leaf is a number, or a fluent below this number
+abbrev pub leaf_reads_below : ℕ → Operand ℕ → Bool
+leaf_reads_below n (Number v) = true
+leaf_reads_below n (Fluent j) = nat_lt j n
+
 -- an expression reads only fluents below this number
 abbrev pub reads_below : ℕ → Expr → Bool
-reads_below n (Number v) = true
-reads_below n (Fluent j) = nat_lt j n
-reads_below n (Negate' p a) = reads_below n a
-reads_below n (Add' p a q b) = reads_below n a && reads_below n b
-reads_below n (Subtract' p a q b) = reads_below n a && reads_below n b
-reads_below n (Multiply' p a q b) = reads_below n a && reads_below n b
+reads_below n (leaf l) = leaf_reads_below n l
+reads_below n (negate x) = reads_below n x
+reads_below n (binary o x y) = reads_below n x && reads_below n y
 
 -- a comparison reads only fluents below this number
 abbrev pub comparison_reads_below : ℕ → Comparison → Bool
@@ -66,11 +71,12 @@ change_reads_below n (Sum terms) = list_all (term_reads_below n) terms
 abbrev pub effect_fits : ℕ → Effect → Bool
 effect_fits n e = nat_lt e.fluent n && change_reads_below n e.change
 
--- numbers that rise: so none stands twice
+-- a number is below the first of these, if there is one
 abbrev pub is_below_first : ℕ → List ℕ → Bool
 is_below_first x [] = true
 is_below_first x (y ∷ ys) = nat_lt x y
 
+-- numbers that rise: so none stands twice
 abbrev pub is_rising : List ℕ → Bool
 is_rising [] = true
 is_rising (x ∷ xs) = is_below_first x xs && is_rising xs
@@ -90,13 +96,12 @@ goal_fits atoms fluents c =
 
 -- ---- costs
 
+-- an amount is a number
 abbrev pub is_number : Expr → Bool
-is_number (Number v) = true
-is_number (Fluent j) = false
-is_number (Negate' p a) = false
-is_number (Add' p a q b) = false
-is_number (Subtract' p a q b) = false
-is_number (Multiply' p a q b) = false
+is_number (leaf (Number v)) = true
+is_number (leaf (Fluent j)) = false
+is_number (negate x) = false
+is_number (binary o x y) = false
 
 -- the sum of amounts that read no fluent
 abbrev pub fixed_sum : List Expr → ℤ
@@ -110,8 +115,8 @@ cost_is_fixed metric a =
 -- ---- all of it
 
 -- the parts of a task fit together
-abbrev pub fit_together : Names → List GroundForm → List GroundForm → State → List Action → Condition → Bool → Bool
-fit_together names atoms fluents initial actions goal metric =
+abbrev pub parts_fit : Names → List GroundForm → List GroundForm → State → List Action → Condition → Bool → Bool
+parts_fit names atoms fluents initial actions goal metric =
     within_limits (length atoms) (length fluents) (length actions)
     && are_named names atoms fluents actions
     && (length initial.atoms == length atoms)

@@ -1,6 +1,6 @@
 //! Ground actions.
 use crate::{Condition, Effect, Expr, GroundForm};
-use hd_list::Sequence;
+use hd_base::Sequence;
 
 /// A ground action.
 ///

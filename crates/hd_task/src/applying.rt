@@ -1,16 +1,14 @@
 //! What an action does in a state, and whether the goal holds there.
-ghost use Rattle.std.specs.Prelude.{◌≡◌, ◌<◌, ◌&&◌, true, false, Some, length, is_some, fold, slice_set, IfOk, MatchOption};
-ghost use Rattle.std.specs.List.{list_all};
-ghost use Rattle.hd_task.specs.Expressions.{stays_in_range};
-ghost use Rattle.hd_task.specs.Effects.{effect_stays, atoms_after, fluents_after, step_cost};
-ghost use Rattle.hd_task.specs.WellFormed.{action_fits};
+ghost use Rattle.std.specs.Prelude.{◌≡◌, ◌<◌, true, length, fold, slice_set, IfOk};
+ghost use Rattle.hd_task.specs.Effects.{atoms_after};
+ghost use Rattle.hd_task.specs.Judging.{JudgesFluents, JudgesStepCost};
 ghost use Rattle.hd_task.specs.Plans.{IsStateOf};
-ghost use Rattle.hd_task.specs.Applying.{tested, goal_of, applied_of, applied_at};
+ghost use Rattle.hd_task.specs.Applying.{test_of, goal_of, applied_of, applied_at, fits_task};
 
-use crate::condition::test;
-use crate::effect::{cost_of, new_value};
+use crate::condition::test_of;
+use crate::effect::{new_value, sum_of_costs};
 use crate::{Action, ActionId, State, Task};
-use hd_list::{NoMemory, Sequence};
+use hd_base::{NoMemory, Sequence};
 use std::alloc::Global;
 
 /// What an action does in a state.
@@ -66,12 +64,10 @@ fn fluents_after(
     task: &Task,
     state: &State,
     action: &Action,
-) -> Result<Option<Vec<i64>>, NoMemory>
+) -> Result<Option<Sequence<i64>>, NoMemory>
     requires of_task { IsStateOf task.now state.now }
-    requires fits { action_fits (length task.now.atoms) (length task.now.fluents) action.now ≡ true }
-    ensures { IfOk result (λ next. MatchOption next
-        (list_all (effect_stays state.now.fluents) action.now.effects ≡ false)
-        (λ v. (list_all (effect_stays state.now.fluents) action.now.effects ≡ true) × (v.items ≡ fluents_after task.now state.now action.now))) }
+    requires fits { fits_task task.now action.now ≡ true }
+    ensures { IfOk result (JudgesFluents task.now state.now action.now) }
 {
     let old = state.fluents.as_slice();
     let mut next = Vec::from_slice(alloc, old)?;
@@ -84,17 +80,15 @@ fn fluents_after(
             next[fluent] = value;
         }
     }
-    Ok(Some(next))
+    Ok(Some(Sequence::from_vec(next)))
 }
 
 /// The cost of a step, unless a subexpression of it leaves the range or it is negative.
 #[tactic(auto, unfolding(crate::specs::Effects::step_cost))]
 fn step_cost(task: &Task, state: &State, action: &Action) -> Option<u128>
-    ensures { MatchOption result
-        ((list_all (stays_in_range state.now.fluents) action.now.costs && is_some (step_cost task.now state.now action.now)) ≡ false)
-        (λ c. (list_all (stays_in_range state.now.fluents) action.now.costs ≡ true) × (step_cost task.now state.now action.now ≡ Some c)) }
+    ensures { JudgesStepCost task.now state.now action.now result }
 {
-    let sum = cost_of(state.fluents.as_slice(), action.costs.as_slice())?;
+    let sum = sum_of_costs(state.fluents.as_slice(), action.costs.as_slice())?;
     if task.metric {
         u128::try_from(sum).ok()
     } else {
@@ -103,16 +97,16 @@ fn step_cost(task: &Task, state: &State, action: &Action) -> Option<u128>
 }
 
 /// What an action does where its condition holds.
-#[tactic(auto, unfolding(crate::specs::Applying::tested, crate::specs::Applying::applied_of, crate::specs::Applying::departs_aside, crate::specs::Effects::effects_stay, crate::specs::Effects::state_after))]
+#[tactic(auto, unfolding(crate::specs::Applying::test_of, crate::specs::Applying::applied_of, crate::specs::Applying::departs_aside, crate::specs::Effects::effects_stay, crate::specs::Effects::state_after))]
 fn take_effect(
     alloc: Global,
     task: &Task,
     state: &State,
     action: &Action,
 ) -> Result<Applied, NoMemory>
-    requires holds { tested state.now action.now.condition ≡ GoalTest.Yes }
+    requires holds { test_of state.now action.now.condition ≡ GoalTest.Yes }
     requires of_task { IsStateOf task.now state.now }
-    requires fits { action_fits (length task.now.atoms) (length task.now.fluents) action.now ≡ true }
+    requires fits { fits_task task.now action.now ≡ true }
     ensures { IfOk result (λ r. r ≡ applied_of task.now state.now action.now) }
 {
     let Some(cost) = step_cost(task, state, action) else {
@@ -124,18 +118,18 @@ fn take_effect(
     let atoms = atoms_after(alloc, task, state, action)?;
     let next = State {
         atoms: Sequence::from_vec(atoms),
-        fluents: Sequence::from_vec(fluents),
+        fluents,
     };
     Ok(Applied::Next(next, cost))
 }
 
-/// What an action does in a state, the sum of a plan's cost aside.
+/// What an action does in a state, the sum of a plan's cost aside (with it: [`crate::step`]).
 ///
 /// It takes a copy of the state, and time in the action's own size.
 ///
 /// # Errors
 /// `NoMemory` where there is no room for the state after it.
-#[tactic(auto, unfolding(crate::specs::Applying::tested, crate::specs::Applying::applied_of, crate::specs::Applying::departs_aside))]
+#[tactic(auto, unfolding(crate::specs::Applying::test_of, crate::specs::Applying::applied_of, crate::specs::Applying::departs_aside))]
 pub fn apply(
     alloc: Global,
     task: &Task,
@@ -147,7 +141,7 @@ pub fn apply(
     ensures answer { IfOk result (λ r. r ≡ applied_at task.now state.now action.0) }
 {
     let action = &task.actions.as_slice()[action.0 as usize];
-    match test(state, &action.condition) {
+    match test_of(state, &action.condition) {
         GoalTest::No => Ok(Applied::No),
         GoalTest::Departs => Ok(Applied::Departs),
         GoalTest::Yes => take_effect(alloc, task, state, action),
@@ -159,5 +153,5 @@ pub fn goal(task: &Task, state: &State) -> GoalTest
     requires of_task { IsStateOf task.now state.now }
     ensures answer { result ≡ goal_of task.now state.now }
 {
-    test(state, &task.goal)
+    test_of(state, &task.goal)
 }

@@ -1,13 +1,13 @@
 //! Conditions of actions and of the goal.
 ghost use Rattle.std.specs.Prelude.{◌≡◌};
 ghost use Rattle.std.specs.List.{list_all};
-ghost use Rattle.hd_task.specs.Conditions.{has_atom, literal_holds, literals_hold, related, comparison_stays, comparison_holds};
-ghost use Rattle.hd_task.specs.Judging.{Judges};
-ghost use Rattle.hd_task.specs.Applying.{tested};
+ghost use Rattle.hd_task.specs.Conditions.{has_atom, literal_holds, literals_hold};
+ghost use Rattle.hd_task.specs.Judging.{JudgesComparison, JudgesComparisons};
+ghost use Rattle.hd_task.specs.Applying.{test_of};
 
 use crate::expression::value_of;
 use crate::{Expr, GoalTest, State};
-use hd_list::Sequence;
+use hd_base::{Relation, Sequence};
 
 /// That an atom is true, or that it is false.
 #[derive(Clone, Copy, Debug, PartialEq, Eq)]
@@ -16,16 +16,6 @@ pub struct Literal {
     pub atom: u32,
     /// Whether the atom has to be true.
     pub positive: bool,
-}
-
-/// How the two sides of a comparison compare.
-#[derive(Clone, Copy, Debug, PartialEq, Eq)]
-pub enum Relation {
-    Less,
-    LessOrEqual,
-    Equal,
-    GreaterOrEqual,
-    Greater,
 }
 
 /// A comparison of two numeric expressions.
@@ -73,30 +63,18 @@ fn literals_hold(state: &State, condition: &Condition) -> bool
     !condition.never && all_hold(state, condition.literals.as_slice())
 }
 
-fn related(relation: Relation, left: i64, right: i64) -> bool
-    ensures { result ≡ related relation left right }
-{
-    match relation {
-        Relation::Less => left < right,
-        Relation::LessOrEqual => left <= right,
-        Relation::Equal => left <= right && right <= left,
-        Relation::GreaterOrEqual => right <= left,
-        Relation::Greater => right < left,
-    }
-}
-
 /// Whether a comparison holds, unless a subexpression leaves the range.
 fn comparison_holds(fluents: &[i64], comparison: &Comparison) -> Option<bool>
-    ensures { Judges result (comparison_stays fluents.now comparison.now) (comparison_holds fluents.now comparison.now) }
+    ensures { JudgesComparison fluents.now comparison.now result }
 {
     let left = value_of(fluents, &comparison.left)?;
     let right = value_of(fluents, &comparison.right)?;
-    Some(related(comparison.relation, left, right))
+    Some(comparison.relation.holds(left, right))
 }
 
 /// Whether all comparisons hold, unless a subexpression of one leaves the range.
 fn comparisons_hold(fluents: &[i64], comparisons: &[Comparison]) -> Option<bool>
-    ensures { Judges result (list_all (comparison_stays fluents.now) comparisons.now) (list_all (comparison_holds fluents.now) comparisons.now) }
+    ensures { JudgesComparisons fluents.now comparisons.now result }
 {
     let mut all = true;
     for comparison in comparisons {
@@ -107,9 +85,9 @@ fn comparisons_hold(fluents: &[i64], comparisons: &[Comparison]) -> Option<bool>
 }
 
 /// Whether a condition holds, or departs.
-#[tactic(auto, unfolding(crate::specs::Applying::tested, crate::specs::Conditions::holds, crate::specs::Conditions::condition_departs))]
-pub(crate) fn test(state: &State, condition: &Condition) -> GoalTest
-    ensures { result ≡ tested state.now condition.now }
+#[tactic(auto, unfolding(crate::specs::Applying::test_of, crate::specs::Conditions::holds, crate::specs::Conditions::condition_departs))]
+pub(crate) fn test_of(state: &State, condition: &Condition) -> GoalTest
+    ensures { result ≡ test_of state.now condition.now }
 {
     if !literals_hold(state, condition) {
         return GoalTest::No;

@@ -1,14 +1,14 @@
 //! Effects on fluents.
-ghost use Rattle.std.specs.Prelude.{◌≡◌, ◌+ℤ◌, ◌≤ℤ◌, pos, neg_ℤ, ◌^◌, IfSome, fold};
-ghost use Rattle.std.specs.List.{list_all};
-ghost use Rattle.hd_task.specs.Expressions.{in_range, stays_in_range, value_of};
-ghost use Rattle.hd_task.specs.Effects.{term_stays, with_term, effect_stays, new_value, sum_of_costs};
-ghost use Rattle.hd_task.specs.Judging.{Judges};
+ghost use Rattle.std.specs.Prelude.{◌≤ℤ◌, pos, neg_ℤ, ◌^◌, IfSome};
+ghost use Rattle.hd_base.specs.declared.range.TheConstants.{RANGE_END};
+ghost use Rattle.hd_base.specs.Numbers.{in_range};
+ghost use Rattle.hd_base.specs.Answers.{Judges};
+ghost use Rattle.hd_task.specs.Judging.{JudgesSum, JudgesTerm, JudgesTerms, JudgesCosts, JudgesEffect};
 ghost use Rattle.hd_task.specs.Sums.{IsNear};
 
 use crate::Expr;
-use crate::expression::{RANGE_END, fluent_of, judged, value_of};
-use hd_list::Sequence;
+use crate::expression::{fluent_of, value_of};
+use hd_base::{RANGE_END, Sequence, if_in_range};
 
 /// One part of a sum onto a fluent.
 #[derive(Debug, Drop)]
@@ -39,8 +39,8 @@ pub struct Effect {
 fn plus_value(fluents: &[i64], sum: i128, amount: &Expr) -> Option<i128>
     requires low { neg_ℤ (pos (2 ^ 126)) ≤ℤ sum }
     requires high { sum ≤ℤ pos (2 ^ 126) }
-    ensures value { Judges result (stays_in_range fluents.now amount.now) (sum +ℤ value_of fluents.now amount.now) }
-    ensures near { IfSome result (IsNear 1000000000000000 sum) }
+    ensures value { JudgesSum fluents.now sum amount.now result }
+    ensures near { IfSome result (IsNear RANGE_END sum) }
 {
     Some(sum + i128::from(value_of(fluents, amount)?))
 }
@@ -49,8 +49,8 @@ fn plus_value(fluents: &[i64], sum: i128, amount: &Expr) -> Option<i128>
 fn with_term(fluents: &[i64], sum: i128, term: &Term) -> Option<i128>
     requires low { neg_ℤ (pos (2 ^ 126)) ≤ℤ sum }
     requires high { sum ≤ℤ pos (2 ^ 126) }
-    ensures value { Judges result (term_stays fluents.now term.now) (with_term fluents.now sum term.now) }
-    ensures near { IfSome result (IsNear 1000000000000000 sum) }
+    ensures value { JudgesTerm fluents.now sum term.now result }
+    ensures near { IfSome result (IsNear RANGE_END sum) }
 {
     match term {
         Term::Increase(amount) => plus_value(fluents, sum, amount),
@@ -60,7 +60,7 @@ fn with_term(fluents: &[i64], sum: i128, term: &Term) -> Option<i128>
 
 /// The sum of the terms, onto a first value.
 fn sum_of(fluents: &[i64], terms: &[Term], first: i64) -> Option<i128>
-    ensures { Judges result (list_all (term_stays fluents.now) terms.now) (fold (with_term fluents.now) first terms.now) }
+    ensures { JudgesTerms fluents.now first terms.now result }
 {
     let mut sum = i128::from(first);
     for term in terms {
@@ -69,8 +69,8 @@ fn sum_of(fluents: &[i64], terms: &[Term], first: i64) -> Option<i128>
     Some(sum)
 }
 
-/// A sum that is in the range.
-fn narrowed(value: i128) -> Option<i64>
+/// A sum, if it is in the range.
+fn narrow(value: i128) -> Option<i64>
     ensures { Judges result (in_range value) value }
 {
     if value.unsigned_abs() <= u128::from(RANGE_END) {
@@ -82,19 +82,19 @@ fn narrowed(value: i128) -> Option<i64>
 
 /// The value that an effect gives its fluent, unless it or a subexpression leaves the range.
 pub(crate) fn new_value(fluents: &[i64], effect: &Effect) -> Option<i64>
-    ensures { Judges result (effect_stays fluents.now effect.now) (new_value fluents.now effect.now) }
+    ensures { JudgesEffect fluents.now effect.now result }
 {
     let old = fluent_of(fluents, effect.fluent);
     match &effect.change {
         Change::Assign(amount) => value_of(fluents, amount),
-        Change::ScaleUp(amount) => judged(old.checked_mul(value_of(fluents, amount)?)),
-        Change::Sum(terms) => narrowed(sum_of(fluents, terms.as_slice(), old)?),
+        Change::ScaleUp(amount) => if_in_range(old.checked_mul(value_of(fluents, amount)?)),
+        Change::Sum(terms) => narrow(sum_of(fluents, terms.as_slice(), old)?),
     }
 }
 
 /// The sum of the amounts, unless a subexpression of one leaves the range.
-pub(crate) fn cost_of(fluents: &[i64], amounts: &[Expr]) -> Option<i128>
-    ensures { Judges result (list_all (stays_in_range fluents.now) amounts.now) (sum_of_costs fluents.now amounts.now) }
+pub(crate) fn sum_of_costs(fluents: &[i64], amounts: &[Expr]) -> Option<i128>
+    ensures { JudgesCosts fluents.now amounts.now result }
 {
     let mut sum = 0;
     for amount in amounts {

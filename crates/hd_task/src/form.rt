@@ -1,5 +1,5 @@
 //! Ground forms, and the names that they are printed with.
-use hd_list::{Name, Sequence};
+use hd_base::{Name, Sequence};
 
 /// A schema, a predicate or a function with its objects, by their numbers in the task's [`Names`].
 ///

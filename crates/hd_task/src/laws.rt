@@ -17,7 +17,8 @@ ghost use Rattle.hd_task.specs.Verdicts.{IsFinished, IsTrueVerdict, Optimal, NoP
 pub fn verdicts_are_true()
     ensures optimal { (t : Task) (h : Estimate) (expanded : List (List ℕ)) (c : ℕ)
         → IsFinished t h expanded → bound_of t expanded ≡ Some c
-        → (p : List ℕ) × Contains expanded p × IsValidAt t p c × ((q : List ℕ) (d : ℕ) → IsValidAt t q d → c ≤ d) }
+        → (p : List ℕ) × Contains expanded p × IsValidAt t p c
+        × ((q : List ℕ) (d : ℕ) → IsValidAt t q d → c ≤ d) }
 
     // Each plan at which the goal holds at the bound's cost is an optimal one.
     ensures each_optimal { (t : Task) (h : Estimate) (expanded : List (List ℕ)) (c : ℕ)
@@ -29,7 +30,8 @@ pub fn verdicts_are_true()
 
 /// A plan at which the goal holds and does not depart is valid, whatever else departs.
 pub fn goal_plans_are_valid()
-    ensures { (t : Task) (p : List ℕ) (c : ℕ) → goal_cost t (exec t p) ≡ Some c → IsValidAt t p c }
+    ensures { (t : Task) (p : List ℕ) (c : ℕ)
+        → goal_cost t (exec t p) ≡ Some c → IsValidAt t p c }
 {}
 
 /// What stays when a list of expansions grows: what is justified, a bound that never rises, and the recorded departures,
@@ -38,15 +40,18 @@ pub fn expansions_grow()
     ensures justified { (t : Task) (h : Estimate) (expanded more : List (List ℕ)) (p : List ℕ)
         → IsJustified t h expanded p → IsJustified t h (expanded ++ more) p }
     ensures bound { (t : Task) (expanded more : List (List ℕ)) (b : ℕ)
-        → bound_of t expanded ≡ Some b → (c : ℕ) × (bound_of t (expanded ++ more) ≡ Some c) × (c ≤ b) }
+        → bound_of t expanded ≡ Some b
+        → (c : ℕ) × (bound_of t (expanded ++ more) ≡ Some c) × (c ≤ b) }
     ensures departures { (t : Task) (expanded more : List (List ℕ))
-        → departures_of t (expanded ++ more) ≡ departures_of t expanded ++ departures_from t (length expanded) more }
+        → departures_of t (expanded ++ more)
+        ≡ departures_of t expanded ++ departures_from t (length expanded) more }
 {}
 
 /// A beginning of a legal list of expansions is legal, and so is a legal list with one generated plan more, which it has
 /// not.
 pub fn legal_lists()
-    ensures beginning { (t : Task) (expanded : List (List ℕ)) (m : ℕ) → IsLegal t expanded → IsLegal t (take m expanded) }
+    ensures beginning { (t : Task) (expanded : List (List ℕ)) (m : ℕ)
+        → IsLegal t expanded → IsLegal t (take m expanded) }
     ensures one_more { (t : Task) (expanded : List (List ℕ)) (p : List ℕ)
         → IsLegal t expanded → IsNext t expanded p → IsLegal t (expanded ++ p ∷ []) }
 {}
@@ -65,13 +70,17 @@ pub fn zero_is_admissible()
 /// What [`crate::apply`] and [`crate::goal`] answer in a plan's state decides, with the plan's cost, what happens at the
 /// plan: whether an action is applicable, whether it departs, where it leads, and what the goal says.
 pub fn answers_decide()
-    ensures applicable { (t : Task) (r : Node) (n : ℕ) → is_applicable t (Some r) n ≡ goes_on r.cost (applied_at t r.state n) }
-    ensures departs { (t : Task) (r : Node) (n : ℕ) → action_departs t r n ≡ leaves_range r.cost (applied_at t r.state n) }
+    ensures applicable { (t : Task) (r : Node) (n : ℕ)
+        → is_applicable t (Some r) n ≡ goes_on r.cost (applied_at t r.state n) }
+    ensures departs { (t : Task) (r : Node) (n : ℕ)
+        → action_departs t r n ≡ leaves_range r.cost (applied_at t r.state n) }
     ensures leads { (t : Task) (p : List ℕ) (r : Node) (n : ℕ) (s : State) (c : ℕ)
         → exec t p ≡ Some r → applied_at t r.state n ≡ Answer.Next s c
         → exec t (followed_by p n) ≡ Some (record { state = s; cost = r.cost + c }) }
-    ensures goal { (t : Task) (r : Node) → goal_cost t (Some r) ≡ (if says_yes (goal_of t r.state) then Some r.cost else None) }
-    ensures goal_departs { (t : Task) (r : Node) → goal_departs t r ≡ says_departs (goal_of t r.state) }
+    ensures goal { (t : Task) (r : Node)
+        → goal_cost t (Some r) ≡ (if says_yes (goal_of t r.state) then Some r.cost else None) }
+    ensures goal_departs { (t : Task) (r : Node)
+        → goal_departs t r ≡ says_departs (goal_of t r.state) }
 {}
 
 /// A plan leads to a state of the task.

@@ -2,8 +2,8 @@
 //! which a finished search has the last word.
 //!
 //! The definitions in `specs/` say what plans mean (PDDL 2.1, Fox and Long 2003) and what a search has to have looked
-//! at (HDA*, Kishimoto, Fukunaga and Botea 2013). [`apply`] and [`goal`] compute them, and the functions of [`laws`]
-//! state what follows from them.
+//! at (HDA*, Kishimoto, Fukunaga and Botea 2013). [`apply`], [`step`] and [`goal`] compute them, and the functions of
+//! [`laws`] state what follows from them.
 #![tactic(auto)]
 
 mod action;
@@ -17,20 +17,19 @@ mod form;
 pub mod laws;
 mod plan;
 mod state;
+mod stepping;
 mod task;
 mod well_formed;
 
 pub use action::{Action, ActionId};
 pub use applying::{Applied, GoalTest, apply, goal};
-pub use condition::{Comparison, Condition, Literal, Relation};
+pub use condition::{Comparison, Condition, Literal};
 pub use departure::{DepartsBy, Departure};
 pub use effect::{Change, Effect, Term};
-pub use expression::{Expr, RANGE_END};
+pub use expression::Expr;
 pub use form::{GroundForm, Names};
-pub use hd_list::{Name, NoMemory, Sequence};
+pub use hd_base::{ExprParts, Name, NoMemory, Operand, Operation, RANGE_END, Relation, Sequence};
 pub use plan::{Kid, Plan, ROOT};
 pub use state::State;
+pub use stepping::{Reached, step};
 pub use task::{MAX_ACTIONS, MAX_ATOMS, MAX_FLUENTS, Task};
-
-#[cfg(test)]
-mod tests;

@@ -1,7 +1,7 @@
 //! States.
 ghost use Rattle.std.specs.Prelude.{◌≡◌, IfOk};
 
-use hd_list::{NoMemory, Sequence};
+use hd_base::{NoMemory, Sequence};
 use std::alloc::Global;
 
 /// Which atoms of a task are true, and the value of each of its fluents, all by number.

@@ -1,14 +1,14 @@
 //! Planning tasks.
 ghost use Rattle.std.specs.Prelude.{◌≡◌, IsTrue, length};
 ghost use Rattle.std.specs.List.{list_all};
-ghost use Rattle.hd_task.specs.Expressions.{in_range};
+ghost use Rattle.hd_base.specs.Numbers.{in_range};
 ghost use Rattle.hd_task.specs.WellFormed.{within_limits, are_named, action_fits, goal_fits, cost_is_fixed};
 
 use crate::well_formed::{
     are_all_in_range, are_fixed, are_named, are_within_limits, do_all_fit, goal_fits,
 };
 use crate::{Action, Condition, GroundForm, Names, State};
-use hd_list::Sequence;
+use hd_base::Sequence;
 
 /// The greatest number of actions of a task.
 pub const MAX_ACTIONS: usize = 1 << 20;
@@ -33,7 +33,7 @@ pub struct Task {
     pub goal: Condition,
     /// Whether actions cost what they say; else each costs 1.
     pub metric: bool,
-    // At most 2^20 atoms, 2^16 fluents and 2^20 actions.
+    // There are no more atoms, fluents and actions than the constants allow.
     ghost limits: { IsTrue (within_limits (length atoms) (length fluents) (length actions)) },
     // Each symbol and object has a name.
     ghost named: { IsTrue (are_named names atoms fluents actions) },
@@ -53,7 +53,7 @@ pub struct Task {
 
 impl Task {
     ghost use Rattle.std.specs.Prelude.{◌≡◌, is_some, IfSome};
-    ghost use Rattle.hd_task.specs.WellFormed.{fit_together};
+    ghost use Rattle.hd_task.specs.WellFormed.{parts_fit};
     ghost use Rattle.hd_task.specs.Parts.{HasParts};
 
     /// The task of these parts, or `None` where they do not fit together: where a number names nothing, an effect's
@@ -67,7 +67,7 @@ impl Task {
         goal: Condition,
         metric: bool,
     ) -> Option<Task>
-        ensures made { is_some result ≡ fit_together names atoms fluents initial actions goal metric }
+        ensures made { is_some result ≡ parts_fit names atoms fluents initial actions goal metric }
         ensures parts { IfSome result (HasParts names atoms fluents initial actions goal metric) }
     {
         let fits = are_within_limits(atoms.len(), fluents.len(), actions.len())

@@ -1,16 +1,17 @@
 //! The tests that the parts of a task fit together.
-ghost use Rattle.std.specs.Prelude.{◌≡◌, ◌+ℤ◌, ◌≤ℤ◌, pos, neg_ℤ, [], map, nat_lt, IfSome};
+ghost use Rattle.std.specs.Prelude.{◌≡◌, ◌+ℤ◌, ◌≤ℤ◌, pos, neg_ℤ, ◌^◌, [], map, nat_lt, IfSome};
 ghost use Rattle.std.specs.List.{list_all};
-ghost use Rattle.hd_task.specs.Expressions.{in_range, value_of};
-ghost use Rattle.hd_task.specs.Judging.{Judges};
+ghost use Rattle.hd_base.specs.Numbers.{in_range};
+ghost use Rattle.hd_base.specs.Answers.{Judges};
+ghost use Rattle.hd_task.specs.Expressions.{value_of};
 ghost use Rattle.hd_task.specs.Sums.{IsNear};
-ghost use Rattle.hd_task.specs.WellFormed.{within_limits, is_named, are_named, reads_below, comparison_reads_below, term_reads_below, change_reads_below, effect_fits, is_rising, action_fits, goal_fits, is_number, fixed_sum, cost_is_fixed};
+ghost use Rattle.hd_task.specs.WellFormed.{within_limits, is_named, are_named, leaf_reads_below, reads_below, comparison_reads_below, term_reads_below, change_reads_below, effect_fits, is_rising, action_fits, goal_fits, is_number, fixed_sum, cost_is_fixed};
 
-use crate::expression::is_in_range;
 use crate::{
     Action, Change, Comparison, Condition, Effect, Expr, GroundForm, MAX_ACTIONS, MAX_ATOMS,
     MAX_FLUENTS, Names, Term,
 };
+use hd_base::{ExprParts, Operand, in_range};
 
 /// Whether a task may have so many atoms, fluents and actions.
 pub(crate) fn are_within_limits(atoms: usize, fluents: usize, actions: usize) -> bool
@@ -23,7 +24,7 @@ pub(crate) fn are_within_limits(atoms: usize, fluents: usize, actions: usize) ->
 pub(crate) fn are_all_in_range(values: &[i64]) -> bool
     ensures { result ≡ list_all in_range values.now }
 {
-    values.iter().all(|value| is_in_range(*value))
+    values.iter().all(|value| in_range(*value))
 }
 
 fn are_below(numbers: &[u32], end: usize) -> bool
@@ -67,16 +68,25 @@ pub(crate) fn are_named(
         && are_actions_named(actions, names.schemas.len(), objects)
 }
 
+/// Whether a leaf is a number, or a fluent below a number.
+fn leaf_reads_below(leaf: Operand<u32>, fluents: usize) -> bool
+    ensures { result ≡ leaf_reads_below fluents leaf }
+{
+    match leaf {
+        Operand::Number(_) => true,
+        Operand::Fluent(fluent) => (fluent as usize) < fluents,
+    }
+}
+
 /// Whether an expression reads only fluents below a number.
 fn reads_below(expr: &Expr, fluents: usize) -> bool
     ensures { result ≡ reads_below fluents expr.now }
 {
-    match expr {
-        Expr::Number(_) => true,
-        Expr::Fluent(j) => (*j as usize) < fluents,
-        Expr::Negate(a) => reads_below(a, fluents),
-        Expr::Add(a, b) | Expr::Subtract(a, b) | Expr::Multiply(a, b) => {
-            reads_below(a, fluents) && reads_below(b, fluents)
+    match expr.parts() {
+        ExprParts::Leaf(leaf) => leaf_reads_below(*leaf, fluents),
+        ExprParts::Negate(inner) => reads_below(inner, fluents),
+        ExprParts::Binary(_, left, right) => {
+            reads_below(left, fluents) && reads_below(right, fluents)
         }
     }
 }
@@ -182,13 +192,13 @@ pub(crate) fn goal_fits(goal: &Condition, atoms: usize, fluents: usize) -> bool
 
 /// A sum with one more amount, if that is a number.
 fn plus_number(sum: i128, cost: &Expr) -> Option<i128>
-    requires low { neg_ℤ (pos 170141183460469231722463931679029329920) ≤ℤ sum }
-    requires high { sum ≤ℤ pos 170141183460469231722463931679029329920 }
+    requires low { neg_ℤ (pos (2 ^ 126)) ≤ℤ sum }
+    requires high { sum ≤ℤ pos (2 ^ 126) }
     ensures value { Judges result (is_number cost.now) (sum +ℤ value_of [] cost.now) }
-    ensures near { IfSome result (IsNear 9223372036854775808 sum) }
+    ensures near { IfSome result (IsNear (2 ^ 63) sum) }
 {
-    match cost {
-        Expr::Number(amount) => Some(sum + i128::from(*amount)),
+    match cost.parts() {
+        ExprParts::Leaf(Operand::Number(amount)) => Some(sum + i128::from(*amount)),
         _ => None,
     }
 }

@@ -5,15 +5,15 @@ use Rattle.hd_forms.specs.declared.names.NameAt.{NameAt}
 use Rattle.hd_forms.specs.declared.word.Word.{Word}
 use Rattle.hd_forms.specs.declared.word.Word.TheVariants as words
 use Rattle.hd_forms.specs.Forms.{Forms, none, word}
-use Rattle.hd_forms.specs.Reading.{named}
+use Rattle.hd_forms.specs.Reading.{placed_name}
 use Rattle.hd_terms.specs.declared.tree.Atom.{Atom}
 use Rattle.hd_terms.specs.declared.tree.Term.{Term}
 use Rattle.hd_terms.specs.declared.tree.Term.TheVariants as terms
 
 -- the word at this place is a term: a name or a variable (BNF)
 pub data IsTerm : ℕ → Word → Term → Type 0 where
-  name : {at : ℕ} {n : List ℕ} → IsTerm at (words.Name n) (terms.Name (named n at))
-  variable : {at : ℕ} {n : List ℕ} → IsTerm at (words.Variable n) (terms.Variable (named n at))
+  name : {at : ℕ} {n : List ℕ} → IsTerm at (words.Name n) (terms.Name (placed_name n at))
+  variable : {at : ℕ} {n : List ℕ} → IsTerm at (words.Variable n) (terms.Variable (placed_name n at))
 
 -- term* (BNF)
 pub data AreTerms : Forms → List Term → Type 0 where
@@ -30,4 +30,4 @@ made_atom n ts = record { name = n; terms = ts }
 pub data IsAtom : Forms → Atom → Type 0 where
   atom : {at : ℕ} {n : List ℕ} {rest : Forms} {ts : List Term}
       → AreTerms rest ts
-      → IsAtom (word at (words.Name n) rest) (made_atom (named n at) ts)
+      → IsAtom (word at (words.Name n) rest) (made_atom (placed_name n at) ts)

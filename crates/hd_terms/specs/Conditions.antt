@@ -9,11 +9,12 @@ use Rattle.hd_forms.specs.Forms.{Forms, none, word, list}
 use Rattle.hd_terms.specs.declared.tree.Atom.{Atom}
 use Rattle.hd_terms.specs.declared.tree.Condition.{Condition}
 use Rattle.hd_terms.specs.declared.tree.Condition.TheVariants as conditions
-use Rattle.hd_terms.specs.declared.tree.Relation.{Relation}
-use Rattle.hd_terms.specs.declared.tree.Relation.TheVariants as relations
+use Rattle.hd_base.specs.declared.relation.Relation.{Relation}
+use Rattle.hd_base.specs.declared.relation.Relation.TheVariants as relations
 use Rattle.hd_terms.specs.declared.tree.Term.{Term}
 use Rattle.hd_terms.specs.Atoms.{IsTerm, IsAtom}
-use Rattle.hd_terms.specs.Expression.{Expression}
+use Rattle.hd_base.specs.Expression.{Expression}
+use Rattle.hd_terms.specs.declared.tree.Leaf.{Leaf}
 use Rattle.hd_terms.specs.Expressions.{AreExprs}
 
 -- the operator of a comparison (BNF)
@@ -31,8 +32,8 @@ pub data IsEquality : Forms → Term → Term → Type 0 where
       → IsEquality (word a (Operator operators.Equal) (word b v (word c w none))) t u
 
 -- two expressions compared
-abbrev pub compared : Relation → Expression → Expression → Condition
-compared r x y = conditions.Compare (record { relation = r; left = x; right = y })
+abbrev pub comparison_by : Relation → Expression Leaf → Expression Leaf → Condition
+comparison_by r x y = conditions.Compare (record { relation = r; left = x; right = y })
 
 -- what stands in a part of a condition (BNF)
 pub data IsCondition : Forms → Condition → Type 0 where
@@ -49,9 +50,9 @@ pub data IsCondition : Forms → Condition → Type 0 where
       → IsEquality inside t u
       → IsCondition (word a Not (list c inside d none)) (conditions.NotEqual t u)
   -- < expression expression, and the same with <=, =, >= and >
-  compare : {a : ℕ} {o : signs.Operator} {r : Relation} {inside : Forms} {x y : Expression}
+  compare : {a : ℕ} {o : signs.Operator} {r : Relation} {inside : Forms} {x y : Expression Leaf}
       → IsRelation o r → AreExprs inside (x ∷ (y ∷ []))
-      → IsCondition (word a (Operator o) inside) (compared r x y)
+      → IsCondition (word a (Operator o) inside) (comparison_by r x y)
 
 -- conditions one after the other, and all of their parts in order (BNF; that 'and' is opened is own)
 pub data AreConditions : Forms → List Condition → Type 0 where

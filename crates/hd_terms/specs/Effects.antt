@@ -8,7 +8,8 @@ use Rattle.hd_terms.specs.declared.tree.Atom.{Atom}
 use Rattle.hd_terms.specs.declared.tree.Effect.{Effect}
 use Rattle.hd_terms.specs.declared.tree.Effect.TheVariants as effects
 use Rattle.hd_terms.specs.Atoms.{IsAtom}
-use Rattle.hd_terms.specs.Expression.{Expression}
+use Rattle.hd_base.specs.Expression.{Expression}
+use Rattle.hd_terms.specs.declared.tree.Leaf.{Leaf}
 use Rattle.hd_terms.specs.Expressions.{AreExprs}
 
 -- the place of the first token of these forms
@@ -18,8 +19,8 @@ place_of (word at w rest) = at
 place_of (list from inside to rest) = from
 
 -- a fluent changed by an amount, whose first token stands at this place
-abbrev pub changed : changing.Change → Atom → Expression → ℕ → Effect
-changed k f e at = effects.Change (record { change = k; fluent = f; amount = e; at = at })
+abbrev pub change_by : changing.Change → Atom → Expression Leaf → ℕ → Effect
+change_by k f e at = effects.Change (record { change = k; fluent = f; amount = e; at = at })
 
 -- what stands in a part of an effect (BNF)
 pub data IsEffect : Forms → Effect → Type 0 where
@@ -30,9 +31,9 @@ pub data IsEffect : Forms → Effect → Type 0 where
       → IsAtom inside t
       → IsEffect (word a Not (list c inside d none)) (effects.Delete t)
   -- assign, increase, decrease or scale-up, a fluent, and an expression
-  change : {a c d : ℕ} {k : changing.Change} {inside amount : Forms} {f : Atom} {e : Expression}
+  change : {a c d : ℕ} {k : changing.Change} {inside amount : Forms} {f : Atom} {e : Expression Leaf}
       → IsAtom inside f → AreExprs amount (e ∷ [])
-      → IsEffect (word a (Change k) (list c inside d amount)) (changed k f e (place_of amount))
+      → IsEffect (word a (Change k) (list c inside d amount)) (change_by k f e (place_of amount))
 
 -- effects one after the other, and all of their parts in order (BNF; that 'and' is opened is own)
 pub data AreEffects : Forms → List Effect → Type 0 where

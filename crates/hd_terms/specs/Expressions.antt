@@ -5,35 +5,37 @@ use Rattle.hd_lex.specs.declared.token.Operator.TheVariants.{Plus, Minus, Times}
 use Rattle.hd_forms.specs.declared.word.Word.TheVariants.{Number, Operator}
 use Rattle.hd_forms.specs.Forms.{Forms, none, word, list}
 use Rattle.hd_terms.specs.declared.tree.Atom.{Atom}
-use Rattle.hd_terms.specs.declared.tree.Operation.TheVariants.{Add, Subtract, Multiply}
+use Rattle.hd_base.specs.declared.operation.Operation.TheVariants.{Add, Subtract, Multiply}
 use Rattle.hd_terms.specs.Atoms.{IsAtom}
-use Rattle.hd_terms.specs.Expression.{Expression, number, fluent, negate, binary}
+use Rattle.hd_base.specs.Expression.{Expression, leaf, negate, binary}
+use Rattle.hd_terms.specs.declared.tree.Leaf.{Leaf}
+use Rattle.hd_terms.specs.declared.tree.Leaf.TheVariants as leaves
 
 -- expressions one after the other (BNF, without division)
-pub data AreExprs : Forms → List Expression → Type 0 where
+pub data AreExprs : Forms → List (Expression Leaf) → Type 0 where
   -- no more
   end : AreExprs none []
   -- NUMBER, and more
-  numeral : {at : ℕ} {v : ℤ} {rest : Forms} {es : List Expression}
+  numeral : {at : ℕ} {v : ℤ} {rest : Forms} {es : List (Expression Leaf)}
       → AreExprs rest es
-      → AreExprs (word at (Number v) rest) (number v at ∷ es)
+      → AreExprs (word at (Number v) rest) (leaf (leaves.Number v at) ∷ es)
   -- ( NAME term* ), and more
-  value : {a b : ℕ} {inside rest : Forms} {f : Atom} {es : List Expression}
+  value : {a b : ℕ} {inside rest : Forms} {f : Atom} {es : List (Expression Leaf)}
       → IsAtom inside f → AreExprs rest es
-      → AreExprs (list a inside b rest) (fluent f ∷ es)
+      → AreExprs (list a inside b rest) (leaf (leaves.Fluent f) ∷ es)
   -- ( + expression expression ), and more
-  sum : {a b c : ℕ} {inside rest : Forms} {x y : Expression} {es : List Expression}
+  sum : {a b c : ℕ} {inside rest : Forms} {x y : Expression Leaf} {es : List (Expression Leaf)}
       → AreExprs inside (x ∷ (y ∷ [])) → AreExprs rest es
       → AreExprs (list a (word c (Operator Plus) inside) b rest) (binary Add x y ∷ es)
   -- ( - expression expression ), and more
-  difference : {a b c : ℕ} {inside rest : Forms} {x y : Expression} {es : List Expression}
+  difference : {a b c : ℕ} {inside rest : Forms} {x y : Expression Leaf} {es : List (Expression Leaf)}
       → AreExprs inside (x ∷ (y ∷ [])) → AreExprs rest es
       → AreExprs (list a (word c (Operator Minus) inside) b rest) (binary Subtract x y ∷ es)
   -- ( * expression expression ), and more
-  product : {a b c : ℕ} {inside rest : Forms} {x y : Expression} {es : List Expression}
+  product : {a b c : ℕ} {inside rest : Forms} {x y : Expression Leaf} {es : List (Expression Leaf)}
       → AreExprs inside (x ∷ (y ∷ [])) → AreExprs rest es
       → AreExprs (list a (word c (Operator Times) inside) b rest) (binary Multiply x y ∷ es)
   -- ( - expression ), and more
-  negated : {a b c : ℕ} {inside rest : Forms} {x : Expression} {es : List Expression}
+  negated : {a b c : ℕ} {inside rest : Forms} {x : Expression Leaf} {es : List (Expression Leaf)}
       → AreExprs inside (x ∷ []) → AreExprs rest es
       → AreExprs (list a (word c (Operator Minus) inside) b rest) (negate x ∷ es)

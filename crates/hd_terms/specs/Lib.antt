@@ -1,8 +1,3 @@
-pub mod Expression
-pub mod Code
-pub mod Node
-pub mod ExprParts
-pub mod Depth
 pub mod Typed
 pub mod Atoms
 pub mod Expressions

@@ -9,24 +9,27 @@ use Rattle.hd_forms.specs.declared.word.Word.{Word}
 use Rattle.hd_forms.specs.declared.word.Word.TheVariants as words
 use Rattle.hd_forms.specs.declared.word.Word.TheVariants.{And, Not, Change, Operator}
 use Rattle.hd_forms.specs.Forms.{Forms, none, word, list}
-use Rattle.hd_forms.specs.Reading.{◌>>=◌, named, name_in, variable_in, number_in, name_at, group_at, end_at}
+use Rattle.hd_base.specs.Options.{◌>>=◌}
+use Rattle.hd_forms.specs.Reading.{placed_name, name_in, variable_in, number_in, name_at, group_at, end_at}
 use Rattle.hd_terms.specs.declared.tree.Atom.{Atom}
 use Rattle.hd_terms.specs.declared.tree.Condition.{Condition}
 use Rattle.hd_terms.specs.declared.tree.Condition.TheVariants as conditions
 use Rattle.hd_terms.specs.declared.tree.Effect.{Effect}
 use Rattle.hd_terms.specs.declared.tree.Effect.TheVariants as effects
-use Rattle.hd_terms.specs.declared.tree.Operation.TheVariants.{Add, Subtract, Multiply}
-use Rattle.hd_terms.specs.declared.tree.Relation.{Relation}
-use Rattle.hd_terms.specs.declared.tree.Relation.TheVariants as relations
+use Rattle.hd_base.specs.declared.operation.Operation.TheVariants.{Add, Subtract, Multiply}
+use Rattle.hd_base.specs.declared.relation.Relation.{Relation}
+use Rattle.hd_base.specs.declared.relation.Relation.TheVariants as relations
 use Rattle.hd_terms.specs.declared.tree.Term.{Term}
 use Rattle.hd_terms.specs.declared.tree.Term.TheVariants as terms
 use Rattle.hd_terms.specs.declared.tree.Typed.{Typed}
 use Rattle.hd_terms.specs.declared.typed.ItemKind.{ItemKind}
 use Rattle.hd_terms.specs.declared.typed.ItemKind.TheVariants as kinds
 use Rattle.hd_terms.specs.Atoms.{made_atom}
-use Rattle.hd_terms.specs.Conditions.{compared}
-use Rattle.hd_terms.specs.Effects.{place_of, changed}
-use Rattle.hd_terms.specs.Expression.{Expression, number, fluent, negate, binary}
+use Rattle.hd_terms.specs.Conditions.{comparison_by}
+use Rattle.hd_terms.specs.Effects.{place_of, change_by}
+use Rattle.hd_base.specs.Expression.{Expression, leaf, negate, binary}
+use Rattle.hd_terms.specs.declared.tree.Leaf.{Leaf}
+use Rattle.hd_terms.specs.declared.tree.Leaf.TheVariants as leaves
 use Rattle.hd_terms.specs.Typed.{with_type}
 
 -- ---- typed lists
@@ -74,7 +77,7 @@ unfoldable mutual
   pub typed_after : ItemKind → Forms → List Typed → List NameAt → Option (List Typed)
   typed_after k none found pending = Some (found ++ with_type None pending)
   typed_after k (word at w rest) found pending =
-      some_or (item_in k w) (λ n. typed_after k rest found (pending ++ named n at ∷ []))
+      some_or (item_in k w) (λ n. typed_after k rest found (pending ++ placed_name n at ∷ []))
       (if is_minus w && not (length pending == 0) then typed_behind k rest found pending else None)
   typed_after k (list a inside b rest) found pending = None
 
@@ -82,7 +85,7 @@ unfoldable mutual
   pub typed_behind : ItemKind → Forms → List Typed → List NameAt → Option (List Typed)
   typed_behind k none found pending = None
   typed_behind k (word at w rest) found pending =
-      name_in w >>= λ t. typed_after k rest (found ++ with_type (Some (named t at)) pending) []
+      name_in w >>= λ t. typed_after k rest (found ++ with_type (Some (placed_name t at)) pending) []
   typed_behind k (list a inside b rest) found pending = None
 
 -- ---- atoms
@@ -93,9 +96,9 @@ term_in at words.And = None
 term_in at words.Not = None
 term_in at (words.Change k) = None
 term_in at (words.Unsupported n) = None
-term_in at (words.Name n) = Some (terms.Name (named n at))
+term_in at (words.Name n) = Some (terms.Name (placed_name n at))
 term_in at (words.Keyword n) = None
-term_in at (words.Variable n) = Some (terms.Variable (named n at))
+term_in at (words.Variable n) = Some (terms.Variable (placed_name n at))
 term_in at (words.Operator o) = None
 term_in at (words.Number v) = None
 
@@ -117,8 +120,8 @@ atom_of inside = do
   Some (made_atom n.0 ts)
 
 -- the atom behind `not`
-unfoldable pub negated_atom : Forms → Option Atom
-negated_atom rest = do
+unfoldable pub negated_atom_of : Forms → Option Atom
+negated_atom_of rest = do
   g ← group_at rest
   t ← atom_of g.0
   _ ← end_at g.1
@@ -127,27 +130,27 @@ negated_atom rest = do
 -- ---- expressions
 
 -- two expressions and no more
-abbrev pub pair_in : List Expression → Option (Expression × Expression)
+abbrev pub pair_in : List (Expression Leaf) → Option (Expression Leaf × Expression Leaf)
 pair_in [] = None
 pair_in (x ∷ []) = None
 pair_in (x ∷ (y ∷ [])) = Some (x, y)
 pair_in (x ∷ (y ∷ (z ∷ es))) = None
 
 -- one expression and no more
-abbrev pub one_in : List Expression → Option Expression
+abbrev pub one_in : List (Expression Leaf) → Option (Expression Leaf)
 one_in [] = None
 one_in (x ∷ []) = Some x
 one_in (x ∷ (y ∷ es)) = None
 
 -- the difference of two, or one with its sign turned
-abbrev pub minus_by : List Expression → Option Expression
+abbrev pub minus_by : List (Expression Leaf) → Option (Expression Leaf)
 minus_by [] = None
 minus_by (x ∷ []) = Some (negate x)
 minus_by (x ∷ (y ∷ [])) = Some (binary Subtract x y)
 minus_by (x ∷ (y ∷ (z ∷ es))) = None
 
 -- what an operator makes of expressions
-abbrev pub operation_by : signs.Operator → List Expression → Option Expression
+abbrev pub operation_by : signs.Operator → List (Expression Leaf) → Option (Expression Leaf)
 operation_by operators.Plus es = pair_in es >>= λ p. Some (binary Add p.0 p.1)
 operation_by operators.Minus es = minus_by es
 operation_by operators.Times es = pair_in es >>= λ p. Some (binary Multiply p.0 p.1)
@@ -172,25 +175,25 @@ is_arithmetic operators.Greater = false
 
 unfoldable mutual
   -- expressions one after the other, not more than so many: those found so far, and theirs
-  pub exprs_after : ℕ → Forms → List Expression → Option (List Expression)
+  pub exprs_after : ℕ → Forms → List (Expression Leaf) → Option (List (Expression Leaf))
   exprs_after most none found = Some found
   exprs_after most (word at w rest) found =
-      if length found == most then None else (number_in w >>= λ v. exprs_after most rest (found ++ number v at ∷ []))
+      if length found == most then None else (number_in w >>= λ v. exprs_after most rest (found ++ leaf (leaves.Number v at) ∷ []))
   exprs_after most (list a inside b rest) found =
       if length found == most then None else (expr_in inside >>= λ e. exprs_after most rest (found ++ e ∷ []))
 
   -- what stands in one expression
-  pub expr_in : Forms → Option Expression
+  pub expr_in : Forms → Option (Expression Leaf)
   expr_in (word at (Operator o) inside) =
       if is_arithmetic o then (exprs_after 2 inside [] >>= λ es. operation_by o es) else None
-  expr_in inside = atom_of inside >>= λ t. Some (fluent t)
+  expr_in inside = atom_of inside >>= λ t. Some (leaf (leaves.Fluent t))
 
 -- two expressions
-unfoldable pub pair_of : Forms → Option (Expression × Expression)
+unfoldable pub pair_of : Forms → Option (Expression Leaf × Expression Leaf)
 pair_of rest = exprs_after 2 rest [] >>= λ es. pair_in es
 
 -- one expression
-unfoldable pub expression_of : Forms → Option Expression
+unfoldable pub expression_of : Forms → Option (Expression Leaf)
 expression_of rest = exprs_after 1 rest [] >>= λ es. one_in es
 
 -- ---- conditions
@@ -242,29 +245,29 @@ is_equal operators.GreaterOrEqual = false
 is_equal operators.Greater = false
 
 -- what an operator says of what follows it
-unfoldable pub related : signs.Operator → Forms → Option Condition
-related o rest =
+unfoldable pub relation_of : signs.Operator → Forms → Option Condition
+relation_of o rest =
     if is_equal o && begins_with_term rest then (terms_of rest >>= λ p. Some (conditions.Equal p.0 p.1))
-    else (relation_in o >>= λ r. pair_of rest >>= λ p. Some (compared r p.0 p.1))
+    else (relation_in o >>= λ r. pair_of rest >>= λ p. Some (comparison_by r p.0 p.1))
 
 -- what is denied in a form
-unfoldable pub denied : Forms → Option Condition
-denied (word at (Operator o) rest) =
+unfoldable pub denial_of : Forms → Option Condition
+denial_of (word at (Operator o) rest) =
     if is_equal o && begins_with_term rest then (terms_of rest >>= λ p. Some (conditions.NotEqual p.0 p.1)) else None
-denied inside = atom_of inside >>= λ t. Some (conditions.NotAtom t)
+denial_of inside = atom_of inside >>= λ t. Some (conditions.NotAtom t)
 
 -- the condition behind `not`
 unfoldable pub negated_condition : Forms → Option Condition
 negated_condition rest = do
   g ← group_at rest
-  c ← denied g.0
+  c ← denial_of g.0
   _ ← end_at g.1
   Some c
 
 -- what stands in a part of a condition
 unfoldable pub part_of_condition : Forms → Option Condition
 part_of_condition (word at Not rest) = negated_condition rest
-part_of_condition (word at (Operator o) rest) = related o rest
+part_of_condition (word at (Operator o) rest) = relation_of o rest
 part_of_condition inside = atom_of inside >>= λ t. Some (conditions.Atom t)
 
 unfoldable mutual
@@ -294,11 +297,11 @@ change_of k rest = do
   g ← group_at rest
   f ← atom_of g.0
   e ← expression_of g.1
-  Some (changed k f e (place_of g.1))
+  Some (change_by k f e (place_of g.1))
 
 -- what stands in a part of an effect
 unfoldable pub part_of_effect : Forms → Option Effect
-part_of_effect (word at Not rest) = negated_atom rest >>= λ t. Some (effects.Delete t)
+part_of_effect (word at Not rest) = negated_atom_of rest >>= λ t. Some (effects.Delete t)
 part_of_effect (word at (Change k) rest) = change_of k rest
 part_of_effect inside = atom_of inside >>= λ t. Some (effects.Add t)
 

@@ -2,7 +2,7 @@
 use Rattle.std.specs.Prelude.{ℕ, List, [], ◌∷◌, ◌++◌, Option, Some}
 use Rattle.hd_forms.specs.Forms.{Forms, size}
 use Rattle.hd_forms.specs.View.{forms_view}
-use Rattle.hd_forms.specs.Reading.{◌>>=◌}
+use Rattle.hd_base.specs.Options.{◌>>=◌}
 use Rattle.hd_terms.specs.declared.conditions.Part as condition
 use Rattle.hd_terms.specs.declared.conditions.Part.TheVariants as conditions
 use Rattle.hd_terms.specs.declared.effects.Part as effect
@@ -11,13 +11,14 @@ use Rattle.hd_terms.specs.declared.expressions.Shape.{Shape}
 use Rattle.hd_terms.specs.declared.expressions.Shape.TheVariants as shapes
 use Rattle.hd_terms.specs.declared.tree.Condition.{Condition}
 use Rattle.hd_terms.specs.declared.tree.Effect.{Effect}
-use Rattle.hd_terms.specs.Expression.{Expression}
+use Rattle.hd_base.specs.Expression.{Expression}
+use Rattle.hd_terms.specs.declared.tree.Leaf.{Leaf}
 use Rattle.hd_terms.specs.Reading.{exprs_after, operation_by, conditions_after, effects_after}
 
 -- ---- expressions
 
 -- the expression that a shape makes
-abbrev pub expression_by : Shape → Option Expression
+abbrev pub expression_by : Shape → Option (Expression Leaf)
 expression_by (shapes.Known e) = Some e
 expression_by (shapes.Operation o inside to) = exprs_after 2 (forms_view inside.now) [] >>= λ es. operation_by o es
 
@@ -27,7 +28,7 @@ size_in_shape (shapes.Known e) = 0
 size_in_shape (shapes.Operation o inside to) = size (forms_view inside.now)
 
 -- the expressions found so far, this one, and those of the rest
-abbrev pub goes_on_with : Option Expression → ℕ → Forms → List Expression → Option (List Expression)
+abbrev pub goes_on_with : Option (Expression Leaf) → ℕ → Forms → List (Expression Leaf) → Option (List (Expression Leaf))
 goes_on_with read most rest found = read >>= λ e. exprs_after most rest (found ++ e ∷ [])
 
 -- ---- conditions

@@ -6,7 +6,7 @@ use Rattle.hd_forms.specs.declared.names.NameAt.{NameAt}
 use Rattle.hd_forms.specs.declared.word.Word.{Word}
 use Rattle.hd_forms.specs.declared.word.Word.TheVariants as words
 use Rattle.hd_forms.specs.Forms.{Forms, none, word}
-use Rattle.hd_forms.specs.Reading.{named}
+use Rattle.hd_forms.specs.Reading.{placed_name}
 use Rattle.hd_terms.specs.declared.tree.Typed.{Typed}
 use Rattle.hd_terms.specs.declared.typed.ItemKind.{ItemKind}
 use Rattle.hd_terms.specs.declared.typed.ItemKind.TheVariants as kinds
@@ -21,7 +21,7 @@ pub data AreItems (k : ItemKind) : Forms → List NameAt → Forms → Type 0 wh
   end : {more : Forms} → AreItems k more [] more
   one : {at : ℕ} {w : Word} {n : List ℕ} {rest more : Forms} {ns : List NameAt}
       → IsItem k w n → AreItems k rest ns more
-      → AreItems k (word at w rest) (named n at ∷ ns) more
+      → AreItems k (word at w rest) (placed_name n at ∷ ns) more
 
 -- a name, with a type or without one
 abbrev pub typed_by : Option NameAt → NameAt → Typed
@@ -39,4 +39,4 @@ pub data AreTyped (k : ItemKind) : Forms → List Typed → Type 0 where
   group : {a b : ℕ} {t : List ℕ} {f rest : Forms} {n : NameAt} {ns : List NameAt} {ts : List Typed}
       → AreItems k f (n ∷ ns) (word a (words.Operator Minus) (word b (words.Name t) rest))
       → AreTyped k rest ts
-      → AreTyped k f (with_type (Some (named t b)) (n ∷ ns) ++ ts)
+      → AreTyped k f (with_type (Some (placed_name t b)) (n ∷ ns) ++ ts)

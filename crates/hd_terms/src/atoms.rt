@@ -1,23 +1,25 @@
 //! Atoms and fluents.
 
 ghost use Rattle.std.specs.Prelude.{◌≡◌, []};
-ghost use Rattle.hd_forms.specs.Reading.{Gives};
+ghost use Rattle.hd_base.specs.Answers.{Gives};
+ghost use Rattle.hd_forms.specs.Reading.{Refuses};
 ghost use Rattle.hd_forms.specs.View.{forms_view};
 ghost use Rattle.hd_terms.specs.Reading.{term_at, terms_after, atom_of};
 
 use crate::tree::{Atom, Term};
-use hd_forms::{Form, ReadError, Word, first_refusal, form_refusal, name_of, named};
-use hd_list::Sequence;
+use hd_base::Sequence;
+use hd_forms::{Form, ReadError, Word, first_refusal, form_refusal, name_at, placed_name};
 use std::alloc::Global;
 
 /// The first term, and what follows it. The place `end` is that behind the forms.
-pub fn term_of(alloc: Global, forms: &[Form], end: usize) -> Result<(Term, &[Form]), ReadError>
-    ensures { Gives (λ x. (x.0, forms_view x.1.now)) result (term_at (forms_view forms.now)) }
+pub fn term_at(alloc: Global, forms: &[Form], end: usize) -> Result<(Term, &[Form]), ReadError>
+    ensures { Gives Refuses (λ x. (x.0, forms_view x.1.now)) result
+        (term_at (forms_view forms.now)) }
 {
     match forms {
         [Form::Word { at, word }, rest @ ..] => match word {
-            Word::Name(name) => Ok((Term::Name(named(alloc, name, *at)?), rest)),
-            Word::Variable(name) => Ok((Term::Variable(named(alloc, name, *at)?), rest)),
+            Word::Name(name) => Ok((Term::Name(placed_name(alloc, name, *at)?), rest)),
+            Word::Variable(name) => Ok((Term::Variable(placed_name(alloc, name, *at)?), rest)),
             _ => Err(first_refusal(alloc, forms, end)),
         },
         _ => Err(first_refusal(alloc, forms, end)),
@@ -27,7 +29,7 @@ pub fn term_of(alloc: Global, forms: &[Form], end: usize) -> Result<(Term, &[For
 /// The terms that these forms are, one each.
 #[tactic(auto, unfolding(crate::specs::Reading::terms_after))]
 fn terms_of(alloc: Global, forms: &[Form]) -> Result<Sequence<Term>, ReadError>
-    ensures { Gives (λ x. x) result (terms_after (forms_view forms.now) []) }
+    ensures { Gives Refuses (λ x. x) result (terms_after (forms_view forms.now) []) }
 {
     let mut terms = Vec::new(alloc);
     let mut rest = forms;
@@ -36,8 +38,8 @@ fn terms_of(alloc: Global, forms: &[Form]) -> Result<Sequence<Term>, ReadError>
             return Err(form_refusal(alloc, first));
         };
         match word {
-            Word::Name(name) => terms.push(Term::Name(named(alloc, name, *at)?))?,
-            Word::Variable(name) => terms.push(Term::Variable(named(alloc, name, *at)?))?,
+            Word::Name(name) => terms.push(Term::Name(placed_name(alloc, name, *at)?))?,
+            Word::Variable(name) => terms.push(Term::Variable(placed_name(alloc, name, *at)?))?,
             _ => return Err(form_refusal(alloc, first)),
         }
         rest = after;
@@ -48,9 +50,9 @@ fn terms_of(alloc: Global, forms: &[Form]) -> Result<Sequence<Term>, ReadError>
 /// The atom, or the fluent, that stands in a form which ends at the place `to`.
 #[tactic(auto, unfolding(crate::specs::Reading::atom_of))]
 pub fn atom_of(alloc: Global, inside: &[Form], to: usize) -> Result<Atom, ReadError>
-    ensures { Gives (λ x. x) result (atom_of (forms_view inside.now)) }
+    ensures { Gives Refuses (λ x. x) result (atom_of (forms_view inside.now)) }
 {
-    let (name, rest) = name_of(alloc, inside, to)?;
+    let (name, rest) = name_at(alloc, inside, to)?;
     let terms = terms_of(alloc, rest)?;
     Ok(Atom { name, terms })
 }

@@ -2,19 +2,20 @@
 
 ghost use Rattle.std.specs.Prelude.{◌≡◌, ◌<◌, List, Some, None, MatchOption, IfOk, IfErr};
 ghost use Rattle.hd_forms.specs.Forms.{Forms, append, size};
-ghost use Rattle.hd_forms.specs.Reading.{Gives, Leaves, Refuses};
+ghost use Rattle.hd_base.specs.Answers.{Gives, Leaves};
+ghost use Rattle.hd_forms.specs.Reading.{Refuses};
 ghost use Rattle.hd_forms.specs.View.{form_view, forms_view};
-ghost use Rattle.hd_terms.specs.Reading.{is_equal, relation_in, terms_of, related, denied, negated_condition, part_of_condition, conditions_after, condition_at};
+ghost use Rattle.hd_terms.specs.Reading.{is_equal, relation_in, terms_of, relation_of, denial_of, negated_condition, part_of_condition, conditions_after, condition_at};
 ghost use Rattle.hd_terms.specs.Steps.{conditions_by, conditions_go_on, size_in_condition};
 ghost use Rattle.hd_terms.specs.declared.tree.Condition.{Condition};
 
-use crate::atoms::{atom_of, term_of};
+use crate::atoms::{atom_of, term_at};
 use crate::expressions::pair_of;
 use crate::negations::{begins_with_term, negation_refusal};
-use crate::tree::{Comparison, Condition, Relation, Term};
-use hd_forms::{Form, ReadError, Word, end_of, first_refusal, form_refusal, group_of};
+use crate::tree::{Comparison, Condition, Term};
+use hd_base::{Relation, Sequence};
+use hd_forms::{Form, ReadError, Word, end_at, first_refusal, form_refusal, group_at};
 use hd_lex::Operator;
-use hd_list::Sequence;
 use std::alloc::Global;
 use std::slice;
 
@@ -45,24 +46,24 @@ fn relation_in(operator: Operator) -> Option<Relation>
 /// The two terms that these forms are, alone, in a form that ends at the place `to`.
 #[tactic(auto, unfolding(crate::specs::Reading::terms_of))]
 fn terms_of(alloc: Global, forms: &[Form], to: usize) -> Result<(Term, Term), ReadError>
-    ensures { Gives (λ x. x) result (terms_of (forms_view forms.now)) }
+    ensures { Gives Refuses (λ x. x) result (terms_of (forms_view forms.now)) }
 {
-    let (left, rest) = term_of(alloc, forms, to)?;
-    let (right, rest) = term_of(alloc, rest, to)?;
-    end_of(alloc, rest)?;
+    let (left, rest) = term_at(alloc, forms, to)?;
+    let (right, rest) = term_at(alloc, rest, to)?;
+    end_at(alloc, rest)?;
     Ok((left, right))
 }
 
 /// What the operator, the first of the forms `inside`, says of the rest of them, in a form that ends at the place `to`.
-#[tactic(auto, unfolding(crate::specs::Reading::related))]
-fn related(
+#[tactic(auto, unfolding(crate::specs::Reading::relation_of))]
+fn relation_of(
     alloc: Global,
     operator: Operator,
     inside: &[Form],
     rest: &[Form],
     to: usize,
 ) -> Result<Condition, ReadError>
-    ensures { Gives (λ x. x) result (related operator (forms_view rest.now)) }
+    ensures { Gives Refuses (λ x. x) result (relation_of operator (forms_view rest.now)) }
 {
     if is_equal(operator) && begins_with_term(rest) {
         let (left, right) = terms_of(alloc, rest, to)?;
@@ -80,9 +81,9 @@ fn related(
 }
 
 /// What is denied in a form behind the `not` at the place `not`. The form ends at `to`.
-#[tactic(auto, unfolding(crate::specs::Reading::denied, crate::specs::Reading::atom_of))]
-fn denied(alloc: Global, not: usize, inside: &[Form], to: usize) -> Result<Condition, ReadError>
-    ensures { Gives (λ x. x) result (denied (forms_view inside.now)) }
+#[tactic(auto, unfolding(crate::specs::Reading::denial_of, crate::specs::Reading::atom_of))]
+fn denial_of(alloc: Global, not: usize, inside: &[Form], to: usize) -> Result<Condition, ReadError>
+    ensures { Gives Refuses (λ x. x) result (denial_of (forms_view inside.now)) }
 {
     match inside {
         [Form::Word { word, .. }, rest @ ..] => match word {
@@ -112,18 +113,18 @@ fn negated_condition(
     rest: &[Form],
     to: usize,
 ) -> Result<Condition, ReadError>
-    ensures { Gives (λ x. x) result (negated_condition (forms_view rest.now)) }
+    ensures { Gives Refuses (λ x. x) result (negated_condition (forms_view rest.now)) }
 {
-    let (inside, inside_to, after) = group_of(alloc, rest, to)?;
-    let condition = denied(alloc, not, inside, inside_to)?;
-    end_of(alloc, after)?;
+    let (inside, inside_to, after) = group_at(alloc, rest, to)?;
+    let condition = denial_of(alloc, not, inside, inside_to)?;
+    end_at(alloc, after)?;
     Ok(condition)
 }
 
 /// The part of a condition that stands in a form which ends at the place `to`.
 #[tactic(auto, unfolding(crate::specs::Reading::part_of_condition))]
 fn part_of_condition(alloc: Global, inside: &[Form], to: usize) -> Result<Condition, ReadError>
-    ensures { Gives (λ x. x) result (part_of_condition (forms_view inside.now)) }
+    ensures { Gives Refuses (λ x. x) result (part_of_condition (forms_view inside.now)) }
 {
     match inside {
         [
@@ -139,7 +140,7 @@ fn part_of_condition(alloc: Global, inside: &[Form], to: usize) -> Result<Condit
                 ..
             },
             rest @ ..,
-        ] => related(alloc, *operator, inside, rest, to),
+        ] => relation_of(alloc, *operator, inside, rest, to),
         _ => Ok(Condition::Atom(atom_of(alloc, inside, to)?)),
     }
 }
@@ -156,7 +157,8 @@ enum Part<'a> {
 #[tactic(auto, unfolding(crate::specs::Reading::conditions_after))]
 fn part_of(alloc: Global, form: &Form) -> Result<Part<'_>, ReadError>
     ensures part { IfOk result (λ p. (rest : Forms) (found : List Condition)
-        → conditions_after (append (form_view form.now) rest) found ≡ conditions_go_on (conditions_by p found) rest) }
+        → conditions_after (append (form_view form.now) rest) found
+        ≡ conditions_go_on (conditions_by p found) rest) }
     ensures smaller { IfOk result (λ p. size_in_condition p < size (form_view form.now)) }
     ensures refused { IfErr result (λ e. (rest : Forms) (found : List Condition)
         → Refuses e (conditions_after (append (form_view form.now) rest) found)) }
@@ -184,7 +186,8 @@ fn add_conditions(
     forms: &[Form],
     found: &mut Vec<Condition>,
 ) -> Result<(), ReadError>
-    ensures { Leaves result found.new.items (conditions_after (forms_view forms.now) found.old.items) }
+    ensures { Leaves Refuses result found.new.items
+        (conditions_after (forms_view forms.now) found.old.items) }
 {
     let mut rest = forms;
     while let Some((first, after)) = rest.split_first() {
@@ -200,12 +203,13 @@ fn add_conditions(
 
 /// The parts of the first form, a condition, and what follows it. The place `end` is that behind the forms.
 #[tactic(auto, unfolding(crate::specs::Reading::condition_at))]
-pub fn condition_of(
+pub fn condition_at(
     alloc: Global,
     forms: &[Form],
     end: usize,
 ) -> Result<(Sequence<Condition>, &[Form]), ReadError>
-    ensures { Gives (λ x. (x.0, forms_view x.1.now)) result (condition_at (forms_view forms.now)) }
+    ensures { Gives Refuses (λ x. (x.0, forms_view x.1.now)) result
+        (condition_at (forms_view forms.now)) }
 {
     match forms {
         [form @ Form::List { .. }, rest @ ..] => {

@@ -2,7 +2,8 @@
 
 ghost use Rattle.std.specs.Prelude.{◌≡◌, ◌<◌, List, IfOk, IfErr};
 ghost use Rattle.hd_forms.specs.Forms.{Forms, append, size};
-ghost use Rattle.hd_forms.specs.Reading.{Gives, Leaves, Refuses};
+ghost use Rattle.hd_base.specs.Answers.{Gives, Leaves};
+ghost use Rattle.hd_forms.specs.Reading.{Refuses};
 ghost use Rattle.hd_forms.specs.View.{form_view, forms_view};
 ghost use Rattle.hd_terms.specs.Effects.{place_of};
 ghost use Rattle.hd_terms.specs.Reading.{change_of, part_of_effect, effects_after, effect_at};
@@ -13,8 +14,8 @@ use crate::atoms::atom_of;
 use crate::expressions::expression_of;
 use crate::negations::negated_atom_of;
 use crate::tree::{Effect, FluentChange};
-use hd_forms::{Change, Form, ReadError, Word, first_refusal, form_refusal, group_of};
-use hd_list::Sequence;
+use hd_base::Sequence;
+use hd_forms::{Change, Form, ReadError, Word, first_refusal, form_refusal, group_at};
 use std::alloc::Global;
 use std::slice;
 
@@ -32,9 +33,9 @@ fn place_of(forms: &[Form]) -> usize
 /// The change of a fluent by an amount, in a form that ends at the place `to`.
 #[tactic(auto, unfolding(crate::specs::Reading::change_of))]
 fn change_of(alloc: Global, change: Change, rest: &[Form], to: usize) -> Result<Effect, ReadError>
-    ensures { Gives (λ x. x) result (change_of change (forms_view rest.now)) }
+    ensures { Gives Refuses (λ x. x) result (change_of change (forms_view rest.now)) }
 {
-    let (inside, inside_to, rest) = group_of(alloc, rest, to)?;
+    let (inside, inside_to, rest) = group_at(alloc, rest, to)?;
     let fluent = atom_of(alloc, inside, inside_to)?;
     let amount = expression_of(alloc, rest, to)?;
     Ok(Effect::Change(FluentChange {
@@ -48,7 +49,7 @@ fn change_of(alloc: Global, change: Change, rest: &[Form], to: usize) -> Result<
 /// The part of an effect that stands in a form which ends at the place `to`.
 #[tactic(auto, unfolding(crate::specs::Reading::part_of_effect))]
 fn part_of_effect(alloc: Global, inside: &[Form], to: usize) -> Result<Effect, ReadError>
-    ensures { Gives (λ x. x) result (part_of_effect (forms_view inside.now)) }
+    ensures { Gives Refuses (λ x. x) result (part_of_effect (forms_view inside.now)) }
 {
     match inside {
         [
@@ -81,7 +82,8 @@ enum Part<'a> {
 #[tactic(auto, unfolding(crate::specs::Reading::effects_after))]
 fn part_of(alloc: Global, form: &Form) -> Result<Part<'_>, ReadError>
     ensures part { IfOk result (λ p. (rest : Forms) (found : List Effect)
-        → effects_after (append (form_view form.now) rest) found ≡ effects_go_on (effects_by p found) rest) }
+        → effects_after (append (form_view form.now) rest) found
+        ≡ effects_go_on (effects_by p found) rest) }
     ensures smaller { IfOk result (λ p. size_in_effect p < size (form_view form.now)) }
     ensures refused { IfErr result (λ e. (rest : Forms) (found : List Effect)
         → Refuses e (effects_after (append (form_view form.now) rest) found)) }
@@ -105,7 +107,8 @@ fn part_of(alloc: Global, form: &Form) -> Result<Part<'_>, ReadError>
 /// Adds the parts of these effects, one after the other.
 #[tactic(auto, unfolding(crate::specs::Reading::effects_after))]
 fn add_effects(alloc: Global, forms: &[Form], found: &mut Vec<Effect>) -> Result<(), ReadError>
-    ensures { Leaves result found.new.items (effects_after (forms_view forms.now) found.old.items) }
+    ensures { Leaves Refuses result found.new.items
+        (effects_after (forms_view forms.now) found.old.items) }
 {
     let mut rest = forms;
     while let Some((first, after)) = rest.split_first() {
@@ -121,12 +124,13 @@ fn add_effects(alloc: Global, forms: &[Form], found: &mut Vec<Effect>) -> Result
 
 /// The parts of the first form, an effect, and what follows it. The place `end` is that behind the forms.
 #[tactic(auto, unfolding(crate::specs::Reading::effect_at))]
-pub fn effect_of(
+pub fn effect_at(
     alloc: Global,
     forms: &[Form],
     end: usize,
 ) -> Result<(Sequence<Effect>, &[Form]), ReadError>
-    ensures { Gives (λ x. (x.0, forms_view x.1.now)) result (effect_at (forms_view forms.now)) }
+    ensures { Gives Refuses (λ x. (x.0, forms_view x.1.now)) result
+        (effect_at (forms_view forms.now)) }
 {
     match forms {
         [form @ Form::List { .. }, rest @ ..] => {

@@ -2,15 +2,17 @@
 
 ghost use Rattle.std.specs.Prelude.{◌≡◌, ◌<◌, ◌≤◌, ◌==◌, ℕ, List, length, false, IfOk, IfErr};
 ghost use Rattle.hd_forms.specs.Forms.{Forms, append, size};
-ghost use Rattle.hd_forms.specs.Reading.{Gives, Leaves, Refuses};
+ghost use Rattle.hd_base.specs.Expression.{Expression};
+ghost use Rattle.hd_base.specs.Answers.{Gives, Leaves};
+ghost use Rattle.hd_forms.specs.Reading.{Refuses};
 ghost use Rattle.hd_forms.specs.View.{form_view, forms_view};
-ghost use Rattle.hd_terms.specs.Expression.{Expression};
 ghost use Rattle.hd_terms.specs.Reading.{is_arithmetic, one_in, pair_in, minus_by, operation_by, exprs_after, expr_in, expression_of, pair_of};
+ghost use Rattle.hd_terms.specs.declared.tree.Leaf.{Leaf};
 ghost use Rattle.hd_terms.specs.Steps.{expression_by, size_in_shape, goes_on_with};
 
 use crate::atoms::atom_of;
-use crate::expression::Expr;
-use crate::tree::Operation;
+use crate::tree::{Expr, Leaf};
+use hd_base::Operation;
 use hd_forms::{Form, ReadError, Word, first_refusal, form_refusal};
 use hd_lex::Operator;
 use std::alloc::Global;
@@ -57,7 +59,7 @@ fn inner_shape(alloc: Global, inside: &[Form], to: usize) -> Result<Shape<'_>, R
         }
         _ => {
             let fluent = atom_of(alloc, inside, to)?;
-            Ok(Shape::Known(Expr::fluent(fluent)))
+            Ok(Shape::Known(Expr::leaf(Leaf::Fluent(fluent))))
         }
     }
 }
@@ -65,17 +67,18 @@ fn inner_shape(alloc: Global, inside: &[Form], to: usize) -> Result<Shape<'_>, R
 /// What one expression is.
 #[tactic(auto, unfolding(crate::specs::Reading::exprs_after))]
 fn shape_of(alloc: Global, form: &Form) -> Result<Shape<'_>, ReadError>
-    ensures shape { IfOk result (λ s. (most : ℕ) (rest : Forms) (found : List Expression)
+    ensures shape { IfOk result (λ s. (most : ℕ) (rest : Forms) (found : List (Expression Leaf))
         → (length found == most) ≡ false
-        → exprs_after most (append (form_view form.now) rest) found ≡ goes_on_with (expression_by s) most rest found) }
+        → exprs_after most (append (form_view form.now) rest) found
+        ≡ goes_on_with (expression_by s) most rest found) }
     ensures smaller { IfOk result (λ s. size_in_shape s < size (form_view form.now)) }
-    ensures refused { IfErr result (λ e. (most : ℕ) (rest : Forms) (found : List Expression)
+    ensures refused { IfErr result (λ e. (most : ℕ) (rest : Forms) (found : List (Expression Leaf))
         → (length found == most) ≡ false
         → Refuses e (exprs_after most (append (form_view form.now) rest) found)) }
 {
     match form {
         Form::Word { at, word } => match word {
-            Word::Number(value) => Ok(Shape::Known(Expr::number(*value, *at))),
+            Word::Number(value) => Ok(Shape::Known(Expr::leaf(Leaf::Number(*value, *at)))),
             _ => Err(form_refusal(alloc, form)),
         },
         Form::List { inside, to, .. } => inner_shape(alloc, inside, *to),
@@ -84,7 +87,7 @@ fn shape_of(alloc: Global, form: &Form) -> Result<Shape<'_>, ReadError>
 
 /// The only one of these expressions. More than one are never given. The place `end` is that behind them.
 fn only_one(expressions: Vec<Expr>, end: usize) -> Result<Expr, ReadError>
-    ensures { Gives (λ x. x) result (one_in expressions.items) }
+    ensures { Gives Refuses (λ x. x) result (one_in expressions.items) }
 {
     let mut expressions = expressions;
     let Some(last) = expressions.pop() else {
@@ -99,7 +102,7 @@ fn only_one(expressions: Vec<Expr>, end: usize) -> Result<Expr, ReadError>
 
 /// The two expressions that these are. More than two are never given. The place `end` is that behind them.
 fn only_two(expressions: Vec<Expr>, end: usize) -> Result<(Expr, Expr), ReadError>
-    ensures { Gives (λ x. x) result (pair_in expressions.items) }
+    ensures { Gives Refuses (λ x. x) result (pair_in expressions.items) }
 {
     let mut expressions = expressions;
     let Some(right) = expressions.pop() else {
@@ -117,7 +120,7 @@ fn only_two(expressions: Vec<Expr>, end: usize) -> Result<(Expr, Expr), ReadErro
 
 /// What `-` makes of its operands, which end at the place `end`.
 fn minus_of(alloc: Global, operands: Vec<Expr>, end: usize) -> Result<Expr, ReadError>
-    ensures { Gives (λ x. x) result (minus_by operands.items) }
+    ensures { Gives Refuses (λ x. x) result (minus_by operands.items) }
 {
     if operands.len() == 1 {
         let operand = only_one(operands, end)?;
@@ -135,7 +138,7 @@ fn operation_of(
     operands: Vec<Expr>,
     end: usize,
 ) -> Result<Expr, ReadError>
-    ensures { Gives (λ x. x) result (operation_by operator operands.items) }
+    ensures { Gives Refuses (λ x. x) result (operation_by operator operands.items) }
 {
     match operator {
         Operator::Plus => {
@@ -159,7 +162,8 @@ fn add_expressions(
     forms: &[Form],
     found: &mut Vec<Expr>,
 ) -> Result<(), ReadError>
-    ensures { Leaves result found.new.items (exprs_after most (forms_view forms.now) found.old.items) }
+    ensures { Leaves Refuses result found.new.items
+        (exprs_after most (forms_view forms.now) found.old.items) }
 {
     let mut rest = forms;
     while let Some((first, after)) = rest.split_first() {
@@ -182,7 +186,7 @@ fn add_expressions(
 /// The expression that these forms are, alone. The place `end` is that behind the forms.
 #[tactic(auto, unfolding(crate::specs::Reading::expression_of))]
 pub fn expression_of(alloc: Global, forms: &[Form], end: usize) -> Result<Expr, ReadError>
-    ensures { Gives (λ x. x) result (expression_of (forms_view forms.now)) }
+    ensures { Gives Refuses (λ x. x) result (expression_of (forms_view forms.now)) }
 {
     let mut found = Vec::new(alloc);
     add_expressions(alloc, 1, forms, &mut found)?;
@@ -192,7 +196,7 @@ pub fn expression_of(alloc: Global, forms: &[Form], end: usize) -> Result<Expr, 
 /// The two expressions that these forms are. The place `end` is that behind the forms.
 #[tactic(auto, unfolding(crate::specs::Reading::pair_of))]
 pub fn pair_of(alloc: Global, forms: &[Form], end: usize) -> Result<(Expr, Expr), ReadError>
-    ensures { Gives (λ x. x) result (pair_of (forms_view forms.now)) }
+    ensures { Gives Refuses (λ x. x) result (pair_of (forms_view forms.now)) }
 {
     let mut found = Vec::new(alloc);
     add_expressions(alloc, 2, forms, &mut found)?;

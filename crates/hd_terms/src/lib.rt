@@ -8,18 +8,15 @@
 mod atoms;
 mod conditions;
 mod effects;
-mod expression;
 mod expressions;
 mod negations;
 mod tree;
 mod typed;
 
 pub use atoms::atom_of;
-pub use conditions::{condition_of, is_equal};
-pub use effects::effect_of;
-pub use expression::{Expr, ExprParts};
+pub use conditions::{condition_at, is_equal};
+pub use effects::effect_at;
+pub use hd_base::{ExprParts, Operation, Relation};
 pub use negations::negated_atom_of;
-pub use tree::{
-    Atom, Comparison, Condition, Effect, FluentChange, Operation, Relation, Term, Typed,
-};
+pub use tree::{Atom, Comparison, Condition, Effect, Expr, FluentChange, Leaf, Term, Typed};
 pub use typed::{ItemKind, is_minus, typed_of};

@@ -1,13 +1,14 @@
 //! What may stand behind `not`.
 
 ghost use Rattle.std.specs.Prelude.{◌≡◌};
-ghost use Rattle.hd_forms.specs.Reading.{Gives, IsOfGrammar};
+ghost use Rattle.hd_base.specs.Answers.{Gives};
+ghost use Rattle.hd_forms.specs.Reading.{Refuses, IsOfGrammar};
 ghost use Rattle.hd_forms.specs.View.{forms_view};
-ghost use Rattle.hd_terms.specs.Reading.{begins_with_term, atom_of, negated_atom};
+ghost use Rattle.hd_terms.specs.Reading.{begins_with_term, atom_of, negated_atom_of};
 
 use crate::atoms::atom_of;
 use crate::tree::Atom;
-use hd_forms::{Form, ReadError, Word, end_of, first_refusal, group_of};
+use hd_forms::{Form, ReadError, Word, end_at, first_refusal, group_at};
 use hd_lex::Operator;
 use std::alloc::Global;
 
@@ -52,7 +53,7 @@ pub fn negation_refusal(alloc: Global, not: usize) -> ReadError
 /// The atom that stands in a form behind the `not` at the place `not`. The form ends at `to`.
 #[tactic(auto, unfolding(crate::specs::Reading::atom_of))]
 fn atom_behind(alloc: Global, not: usize, inside: &[Form], to: usize) -> Result<Atom, ReadError>
-    ensures { Gives (λ x. x) result (atom_of (forms_view inside.now)) }
+    ensures { Gives Refuses (λ x. x) result (atom_of (forms_view inside.now)) }
 {
     match inside {
         [
@@ -73,17 +74,17 @@ fn atom_behind(alloc: Global, not: usize, inside: &[Form], to: usize) -> Result<
 }
 
 /// The atom behind the `not` at the place `not`, in a form that ends at `to`.
-#[tactic(auto, unfolding(crate::specs::Reading::negated_atom))]
+#[tactic(auto, unfolding(crate::specs::Reading::negated_atom_of))]
 pub fn negated_atom_of(
     alloc: Global,
     not: usize,
     rest: &[Form],
     to: usize,
 ) -> Result<Atom, ReadError>
-    ensures { Gives (λ x. x) result (negated_atom (forms_view rest.now)) }
+    ensures { Gives Refuses (λ x. x) result (negated_atom_of (forms_view rest.now)) }
 {
-    let (inside, inside_to, after) = group_of(alloc, rest, to)?;
+    let (inside, inside_to, after) = group_at(alloc, rest, to)?;
     let atom = atom_behind(alloc, not, inside, inside_to)?;
-    end_of(alloc, after)?;
+    end_at(alloc, after)?;
     Ok(atom)
 }

@@ -1,8 +1,7 @@
 //! What the parts of domains and problems say. A place is that of a first byte in the text, counted from 0.
 
-use crate::expression::Expr;
+use hd_base::{Relation, Sequence};
 use hd_forms::{Change, NameAt};
-use hd_list::Sequence;
 
 /// A declared name, and the name of its type if one is given: without one the type is `object`.
 #[derive(Debug, PartialEq, Eq, Drop)]
@@ -26,23 +25,17 @@ pub struct Atom {
     pub terms: Sequence<Term>,
 }
 
-/// What is made of two numbers.
-#[derive(Clone, Copy, Debug, PartialEq, Eq)]
-pub enum Operation {
-    Add,
-    Subtract,
-    Multiply,
+/// What stands at the leaves of an expression.
+#[derive(Debug, Drop)]
+pub enum Leaf {
+    /// A number, and the place of its first byte.
+    Number(i64, usize),
+    /// The value of a fluent.
+    Fluent(Atom),
 }
 
-/// How the two sides of a comparison compare.
-#[derive(Clone, Copy, Debug, PartialEq, Eq)]
-pub enum Relation {
-    Less,
-    LessOrEqual,
-    Equal,
-    GreaterOrEqual,
-    Greater,
-}
+/// A numeric expression (PDDL 2.1).
+pub type Expr = hd_base::Expr<Leaf>;
 
 /// A comparison of two numbers.
 #[derive(Debug, Drop)]

@@ -1,15 +1,16 @@
 //! Lists of names, or of variables, with their types.
 
 ghost use Rattle.std.specs.Prelude.{◌≡◌, ◌++◌, Some, None, [], MatchOption, IfErr, OnOk};
-ghost use Rattle.hd_forms.specs.Reading.{Gives, named};
+ghost use Rattle.hd_base.specs.Answers.{Gives};
+ghost use Rattle.hd_forms.specs.Reading.{Refuses, placed_name};
 ghost use Rattle.hd_forms.specs.View.{forms_view};
 ghost use Rattle.hd_terms.specs.Reading.{item_in, is_minus, typed_after};
 ghost use Rattle.hd_terms.specs.Typed.{with_type};
 
 use crate::tree::Typed;
-use hd_forms::{Form, NameAt, ReadError, Word, first_refusal, form_refusal, named};
+use hd_base::{Name, Sequence};
+use hd_forms::{Form, NameAt, ReadError, Word, first_refusal, form_refusal, placed_name};
 use hd_lex::Operator;
-use hd_list::{Name, Sequence};
 use std::alloc::Global;
 
 /// What a typed list lists.
@@ -54,12 +55,13 @@ fn add_group(
     names: Vec<NameAt>,
     of: &Option<NameAt>,
 ) -> Result<(), ReadError>
-    ensures found { OnOk result (found.new.items ≡ found.old.items ++ with_type of.now names.items) }
+    ensures found { OnOk result (found.new.items
+        ≡ found.old.items ++ with_type of.now names.items) }
     ensures no_memory { IfErr result (λ e. e ≡ ReadError.NoMemory) }
 {
     for name in names {
         let of = match of {
-            Some(of) => Some(named(alloc, &of.name, of.at)?),
+            Some(of) => Some(placed_name(alloc, &of.name, of.at)?),
             None => None,
         };
         found.push(Typed { name, of })?;
@@ -75,7 +77,7 @@ pub fn typed_of(
     forms: &[Form],
     end: usize,
 ) -> Result<Sequence<Typed>, ReadError>
-    ensures { Gives (λ x. x) result (typed_after kind (forms_view forms.now) [] []) }
+    ensures { Gives Refuses (λ x. x) result (typed_after kind (forms_view forms.now) [] []) }
 {
     let mut found = Vec::new(alloc);
     let mut pending = Vec::new(alloc);
@@ -86,7 +88,7 @@ pub fn typed_of(
         };
         match item_in(kind, word) {
             Some(name) => {
-                pending.push(named(alloc, name, *at)?)?;
+                pending.push(placed_name(alloc, name, *at)?)?;
                 rest = after;
             }
             None => {
@@ -103,7 +105,7 @@ pub fn typed_of(
                 else {
                     return Err(first_refusal(alloc, after, end));
                 };
-                let of = Some(named(alloc, name, *at)?);
+                let of = Some(placed_name(alloc, name, *at)?);
                 add_group(alloc, &mut found, pending, &of)?;
                 pending = Vec::new(alloc);
                 rest = behind;

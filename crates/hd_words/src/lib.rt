@@ -7,6 +7,3 @@ mod request;
 
 pub use error::WordsError;
 pub use request::{MAX_WORKERS, Request, read_words};
-
-#[cfg(test)]
-mod tests;

@@ -1,55 +1,48 @@
 -- Each plan of a legal list goes through: its steps are applicable, one after the other.
-use Rattle.std.proofs.Common.{◌≡◌, ℕ, zero, suc, ◌+◌, ◌<◌, Bool, true, false, ◌&&◌, Option, Some, List, [], ◌∷◌, ◌++◌, take, length, get_or, Contains, inl, inr, refl, sym, ap, ◌∙◌, subst, arith, option_and_then}
+use Rattle.std.proofs.Common.{◌≡◌, ℕ, zero, suc, ◌+◌, ◌<◌, true, Option, Some, List, [], ◌∷◌, ◌++◌, take, length, get_or, Contains, inl, inr, refl, sym, ap, ◌∙◌, subst, arith, option_and_then}
 use Rattle.std.specs.Prelude.{flat_map}
-use Rattle.std.proofs.lemmas.Bool.{cases_lt}
+use Rattle.std.proofs.lemmas.Bool.{cases_lt, and_from, and_parts}
 use Rattle.std.proofs.lemmas.List.{take_more, take_all}
 use Rattle.std.proofs.lemmas.List.Elements.{Contains-append_cases}
-use Rattle.hd_list.proofs.Members.{here, later, cases, among_nothing, from_map, filter_test}
+use Rattle.hd_base.proofs.Members.{Contains-first, Contains-later, Contains-cons_cases, Contains-nil, IsFrom-from_map, passes-from_filter}
 use Rattle.hd_task.specs.declared.task.Task.{Task}
 use Rattle.hd_task.specs.Effects.{numbers_below}
 use Rattle.hd_task.specs.Plans.{Node, start, step_by, exec, exec_from}
 use Rattle.hd_task.specs.Expansions.{is_applicable, applicable_at, followed_by, children, IsNext, IsLegal}
 use Rattle.hplan.specs.PlanText.{goes_from, goes_through}
 
-both : (a b : Bool) → a ≡ true → b ≡ true → (a && b) ≡ true
-both a b ea eb = rw (ea, eb) refl
-
-parts : (a b : Bool) → (a && b) ≡ true → (a ≡ true) × (b ≡ true)
-parts true b e = (refl, e)
-parts false b e = absurd (cc)
-
 -- one more applicable step
 goes-push : (t : Task) (r : Option Node) (p : List ℕ) (n : ℕ) → goes_from t r p ≡ true → is_applicable t (exec_from t r p) n ≡ true → goes_from t r (p ++ n ∷ []) ≡ true
-goes-push t r [] n through applicable = both (is_applicable t r n) true applicable refl
+goes-push t r [] n through applicable = and_from (is_applicable t r n) true applicable refl
 goes-push t r (m ∷ p) n through applicable =
     let after = option_and_then (λ (q : Node). step_by t q m) r in
-    let k = parts (is_applicable t r m) (goes_from t after p) through in
-    both (is_applicable t r m) (goes_from t after (p ++ n ∷ [])) k.0 (goes-push t after p n k.1 applicable)
+    let k = and_parts (is_applicable t r m) (goes_from t after p) through in
+    and_from (is_applicable t r m) (goes_from t after (p ++ n ∷ [])) k.0 (goes-push t after p n k.1 applicable)
 
 child_goes : (t : Task) (q p : List ℕ) → goes_through t q ≡ true → Contains (children t q) p → goes_through t p ≡ true
 unfolding applicable_at
 child_goes t q p through child =
-    let k = from_map (followed_by q) (applicable_at t (exec t q)) p child in
+    let k = IsFrom-from_map (followed_by q) (applicable_at t (exec t q)) p child in
     let applicable : is_applicable t (exec t q) k.source ≡ true =
-    filter_test (is_applicable t (exec t q)) (numbers_below (length t.actions)) k.source k.among in
+    passes-from_filter (is_applicable t (exec t q)) (numbers_below (length t.actions)) k.source k.among in
     subst (λ (x : List ℕ). goes_through t x ≡ true) k.is (goes-push t (Some (start t)) q k.source through applicable)
 
 -- what children of plans that go through are
 children_go :
     (t : Task) (expanded : List (List ℕ)) (p : List ℕ)
     → ((q : List ℕ) → Contains expanded q → goes_through t q ≡ true) → Contains (flat_map (children t) expanded) p → goes_through t p ≡ true
-children_go t [] p through child = absurd (among_nothing p child)
+children_go t [] p through child = absurd (Contains-nil p child)
 children_go t (q ∷ expanded) p through child =
     elim (Contains-append_cases (children t q) (flat_map (children t) expanded) p child) [
-      | inl c ↦ child_goes t q p (through q (here q expanded)) c
-      | inr c ↦ children_go t expanded p (λ (x : List ℕ) (k : Contains expanded x). through x (later q expanded x k)) c
+      | inl c ↦ child_goes t q p (through q (Contains-first q expanded)) c
+      | inr c ↦ children_go t expanded p (λ (x : List ℕ) (k : Contains expanded x). through x (Contains-later q expanded x k)) c
     ]
 
 next_goes :
     (t : Task) (expanded : List (List ℕ)) (p : List ℕ)
     → ((q : List ℕ) → Contains expanded q → goes_through t q ≡ true) → IsNext t expanded p → goes_through t p ≡ true
 next_goes t expanded p through next =
-    elim (cases [] (flat_map (children t) expanded) p next.generated_before) [
+    elim (Contains-cons_cases [] (flat_map (children t) expanded) p next.generated_before) [
       | inl e ↦ subst (λ (x : List ℕ). goes_through t x ≡ true) e refl
       | inr c ↦ children_go t expanded p through c
     ]
@@ -62,14 +55,14 @@ one_more t expanded m legal through within p among =
     elim (Contains-append_cases (take m expanded) (get_or expanded m [] ∷ []) p among) [
       | inl c ↦ through p c
       | inr c ↦
-          elim (cases (get_or expanded m []) [] p c) [
+          elim (Contains-cons_cases (get_or expanded m []) [] p c) [
             | inl e ↦ subst (λ (x : List ℕ). goes_through t x ≡ true) e (next_goes t (take m expanded) (get_or expanded m []) through (legal m [] within))
-            | inr c ↦ absurd (among_nothing p c)
+            | inr c ↦ absurd (Contains-nil p c)
           ]
     ]
 
 all_go : (t : Task) (expanded : List (List ℕ)) (m : ℕ) → IsLegal t expanded → (p : List ℕ) → Contains (take m expanded) p → goes_through t p ≡ true
-all_go t expanded zero legal p among = absurd (among_nothing p among)
+all_go t expanded zero legal p among = absurd (Contains-nil p among)
 all_go t expanded (suc m) legal p among =
     let next : suc m ≡ m + 1 = omega arith in
     elim (cases_lt m (length expanded)) [

@@ -21,9 +21,13 @@ line_end = 10 ∷ []
 abbrev pub object_text : List (List ℕ) → ℕ → List ℕ
 object_text objects o = codes " " ++ name_at objects o
 
+-- objects, each behind a space
+abbrev pub objects_text : List (List ℕ) → List ℕ → List ℕ
+objects_text objects numbers = flat_map (object_text objects) numbers
+
 -- a ground form: its name and its objects in parentheses, with single spaces
 abbrev pub form_text : List (List ℕ) → List (List ℕ) → GroundForm → List ℕ
-form_text symbols objects g = codes "(" ++ name_at symbols g.symbol ++ flat_map (object_text objects) g.objects ++ codes ")"
+form_text symbols objects g = codes "(" ++ name_at symbols g.symbol ++ objects_text objects g.objects ++ codes ")"
 
 -- the ground form of an action that may not be there
 abbrev pub action_of : Task → Option Action → List ℕ

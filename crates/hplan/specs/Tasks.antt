@@ -15,7 +15,7 @@ use Rattle.hd_check.specs.declared.fault.CheckError.TheVariants.{In}
 use Rattle.hd_check.specs.Whole.{IsFaultless, lifted_task, Stands}
 use Rattle.hd_lifted.specs.declared.task.LiftedTask.{LiftedTask}
 use Rattle.hd_plain.specs.Plain.{is_plain}
-use Rattle.hd_plain.specs.Answers.{IsPlainTaskOf, fits}
+use Rattle.hd_plain.specs.Answers.{IsPlainTaskOf, plain_parts_fit}
 use Rattle.hplan.specs.declared.fault.Fault.{Fault}
 use Rattle.hplan.specs.declared.fault.Fault.TheVariants.{Check, NotYet, TooMany, NoMemory}
 use Rattle.hplan.specs.Fault.{read_in}
@@ -54,4 +54,4 @@ pub data Explains (domain problem : List ℕ) : Fault → Type 0 where
   -- no fault stands in them, and they have objects, types, parameters or numbers
   Beyond : (l : LiftedTask) → IsLiftedOf domain problem l → is_plain l ≡ false → Explains domain problem NotYet
   -- they have none of these, and the parts of the task do not fit together
-  TooLarge : (l : LiftedTask) → IsLiftedOf domain problem l → is_plain l ≡ true → fits l ≡ false → Explains domain problem TooMany
+  TooLarge : (l : LiftedTask) → IsLiftedOf domain problem l → is_plain l ≡ true → plain_parts_fit l ≡ false → Explains domain problem TooMany

@@ -1,6 +1,6 @@
 //! The states that are expanded, each with the entry that has it at the least cost.
 
-use hd_list::NoMemory;
+use hd_base::NoMemory;
 use hd_task::State;
 use std::alloc::Global;
 use std::collections::HashMap;

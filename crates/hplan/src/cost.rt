@@ -1,12 +1,11 @@
 //! What a plan costs.
 ghost use Rattle.std.specs.Prelude.{◌≡◌, true, false, Some, IfOk, IfSome, MatchOption};
-ghost use Rattle.hd_task.specs.Plans.{IsStateOf, Node, exec, step_by};
+ghost use Rattle.hd_task.specs.Plans.{IsStateOf, Node, node, exec, step_by};
 ghost use Rattle.hd_task.specs.Expansions.{is_applicable};
-ghost use Rattle.hd_node.specs.Children.{node};
 ghost use Rattle.hplan.specs.PlanText.{goes_through};
 
-use hd_list::NoMemory;
-use hd_task::{ActionId, Applied, Plan, RANGE_END, State, Task, apply};
+use hd_base::NoMemory;
+use hd_task::{ActionId, Plan, Reached, State, Task, step};
 use std::alloc::Global;
 
 /// Where an action leads from a node, if it is applicable there.
@@ -24,19 +23,13 @@ fn step_from(
         × (step_by task.now (node state.now cost) action.0 ≡ Some (node n.0 n.1)))) }
     ensures of_task { IfOk result (λ next. IfSome next (λ n. IsStateOf task.now n.0)) }
 {
-    if action.0 as usize >= task.actions.len() || cost > RANGE_END {
+    if action.0 as usize >= task.actions.len() {
         return Ok(None);
     }
-    match apply(alloc, task, state, action)? {
-        Applied::No => Ok(None),
-        Applied::Departs => Ok(None),
-        Applied::Next(next, step) => {
-            if step <= u128::from(RANGE_END - cost) {
-                Ok(Some((next, cost + step as u64)))
-            } else {
-                Ok(None)
-            }
-        }
+    match step(alloc, task, state, cost, action)? {
+        Reached::No => Ok(None),
+        Reached::Departs => Ok(None),
+        Reached::Next(next, total) => Ok(Some((next, total))),
     }
 }
 

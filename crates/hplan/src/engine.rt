@@ -8,8 +8,8 @@ use crate::put::put;
 use crate::searching::run;
 use crate::tasks::task_of;
 use crate::text::{departure_text, plan_text};
+use hd_base::{NoMemory, Sequence};
 use hd_book::{Refusal, Verdict};
-use hd_list::{NoMemory, Sequence};
 use hd_task::{Plan, Task};
 use std::alloc::Global;
 use std::io::Write;
@@ -80,7 +80,8 @@ pub fn solve<W: Write>(
     out: &mut W,
 ) -> Result<Ending, Fault>
     // The text is exactly that of the plan that the search of the task answers.
-    ensures whole { IfOk result (Writes domain.now problem.now (W.contents out.old) (W.contents out.new)) }
+    ensures whole { IfOk result (Writes domain.now problem.now (W.contents out.old)
+        (W.contents out.new)) }
     ensures front { OnErr result ((W.contents out.new ≡ W.contents out.old)
         ⊎ WritesFront domain.now problem.now (W.contents out.old) (W.contents out.new)) }
 {

@@ -5,7 +5,7 @@ ghost use Rattle.hd_task.specs.declared.task.Task.{Task};
 ghost use Rattle.hd_book.specs.Holding.{IsParcelOf};
 ghost use Rattle.hplan.specs.Frontier.{IsOfTask};
 
-use hd_list::NoMemory;
+use hd_base::NoMemory;
 use hd_node::Parcel;
 use slab::Slab;
 use std::alloc::Global;
@@ -36,7 +36,8 @@ impl<'t> Frontier<'t> {
 
     /// One parcel more.
     pub fn push(&mut self, parcel: Parcel<'t>) -> Result<(), NoMemory>
-        ensures { (t : Task) → IsOfTask t self.old → parcel.entry.task.now ≡ t → OnOk result (IsOfTask t self.new) }
+        ensures { (t : Task) → IsOfTask t self.old → parcel.entry.task.now ≡ t
+            → OnOk result (IsOfTask t self.new) }
     {
         let cost = parcel.cost;
         let place = self.parcels.insert(parcel)?;
@@ -47,7 +48,8 @@ impl<'t> Frontier<'t> {
 
     /// Parcels more, in their order.
     pub fn push_all(&mut self, parcels: Vec<Parcel<'t>>) -> Result<(), NoMemory>
-        ensures { (t : Task) → IsOfTask t self.old → AllByRecursion (IsParcelOf t) parcels.entry.items → OnOk result (IsOfTask t self.new) }
+        ensures { (t : Task) → IsOfTask t self.old → AllByRecursion (IsParcelOf t) parcels.entry.items
+            → OnOk result (IsOfTask t self.new) }
     {
         for parcel in parcels {
             self.push(parcel)?;

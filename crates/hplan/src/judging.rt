@@ -3,7 +3,7 @@ ghost use Rattle.std.specs.Prelude.{◌≡◌, [], ◌∷◌, IfOk};
 ghost use Rattle.hd_book.specs.Settling.{IsOf};
 
 use crate::closed::Closed;
-use hd_list::NoMemory;
+use hd_base::NoMemory;
 use hd_node::{Batch, By, Estimate, Expansion, Outcome, Parcel};
 use std::alloc::Global;
 

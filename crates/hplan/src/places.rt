@@ -79,7 +79,8 @@ impl Shelf {
 
 /// The bytes of the first file of this name.
 fn find<'s>(files: &'s [(String, Vec<u8>)], name: &str) -> Option<&'s [u8]>
-    ensures { option_map (λ b. b.now) result ≡ file_in (map (λ f. (string_bytes f.0, f.1.items)) files.now) name.now }
+    ensures { option_map (λ b. b.now) result
+        ≡ file_in (map (λ f. (string_bytes f.0, f.1.items)) files.now) name.now }
 {
     let mut rest = files;
     while let [first, after @ ..] = rest {

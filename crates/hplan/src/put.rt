@@ -1,13 +1,14 @@
 //! Bytes to a writer.
-ghost use Rattle.std.specs.Prelude.{ℕ, ◌≤◌, length, take, OnOk};
+ghost use Rattle.std.specs.Prelude.{OnOk};
 ghost use Rattle.std.specs.Io.KnownBytes.{Appends};
+ghost use Rattle.hplan.specs.Output.{AppendsFront};
 
 use std::io::{self, Write};
 
 /// Writes bytes, whole. After an error a beginning of them has been written.
 pub fn put<W: Write>(out: &mut W, bytes: &[u8]) -> io::Result<()>
     ensures whole { OnOk result (Appends (W.contents out.old) (W.contents out.new) bytes.now) }
-    ensures front { (n : ℕ) × (n ≤ length bytes.now) × Appends (W.contents out.old) (W.contents out.new) (take n bytes.now) }
+    ensures front { AppendsFront (W.contents out.old) (W.contents out.new) bytes.now }
 {
     let mut done = 0;
     for _turn in 0..u64::MAX {

@@ -1,9 +1,9 @@
 //! The texts of plans and departures.
 ghost use Rattle.std.specs.Prelude.{◌≡◌, ◌++◌, ℕ, false, IfOk, OnOk, MatchOption, flat_map, string_bytes};
-ghost use Rattle.hplan.specs.PlanText.{name_at, object_text, form_text, action_text, action_line, plan_at, plan_text, departure_text, goes_through};
+ghost use Rattle.hplan.specs.PlanText.{name_at, object_text, objects_text, form_text, action_text, action_line, plan_at, plan_text, departure_text, goes_through};
 
 use crate::cost::cost_of;
-use hd_list::{Name, NoMemory};
+use hd_base::{Name, NoMemory};
 use hd_task::{DepartsBy, Departure, GroundForm, Plan, Task};
 use std::alloc::Global;
 
@@ -27,7 +27,7 @@ fn push_object(text: &mut Vec<u8>, objects: &[Name], object: u32) -> Result<(), 
 
 /// Objects, each behind a space, behind a text.
 fn push_objects(text: &mut Vec<u8>, objects: &[Name], numbers: &[u32]) -> Result<(), NoMemory>
-    ensures { OnOk result (text.new.items ≡ text.old.items ++ flat_map (object_text objects.now) numbers.now) }
+    ensures { OnOk result (text.new.items ≡ text.old.items ++ objects_text objects.now numbers.now) }
 {
     for number in numbers {
         push_object(text, objects, *number)?;
@@ -42,7 +42,8 @@ fn push_form(
     objects: &[Name],
     form: &GroundForm,
 ) -> Result<(), NoMemory>
-    ensures { OnOk result (text.new.items ≡ text.old.items ++ form_text symbols.now objects.now form.now) }
+    ensures { OnOk result (text.new.items
+        ≡ text.old.items ++ form_text symbols.now objects.now form.now) }
 {
     text.push(b'(')?;
     text.extend_from_slice(name_at(symbols, form.symbol).as_bytes())?;

@@ -3,9 +3,6 @@
 
 use std::process::ExitCode;
 
-#[cfg(test)]
-mod tests;
-
 fn main(rt: HostRuntime) -> ExitCode {
     ExitCode::from(hplan::start(&rt, &mut rt.stdout(), &mut rt.stderr()))
 }

@@ -1,7 +1,7 @@
 use Rattle.std.proofs.Common.{◌∙◌, cond, sym, ap, Some, None}
 use Rattle.hd_task.specs.Applying.{says_yes}
 use Rattle.hd_task.proofs.Deciding.{goal-is}
-use Rattle.hd_node.specs.Children.{node}
+use Rattle.hd_task.specs.Plans.{node}
 use Rattle.hd_book.proofs.settling.goal_cost.Goals as goal
 
 pub returns-in-Yes : goal.returns-in-Yes

@@ -6,8 +6,8 @@ use Rattle.hd_check.proofs.terms.arguments_of.Given as goal
 abbrev pub invariant-loop-rest : goal.invariant-loop-rest
 invariant-loop-rest l = record {
   long : length l.rest ≡ length l.types;
-  fault : arguments_fault l.scope l.parameters l.rest l.types ≡ arguments_fault l.scope l.parameters l.terms l.wanted;
-  so_far : l.arguments.items ++ map (lifted_term l.scope l.parameters) l.rest ≡ map (lifted_term l.scope l.parameters) l.terms;
+  fault : arguments_fault l.context.scope.now l.context.parameters.now l.rest l.types ≡ arguments_fault l.context.scope.now l.context.parameters.now l.terms l.wanted;
+  so_far : l.arguments.items ++ map (lifted_term l.context.scope.now l.context.parameters.now) l.rest ≡ map (lifted_term l.context.scope.now l.context.parameters.now) l.terms;
 }
 
 abbrev pub decreases-loop-rest : goal.decreases-loop-rest

@@ -1,4 +1,4 @@
-use Rattle.hd_node.specs.Children.{node}
+use Rattle.hd_task.specs.Plans.{node}
 use Rattle.hd_node.proofs.Steps.{children-actions, children_step, step_in_range}
 use Rattle.hd_node.proofs.laws.children_are_the_steps.Goals as goal
 

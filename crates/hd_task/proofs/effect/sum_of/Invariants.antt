@@ -1,5 +1,6 @@
-use Rattle.std.proofs.Common.{◌≡◌, true, take, fold, pos, neg_ℤ, ◌≤ℤ◌, ◌+◌, ◌*◌}
+use Rattle.std.proofs.Common.{◌≡◌, true, take, fold, pos, neg_ℤ, ◌≤ℤ◌, ◌+◌, ◌*◌, ◌^◌}
 use Rattle.std.specs.List.{list_all}
+use Rattle.hd_base.specs.declared.range.TheConstants.{RANGE_END}
 use Rattle.hd_task.specs.Effects.{term_stays, with_term}
 use Rattle.hd_task.proofs.effect.sum_of.Given as goal
 
@@ -8,6 +9,6 @@ abbrev pub invariant-loop-term : goal.invariant-loop-term
 invariant-loop-term l = record {
   stay : list_all (term_stays l.fluents) (take l.term-index l.terms) ≡ true;
   sum : l.sum ≡ fold (with_term l.fluents) l.first (take l.term-index l.terms);
-  low : neg_ℤ (pos (9223372036854775808 + 1000000000000000 * l.term-index)) ≤ℤ l.sum;
-  high : l.sum ≤ℤ pos (9223372036854775808 + 1000000000000000 * l.term-index);
+  low : neg_ℤ (pos (2 ^ 63 + RANGE_END * l.term-index)) ≤ℤ l.sum;
+  high : l.sum ≤ℤ pos (2 ^ 63 + RANGE_END * l.term-index);
 }

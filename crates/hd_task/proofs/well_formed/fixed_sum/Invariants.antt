@@ -1,4 +1,4 @@
-use Rattle.std.proofs.Common.{◌≡◌, true, take, pos, neg_ℤ, ◌≤ℤ◌, ◌*◌}
+use Rattle.std.proofs.Common.{◌≡◌, true, take, pos, neg_ℤ, ◌≤ℤ◌, ◌*◌, ◌^◌}
 use Rattle.std.specs.List.{list_all}
 use Rattle.hd_task.specs.WellFormed.{is_number, fixed_sum}
 use Rattle.hd_task.proofs.well_formed.fixed_sum.Given as goal
@@ -8,6 +8,6 @@ abbrev pub invariant-loop-cost : goal.invariant-loop-cost
 invariant-loop-cost l = record {
   numbers : list_all is_number (take l.cost-index l.costs) ≡ true;
   sum : l.sum ≡ fixed_sum (take l.cost-index l.costs);
-  low : neg_ℤ (pos (9223372036854775808 * l.cost-index)) ≤ℤ l.sum;
-  high : l.sum ≤ℤ pos (9223372036854775808 * l.cost-index);
+  low : neg_ℤ (pos (2 ^ 63 * l.cost-index)) ≤ℤ l.sum;
+  high : l.sum ≤ℤ pos (2 ^ 63 * l.cost-index);
 }

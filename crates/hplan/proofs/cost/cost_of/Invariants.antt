@@ -1,6 +1,5 @@
 use Rattle.std.proofs.Common.{◌≡◌, Some, map, length}
-use Rattle.hd_task.specs.Plans.{IsStateOf, exec_from, exec}
-use Rattle.hd_node.specs.Children.{node}
+use Rattle.hd_task.specs.Plans.{IsStateOf, node, exec_from, exec}
 use Rattle.hplan.specs.PlanText.{goes_from, goes_through}
 use Rattle.hplan.proofs.cost.cost_of.Given as goal
 

@@ -7,7 +7,7 @@ pub returns-in-Ok-clause-found : goal.returns-in-Ok-clause-found
 returns-in-Ok-clause-found c =
     let told : Answers c.in_ok-checked.checked (Ok c.in-Ok.task) =
     subst (λ l. Answers l (Ok c.in-Ok.task)) c.task.ensures.task c.in-Ok.ensures in
-    record { lifted = c.in_ok-checked.checked; says = c.in_ok-checked.ensures.found; plain = told.0; parts = told.2 }
+    record { lifted = c.in_ok-checked.checked; says = c.in_ok-checked.ensures.found; plain = told.0; parts = told.1.1 }
 
 pub returns-clause-refusal : goal.returns-clause-refusal
 returns-clause-refusal c =

@@ -1,23 +1,19 @@
-use Rattle.std.proofs.Common.{◌≡◌, ◌∙◌, List, [], ◌∷◌, slice_get, None, refl, sym, subst}
-use Rattle.std.proofs.lemmas.Option.{none-some}
+use Rattle.std.proofs.Common.{◌∙◌, sym, subst}
+use Rattle.hd_base.proofs.Lists.{nil_from_slice_get}
 use Rattle.hd_task.specs.Expansions.{departures_of}
 use Rattle.hd_book.specs.Settling.{expansions}
 use Rattle.hd_book.specs.Holding.{state_of}
 use Rattle.hd_book.specs.Answers.{IsBoundPlanOf}
 use Rattle.hd_book.proofs.content.Content.answer.Goals as goal
 
-none_first : {X : Type 0} (xs : List X) → slice_get xs 0 ≡ None → xs ≡ []
-none_first [] e = refl
-none_first (x ∷ xs) e = absurd (none-some x (sym e))
-
 pub returns-in-None-Some : goal.returns-in-None-Some
 returns-in-None-Some c =
     let s = c.args.self.now in
     let E = expansions (state_of s) in
-    (none_first (departures_of s.task.now E) (sym c.requires.held.departure_is ∙ c.in-None-Some.is-0), subst (IsBoundPlanOf s.task.now E) c.in-None-Some.is-1 c.in_ok-plan.ensures)
+    (nil_from_slice_get (departures_of s.task.now E) (sym c.requires.held.departure_is ∙ c.in-None-Some.is-0), subst (IsBoundPlanOf s.task.now E) c.in-None-Some.is-1 c.in_ok-plan.ensures)
 
 pub returns-in-None-None : goal.returns-in-None-None
 returns-in-None-None c =
     let s = c.args.self.now in
     let E = expansions (state_of s) in
-    (none_first (departures_of s.task.now E) (sym c.requires.held.departure_is ∙ c.in-None-None.is-0), subst (IsBoundPlanOf s.task.now E) c.in-None-None.is-1 c.in_ok-plan.ensures)
+    (nil_from_slice_get (departures_of s.task.now E) (sym c.requires.held.departure_is ∙ c.in-None-None.is-0), subst (IsBoundPlanOf s.task.now E) c.in-None-None.is-1 c.in_ok-plan.ensures)

@@ -1,7 +1,7 @@
 use Rattle.std.proofs.Common.{◌<◌, ◌≤◌, ◌∙◌, sym, ap, refl, subst, length, get_or, Some}
 use Rattle.std.proofs.lemmas.Bool.{ltb-true, ltb-false}
 use Rattle.std.proofs.lemmas.Option.{slice_get_past, slice_get_read}
-use Rattle.hd_node.specs.Children.{node}
+use Rattle.hd_task.specs.Plans.{node}
 use Rattle.hd_book.specs.Settling.{node_by, dominates, expanded_node}
 use Rattle.hd_book.specs.Holding.{state_of}
 use Rattle.hd_book.proofs.Held.{entry_node, no_entry}

@@ -1,10 +1,11 @@
 use Rattle.std.proofs.Common.{◌≡◌, ◌++◌, ◌∙◌, [], ◌∷◌, map, get_or, reverse, sym, ap, append_assoc, arith}
 use Rattle.std.proofs.lemmas.List.{get_or_default, map-append, reverse-append}
+use Rattle.hd_base.proofs.Lists.{map-reverse}
 use Rattle.hd_task.specs.declared.action.ActionId.{ActionId}
 use Rattle.hd_book.specs.declared.entry.Entry.{Entry}
 use Rattle.hd_book.specs.Settling.{expansions}
 use Rattle.hd_book.specs.Holding.{state_of}
-use Rattle.hd_book.proofs.Walking.{root_plan, entry_plan, map-reverse}
+use Rattle.hd_book.proofs.Walking.{root_plan, entry_plan}
 use Rattle.hd_book.proofs.content.Content.plan_to.Goals as goal
 
 pub loop-kid-smaller : goal.loop-kid-smaller

@@ -2,7 +2,8 @@ use Rattle.std.proofs.Common.{◌≡◌, ◌∙◌, sym, ap, refl, Option, Some,
 use Rattle.std.specs.Prelude.{IfSome}
 use Rattle.std.proofs.lemmas.Result.{IfOk-weaker}
 use Rattle.hd_node.specs.declared.expansion.Child.{Child}
-use Rattle.hd_node.specs.Children.{node, child_at}
+use Rattle.hd_task.specs.Plans.{node}
+use Rattle.hd_node.specs.Children.{child_at}
 use Rattle.hd_book.specs.Settling.{is_posted, node_of}
 use Rattle.hd_book.specs.Holding.{node_at, state_of}
 use Rattle.hd_book.proofs.Held.{root_kid, entry_kid, root_posted, root_leads, entry_state, entry_posted, entry_leads}

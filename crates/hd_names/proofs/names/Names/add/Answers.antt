@@ -1,5 +1,5 @@
 use Rattle.std.proofs.Common.{◌≡◌, ◌∙◌, ap, map, false, sym, string_bytes, refl}
-use Rattle.hd_names.specs.Names.{is_named}
+use Rattle.hd_base.specs.Names.{is_named}
 use Rattle.hd_names.proofs.NameLists.{any-texts, names-insert, with_name-there}
 use Rattle.hd_names.proofs.names.Names.add.Goals as goal
 

@@ -1,0 +1,25 @@
+//! Tests of the libraries that check texts: hd_base, hd_lifted, hd_names, hd_metric, hd_check and hd_plain.
+#![tactic(auto)]
+
+#[cfg(test)]
+mod checking;
+#[cfg(test)]
+mod hierarchy;
+#[cfg(test)]
+mod lifted;
+#[cfg(test)]
+mod lists;
+#[cfg(test)]
+mod metric;
+#[cfg(test)]
+mod names;
+#[cfg(test)]
+mod numbers;
+#[cfg(test)]
+mod plain;
+#[cfg(test)]
+mod rendering;
+#[cfg(test)]
+mod texts;
+#[cfg(test)]
+mod told;

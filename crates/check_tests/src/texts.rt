@@ -1,0 +1,32 @@
+//! Names and trees from texts, for the tests.
+
+use hd_base::Name;
+use hd_check::{CheckError, Checked, check};
+use hd_pddl::{DomainAst, ProblemAst, ReadError, read_domain, read_problem};
+use std::alloc::{AllocError, Global};
+
+/// The name with this text.
+pub fn name(alloc: Global, text: &str) -> Result<Name, AllocError> {
+    Ok(Name::from_string(String::from_str(alloc, text)?))
+}
+
+/// What a domain's text and a problem's say.
+pub fn trees(
+    alloc: Global,
+    domain: &str,
+    problem: &str,
+) -> Result<(DomainAst, ProblemAst), ReadError> {
+    let domain = read_domain(alloc, domain.as_bytes())?;
+    let problem = read_problem(alloc, problem.as_bytes())?;
+    Ok((domain, problem))
+}
+
+/// The answer of the check of both texts, which can be read.
+pub fn checked(
+    alloc: Global,
+    domain: &str,
+    problem: &str,
+) -> Result<Result<Checked, CheckError>, ReadError> {
+    let (domain, problem) = trees(alloc, domain, problem)?;
+    Ok(check(alloc, domain, problem))
+}

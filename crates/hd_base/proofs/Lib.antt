@@ -1,0 +1,7 @@
+pub mod Distinct
+pub mod Lists
+pub mod Members
+pub mod Numbers
+pub mod Options
+pub mod Tests
+pub mod Truth

@@ -1,0 +1,11 @@
+pub mod Names
+pub mod Options
+pub mod Results
+pub mod Answers
+pub mod Numbers
+pub mod Expression
+pub mod Values
+pub mod Code
+pub mod Node
+pub mod ExprParts
+pub mod Depth

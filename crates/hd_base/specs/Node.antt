@@ -1,0 +1,9 @@
+-- What the node of an expression says. (Our own.)
+use Rattle.hd_base.specs.Expression.{Expression, leaf, negate, binary}
+use Rattle.hd_base.specs.declared.expression.Node.{Node}
+use Rattle.hd_base.specs.declared.expression.Node.TheVariants.{Leaf, Negate, Binary}
+
+abbrev pub expression_of : {L : Type 0} → Node L → Expression L
+expression_of (Leaf l) = leaf l
+expression_of (Negate x) = negate x.value
+expression_of (Binary o x y) = binary o x.value y.value

@@ -1,0 +1,13 @@
+//! Command lines.
+
+use std::alloc::{AllocError, Global};
+
+/// The words of a command line, of which the first is the program's name.
+pub fn line_of(alloc: Global, words: &[&str]) -> Result<Vec<String>, AllocError> {
+    let mut line = Vec::new(alloc);
+    line.push(String::from_str(alloc, "hplan")?)?;
+    for word in words {
+        line.push(String::from_str(alloc, word)?)?;
+    }
+    Ok(line)
+}

@@ -1,0 +1,19 @@
+//! Tests of the libraries that searches stand on: hd_task, hd_node and hd_book.
+#![tactic(auto)]
+
+#[cfg(test)]
+mod applying;
+#[cfg(test)]
+mod books;
+#[cfg(test)]
+mod expansions;
+#[cfg(test)]
+mod expressions;
+#[cfg(test)]
+mod outcomes;
+#[cfg(test)]
+mod stepping;
+#[cfg(test)]
+mod steps;
+#[cfg(test)]
+mod tasks;
