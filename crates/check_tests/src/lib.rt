@@ -20,6 +20,8 @@ mod plain;
 #[cfg(test)]
 mod rendering;
 #[cfg(test)]
+mod seeds;
+#[cfg(test)]
 mod texts;
 #[cfg(test)]
 mod told;

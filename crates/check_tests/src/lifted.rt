@@ -8,22 +8,26 @@ fn tuple(alloc: Global, numbers: &[usize]) -> Result<Tuple<usize>, Fail> {
     Ok(Tuple::from_small_vec(SmallVec::from_slice(alloc, numbers)?))
 }
 
-#[test]
-fn a_tuple_is_the_items_of_its_small_vec(rt: HostRuntime) -> Result<(), Fail> {
-    let short = tuple(rt.alloc(), &[3, 1, 2])?;
-    assert_eq!(rt; short.as_slice(), [3, 1, 2].as_slice());
-    assert_eq!(rt; short.len(), 3);
-    assert!(rt; !short.is_empty());
-    let nothing = tuple(rt.alloc(), &[])?;
-    assert!(rt; nothing.is_empty() && short != nothing);
-    Ok(())
+/// Whether a tuple has exactly these items.
+fn is_tuple_of(tuple: &Tuple<usize>, numbers: &[usize]) -> bool {
+    tuple.as_slice() == numbers
+        && tuple.len() == numbers.len()
+        && tuple.is_empty() == numbers.is_empty()
+}
+
+/// Whether the tuple of these numbers has exactly these items.
+fn has_items(alloc: Global, numbers: &[usize]) -> Result<bool, Fail> {
+    let tuple = tuple(alloc, numbers)?;
+    let has = is_tuple_of(&tuple, numbers);
+    drop(tuple);
+    Ok(has)
 }
 
 #[test]
-fn a_long_tuple_has_all_its_items(rt: HostRuntime) -> Result<(), Fail> {
-    let long = tuple(rt.alloc(), &[6, 5, 4, 3, 2, 1])?;
-    assert_eq!(rt; long.as_slice(), [6, 5, 4, 3, 2, 1].as_slice());
-    assert!(rt; long == tuple(rt.alloc(), &[6, 5, 4, 3, 2, 1])?);
+fn a_tuple_is_the_items_of_its_small_vec(rt: HostRuntime) -> Result<(), Fail> {
+    assert!(rt; has_items(rt.alloc(), &[3, 1, 2])?);
+    assert!(rt; has_items(rt.alloc(), &[])?);
+    assert!(rt; has_items(rt.alloc(), &[6, 5, 4, 3, 2, 1])?);
     Ok(())
 }
 
@@ -34,11 +38,37 @@ fn atom(alloc: Global, objects: &[usize]) -> Result<Ground, Fail> {
     })
 }
 
+/// Whether the ground forms with these objects are the same, and their tuples of objects are.
+fn are_same(alloc: Global, left: &[usize], right: &[usize]) -> Result<(bool, bool), Fail> {
+    let left = atom(alloc, left)?;
+    match atom(alloc, right) {
+        Ok(right) => {
+            let same = (left == right, left.objects == right.objects);
+            drop(left);
+            drop(right);
+            Ok(same)
+        }
+        Err(fail) => {
+            drop(left);
+            Err(fail)
+        }
+    }
+}
+
 #[test]
-fn ground_forms_are_compared_with_their_objects(rt: HostRuntime) -> Result<(), Fail> {
-    let first = atom(rt.alloc(), &[1, 2])?;
-    assert!(rt; first == atom(rt.alloc(), &[1, 2])?);
-    assert!(rt; first != atom(rt.alloc(), &[2, 1])?);
+fn tuples_and_ground_forms_are_compared_by_items(rt: HostRuntime) -> Result<(), Fail> {
+    for (left, right, same) in [
+        ([1, 2].as_slice(), [1, 2].as_slice(), true),
+        ([1, 2].as_slice(), [2, 1].as_slice(), false),
+        ([3, 1, 2].as_slice(), [].as_slice(), false),
+        (
+            [6, 5, 4, 3, 2, 1].as_slice(),
+            [6, 5, 4, 3, 2, 1].as_slice(),
+            true,
+        ),
+    ] {
+        assert_eq!(rt; are_same(rt.alloc(), left, right)?, (same, same));
+    }
     Ok(())
 }
 
@@ -98,20 +128,33 @@ fn the_parts_of_a_fluent(rt: HostRuntime) -> Result<(), Fail> {
     Ok(())
 }
 
+/// A fluent less a negated seven.
+fn difference(alloc: Global) -> Result<Expr, Fail> {
+    let left = fluent(alloc)?;
+    match negated_seven(alloc) {
+        Ok(right) => Ok(Expr::binary(alloc, Operation::Subtract, left, right)?),
+        Err(fail) => {
+            drop(left);
+            Err(fail)
+        }
+    }
+}
+
+/// Whether an expression is that difference.
+fn is_difference(expr: &Expr) -> bool {
+    match expr.parts() {
+        ExprParts::Binary(Operation::Subtract, left, right) => {
+            fluent_of(left).is_some() && operand_of(right).and_then(number_of) == Some(7)
+        }
+        _ => false,
+    }
+}
+
 #[test]
 fn the_parts_of_a_difference(rt: HostRuntime) -> Result<(), Fail> {
-    let left = fluent(rt.alloc())?;
-    let expr = Expr::binary(
-        rt.alloc(),
-        Operation::Subtract,
-        left,
-        negated_seven(rt.alloc())?,
-    )?;
-    let ExprParts::Binary(operation, left, right) = expr.parts() else {
-        return Err(Fail::new("no operation"));
-    };
-    assert_eq!(rt; operation, Operation::Subtract);
-    assert!(rt; fluent_of(left).is_some());
-    assert_eq!(rt; operand_of(right).and_then(number_of), Some(7));
+    let expr = difference(rt.alloc())?;
+    let is = is_difference(&expr);
+    drop(expr);
+    assert!(rt; is);
     Ok(())
 }

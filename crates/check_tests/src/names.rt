@@ -1,5 +1,5 @@
 //! Names by number, types and scopes of a small domain, worked out by hand.
-use crate::texts::{name, trees};
+use crate::texts::{name, seed, trees};
 use hd_base::Name;
 use hd_forms::NameAt;
 use hd_names::{
@@ -21,7 +21,7 @@ fn name_at(alloc: Global, text: &str) -> Result<NameAt, AllocError> {
 
 /// The names `a` and `b`.
 fn two_names(alloc: Global) -> Result<Names, AllocError> {
-    let mut names = Names::none(alloc);
+    let mut names = Names::none(alloc, seed());
     for text in ["a", "b", "a"] {
         names.add(alloc, &name(alloc, text)?)?;
     }
@@ -70,17 +70,52 @@ fn missing(stop: &Stop) -> Option<(&str, usize)> {
     }
 }
 
+/// Whether a repeated name is told so, once a variable's and once a declared one.
+fn is_told_as_repeated(alloc: Global, names: &mut Names, second: &NameAt) -> bool {
+    let stop = duplicate(alloc, ItemKind::Variable, second);
+    let told = repeated(&stop) == Some(("?b", 7));
+    drop(stop);
+    match declare(alloc, ItemKind::Name, names, second) {
+        Ok(()) => false,
+        Err(stop) => {
+            let again = repeated(&stop) == Some(("b", 7));
+            drop(stop);
+            told && again
+        }
+    }
+}
+
+/// Whether a name is told as one that is not declared.
+fn is_told_as_missing(alloc: Global, names: &Names, third: &NameAt) -> bool {
+    match known(alloc, ItemKind::Variable, names, third) {
+        Ok(_) => false,
+        Err(stop) => {
+            let told = missing(&stop) == Some(("?c", 7));
+            drop(stop);
+            told
+        }
+    }
+}
+
+/// Whether a name is not declared until it is, and has the number 2 then.
+fn becomes_known(alloc: Global, names: &mut Names, third: &NameAt) -> bool {
+    is_told_as_missing(alloc, names, third)
+        && declare(alloc, ItemKind::Name, names, third).is_ok()
+        && known(alloc, ItemKind::Name, names, third).ok() == Some(2)
+}
+
 #[test]
 fn a_second_name_is_refused(rt: HostRuntime) -> Result<(), Fail> {
     let alloc = rt.alloc();
     let mut names = two_names(alloc)?;
-    let second = name_at(alloc, "b")?;
-    let stop = duplicate(alloc, ItemKind::Variable, &second);
-    assert_eq!(rt; repeated(&stop), Some(("?b", 7)));
-    match declare(alloc, ItemKind::Name, &mut names, &second) {
-        Ok(()) => assert!(rt; false),
-        Err(stop) => assert_eq!(rt; repeated(&stop), Some(("b", 7))),
+    if let Ok(second) = name_at(alloc, "b") {
+        let refused = is_told_as_repeated(alloc, &mut names, &second);
+        drop(second);
+        assert!(rt; refused);
+    } else {
+        assert!(rt; false);
     }
+    drop(names);
     Ok(())
 }
 
@@ -88,13 +123,14 @@ fn a_second_name_is_refused(rt: HostRuntime) -> Result<(), Fail> {
 fn a_name_that_is_not_declared_is_refused(rt: HostRuntime) -> Result<(), Fail> {
     let alloc = rt.alloc();
     let mut names = two_names(alloc)?;
-    let third = name_at(alloc, "c")?;
-    match known(alloc, ItemKind::Variable, &names, &third) {
-        Ok(_) => assert!(rt; false),
-        Err(stop) => assert_eq!(rt; missing(&stop), Some(("?c", 7))),
+    if let Ok(third) = name_at(alloc, "c") {
+        let known = becomes_known(alloc, &mut names, &third);
+        drop(third);
+        assert!(rt; known);
+    } else {
+        assert!(rt; false);
     }
-    assert!(rt; declare(alloc, ItemKind::Name, &mut names, &third).is_ok());
-    assert_eq!(rt; known(alloc, ItemKind::Name, &names, &third).ok(), Some(2));
+    drop(names);
     Ok(())
 }
 
@@ -106,7 +142,7 @@ const PROBLEM: &str = "(define (problem q) (:domain d) (:objects l - b) (:init) 
 
 /// The scope of a domain, and of a problem's objects.
 fn scope(alloc: Global, domain: &DomainAst, problem: &ProblemAst) -> Result<Scope, Stop> {
-    let types = types_of(alloc, domain.types.as_slice())?;
+    let types = types_of(alloc, seed(), domain.types.as_slice())?;
     let hierarchy = hierarchy_of(alloc, &types, domain.types.as_slice())?;
     let scope = scope_of(alloc, types, hierarchy, domain, &problem.metric)?;
     with_objects(alloc, scope, problem.objects.as_slice())
@@ -115,7 +151,10 @@ fn scope(alloc: Global, domain: &DomainAst, problem: &ProblemAst) -> Result<Scop
 /// The scope of the two texts.
 fn whole_scope(alloc: Global) -> Option<Scope> {
     let (domain, problem) = trees(alloc, DOMAIN, PROBLEM).ok()?;
-    scope(alloc, &domain, &problem).ok()
+    let scope = scope(alloc, &domain, &problem).ok();
+    drop(domain);
+    drop(problem);
+    scope
 }
 
 /// Whether the types are `object`, `b` and `a`, of which `b` is below `a`, and `a` below `object`.
@@ -169,13 +208,15 @@ fn numbers_agree(alloc: Global, types: &Names, constants: &[Typed]) -> Result<bo
 }
 
 fn constants_have_types(alloc: Global, domain: &DomainAst) -> Result<bool, Stop> {
-    let types = types_of(alloc, domain.types.as_slice())?;
+    let types = types_of(alloc, seed(), domain.types.as_slice())?;
     numbers_agree(alloc, &types, domain.constants.as_slice())
 }
 
 #[test]
 fn constants_have_the_numbers_of_their_types(rt: HostRuntime) -> Result<(), Fail> {
     let domain = read_domain(rt.alloc(), DOMAIN.as_bytes())?;
-    assert_eq!(rt; constants_have_types(rt.alloc(), &domain).ok(), Some(true));
+    let answer = constants_have_types(rt.alloc(), &domain);
+    drop(domain);
+    assert_eq!(rt; answer.ok(), Some(true));
     Ok(())
 }

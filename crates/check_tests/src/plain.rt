@@ -10,7 +10,10 @@ use std::test::Fail;
 /// What a lifted task is: `"plain"`, or why it is not searched.
 fn kind_of(alloc: Global, checked: &Checked) -> &'static str {
     match plain_task(alloc, checked.task()) {
-        Ok(_) => "plain",
+        Ok(task) => {
+            drop(task);
+            "plain"
+        }
         Err(PlainError::NotYet) => "more",
         Err(PlainError::TooLarge) => "large",
         Err(PlainError::NoMemory) => "no memory",
@@ -20,7 +23,11 @@ fn kind_of(alloc: Global, checked: &Checked) -> &'static str {
 /// What the task of two texts is, or `"unread"` where a fault stands in them.
 fn kind(alloc: Global, domain: &str, problem: &str) -> Result<&'static str, Fail> {
     match checked(alloc, domain, problem)? {
-        Ok(checked) => Ok(kind_of(alloc, &checked)),
+        Ok(checked) => {
+            let kind = kind_of(alloc, &checked);
+            drop(checked);
+            Ok(kind)
+        }
         Err(_) => Ok("unread"),
     }
 }
@@ -99,7 +106,9 @@ const START_AND_GOAL: &str =
 /// The task of the two texts above.
 fn task(alloc: Global) -> Option<Task> {
     let checked = checked(alloc, DOMAIN, START_AND_GOAL).ok()?.ok()?;
-    plain_task(alloc, checked.task()).ok()
+    let task = plain_task(alloc, checked.task()).ok();
+    drop(checked);
+    task
 }
 
 fn literal(atom: u32, positive: bool) -> Literal {

@@ -19,7 +19,9 @@ fn answer_text(alloc: Global, answer: &Result<Checked, CheckError>) -> Result<St
 fn told(alloc: Global, line: &str) -> Result<String, Fail> {
     let (domain, problem) = line.split_once("| ").ok_or("a bar")?;
     let answer = checked(alloc, domain, problem)?;
-    Ok(answer_text(alloc, &answer)?)
+    let text = answer_text(alloc, &answer);
+    drop(answer);
+    Ok(text?)
 }
 
 /// What is told of the line that has this text between the two others.
@@ -62,7 +64,8 @@ pub fn stands_for(
     rendered: &str,
 ) -> Result<(), Fail> {
     let answer = checked(alloc, domain, problem)?;
-    let text = checked_text(alloc, &answer)?;
-    assert_eq!(rt; text.as_str(), rendered);
+    let text = checked_text(alloc, &answer);
+    drop(answer);
+    assert_eq!(rt; text?.as_str(), rendered);
     Ok(())
 }

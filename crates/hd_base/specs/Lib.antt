@@ -9,3 +9,4 @@ pub mod Code
 pub mod Node
 pub mod ExprParts
 pub mod Depth
+pub mod Seed

@@ -10,6 +10,7 @@ mod name;
 mod operation;
 mod range;
 mod relation;
+mod seed;
 mod sequence;
 mod tuple;
 
@@ -18,6 +19,7 @@ pub use name::Name;
 pub use operation::Operation;
 pub use range::{RANGE_END, if_in_range, in_range, total_cost};
 pub use relation::Relation;
+pub use seed::Seed;
 pub use sequence::Sequence;
 pub use tuple::Tuple;
 

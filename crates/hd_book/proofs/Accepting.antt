@@ -21,15 +21,15 @@ use Rattle.hd_base.proofs.Truth.{or-false}
 use Rattle.hd_task.specs.declared.state.State.{State}
 use Rattle.hd_task.specs.declared.task.Task.{Task}
 use Rattle.hd_task.specs.declared.plan.Kid.{Kid}
-use Rattle.hd_task.specs.declared.plan.TheConstants.{ROOT}
+use Rattle.hd_task.specs.declared.plan.TheConstants.{ROOT_PARENT}
 use Rattle.hd_task.specs.Plans.{Node, exec, node}
 use Rattle.hd_task.specs.Expansions.{followed_by, applicable_at, children, generated, bound_of}
 use Rattle.hd_task.specs.Entries.{plan_of, plans_of}
 use Rattle.hd_task.specs.Covers.{zero_estimate, Reaches, IsJustified}
 use Rattle.hd_task.proofs.Growing.{bound_grows}
-use Rattle.hd_node.specs.declared.expansion.Child.{Child}
-use Rattle.hd_node.specs.declared.expansion.Expansion.{Expansion}
-use Rattle.hd_node.specs.declared.estimate.Estimate.{Estimate}
+use Rattle.hd_node.specs.Children.{ChildView}
+use Rattle.hd_node.specs.Expansion.{ExpansionView}
+use Rattle.hd_node.specs.Estimate.{EstimateView}
 use Rattle.hd_node.specs.declared.batch.By.{By}
 use Rattle.hd_node.specs.declared.batch.By.TheVariants.{Entry, Here}
 use Rattle.hd_node.specs.declared.batch.Outcome.{Outcome}
@@ -104,7 +104,7 @@ stands b kept k e =
     let E = expansions b in
     let j = place_of b k in
     let posted = posted_by t E in
-    let short : length E < ROOT = omega (arith, count-entries b kept, kept.short) in
+    let short : length E < ROOT_PARENT = omega (arith, count-entries b kept, kept.short) in
     let lt : j < length posted = ltb-true j (length posted) e in
     let lt' : j < length (generated t E) = omega (arith, posted_count t E short) in
     let is_k : k ≡ get_or posted j root = same_kid-true k (get_or posted j root) (passes_at_first (same_kid k) posted root lt) in
@@ -243,7 +243,7 @@ module _ (t : Task) (entries0 : List Kid) (marks0 : List Bool) (kept0 : IsKept (
   -- two places of the old kids have different ones
   posted_apart : (i j : ℕ) → i < length (generated t old) → j < length (generated t old) → get_or (posted_by t old) i root ≡ get_or (posted_by t old) j root → i ≢ j → ⊥
   posted_apart i j hi hj e ne =
-      let short : length old < ROOT = omega (arith, count-entries before kept0, kept0.short) in
+      let short : length old < ROOT_PARENT = omega (arith, count-entries before kept0, kept0.short) in
       let count : length (posted_by t old) ≡ length (generated t old) = posted_count t old short in
       let at : (n : ℕ) → n < length (generated t old) → plan_of old (get_or (posted_by t old) n root) ≡ Some (get_or (generated t old) n []) = λ n lt.
       sym (get_or-map (plan_of old) (posted_by t old) n root None (omega (arith, count)))
@@ -431,7 +431,7 @@ module _ (t : Task) (entries0 : List Kid) (marks0 : List Bool) (kept0 : IsKept (
     plan_by (Here i) r e = let q = f.nodes i r e in record { plan = q.0; among = q.1; executes = q.2 }
 
     -- the cost reaches the bound
-    bounded : (h : Estimate) → reaches (bound_of t old) (node_of before k) (estimated h.value) ≡ true → IsJustified t zero_estimate E p
+    bounded : (h : EstimateView) → reaches (bound_of t old) (node_of before k) (estimated h.value) ≡ true → IsJustified t zero_estimate E p
     bounded h e =
         let zero_value : estimated h.value ≡ Some 0 = h.estimates in
         let d = reaches-true (bound_of t old) (node_of before k) 0 (ap (reaches (bound_of t old) (node_of before k)) (sym zero_value) ∙ e) in
@@ -444,7 +444,7 @@ module _ (t : Task) (entries0 : List Kid) (marks0 : List Bool) (kept0 : IsKept (
 
     -- ---- the kid is expanded
 
-    module _ (e : Expansion) (own : e.task.now ≡ t) (is_k : e.kid ≡ k) (right : is_node (node_of before k) e.state e.cost ≡ true) (room : length entries + 1 < ROOT) (unmarked : is_marked before k ≡ false) (other : is_settled_by earlier k ≡ false) where
+    module _ (e : ExpansionView) (own : e.task ≡ t) (is_k : e.kid ≡ k) (right : is_node (node_of before k) e.state e.cost ≡ true) (room : length entries + 1 < ROOT_PARENT) (unmarked : is_marked before k ≡ false) (other : is_settled_by earlier k ≡ false) where
       abbrev o : Outcome
       o = Expanded e
 
@@ -456,7 +456,7 @@ module _ (t : Task) (entries0 : List Kid) (marks0 : List Bool) (kept0 : IsKept (
           length-map (applicable_at t (exec t p)) (followed_by p)
           ∙ (ap (λ r. length (applicable_at t r)) executes_p
           ∙ (ap length (sym (children-actions t (node e.state e.cost)))
-          ∙ (length-map (children_at t (node e.state e.cost)) (λ (c : Child). c.action)
+          ∙ (length-map (children_at t (node e.state e.cost)) (λ (c : ChildView). c.action)
           ∙ ap length (ap (λ (u : Task). children_at u (node e.state e.cost)) (sym own) ∙ sym e.all_children))))
 
       abbrev after : BookState
@@ -552,7 +552,7 @@ module _ (t : Task) (entries0 : List Kid) (marks0 : List Bool) (kept0 : IsKept (
 
   -- an outcome that is not refused
   one_follows :
-      (earlier : List Outcome) (o : Outcome) (entries : List Kid) (marks : List Bool) → Follows earlier entries marks → refusal_of before earlier o ≡ None → IsOf t o → length (settled (record { task = t; entries = entries; marks = marks }) o).entries < ROOT
+      (earlier : List Outcome) (o : Outcome) (entries : List Kid) (marks : List Bool) → Follows earlier entries marks → refusal_of before earlier o ≡ None → IsOf t o → length (settled (record { task = t; entries = entries; marks = marks }) o).entries < ROOT_PARENT
       → Follows (earlier ++ o ∷ []) (settled (record { task = t; entries = entries; marks = marks }) o).entries (settled (record { task = t; entries = entries; marks = marks }) o).marks
   one_follows earlier (Expanded e) entries marks f free own room =
       let a = accepted (knows_parent before e.kid) (is_posted before e.kid) (is_marked before e.kid || is_settled_by earlier e.kid) (refusal_by before earlier (Expanded e)) free in
@@ -581,44 +581,44 @@ module _ (t : Task) (entries0 : List Kid) (marks0 : List Bool) (kept0 : IsKept (
     task : b.task ≡ t
 
   batch_kept :
-      (earlier later : List Outcome) (entries : List Kid) (marks : List Bool) → Follows earlier entries marks → first_refusal before earlier later ≡ None → AllByRecursion (IsOf t) later → length (all_settled (record { task = t; entries = entries; marks = marks }) later).entries < ROOT
+      (earlier later : List Outcome) (entries : List Kid) (marks : List Bool) → Follows earlier entries marks → first_refusal before earlier later ≡ None → AllByRecursion (IsOf t) later → length (all_settled (record { task = t; entries = entries; marks = marks }) later).entries < ROOT_PARENT
       → IsKeptOf (all_settled (record { task = t; entries = entries; marks = marks }) later)
   batch_kept earlier [] entries marks f free own room = record { kept = f.kept; task = refl }
   batch_kept earlier (o ∷ later) entries marks f free own room =
       let parts = neither (refusal_of before earlier o) (first_refusal before (earlier ++ o ∷ []) later) free in
       let next = settled (record { task = t; entries = entries; marks = marks }) o in
-      let short : length next.entries < ROOT = omega (arith, entries_grow later next, room) in
+      let short : length next.entries < ROOT_PARENT = omega (arith, entries_grow later next, room) in
       let step = one_follows earlier o entries marks f parts.0 own.0 short in
       subst (λ b. IsKeptOf (all_settled b later)) (sym (same_task o entries marks))
       (batch_kept (earlier ++ o ∷ []) later next.entries next.marks step parts.1 own.1
-      (subst (λ b. length (all_settled b later).entries < ROOT) (same_task o entries marks) room))
+      (subst (λ b. length (all_settled b later).entries < ROOT_PARENT) (same_task o entries marks) room))
 
   -- the book after a whole batch, beside the book before it
   pub batch_follows :
       (earlier later : List Outcome) (entries : List Kid) (marks : List Bool) → Follows earlier entries marks → first_refusal before earlier later ≡ None → AllByRecursion (IsOf t) later
-      → length (all_settled (record { task = t; entries = entries; marks = marks }) later).entries < ROOT
+      → length (all_settled (record { task = t; entries = entries; marks = marks }) later).entries < ROOT_PARENT
       → Follows (earlier ++ later) (all_settled (record { task = t; entries = entries; marks = marks }) later).entries (all_settled (record { task = t; entries = entries; marks = marks }) later).marks
   batch_follows earlier [] entries marks f free own room = subst (λ os. Follows os entries marks) (sym (append-nil earlier)) f
   batch_follows earlier (o ∷ later) entries marks f free own room =
       let parts = neither (refusal_of before earlier o) (first_refusal before (earlier ++ o ∷ []) later) free in
       let next = settled (record { task = t; entries = entries; marks = marks }) o in
-      let short : length next.entries < ROOT = omega (arith, entries_grow later next, room) in
+      let short : length next.entries < ROOT_PARENT = omega (arith, entries_grow later next, room) in
       let step = one_follows earlier o entries marks f parts.0 own.0 short in
       let then =
       batch_follows (earlier ++ o ∷ []) later next.entries next.marks step parts.1 own.1
-      (subst (λ b. length (all_settled b later).entries < ROOT) (same_task o entries marks) room)
+      (subst (λ b. length (all_settled b later).entries < ROOT_PARENT) (same_task o entries marks) room)
       in
       subst (λ b. Follows (earlier ++ o ∷ later) (all_settled b later).entries (all_settled b later).marks) (sym (same_task o entries marks))
       (subst (λ os. Follows os (all_settled (record { task = t; entries = next.entries; marks = next.marks }) later).entries (all_settled (record { task = t; entries = next.entries; marks = next.marks }) later).marks)
       (append_assoc earlier (o ∷ []) later) then)
 
   pub batch_task :
-      (outcomes : List Outcome) → first_refusal before [] outcomes ≡ None → AllByRecursion (IsOf t) outcomes → length (all_settled before outcomes).entries < ROOT
+      (outcomes : List Outcome) → first_refusal before [] outcomes ≡ None → AllByRecursion (IsOf t) outcomes → length (all_settled before outcomes).entries < ROOT_PARENT
       → (all_settled before outcomes).task ≡ t
   batch_task outcomes free own room = (batch_kept [] outcomes entries0 marks0 at_first free own room).task
 
 -- a batch that is not refused leaves a kept book
-pub accepted_kept : (b : BookState) (outcomes : List Outcome) → IsKept b → AllByRecursion (IsOf b.task) outcomes → first_refusal b [] outcomes ≡ None → length (all_settled b outcomes).entries < ROOT → IsKept (all_settled b outcomes)
+pub accepted_kept : (b : BookState) (outcomes : List Outcome) → IsKept b → AllByRecursion (IsOf b.task) outcomes → first_refusal b [] outcomes ≡ None → length (all_settled b outcomes).entries < ROOT_PARENT → IsKept (all_settled b outcomes)
 accepted_kept b outcomes kept own free room =
     (batch_kept b.task b.entries b.marks kept [] outcomes b.entries b.marks (at_first b.task b.entries b.marks kept) free own room).kept
 

@@ -11,7 +11,7 @@ use Rattle.hd_base.proofs.Lists.{AllByRecursion-push}
 use Rattle.hd_base.proofs.Tests.{nat_lt-position_or_len}
 use Rattle.hd_task.specs.declared.task.Task.{Task}
 use Rattle.hd_task.specs.declared.plan.Kid.{Kid}
-use Rattle.hd_task.specs.declared.plan.TheConstants.{ROOT}
+use Rattle.hd_task.specs.declared.plan.TheConstants.{ROOT_PARENT}
 use Rattle.hd_task.specs.declared.departure.Departure.{Departure}
 use Rattle.hd_task.specs.Plans.{Node, exec}
 use Rattle.hd_task.specs.Entries.{plans_of}
@@ -29,6 +29,8 @@ use Rattle.hd_book.specs.Holding.{kid_at, node_at, has, plans_at, marks_by, sett
 use Rattle.hd_book.specs.declared.content.Content.{Content}
 use Rattle.hd_book.specs.Refusing.{has_room, refusal_to}
 use Rattle.hd_book.specs.Growing.{entered_by, best_by, departure_by, kids_in, Releases}
+use Rattle.hd_book.proofs.Adding.{entered-count}
+use Rattle.hd_book.proofs.Children.{few_actions, few_applicable}
 use Rattle.hd_book.proofs.Naming.{length-plans_of, posted_by-append, posted_count}
 use Rattle.hd_book.proofs.Held.{none_below, none_above}
 use Rattle.hd_book.proofs.Accepting.{same_kid-true, same_kid-refl, accepted_kept, all_entries, Follows, at_first, batch_follows, batch_task}
@@ -72,7 +74,7 @@ parent_bounds t n expanded i lt =
 
 -- ---- a batch
 
-module _ (t : Task) (entries : List Entry) (settled : List Kid) (posted : ℕ) (best : Option Best) (departure : Option Departure) (tickets : List (Option Outgoing)) (h : IsHeldBy t entries settled posted best departure tickets) (outcomes : List Outcome) (own : AllByRecursion (IsOf t) outcomes) (free : first_refusal (state_by t (map kid_at entries) settled) [] outcomes ≡ None) (room : length entries + length (flat_map entry_of outcomes) < ROOT) (settled' : List Kid) (grown : (k : Kid) → has settled' k ≡ (has settled k || is_settled_by outcomes k)) where
+module _ (t : Task) (entries : List Entry) (settled : List Kid) (posted : ℕ) (best : Option Best) (departure : Option Departure) (tickets : List (Option Outgoing)) (most : ℕ) (h : IsHeldBy t entries settled posted best departure tickets most) (outcomes : List Outcome) (own : AllByRecursion (IsOf t) outcomes) (free : first_refusal (state_by t (map kid_at entries) settled) [] outcomes ≡ None) (room : length entries + length (flat_map entry_of outcomes) ≤ most) (settled' : List Kid) (grown : (k : Kid) → has settled' k ≡ (has settled k || is_settled_by outcomes k)) where
   abbrev kids : List Kid
   kids = map kid_at entries
 
@@ -91,8 +93,8 @@ module _ (t : Task) (entries : List Entry) (settled : List Kid) (posted : ℕ) (
   abbrev E : List (List ℕ)
   E = plans_at (map kid_at entries')
 
-  fits : length after.entries < ROOT
-  fits = omega (arith, ap length (all_entries outcomes before), length-append kids (flat_map entry_of outcomes), length-map entries kid_at)
+  fits : length after.entries < ROOT_PARENT
+  fits = omega (arith, h.numbered, ap length (all_entries outcomes before), length-append kids (flat_map entry_of outcomes), length-map entries kid_at)
 
   f : Follows t kids (marks_by t kids settled) h.kept outcomes after.entries after.marks
   f = batch_follows t kids (marks_by t kids settled) h.kept [] outcomes kids (marks_by t kids settled) (at_first t kids (marks_by t kids settled) h.kept) free own fits
@@ -109,21 +111,21 @@ module _ (t : Task) (entries : List Entry) (settled : List Kid) (posted : ℕ) (
   old_count : length old ≡ length kids
   old_count = length-plans_of kids old h.kept.named
 
-  old_short : length old < ROOT
+  old_short : length old < ROOT_PARENT
   old_short = omega (arith, old_count, h.kept.short)
 
-  short : length E < ROOT
+  short : length E < ROOT_PARENT
   short = omega (arith, ap length new_kids, length-plans_of after.entries (plans_at after.entries) f.kept.named, ap (λ ks. length (plans_at ks)) new_kids, fits)
 
   posted_tail : posted_by t E ≡ posted_by t old ++ kids_from t (length old) f.more
   posted_tail = ap (posted_by t) tail ∙ posted_by-append t old f.more
 
   -- a posted kid is the root, or of an entry before the batch
-  is_older : (q : Kid) → is_posted before q ≡ true → (length old ≤ q.parent) → (q.parent < ROOT) → ⊥
+  is_older : (q : Kid) → is_posted before q ≡ true → (length old ≤ q.parent) → (q.parent < ROOT_PARENT) → ⊥
   is_older q e le lt =
       let any = sym (nat_lt-position_or_len (same_kid q) (posted_by t old)) ∙ e in
       elim (same_kid q root) as (λ b. same_kid q root ≡ b → (b || list_any (same_kid q) (kids_from t 0 old)) ≡ true → ⊥) [
-        | true ↦ λ is e. let at : q.parent ≡ ROOT = ap (λ (k : Kid). k.parent) (same_kid-true q root is) in omega arith
+        | true ↦ λ is e. let at : q.parent ≡ ROOT_PARENT = ap (λ (k : Kid). k.parent) (same_kid-true q root is) in omega arith
         | false ↦ λ is e. true≢false (sym e ∙ none_above t q 0 old (omega arith))
       ] refl any
 
@@ -137,7 +139,7 @@ module _ (t : Task) (entries : List Entry) (settled : List Kid) (posted : ℕ) (
 
   -- ---- the marks
 
-  new_unset : (q : Kid) → length old ≤ q.parent → q.parent < ROOT → has settled' q ≡ false
+  new_unset : (q : Kid) → length old ≤ q.parent → q.parent < ROOT_PARENT → has settled' q ≡ false
   new_unset q le lt =
       elim (has settled' q) as (λ b. has settled' q ≡ b → b ≡ false) [
         | true ↦ λ e. absurd (is_older q (was_posted q e) le lt)
@@ -173,7 +175,7 @@ module _ (t : Task) (entries : List Entry) (settled : List Kid) (posted : ℕ) (
             omega (arith, old_lengths, ap length posted_tail, length-append (posted_by t old) (kids_from t (length old) f.more))
             in
             let bounds = parent_bounds t (length old) f.more i in_new in
-            let below : q.parent < ROOT = omega (arith, bounds.1, short, ap length tail, length-append old f.more) in
+            let below : q.parent < ROOT_PARENT = omega (arith, bounds.1, short, ap length tail, length-append old f.more) in
             f.news j beyond (omega (arith, lengths)) ∙ (sym (new_unset q bounds.0 below) ∙ ap (has settled') (sym same))
       ]
 
@@ -199,7 +201,7 @@ module _ (t : Task) (entries : List Entry) (settled : List Kid) (posted : ℕ) (
       ∙ ap (λ b. b || list_any (same_kid q) (kids_from t (length old) f.more)) (sym (nat_lt-position_or_len (same_kid q) (posted_by t old)) ∙ e)))
 
   module _ (some : 1 ≤ length outcomes) (tickets' : List (Option Outgoing)) (released : Releases t (length entries) outcomes tickets tickets') where
-    pub held_after : IsHeldBy t entries' settled' (posted + kids_in outcomes) (best_by best (length entries) outcomes) (departure_by departure (length entries) outcomes) tickets'
+    pub held_after : IsHeldBy t entries' settled' (posted + kids_in outcomes) (best_by best (length entries) outcomes) (departure_by departure (length entries) outcomes) tickets' most
     held_after =
         let same_number : length old ≡ length entries = old_count ∙ length-map entries kid_at in
         record {
@@ -218,6 +220,8 @@ module _ (t : Task) (entries : List Entry) (settled : List Kid) (posted : ℕ) (
               ap (λ n. departure_by departure n outcomes) (sym same_number)
               ∙ (departure_all t outcomes old f.more departure own f.leads h.departure_is ∙ ap (λ xs. slice_get (departures_of t xs) 0) (sym tail));
           of_task = subst (AllByRecursion (IsOutgoingOf t)) (sym released.added) (AllByRecursion-push (IsOutgoingOf t) tickets (Some released.out) h.of_task released.of_task);
+          within = omega (arith, room, length-append entries (entered_by outcomes), entered-count outcomes);
+          numbered = h.numbered;
           commits =
               omega (arith, ap length released.added, length-append tickets (Some released.out ∷ []), h.commits, f.counted, some, ap settled_count state_after);
         }
@@ -235,7 +239,7 @@ unrefused false true why e = record { has_room = refl; nothing = e }
 
 -- there is room for its entries, and no outcome is refused
 pub record IsAdmitted (c : Content) (outcomes : List Outcome) : Type 0 where
-  pub room : length c.entries.items + length (flat_map entry_of outcomes) < ROOT
+  pub room : length c.entries.items + length (flat_map entry_of outcomes) ≤ c.most
   pub nothing : first_refusal (state_of c) [] outcomes ≡ None
 
 pub admitted : (c : Content) (outcomes outcomes' : List Outcome) → outcomes' ≡ outcomes → refusal_to (view_of c) outcomes' ≡ None → IsAdmitted c outcomes
@@ -244,21 +248,11 @@ admitted c outcomes outcomes' same e =
     let free = unrefused v.halted (has_room v outcomes) (first_refusal v.state [] outcomes) (ap (refusal_to v) (sym same) ∙ e) in
     record {
       room =
-          omega (arith, ltb-true (length v.state.entries + length (flat_map entry_of outcomes)) ROOT free.has_room, length-map c.entries.items kid_at);
+          omega (arith, leb-true (length v.state.entries + length (flat_map entry_of outcomes)) v.most free.has_room, length-map c.entries.items kid_at);
       nothing = free.nothing;
     }
 
 -- ---- how many kids are posted is far from a u64's end
-
-few_actions : (t : Task) → length t.actions ≤ 2 ^ 20
-few_actions t =
-    let parts = and_parts (nat_le (length t.atoms) (2 ^ 20) && nat_le (length t.fluents) (2 ^ 16)) (nat_le (length t.actions) (2 ^ 20)) t.limits in
-    leb-true (length t.actions) (2 ^ 20) parts.1
-
-few_applicable : (t : Task) (r : Option Node) → length (applicable_at t r) ≤ length t.actions
-unfolding applicable_at
-few_applicable t r =
-    omega (arith, length-filter (is_applicable t r) (range_with_len 0 (length t.actions)), count_by-le-length (is_applicable t r) (range_with_len 0 (length t.actions)), length-range_with_len 0 (length t.actions))
 
 few_children : (t : Task) (p : List ℕ) → length (children t p) ≤ 2 ^ 20
 few_children t p = omega (arith, length-map (applicable_at t (exec t p)) (followed_by p), few_applicable t (exec t p), few_actions t)
@@ -268,17 +262,17 @@ few_generated t [] = omega arith
 few_generated t (p ∷ expanded) =
     omega (arith, length-append (children t p) (flat_map (children t) expanded), few_children t p, few_generated t expanded)
 
-pub posted_small : (t : Task) (expanded : List (List ℕ)) → length expanded < ROOT → length (generated t expanded) < 2 ^ 61
+pub posted_small : (t : Task) (expanded : List (List ℕ)) → length expanded < ROOT_PARENT → length (generated t expanded) < 2 ^ 61
 posted_small t expanded short = omega (arith, few_generated t expanded, short)
 
 -- ---- the same parts, by other names
 
 pub same_held :
-    {t t' : Task} {entries entries' : List Entry} {settled : List Kid} {posted posted' : ℕ} {best best' : Option Best} {departure departure' : Option Departure} {tickets : List (Option Outgoing)}
-    → t ≡ t' → entries ≡ entries' → posted ≡ posted' → best ≡ best' → departure ≡ departure'
-    → IsHeldBy t entries settled posted best departure tickets → IsHeldBy t' entries' settled posted' best' departure' tickets
-same_held {settled = settled} {tickets = tickets} e1 e2 e3 e4 e5 h =
-    subst (λ x. x) (λ i. IsHeldBy (e1 i) (e2 i) settled (e3 i) (e4 i) (e5 i) tickets) h
+    {t t' : Task} {entries entries' : List Entry} {settled : List Kid} {posted posted' : ℕ} {best best' : Option Best} {departure departure' : Option Departure} {tickets : List (Option Outgoing)} {most most' : ℕ}
+    → t ≡ t' → entries ≡ entries' → posted ≡ posted' → best ≡ best' → departure ≡ departure' → most ≡ most'
+    → IsHeldBy t entries settled posted best departure tickets most → IsHeldBy t' entries' settled posted' best' departure' tickets most'
+same_held {settled = settled} {tickets = tickets} e1 e2 e3 e4 e5 e6 h =
+    subst (λ x. x) (λ i. IsHeldBy (e1 i) (e2 i) settled (e3 i) (e4 i) (e5 i) tickets (e6 i)) h
 
 pub same_released :
     {t t' : Task} {n n' : ℕ} {outcomes outcomes' : List Outcome} {before before' after : List (Option Outgoing)}
@@ -287,7 +281,7 @@ pub same_released :
 same_released {after = after} e1 e2 e3 e4 r = subst (λ x. x) (λ i. Releases (e1 i) (e2 i) (e3 i) (e4 i) after) r
 
 -- what is posted after a batch, where the sum fits
-pub posted_after : (t : Task) (kids : List Kid) (posted more old new : ℕ) → plans_of kids ≡ Some (plans_at kids) → length kids < ROOT → posted + more ≡ length (generated t (plans_at kids)) → old ≡ posted → (old + more < 2 ^ 64 → new ≡ old + more) → posted + more ≡ new
+pub posted_after : (t : Task) (kids : List Kid) (posted more old new : ℕ) → plans_of kids ≡ Some (plans_at kids) → length kids < ROOT_PARENT → posted + more ≡ length (generated t (plans_at kids)) → old ≡ posted → (old + more < 2 ^ 64 → new ≡ old + more) → posted + more ≡ new
 posted_after t kids posted more old new named short is same sum =
     let fits : old + more < 2 ^ 64 = omega (arith, posted_small t (plans_at kids) (omega (arith, length-plans_of kids (plans_at kids) named, short))) in
     omega (arith, sum fits)

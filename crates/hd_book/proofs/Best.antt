@@ -106,11 +106,11 @@ best_all t (Expanded x ∷ outcomes) expanded [] b own e at = absurd (cc)
 best_all t (Expanded x ∷ outcomes) expanded (p ∷ more) b own e at =
     let at_p : exec t p ≡ Some (node x.state x.cost) = (cons_parts _ _ _ _ e).0 in
     let rest : map (exec t) more ≡ map (λ e. Some (node_at e)) (entered_by outcomes) = (cons_parts _ _ _ _ e).1 in
-    let cost : goal_cost t (exec t p) ≡ goal_cost x.task.now (Some (node x.state x.cost)) =
+    let cost : goal_cost t (exec t p) ≡ goal_cost x.task (Some (node x.state x.cost)) =
     ap (goal_cost t) at_p ∙ ap (λ u. goal_cost u (Some (node x.state x.cost))) (sym own.0)
     in
-    let next = better b (length expanded) (goal_cost x.task.now (Some (node x.state x.cost))) in
-    let whole = best_all t outcomes (expanded ++ p ∷ []) more next own.1 rest (best_step t expanded p b (goal_cost x.task.now (Some (node x.state x.cost))) cost at) in
+    let next = better b (length expanded) (goal_cost x.task (Some (node x.state x.cost))) in
+    let whole = best_all t outcomes (expanded ++ p ∷ []) more next own.1 rest (best_step t expanded p b (goal_cost x.task (Some (node x.state x.cost))) cost at) in
     subst (λ xs. IsBestOf t xs (best_by next (length expanded + 1) outcomes)) (append_assoc expanded (p ∷ []) more)
     (subst (λ n. IsBestOf t ((expanded ++ p ∷ []) ++ more) (best_by next n outcomes)) (length-append expanded (p ∷ [])) whole)
 best_all t (Duplicate k by ∷ outcomes) expanded more b own e at = best_all t outcomes expanded more b own.1 e at

@@ -11,7 +11,7 @@ use Rattle.hd_base.proofs.Members.{AllByRecursion-from_contains}
 use Rattle.hd_base.proofs.Tests.{count_by-map}
 use Rattle.hd_task.specs.declared.task.Task.{Task}
 use Rattle.hd_task.specs.declared.plan.Kid.{Kid}
-use Rattle.hd_task.specs.declared.plan.TheConstants.{ROOT}
+use Rattle.hd_task.specs.declared.plan.TheConstants.{ROOT_PARENT}
 use Rattle.hd_task.specs.Expansions.{generated}
 use Rattle.hd_task.specs.Entries.{plan_of}
 use Rattle.hd_task.proofs.Growing.{generated_distinct}
@@ -62,7 +62,7 @@ as_keys (k ∷ kids) d = (
   as_keys kids d.1,
 )
 
-posted_distinct : (t : Task) (E : List (List ℕ)) → length E < ROOT → distinct.IsDistinct (generated t E) → distinct.IsDistinct (posted_by t E)
+posted_distinct : (t : Task) (E : List (List ℕ)) → length E < ROOT_PARENT → distinct.IsDistinct (generated t E) → distinct.IsDistinct (posted_by t E)
 posted_distinct t E short d =
     distinct.IsDistinct-from_map (plan_of E) (posted_by t E)
     (subst (λ (xs : List (Option (List ℕ))). distinct.IsDistinct xs) (sym (posted_named t E short)) (distinct.IsDistinct-map Some (λ a b e. same_Some a b e) (generated t E) d))

@@ -13,13 +13,11 @@ use Rattle.hd_base.proofs.Tests.{nat_lt-position_or_len, list_any-from_contains}
 use Rattle.hd_base.proofs.Truth.{or-false}
 use Rattle.hd_task.specs.declared.task.Task.{Task}
 use Rattle.hd_task.specs.declared.plan.Kid.{Kid}
-use Rattle.hd_task.specs.declared.plan.TheConstants.{ROOT}
+use Rattle.hd_task.specs.declared.plan.TheConstants.{ROOT_PARENT, ROOT_ACTION}
 use Rattle.hd_task.specs.Plans.{Node, IsStateOf, step_by, step_of, start, exec, node}
 use Rattle.hd_task.specs.Departures.{action_departs}
 use Rattle.hd_task.specs.Expansions.{is_applicable, applicable_at}
 use Rattle.hd_task.proofs.Runs.{exec-push, exec-state, step_within}
-use Rattle.hd_node.specs.declared.expansion.Child.{Child}
-use Rattle.hd_node.specs.Children.{child_to, child_at}
 use Rattle.hd_book.specs.declared.entry.Entry.{Entry}
 use Rattle.hd_book.specs.declared.content.Content.{Content}
 use Rattle.hd_book.specs.declared.refusal.Refusal.{Refusal}
@@ -80,28 +78,9 @@ step_of_none : (t : Task) (r : Node) (n : ℕ) → length t.actions ≤ n → st
 unfolding step_by
 step_of_none t r n le = ap (step_of t r) (slice_get_past t.actions n le)
 
--- an action that the task does not have leads nowhere
-pub no_action : (t : Task) (r : Node) (n : ℕ) → length t.actions ≤ n → child_at t r n ≡ None
-no_action t r n le =
-    cond-false (is_applicable t (Some r) n) (child_to n (step_by t r n)) None
-    (ap (λ o. is_some o && not (action_departs t r n)) (step_of_none t r n le))
-
--- an action leads somewhere exactly where it is applicable
-child_some : (t : Task) (r : Node) (n : ℕ) → is_some (child_at t r n) ≡ is_applicable t (Some r) n
-child_some t r n =
-    elim (is_applicable t (Some r) n) as (λ b. is_applicable t (Some r) n ≡ b → is_some (cond b (child_to n (step_by t r n)) None) ≡ b) [
-      | true ↦ λ e.
-          elim (step_by t r n) as (λ o. is_some o ≡ true → is_some (child_to n o) ≡ true) [
-            | None ↦ λ d. d
-            | Some to ↦ λ d. refl
-          ] (and_parts (is_some (step_by t r n)) (not (action_departs t r n)) e).0
-      | false ↦ λ e. refl
-    ] refl
-
-leads_to : (n : ℕ) (b : Bool) (o : Option Node) (child : Child) → cond b (child_to n o) None ≡ Some child → o ≡ Some (node child.state child.cost)
-leads_to n true None child e = absurd (none-some child e)
-leads_to n true (Some r) child e = ap (λ (x : Child). Some (node x.state x.cost)) (same_Some _ child e)
-leads_to n false o child e = absurd (none-some child e)
+-- an action that the task does not have is not applicable
+pub no_action : (t : Task) (r : Node) (n : ℕ) → length t.actions ≤ n → is_applicable t (Some r) n ≡ false
+no_action t r n le = ap (λ o. is_some o && not (action_departs t r n)) (step_of_none t r n le)
 
 some_within : (t : Task) (r : Node) (n : ℕ) (o : Option Node) → step_by t r n ≡ o → is_some o ≡ true → n < length t.actions
 some_within t r n None e d = absurd (true≢false (sym d))
@@ -140,7 +119,7 @@ module _ (c : Content) (h : IsHeld c) where
       sym (length-map E (exec t))
       ∙ (ap length h.nodes ∙ length-map c.entries.items (λ e. Some (node_at e)))
 
-  pub short : length E < ROOT
+  pub short : length E < ROOT_PARENT
   short = omega (arith, h.kept.short, length-plans_of (state_of c).entries E h.kept.named)
 
   runs : (n : ℕ) (e d : Entry) → n < length c.entries.items → e ≡ get_or c.entries.items n d → exec t (get_or E n []) ≡ Some (node_at e)
@@ -165,27 +144,25 @@ module _ (c : Content) (h : IsHeld c) where
   pub posted-any : (k : Kid) → is_posted (state_of c) k ≡ list_any (same_kid k) (posted_by t E)
   posted-any k = nat_lt-position_or_len (same_kid k) (posted_by t E)
 
-  -- a kid of an entry is posted where its action leads somewhere
-  pub entry_posted : (k : Kid) (e d : Entry) → k.parent < length c.entries.items → e ≡ get_or c.entries.items k.parent d → is_some (child_at t (node_at e) k.action) ≡ is_posted (state_of c) k
+  -- a kid of an entry is posted where its action is applicable
+  pub entry_posted : (k : Kid) (e d : Entry) → k.parent < length c.entries.items → e ≡ get_or c.entries.items k.parent d → is_applicable t (Some (node_at e)) k.action ≡ is_posted (state_of c) k
   entry_posted k e d lt is =
       let lt' : k.parent < length E = omega (arith, count) in
-      let other : same_kid k root ≡ false = ap (λ b. b && (k.action == ROOT)) (ne_eqb k.parent ROOT (λ e. omega (arith, short))) in
+      let other : same_kid k root ≡ false = ap (λ b. b && (k.action == ROOT_ACTION)) (ne_eqb k.parent ROOT_PARENT (λ e. omega (arith, short))) in
       let first : k.parent - 0 ≡ k.parent = omega arith in
-      child_some t (node_at e) k.action
-      ∙ (sym (applicable-any t (node_at e) k.action)
+      sym (applicable-any t (node_at e) k.action)
       ∙ (ap (λ r. list_any (λ a. k.action == a) (applicable_at t r)) (sym (runs k.parent e d lt is))
       ∙ (ap (λ i. list_any (λ a. k.action == a) (applicable_at t (exec t (get_or E i [])))) (sym first)
       ∙ (sym (at_entry t k 0 E (omega arith) (omega arith))
-      ∙ (ap (λ b. b || list_any (same_kid k) (kids_from t 0 E)) (sym other) ∙ sym (posted-any k))))))
+      ∙ (ap (λ b. b || list_any (same_kid k) (kids_from t 0 E)) (sym other) ∙ sym (posted-any k)))))
 
-  -- and leads where the action does
-  pub entry_leads : (k : Kid) (e d : Entry) (child : Child) → k.parent < length c.entries.items → e ≡ get_or c.entries.items k.parent d → child_at t (node_at e) k.action ≡ Some child → node_of (state_of c) k ≡ Some (node child.state child.cost)
-  entry_leads k e d child lt is at =
+  -- and leads where the action's step does
+  pub entry_leads : (k : Kid) (e d : Entry) (to : Node) → k.parent < length c.entries.items → e ≡ get_or c.entries.items k.parent d → step_by t (node_at e) k.action ≡ Some to → node_of (state_of c) k ≡ Some to
+  entry_leads k e d to lt is at =
       let lt' : k.parent < length E = omega (arith, count) in
       let r = node_at e in
       ap (option_and_then (exec t)) (plan_of-kid E k.parent k.action (get_or E k.parent []) lt' short refl)
-      ∙ (exec-push t (get_or E k.parent []) r k.action (runs k.parent e d lt is)
-      ∙ leads_to k.action (is_applicable t (Some r) k.action) (step_by t r k.action) child at)
+      ∙ (exec-push t (get_or E k.parent []) r k.action (runs k.parent e d lt is) ∙ at)
 
   -- a kid whose parent is known is the root, or of an entry
   pub parent_known : (k : Kid) → knows_parent (state_of c) k ≡ true → (same_kid k root ≡ true) ⊎ (k.parent < length c.entries.items)
@@ -195,14 +172,14 @@ module _ (c : Content) (h : IsHeld c) where
         | false ↦ λ e. inr (omega (arith, ltb-true k.parent (length (state_of c).entries) e, length-map c.entries.items kid_at))
       ] e
 
-  pub root_kid : (k : Kid) → knows_parent (state_of c) k ≡ true → k.parent ≡ ROOT → same_kid k root ≡ true
+  pub root_kid : (k : Kid) → knows_parent (state_of c) k ≡ true → k.parent ≡ ROOT_PARENT → same_kid k root ≡ true
   root_kid k e is =
       elim (parent_known k e) [
         | inl same ↦ same
         | inr lt ↦ absurd (omega (arith, short, count))
       ]
 
-  pub entry_kid : (k : Kid) → knows_parent (state_of c) k ≡ true → k.parent ≢ ROOT → k.parent < length c.entries.items
+  pub entry_kid : (k : Kid) → knows_parent (state_of c) k ≡ true → k.parent ≢ ROOT_PARENT → k.parent < length c.entries.items
   entry_kid k e ne =
       elim (parent_known k e) [
         | inl same ↦ absurd (ne (ap (λ (q : Kid). q.parent) (same_kid-true k root same)))

@@ -8,7 +8,7 @@ use Rattle.std.proofs.lemmas.List.Sums.{fold-append}
 use Rattle.std.proofs.lemmas.Option.{none-some, same_Some, slice_get-get_or}
 use Rattle.hd_task.specs.declared.task.Task.{Task}
 use Rattle.hd_task.specs.declared.plan.Kid.{Kid}
-use Rattle.hd_task.specs.declared.plan.TheConstants.{ROOT}
+use Rattle.hd_task.specs.declared.plan.TheConstants.{ROOT_PARENT, ROOT_ACTION}
 use Rattle.hd_task.specs.Plans.{exec}
 use Rattle.hd_task.specs.Expansions.{followed_by, applicable_at, children, generated}
 use Rattle.hd_task.specs.Entries.{plan_from, plan_of, with_entry, plans_of}
@@ -21,16 +21,16 @@ plans_of-push entries k expanded p e is =
     ∙ (ap (λ o. with_entry o k) e ∙ ap (λ o. option_and_then (λ p. Some (expanded ++ p ∷ [])) o) is)
 
 -- a kid of an entry
-pub plan_of-kid : (expanded : List (List ℕ)) (n a : ℕ) (p : List ℕ) → n < length expanded → length expanded < ROOT → get_or expanded n [] ≡ p → plan_of expanded (kid_from n a) ≡ Some (followed_by p a)
+pub plan_of-kid : (expanded : List (List ℕ)) (n a : ℕ) (p : List ℕ) → n < length expanded → length expanded < ROOT_PARENT → get_or expanded n [] ≡ p → plan_of expanded (kid_from n a) ≡ Some (followed_by p a)
 plan_of-kid expanded n a p lt short e =
-    cond-false (n == ROOT) (cond (a == ROOT) (Some []) None) (plan_from (slice_get expanded n) a) (ne_eqb n ROOT (λ e. omega arith))
+    cond-false (n == ROOT_PARENT) (cond (a == ROOT_ACTION) (Some []) None) (plan_from (slice_get expanded n) a) (ne_eqb n ROOT_PARENT (λ e. omega arith))
     ∙ ap (λ o. plan_from o a) (slice_get-get_or expanded n [] lt ∙ ap Some e)
 
 pub plan_of-root : (expanded : List (List ℕ)) → plan_of expanded root ≡ Some []
 plan_of-root expanded = refl
 
 -- the kids of one entry name its children
-kids_named : (expanded : List (List ℕ)) (n : ℕ) (p : List ℕ) (actions : List ℕ) → n < length expanded → length expanded < ROOT → get_or expanded n [] ≡ p → map (plan_of expanded) (kids_of n actions) ≡ map (λ a. Some (followed_by p a)) actions
+kids_named : (expanded : List (List ℕ)) (n : ℕ) (p : List ℕ) (actions : List ℕ) → n < length expanded → length expanded < ROOT_PARENT → get_or expanded n [] ≡ p → map (plan_of expanded) (kids_of n actions) ≡ map (λ a. Some (followed_by p a)) actions
 kids_named expanded n p [] lt short e = refl
 kids_named expanded n p (a ∷ actions) lt short e =
     ap₂ (λ (x : Option (List ℕ)) (xs : List (Option (List ℕ))). x ∷ xs) (plan_of-kid expanded n a p lt short e) (kids_named expanded n p actions lt short e)
@@ -40,7 +40,7 @@ map_some p [] = refl
 map_some p (a ∷ actions) = ap (λ xs. Some (followed_by p a) ∷ xs) (map_some p actions)
 
 -- the kids of the entries from some place on name what those generate
-from_named : (t : Task) (before after : List (List ℕ)) → length (before ++ after) < ROOT → map (plan_of (before ++ after)) (kids_from t (length before) after) ≡ map Some (flat_map (children t) after)
+from_named : (t : Task) (before after : List (List ℕ)) → length (before ++ after) < ROOT_PARENT → map (plan_of (before ++ after)) (kids_from t (length before) after) ≡ map Some (flat_map (children t) after)
 from_named t before [] short = refl
 from_named t before (p ∷ after) short =
     let all : List (List ℕ) = before ++ p ∷ after in
@@ -51,7 +51,7 @@ from_named t before (p ∷ after) short =
     let rest : map (plan_of (before ++ p ∷ after)) (kids_from t (length before + 1) after) ≡ map Some (flat_map (children t) after) =
     ap (λ n. map (plan_of (before ++ p ∷ after)) (kids_from t n after)) (sym count)
     ∙ (ap (λ xs. map (plan_of xs) (kids_from t (length (before ++ p ∷ [])) after)) (sym whole)
-    ∙ from_named t (before ++ p ∷ []) after (subst (λ (xs : List (List ℕ)). length xs < ROOT) (sym whole) short))
+    ∙ from_named t (before ++ p ∷ []) after (subst (λ (xs : List (List ℕ)). length xs < ROOT_PARENT) (sym whole) short))
     in
     map-append (plan_of (before ++ p ∷ after)) (kids_of (length before) actions) (kids_from t (length before + 1) after)
     ∙ (ap₂ (λ xs ys. xs ++ ys)
@@ -60,7 +60,7 @@ from_named t before (p ∷ after) short =
     ∙ sym (map-append Some (children t p) (flat_map (children t) after)))
 
 -- what a list of expansions posts names what it generates, in order
-pub posted_named : (t : Task) (expanded : List (List ℕ)) → length expanded < ROOT → map (plan_of expanded) (posted_by t expanded) ≡ map Some (generated t expanded)
+pub posted_named : (t : Task) (expanded : List (List ℕ)) → length expanded < ROOT_PARENT → map (plan_of expanded) (posted_by t expanded) ≡ map Some (generated t expanded)
 posted_named t expanded short = ap (λ xs. Some [] ∷ xs) (from_named t [] expanded short)
 
 -- ---- longer lists
@@ -83,7 +83,7 @@ pub generated-append : (t : Task) (expanded more : List (List ℕ)) → generate
 generated-append t expanded more = ap (λ (ps : List (List ℕ)). [] ∷ ps) (flat_map-append (children t) expanded more)
 
 -- as many kids are posted as plans are generated
-pub posted_count : (t : Task) (expanded : List (List ℕ)) → length expanded < ROOT → length (posted_by t expanded) ≡ length (generated t expanded)
+pub posted_count : (t : Task) (expanded : List (List ℕ)) → length expanded < ROOT_PARENT → length (posted_by t expanded) ≡ length (generated t expanded)
 posted_count t expanded short =
     sym (length-map (posted_by t expanded) (plan_of expanded))
     ∙ (ap length (posted_named t expanded short) ∙ length-map (generated t expanded) Some)

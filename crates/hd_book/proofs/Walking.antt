@@ -7,7 +7,7 @@ use Rattle.std.proofs.lemmas.Bool.{eq-eqb, ne_eqb, cond-true, cond-false}
 use Rattle.std.proofs.lemmas.Option.{none-some, same_Some, slice_get_within, get_or_from_slice_get}
 use Rattle.std.proofs.lemmas.List.{get_or_at, get_or-map, get_or-take, length-map, length-take}
 use Rattle.hd_task.specs.declared.plan.Kid.{Kid}
-use Rattle.hd_task.specs.declared.plan.TheConstants.{ROOT}
+use Rattle.hd_task.specs.declared.plan.TheConstants.{ROOT_PARENT, ROOT_ACTION}
 use Rattle.hd_task.specs.Entries.{plan_from, plan_of, with_entry}
 use Rattle.hd_book.specs.declared.entry.Entry.{Entry}
 use Rattle.hd_book.specs.declared.content.Content.{Content}
@@ -65,10 +65,10 @@ named_at (k ∷ ks) before all (suc n) e lt =
 
 -- ---- a kid that names a plan
 
-root_names : (expanded : List (List ℕ)) (k : Kid) (p : List ℕ) → k.parent ≡ ROOT → plan_of expanded k ≡ Some p → p ≡ []
+root_names : (expanded : List (List ℕ)) (k : Kid) (p : List ℕ) → k.parent ≡ ROOT_PARENT → plan_of expanded k ≡ Some p → p ≡ []
 root_names expanded k p e is =
-    let by_action : cond (k.action == ROOT) (Some []) None ≡ Some p = sym (cond-true (k.parent == ROOT) (cond (k.action == ROOT) (Some []) None) (plan_from (slice_get expanded k.parent) k.action) (eq-eqb k.parent ROOT e)) ∙ is in
-    elim (k.action == ROOT) as (λ b. cond b (Some []) None ≡ Some p → p ≡ []) [
+    let by_action : cond (k.action == ROOT_ACTION) (Some []) None ≡ Some p = sym (cond-true (k.parent == ROOT_PARENT) (cond (k.action == ROOT_ACTION) (Some []) None) (plan_from (slice_get expanded k.parent) k.action) (eq-eqb k.parent ROOT_PARENT e)) ∙ is in
+    elim (k.action == ROOT_ACTION) as (λ b. cond b (Some []) None ≡ Some p → p ≡ []) [
       | true ↦ λ e. sym (same_Some [] p e)
       | false ↦ λ e. absurd (none-some p e)
     ] by_action
@@ -78,9 +78,9 @@ pub record HasParent (expanded : List (List ℕ)) (k : Kid) (p : List ℕ) : Typ
   pub within : k.parent < length expanded
   pub is : p ≡ get_or expanded k.parent [] ++ k.action ∷ []
 
-parent_names : (expanded : List (List ℕ)) (k : Kid) (p : List ℕ) → k.parent ≢ ROOT → plan_of expanded k ≡ Some p → HasParent expanded k p
+parent_names : (expanded : List (List ℕ)) (k : Kid) (p : List ℕ) → k.parent ≢ ROOT_PARENT → plan_of expanded k ≡ Some p → HasParent expanded k p
 parent_names expanded k p ne is =
-    let from : plan_from (slice_get expanded k.parent) k.action ≡ Some p = sym (cond-false (k.parent == ROOT) (cond (k.action == ROOT) (Some []) None) (plan_from (slice_get expanded k.parent) k.action) (ne_eqb k.parent ROOT ne)) ∙ is in
+    let from : plan_from (slice_get expanded k.parent) k.action ≡ Some p = sym (cond-false (k.parent == ROOT_PARENT) (cond (k.action == ROOT_ACTION) (Some []) None) (plan_from (slice_get expanded k.parent) k.action) (ne_eqb k.parent ROOT_PARENT ne)) ∙ is in
     elim (slice_get expanded k.parent) as (λ o. slice_get expanded k.parent ≡ o → plan_from o k.action ≡ Some p → HasParent expanded k p) [
       | None ↦ λ at e. absurd (none-some p e)
       | Some q ↦ λ at e. record {
@@ -103,14 +103,14 @@ module _ (c : Content) (h : IsHeld c) (n : ℕ) (e : Entry) (lt : n < length c.e
       ap (plan_of (take n E)) (sym kid)
       ∙ subst (λ m. plan_of (take m E) (get_or ks n root) ≡ Some (get_or E m [])) here (named_at ks [] E n h.kept.named (omega (arith, length-map c.entries.items kid_at)))
 
-  pub root_plan : e.kid.parent ≡ ROOT → get_or E n [] ≡ []
+  pub root_plan : e.kid.parent ≡ ROOT_PARENT → get_or E n [] ≡ []
   root_plan is = root_names (take n E) e.kid (get_or E n []) is named
 
   pub record Steps : Type 0 where
     pub before : e.kid.parent < n
     pub is : get_or E n [] ≡ get_or E e.kid.parent [] ++ e.kid.action ∷ []
 
-  pub entry_plan : e.kid.parent ≢ ROOT → Steps
+  pub entry_plan : e.kid.parent ≢ ROOT_PARENT → Steps
   entry_plan ne =
       let p = parent_names (take n E) e.kid (get_or E n []) ne named in
       let before : e.kid.parent < n = omega (arith, p.within, length-take n E) in

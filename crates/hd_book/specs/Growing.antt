@@ -36,7 +36,7 @@ better (Some b) n (Some c) = if nat_lt c b.cost then Some (best_at n c) else Som
 -- the best after outcomes, where the next entry is numbered n
 abbrev pub best_by : Option Best → ℕ → List Outcome → Option Best
 best_by best n [] = best
-best_by best n (Expanded e ∷ outcomes) = best_by (better best n (goal_cost e.task.now (Some (node e.state e.cost)))) (n + 1) outcomes
+best_by best n (Expanded e ∷ outcomes) = best_by (better best n (goal_cost e.task (Some (node e.state e.cost)))) (n + 1) outcomes
 best_by best n (Duplicate k by ∷ outcomes) = best_by best n outcomes
 best_by best n (Bounded k h ∷ outcomes) = best_by best n outcomes
 

@@ -5,12 +5,13 @@ use Rattle.std.specs.Option.{option_flatten}
 use Rattle.hd_task.specs.declared.state.State.{State}
 use Rattle.hd_task.specs.declared.task.Task.{Task}
 use Rattle.hd_task.specs.declared.plan.Kid.{Kid}
+use Rattle.hd_task.specs.declared.plan.TheConstants.{ROOT_PARENT}
 use Rattle.hd_task.specs.declared.departure.Departure.{Departure}
 use Rattle.hd_task.specs.Plans.{Node, exec, node}
 use Rattle.hd_task.specs.Expansions.{generated, goal_cost, bound_of, departures_of}
 use Rattle.hd_task.specs.Entries.{plans_of}
-use Rattle.hd_node.specs.declared.expansion.Child.{Child}
-use Rattle.hd_node.specs.declared.parcel.Parcel.{Parcel}
+use Rattle.hd_node.specs.Children.{ChildView}
+use Rattle.hd_node.specs.Parcel.{ParcelView}
 use Rattle.hd_node.specs.declared.batch.Outcome.{Outcome}
 use Rattle.hd_node.specs.declared.batch.Outcome.TheVariants.{Expanded, Duplicate, Bounded}
 use Rattle.hd_book.specs.declared.entry.Entry.{Entry}
@@ -34,15 +35,16 @@ pub record Out : Type 0 where
   pub end : ℕ
   pub released : List Released
 
--- a book: what it holds of the search, its tickets by the number of their commit, none where one is spent, and whether it
--- is halted
+-- a book: what it holds of the search, how many entries it may hold, its tickets by the number of their commit, none where one
+-- is spent, and whether it is halted
 pub record BookView : Type 0 where
   pub state : BookState
+  pub most : ℕ
   pub tickets : List (Option Out)
   pub halted : Bool
 
 -- what an entry's child is released as
-abbrev pub released_from : ℕ → Child → Released
+abbrev pub released_from : ℕ → ChildView → Released
 released_from n c = record { kid = kid_from n c.action; state = c.state; cost = c.cost }
 
 -- what an outcome releases, if it is an expansion: the kids of the entry that is numbered n
@@ -58,9 +60,13 @@ released_by n (o ∷ outcomes) = released_at n o ++ released_by (n + length (ent
 
 -- ---- what a batch does
 
--- the book of a search that has not begun: the root is posted
-abbrev pub empty_book : Task → BookView
-empty_book t = record { state = record { task = t; entries = []; marks = false ∷ [] }; tickets = []; halted = false }
+-- the book of a search that has not begun, which may hold so many entries: the root is posted
+abbrev pub empty_book : Task → ℕ → BookView
+empty_book t most = record { state = record { task = t; entries = []; marks = false ∷ [] }; most = most; tickets = []; halted = false }
+
+-- entries begin with others
+abbrev pub BeginsWith : List Kid → List Kid → Type 0
+BeginsWith entries others = (more : List Kid) × (entries ≡ others ++ more)
 
 -- the book gains the entries of outcomes, one for each expansion among them
 abbrev pub GainsEntries : BookView → BookView → List Outcome → Type 0
@@ -85,7 +91,7 @@ GainsTicket old new outcomes =
 -- ---- how the parts of a book show it
 
 -- what a parcel releases
-abbrev pub parcel_of : Parcel → Released
+abbrev pub parcel_of : ParcelView → Released
 parcel_of p = record { kid = p.kid; state = p.state; cost = p.cost }
 
 abbrev pub kid_at : Entry → Kid
@@ -125,7 +131,7 @@ abbrev pub state_of : Content → BookState
 state_of c = state_by c.task.now (map kid_at c.entries.items) c.settled.keys
 
 abbrev pub view_of : Content → BookView
-view_of c = record { state = state_of c; tickets = map (option_map out_of) c.tickets.items; halted = c.halted }
+view_of c = record { state = state_of c; most = c.most; tickets = map (option_map out_of) c.tickets.items; halted = c.halted }
 
 -- ---- what the parts keep
 
@@ -142,8 +148,8 @@ IsBestOf t expanded None = bound_of t expanded ≡ None
 IsBestOf t expanded (Some b) = IsAt t expanded b
 
 -- a parcel is of a task
-abbrev pub IsParcelOf : Task → Parcel → Type 0
-IsParcelOf t p = p.task.now ≡ t
+abbrev pub IsParcelOf : Task → ParcelView → Type 0
+IsParcelOf t p = p.task ≡ t
 
 -- what a ticket releases is of a task
 abbrev pub IsOutgoingOf : Task → Option Outgoing → Type 0
@@ -155,7 +161,7 @@ abbrev pub IsPosted : BookState → Kid → Type 0
 IsPosted b k = is_posted b k ≡ true
 
 -- what the parts of every book keep
-pub record IsHeldBy (t : Task) (entries : List Entry) (settled : List Kid) (posted : ℕ) (best : Option Best) (departure : Option Departure) (tickets : List (Option Outgoing)) : Type 0 where
+pub record IsHeldBy (t : Task) (entries : List Entry) (settled : List Kid) (posted : ℕ) (best : Option Best) (departure : Option Departure) (tickets : List (Option Outgoing)) (most : ℕ) : Type 0 where
   pub kept : IsKept (state_by t (map kid_at entries) settled)
   pub nodes : map (exec t) (plans_at (map kid_at entries)) ≡ map (λ e. Some (node_at e)) entries
   pub known : AllByRecursion (IsPosted (state_by t (map kid_at entries) settled)) settled
@@ -164,9 +170,11 @@ pub record IsHeldBy (t : Task) (entries : List Entry) (settled : List Kid) (post
   pub departure_is : departure ≡ slice_get (departures_of t (plans_at (map kid_at entries))) 0
   pub of_task : AllByRecursion (IsOutgoingOf t) tickets
   pub commits : length tickets ≤ settled_count (state_by t (map kid_at entries) settled)
+  pub within : length entries ≤ most
+  pub numbered : most < ROOT_PARENT
 
 abbrev pub IsHeld : Content → Type 0
-IsHeld c = IsHeldBy c.task.now c.entries.items c.settled.keys c.posted c.best c.departure c.tickets.items
+IsHeld c = IsHeldBy c.task.now c.entries.items c.settled.keys c.posted c.best c.departure c.tickets.items c.most
 
 -- ---- tickets
 
@@ -204,4 +212,4 @@ out_at b k = if_its k (option_flatten (slice_get b.tickets k.number))
 
 -- the book without a ticket
 abbrev pub without : BookView → ℕ → BookView
-without b n = record { state = b.state; tickets = slice_set b.tickets n None; halted = b.halted }
+without b n = record { state = b.state; most = b.most; tickets = slice_set b.tickets n None; halted = b.halted }

@@ -2,13 +2,13 @@
 use Rattle.std.specs.Prelude.{ℕ, ◌+◌, List, [], ◌∷◌, ◌++◌, map}
 use Rattle.hd_task.specs.declared.task.Task.{Task}
 use Rattle.hd_task.specs.declared.plan.Kid.{Kid}
-use Rattle.hd_task.specs.declared.plan.TheConstants.{ROOT}
+use Rattle.hd_task.specs.declared.plan.TheConstants.{ROOT_PARENT, ROOT_ACTION}
 use Rattle.hd_task.specs.Plans.{exec}
 use Rattle.hd_task.specs.Expansions.{applicable_at}
 
 -- the root, which names the empty plan
 abbrev pub root : Kid
-root = record { parent = ROOT; action = ROOT }
+root = record { parent = ROOT_PARENT; action = ROOT_ACTION }
 
 -- the kid of an entry and an action
 abbrev pub kid_from : ℕ → ℕ → Kid

@@ -9,7 +9,7 @@ use mathlib.Core.Bool.{beq}
 use Rattle.hd_task.specs.declared.state.State.{State}
 use Rattle.hd_task.specs.declared.task.Task.{Task}
 use Rattle.hd_task.specs.declared.plan.Kid.{Kid}
-use Rattle.hd_task.specs.declared.plan.TheConstants.{ROOT}
+use Rattle.hd_task.specs.declared.plan.TheConstants.{ROOT_PARENT}
 use Rattle.hd_task.specs.Plans.{Node, exec, node}
 use Rattle.hd_task.specs.Expansions.{bound_of}
 use Rattle.hd_task.specs.Entries.{plan_of, plans_of}
@@ -41,7 +41,7 @@ expansions b = unwrap_or (plans_of b.entries) []
 pub record IsKept (b : BookState) : Type 0 where
   pub named : plans_of b.entries ≡ Some (expansions b)
   pub marked : IsMarked b.task zero_estimate (expansions b) b.marks
-  pub short : length b.entries < ROOT
+  pub short : length b.entries < ROOT_PARENT
 
 -- ---- kids of a book
 
@@ -166,6 +166,6 @@ all_settled b outcomes = fold settled b outcomes
 
 -- an outcome is of the book's task
 abbrev pub IsOf : Task → Outcome → Type 0
-IsOf t (Expanded e) = e.task.now ≡ t
+IsOf t (Expanded e) = e.task ≡ t
 IsOf t (Duplicate k by) = Unit {0}
-IsOf t (Bounded k h) = h.task.now ≡ t
+IsOf t (Bounded k h) = h.task ≡ t

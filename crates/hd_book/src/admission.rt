@@ -1,49 +1,46 @@
 //! Whether a batch is refused: the book is only read.
 ghost use Rattle.std.specs.Prelude.{◌≡◌, ◌||◌, true, Some, is_some, [], IfOk, IfSome};
-ghost use Rattle.hd_task.specs.Plans.{IsStateOf, node};
-ghost use Rattle.hd_node.specs.Children.{child_at};
+ghost use Rattle.hd_task.specs.Plans.{IsStateOf, node, step_by};
 ghost use Rattle.hd_node.specs.Outcome.{kid_of};
 ghost use Rattle.hd_book.specs.Settling.{expansions, knows_parent, is_posted, is_marked, node_of, node_by, dominates, reaches, refusal_by, is_settled_by, refusal_of, first_refusal};
-ghost use Rattle.hd_task.specs.Expansions.{bound_of};
+ghost use Rattle.hd_task.specs.Expansions.{is_applicable, bound_of};
 ghost use Rattle.hd_task.specs.declared.plan.Kid.{Kid};
 ghost use Rattle.hd_node.specs.EstimateValue.{estimated};
-ghost use Rattle.hd_book.specs.Holding.{has, state_of, IsHeld};
+ghost use Rattle.hd_book.specs.Holding.{has, node_at, state_of, IsHeld};
 
 use crate::Refusal;
 use crate::content::Content;
-use crate::entry::Best;
-use hd_node::{By, Child, EstimateValue, Outcome};
-use hd_task::{ActionId, Kid, NoMemory, ROOT, Reached, State, Task, step};
+use crate::entry::{Best, Entry, Place};
+use hd_node::{By, EstimateValue, Outcome};
+use hd_task::{ActionId, Kid, NoMemory, ROOT_ACTION, ROOT_PARENT, Reached, State, Task, step};
 use std::alloc::Global;
 use std::collections::HashSet;
 
-/// Where an action leads from a node, if it is applicable there.
-fn child(
+/// Where an action leads from an entry, if it is applicable there.
+fn step_from(
     alloc: Global,
     task: &Task,
-    state: &State,
-    cost: u64,
+    entry: &Entry,
     action: u32,
-) -> Result<Option<Child>, NoMemory>
-    requires of_task { IsStateOf task.now state.now }
-    ensures { IfOk result (λ r. r ≡ child_at task.now (node state.now cost) action) }
+) -> Result<Option<Place>, NoMemory>
+    requires of_task { IsStateOf task.now entry.now.state }
+    ensures applicable { IfOk result (λ r. is_some r
+        ≡ is_applicable task.now (Some (node_at entry.now)) action) }
+    ensures leads { IfOk result (λ r. IfSome r (λ p.
+        step_by task.now (node_at entry.now) action ≡ Some (node p.state p.cost))) }
 {
     if action as usize >= task.actions.len() {
         return Ok(None);
     }
-    match step(alloc, task, state, cost, ActionId(action))? {
+    match step(alloc, task, &entry.state, entry.cost, ActionId(action))? {
         Reached::No => Ok(None),
         Reached::Departs => Ok(None),
-        Reached::Next(state, cost) => Ok(Some(Child {
-            action,
-            state,
-            cost,
-        })),
+        Reached::Next(state, cost) => Ok(Some(Place { state, cost })),
     }
 }
 
-/// Whether a node has a child's state at no greater cost.
-fn is_no_dearer(state: &State, cost: u64, reached: &Child) -> bool
+/// Whether a node has a place's state at no greater cost.
+fn is_no_dearer(state: &State, cost: u64, reached: &Place) -> bool
     ensures { result ≡ dominates (Some (node state.now cost))
         (Some (node reached.now.state reached.now.cost)) }
 {
@@ -55,31 +52,28 @@ impl<'t> Content<'t> {
     fn knows_parent(&self, kid: Kid) -> bool
         ensures { result ≡ knows_parent (state_of self.now) kid }
     {
-        (kid.parent == ROOT && kid.action == ROOT) || (kid.parent as usize) < self.entries.len()
+        (kid.parent == ROOT_PARENT && kid.action == ROOT_ACTION)
+            || (kid.parent as usize) < self.entries.len()
     }
 
     /// Where a kid leads, by the book's own application; `None` where its action is not applicable at its parent.
-    fn reach(&self, alloc: Global, kid: Kid) -> Result<Option<Child>, NoMemory>
+    fn reach(&self, kid: Kid) -> Result<Option<Place>, NoMemory>
         requires held { IsHeld self.now }
         requires known { knows_parent (state_of self.now) kid ≡ true }
         ensures posted { IfOk result (λ r. is_some r ≡ is_posted (state_of self.now) kid) }
         ensures leads { IfOk result (λ r. IfSome r (λ c. node_of (state_of self.now) kid
             ≡ Some (node c.state c.cost))) }
     {
-        if kid.parent == ROOT {
-            let state = self.task.initial.copied(alloc)?;
-            return Ok(Some(Child {
-                action: ROOT,
-                state,
-                cost: 0,
-            }));
+        if kid.parent == ROOT_PARENT {
+            let state = self.task.initial.copied(self.alloc)?;
+            return Ok(Some(Place { state, cost: 0 }));
         }
         let parent = &self.entries[kid.parent as usize];
-        child(alloc, self.task, &parent.state, parent.cost, kid.action)
+        step_from(self.alloc, self.task, parent, kid.action)
     }
 
     /// Whether what a duplicate names has a state at no greater cost.
-    fn dominates(&self, earlier: &[Outcome<'t>], by: By, reached: &Child) -> bool
+    fn dominates(&self, earlier: &[Outcome<'t>], by: By, reached: &Place) -> bool
         requires held { IsHeld self.now }
         ensures { result ≡ dominates (node_by (state_of self.now) earlier.now by)
             (Some (node reached.now.state reached.now.cost)) }
@@ -91,7 +85,7 @@ impl<'t> Content<'t> {
             },
             By::Here(place) => match earlier.get(place) {
                 Some(Outcome::Expanded(better)) => {
-                    is_no_dearer(&better.state, better.cost, reached)
+                    is_no_dearer(better.state(), better.cost(), reached)
                 }
                 Some(Outcome::Duplicate(_, _)) => false,
                 Some(Outcome::Bounded(_, _)) => false,
@@ -101,7 +95,7 @@ impl<'t> Content<'t> {
     }
 
     /// Whether a cost and an estimate reach the bound, or the estimate is infinite.
-    fn reaches(&self, reached: &Child, estimate: EstimateValue) -> bool
+    fn reaches(&self, reached: &Place, estimate: EstimateValue) -> bool
         requires held { IsHeld self.now }
         ensures { result ≡ reaches (bound_of self.now.task.now (expansions (state_of self.now)))
             (Some (node reached.now.state reached.now.cost)) (estimated estimate) }
@@ -120,7 +114,7 @@ impl<'t> Content<'t> {
         &self,
         earlier: &[Outcome<'t>],
         outcome: &Outcome<'t>,
-        reached: &Child,
+        reached: &Place,
     ) -> Option<Refusal>
         requires held { IsHeld self.now }
         requires leads { node_of (state_of self.now) (kid_of outcome.now)
@@ -129,7 +123,7 @@ impl<'t> Content<'t> {
     {
         match outcome {
             Outcome::Expanded(expansion) => {
-                if reached.state == expansion.state && reached.cost == expansion.cost {
+                if reached.state == *expansion.state() && reached.cost == expansion.cost() {
                     None
                 } else {
                     Some(Refusal::StateDiffers)
@@ -143,9 +137,9 @@ impl<'t> Content<'t> {
                 }
             }
             Outcome::Bounded(_, estimate) => {
-                if reached.state != estimate.state {
+                if reached.state != *estimate.state() {
                     Some(Refusal::StateDiffers)
-                } else if self.reaches(reached, estimate.value) {
+                } else if self.reaches(reached, estimate.value()) {
                     None
                 } else {
                     Some(Refusal::BelowBound)
@@ -166,7 +160,6 @@ impl<'t> Content<'t> {
     /// Why an outcome is refused, where `seen` has the kids of the outcomes before it in its batch.
     fn refusal_of(
         &self,
-        alloc: Global,
         seen: &HashSet<Kid>,
         earlier: &[Outcome<'t>],
         outcome: &Outcome<'t>,
@@ -179,7 +172,7 @@ impl<'t> Content<'t> {
         if !self.knows_parent(kid) {
             return Ok(Some(Refusal::UnknownParent));
         }
-        let Some(reached) = self.reach(alloc, kid)? else {
+        let Some(reached) = self.reach(kid)? else {
             return Ok(Some(Refusal::NotAKid));
         };
         if self.is_settled(seen, kid) {
@@ -191,16 +184,15 @@ impl<'t> Content<'t> {
     /// The first refusal of the outcomes of a batch.
     pub(crate) fn first_refusal(
         &self,
-        alloc: Global,
         outcomes: &[Outcome<'t>],
     ) -> Result<Option<Refusal>, NoMemory>
         requires held { IsHeld self.now }
         ensures { IfOk result (λ r. r ≡ first_refusal (state_of self.now) [] outcomes.now) }
     {
-        let mut seen = HashSet::new(alloc);
+        let mut seen = HashSet::new(self.alloc);
         for (place, outcome) in outcomes.iter().enumerate() {
             let earlier = &outcomes[..place];
-            if let Some(refusal) = self.refusal_of(alloc, &seen, earlier, outcome)? {
+            if let Some(refusal) = self.refusal_of(&seen, earlier, outcome)? {
                 return Ok(Some(refusal));
             }
             seen.insert(outcome.kid())?;

@@ -8,8 +8,7 @@ ghost use Rattle.hd_book.specs.Answers.{IsAnswer, IsBoundPlanOf, IsTrueAnswer};
 
 use crate::content::Content;
 use crate::{Counts, Verdict};
-use hd_task::{ActionId, NoMemory, Plan, ROOT};
-use std::alloc::Global;
+use hd_task::{ActionId, NoMemory, Plan, ROOT_PARENT};
 
 impl<'t> Content<'t> {
     /// How far the search has come.
@@ -33,14 +32,14 @@ impl<'t> Content<'t> {
     }
 
     /// The plan that an entry names.
-    fn plan_to(&self, alloc: Global, entry: usize) -> Result<Plan, NoMemory>
+    fn plan_to(&self, entry: usize) -> Result<Plan, NoMemory>
         requires held { IsHeld self.now }
         requires among { entry < length self.now.entries.items }
         ensures { IfOk result (λ p. p ≡ slice_index_or (expansions (state_of self.now)) entry []) }
     {
-        let mut actions = Vec::new(alloc);
+        let mut actions = Vec::new(self.alloc);
         let mut number = entry;
-        while self.entries[number].kid.parent != ROOT {
+        while self.entries[number].kid.parent != ROOT_PARENT {
             let kid = self.entries[number].kid;
             actions.push(ActionId(kid.action))?;
             number = kid.parent as usize;
@@ -50,22 +49,22 @@ impl<'t> Content<'t> {
     }
 
     /// The plan of the bound, if there is a bound.
-    fn best_plan(&self, alloc: Global) -> Result<Option<Plan>, NoMemory>
+    fn best_plan(&self) -> Result<Option<Plan>, NoMemory>
         requires held { IsHeld self.now }
         ensures { IfOk result (IsBoundPlanOf self.now.task.now (expansions (state_of self.now))) }
     {
         match self.best {
-            Some(best) => Ok(Some(self.plan_to(alloc, best.entry)?)),
+            Some(best) => Ok(Some(self.plan_to(best.entry)?)),
             None => Ok(None),
         }
     }
 
     /// The answer, whether or not all is settled.
-    fn answer(&self, alloc: Global) -> Result<Verdict, NoMemory>
+    fn answer(&self) -> Result<Verdict, NoMemory>
         requires held { IsHeld self.now }
         ensures { IfOk result (IsAnswer self.now.task.now (expansions (state_of self.now))) }
     {
-        let plan = self.best_plan(alloc)?;
+        let plan = self.best_plan()?;
         match (self.departure, plan) {
             (Some(departure), plan) => Ok(Verdict::RangeLeft(departure, plan)),
             (None, Some(plan)) => Ok(Verdict::Optimal(plan)),
@@ -74,7 +73,7 @@ impl<'t> Content<'t> {
     }
 
     /// The answer, once all is settled.
-    pub(crate) fn verdict(&self, alloc: Global) -> Result<Option<Verdict>, NoMemory>
+    pub(crate) fn verdict(&self) -> Result<Option<Verdict>, NoMemory>
         requires held { IsHeld self.now }
         ensures over { IfOk result (λ v. is_some v ≡ (settled_count (state_of self.now)
             == length (generated self.now.task.now (expansions (state_of self.now))))) }
@@ -89,6 +88,6 @@ impl<'t> Content<'t> {
         if counts.settled != counts.posted {
             return Ok(None);
         }
-        Ok(Some(self.answer(alloc)?))
+        Ok(Some(self.answer()?))
     }
 }

@@ -30,25 +30,27 @@ impl<'t> Model for Book<'t> {
 impl<'t> Book<'t> {
     ghost use Rattle.std.specs.Prelude.{◌≡◌, ◌<◌, ◌≤◌, ◌^◌, None, true, length, slice_get, is_some, IfOk, IfErr, IfSome, OnOk, OnErr};
     ghost use Rattle.std.specs.Result.{is_ok};
+    ghost use Rattle.hd_task.specs.declared.plan.TheConstants.{ROOT_PARENT};
     ghost use Rattle.hd_task.specs.Expansions.{bound_of};
     ghost use Rattle.hd_book.specs.declared.refusal.Refusal.TheVariants as Refusal;
     ghost use Rattle.std.specs.List.{AllByRecursion};
     ghost use Rattle.hd_book.specs.Settling.{IsOf, expansions, IsKept};
-    ghost use Rattle.hd_book.specs.Holding.{empty_book, GainsEntries, state_after, GainsTicket, ticket_between};
+    ghost use Rattle.hd_book.specs.Holding.{empty_book, BeginsWith, GainsEntries, state_after, GainsTicket, ticket_between};
     ghost use Rattle.hd_book.specs.Holding.{is_acknowledged, posted_count, settled_count, out_at, without};
     ghost use Rattle.hd_book.specs.Refusing.{refusal_to, IsRefusalTo};
     ghost use Rattle.hd_book.specs.Releasing.{IsReleased};
     ghost use Rattle.hd_book.specs.Answers.{is_over, IsCoveredBook, IsAnswerOf, IsTrueAnswer};
 
-    /// The book of a search that has not begun: the root is posted.
+    /// The book of a search that has not begun, which may hold `most` entries: the root is posted.
     ///
     /// # Errors
     /// `NoMemory` where there is no room for it.
-    pub fn new(alloc: Global, task: &'t Task) -> Result<Book<'t>, NoMemory>
-        ensures { IfOk result (λ b. b ≡ empty_book task.now) }
+    pub fn new(alloc: Global, task: &'t Task, most: u64) -> Result<Book<'t>, NoMemory>
+        requires { most < ROOT_PARENT }
+        ensures { IfOk result (λ b. b ≡ empty_book task.now most) }
     {
         Ok(Book {
-            content: Box::new(alloc, Content::new(alloc, task))?,
+            content: Box::new(alloc, Content::new(alloc, task, most))?,
         })
     }
 
@@ -58,14 +60,12 @@ impl<'t> Book<'t> {
     /// # Errors
     /// The batch, and why it is refused: it is as it was, and so is the book. In this order: `Halted`, `Full`, then for each
     /// outcome in order `UnknownParent`, `NotAKid`, `SettledBefore`, `StateDiffers`, `NotDominated`, `BelowBound`. `NoMemory`
-    /// may come in place of each, and of the ticket.
-    pub fn commit(
-        &mut self,
-        alloc: Global,
-        batch: Batch<'t>,
-    ) -> Result<Ticket, (Batch<'t>, Refusal)>
+    /// may come in place of each but the first two, and of the ticket.
+    pub fn commit(&mut self, batch: Batch<'t>) -> Result<Ticket, (Batch<'t>, Refusal)>
         requires of_task { AllByRecursion (IsOf self.old.state.task) batch.outcomes }
         ensures task { self.new.state.task ≡ self.old.state.task }
+        ensures most { self.new.most ≡ self.old.most }
+        ensures begins { BeginsWith self.new.state.entries self.old.state.entries }
         ensures grown { OnOk result (GainsEntries self.old self.new batch.entry.outcomes) }
         ensures accepted { OnOk result (refusal_to self.old batch.entry.outcomes ≡ None) }
         ensures state { OnOk result (self.new.state ≡ state_after self.old batch.entry.outcomes) }
@@ -76,7 +76,7 @@ impl<'t> Book<'t> {
         ensures batch { IfErr result (λ e. e.0 ≡ batch.entry) }
         ensures err { OnErr result (self.new ≡ self.old) }
     {
-        self.content.commit(alloc, batch)
+        self.content.commit(batch)
     }
 
     /// Spends a ticket: what its batch releases, with a receipt of its entries. It takes no memory.
@@ -84,6 +84,9 @@ impl<'t> Book<'t> {
     /// # Errors
     /// `NotOut` where the book has no such ticket out; the ticket is spent, and the book is as it was.
     pub fn redeem(&mut self, ticket: Ticket) -> Result<Redeemed<'t>, Refusal>
+        ensures task { self.new.state.task ≡ self.old.state.task }
+        ensures most { self.new.most ≡ self.old.most }
+        ensures begins { BeginsWith self.new.state.entries self.old.state.entries }
         ensures out { is_ok result ≡ is_some (out_at self.old ticket) }
         ensures released { IfOk result (IsReleased self.old.state.task (out_at self.old ticket)) }
         ensures refused { IfErr result (λ r. r ≡ Refusal.NotOut) }
@@ -112,6 +115,9 @@ impl<'t> Book<'t> {
 
     /// From now on each commit is refused.
     pub fn halt(&mut self)
+        ensures task { self.new.state.task ≡ self.old.state.task }
+        ensures most { self.new.most ≡ self.old.most }
+        ensures begins { BeginsWith self.new.state.entries self.old.state.entries }
         ensures state { self.new.state ≡ self.old.state }
         ensures tickets { self.new.tickets ≡ self.old.tickets }
         ensures halted { self.new.halted ≡ true }
@@ -123,6 +129,7 @@ impl<'t> Book<'t> {
     pub fn counts(&self) -> Counts
         ensures kept { IsKept self.now.state }
         ensures entries { result.entries ≡ length self.now.state.entries }
+        ensures entries_few { result.entries ≤ self.now.most }
         ensures posted { result.posted ≡ posted_count self.now.state }
         ensures settled { result.settled ≡ settled_count self.now.state }
         ensures acknowledged { result.acknowledged ≡ result.entries }
@@ -158,13 +165,13 @@ impl<'t> Book<'t> {
     ///
     /// # Errors
     /// `NoMemory` where there is no room for a plan.
-    pub fn verdict(&self, alloc: Global) -> Result<Option<Verdict>, NoMemory>
+    pub fn verdict(&self) -> Result<Option<Verdict>, NoMemory>
         ensures over { IfOk result (λ v. is_some v ≡ is_over self.now.state) }
         ensures kept { IsKept self.now.state }
         ensures covered { IfOk result (λ v. IfSome v (λ _. IsCoveredBook self.now.state)) }
         ensures answer { IfOk result (λ v. IfSome v (IsAnswerOf self.now.state)) }
         ensures is_true { IfOk result (λ v. IfSome v (IsTrueAnswer self.now.state.task)) }
     {
-        self.content.verdict(alloc)
+        self.content.verdict()
     }
 }

@@ -1,12 +1,12 @@
 //! A commit in two steps: one that may refuse and makes the room, and one that changes the book and can't fail.
-ghost use Rattle.std.specs.Prelude.{◌≡◌, ℕ, ◌+◌, ◌<◌, ◌≤◌, ◌^◌, ◌++◌, ◌||◌, [], ◌∷◌, List, Some, None, vec_len, vec_capacity, length, map, flat_map, option_map, IfOk, IfErr, OnOk, OnErr};
+ghost use Rattle.std.specs.Prelude.{◌≡◌, ℕ, ◌+◌, ◌<◌, ◌≤◌, ◌^◌, ◌++◌, ◌||◌, true, false, [], ◌∷◌, List, Some, None, vec_len, vec_capacity, length, map, flat_map, option_map, IfOk, IfErr, OnOk, OnErr};
 ghost use Rattle.std.specs.List.{AllByRecursion};
 ghost use Rattle.std.specs.HashSet.{spare};
 ghost use Rattle.hd_task.specs.declared.plan.Kid.{Kid};
 ghost use Rattle.hd_book.specs.Settling.{is_settled_by, entry_of, all_settled, IsOf};
-ghost use Rattle.hd_book.specs.Holding.{kid_at, has, parcel_of, released_by, out_of, state_of, view_of, IsParcelOf, IsOutgoingOf, IsHeld};
+ghost use Rattle.hd_book.specs.Holding.{kid_at, has, parcel_of, released_by, out_of, state_of, view_of, BeginsWith, IsParcelOf, IsOutgoingOf, IsHeld};
 ghost use Rattle.hd_book.specs.Growing.{entered_by, best_by, departure_by, kids_in, Releases};
-ghost use Rattle.hd_book.specs.Refusing.{refusal_to, IsRefusalTo};
+ghost use Rattle.hd_book.specs.Refusing.{has_room, refusal_to, IsRefusalTo};
 ghost use Rattle.hd_book.specs.declared.refusal.Refusal.TheVariants as Refusal;
 
 use crate::content::Content;
@@ -14,7 +14,7 @@ use crate::entry::{Entry, Outgoing};
 use crate::settling::{best_after, departure_after, enter, kids_of, push_reserved, settle};
 use crate::{Refusal, Ticket};
 use hd_node::{Batch, Outcome, Parcel};
-use hd_task::{Kid, NoMemory, ROOT, Sequence};
+use hd_task::{Kid, NoMemory, Sequence};
 use std::alloc::Global;
 use std::collections::HashSet;
 
@@ -40,6 +40,7 @@ fn make_room<'t>(
     settled: &mut HashSet<Kid>,
     outcomes: &[Outcome<'t>],
 ) -> Result<Vec<Parcel<'t>>, Refusal>
+    requires fits { kids_in outcomes.now < 2 ^ 64 }
     ensures entries { entries.new.items ≡ entries.old.items }
     ensures tickets { tickets.new.items ≡ tickets.old.items }
     ensures settled { OnErr result (settled.new.keys ≡ settled.old.keys) }
@@ -51,43 +52,38 @@ fn make_room<'t>(
     ensures room_settled { OnOk result (length outcomes.now ≤ spare settled.new) }
     ensures parcels { IfOk result (λ ps. (ps.items ≡ []) × (kids_in outcomes.now ≤ vec_capacity ps)) }
 {
-    let Some(kids) = kids_of(outcomes) else {
-        return Err(Refusal::NoMemory);
-    };
     entries.reserve(count_entries(outcomes))?;
     tickets.reserve(1)?;
-    let parcels = Vec::with_capacity(alloc, kids)?;
+    let parcels = Vec::with_capacity(alloc, kids_of(outcomes))?;
     settled.reserve(outcomes.len())?;
     Ok(parcels)
 }
 
 impl<'t> Content<'t> {
     /// Why a batch of these outcomes is refused, memory aside.
-    fn refusal_to(
-        &self,
-        alloc: Global,
-        outcomes: &[Outcome<'t>],
-    ) -> Result<Option<Refusal>, NoMemory>
+    fn refusal_to(&self, outcomes: &[Outcome<'t>]) -> Result<Option<Refusal>, NoMemory>
         requires held { IsHeld self.now }
-        ensures { IfOk result (λ r. r ≡ refusal_to (view_of self.now) outcomes.now) }
+        ensures answer { IfOk result (λ r. r ≡ refusal_to (view_of self.now) outcomes.now) }
+        // Memory is asked for only where the book is not halted and has room.
+        ensures asked { OnErr result ((self.now.halted ≡ false)
+            × (has_room (view_of self.now) outcomes.now ≡ true)) }
     {
         if self.halted {
             return Ok(Some(Refusal::Halted));
         }
-        if self.entries.len().saturating_add(count_entries(outcomes)) >= ROOT as usize {
+        let entries = self.entries.len() as u64;
+        if entries.saturating_add(count_entries(outcomes) as u64) > self.most {
             return Ok(Some(Refusal::Full));
         }
-        self.first_refusal(alloc, outcomes)
+        self.first_refusal(outcomes)
     }
 
     /// Makes room for a batch of these outcomes, and a `Vec` for the parcels of their kids; or refuses it.
-    pub(crate) fn admit(
-        &mut self,
-        alloc: Global,
-        outcomes: &[Outcome<'t>],
-    ) -> Result<Vec<Parcel<'t>>, Refusal>
+    pub(crate) fn admit(&mut self, outcomes: &[Outcome<'t>]) -> Result<Vec<Parcel<'t>>, Refusal>
         requires held { IsHeld self.old }
+        requires fits { kids_in outcomes.now < 2 ^ 64 }
         ensures task { self.new.task.now ≡ self.old.task.now }
+        ensures most { self.new.most ≡ self.old.most }
         ensures posted { self.new.posted ≡ self.old.posted }
         ensures best { self.new.best ≡ self.old.best }
         ensures departure { self.new.departure ≡ self.old.departure }
@@ -105,11 +101,11 @@ impl<'t> Content<'t> {
         ensures room_settled { OnOk result (length outcomes.now ≤ spare self.new.settled) }
         ensures parcels { IfOk result (λ ps. (ps.items ≡ []) × (kids_in outcomes.now ≤ vec_capacity ps)) }
     {
-        if let Some(refusal) = self.refusal_to(alloc, outcomes)? {
+        if let Some(refusal) = self.refusal_to(outcomes)? {
             return Err(refusal);
         }
         make_room(
-            alloc,
+            self.alloc,
             &mut self.entries,
             &mut self.tickets,
             &mut self.settled,
@@ -122,7 +118,6 @@ impl<'t> Content<'t> {
     /// Answers the number of the commit.
     pub(crate) fn accept(&mut self, outcomes: Vec<Outcome<'t>>, parcels: Vec<Parcel<'t>>) -> u64
         requires of_task { AllByRecursion (IsOf self.old.task.now) outcomes.items }
-        requires fits { vec_len self.old.entries + length (entered_by outcomes.items) ≤ 2 ^ 32 }
         requires room_entries { vec_len self.old.entries + length (entered_by outcomes.items)
             ≤ vec_capacity self.old.entries }
         requires room_tickets { vec_len self.old.tickets < vec_capacity self.old.tickets }
@@ -131,6 +126,7 @@ impl<'t> Content<'t> {
         requires parcels { parcels.items ≡ [] }
         ensures number { result ≡ length self.old.tickets.items }
         ensures task { self.new.task.now ≡ self.old.task.now }
+        ensures most { self.new.most ≡ self.old.most }
         ensures halted { self.new.halted ≡ self.old.halted }
         ensures entries { self.new.entries.items ≡ self.old.entries.items
             ++ entered_by outcomes.entry.items }
@@ -164,15 +160,14 @@ impl<'t> Content<'t> {
     }
 
     /// Takes a batch, or refuses it, as [`crate::Book::commit`] says.
-    pub(crate) fn commit(
-        &mut self,
-        alloc: Global,
-        batch: Batch<'t>,
-    ) -> Result<Ticket, (Batch<'t>, Refusal)>
+    pub(crate) fn commit(&mut self, batch: Batch<'t>) -> Result<Ticket, (Batch<'t>, Refusal)>
         requires held { IsHeld self.old }
         requires of_task { AllByRecursion (IsOf self.old.task.now) batch.outcomes }
         ensures held { IsHeld self.new }
         ensures task { self.new.task.now ≡ self.old.task.now }
+        ensures most { self.new.most ≡ self.old.most }
+        ensures begins { BeginsWith (map kid_at self.new.entries.items)
+            (map kid_at self.old.entries.items) }
         ensures grown { OnOk result (map kid_at self.new.entries.items
             ≡ map kid_at self.old.entries.items ++ flat_map entry_of batch.entry.outcomes) }
         ensures accepted { OnOk result (refusal_to (view_of self.old) batch.entry.outcomes ≡ None) }
@@ -197,7 +192,7 @@ impl<'t> Content<'t> {
         ensures batch { IfErr result (λ e. e.0 ≡ batch.entry) }
         ensures err { OnErr result (view_of self.new ≡ view_of self.old) }
     {
-        match self.admit(alloc, batch.outcomes.as_slice()) {
+        match self.admit(batch.outcomes.as_slice()) {
             Ok(parcels) => {
                 let first = self.entries.len() as u64;
                 let number = self.accept(batch.outcomes.into_vec(), parcels);

@@ -8,6 +8,9 @@ use std::collections::HashSet;
 #[derive(Debug, Drop)]
 pub(crate) struct Content<'t> {
     pub(crate) task: &'t Task,
+    pub(crate) alloc: Global,
+    /// How many entries there may be.
+    pub(crate) most: u64,
     pub(crate) entries: Vec<Entry>,
     /// The kids that are settled.
     pub(crate) settled: HashSet<Kid>,
@@ -25,8 +28,9 @@ impl<'t> Content<'t> {
     ghost use Rattle.std.specs.Prelude.{◌≡◌, [], None, false};
 
     /// The parts of a book without entries.
-    pub(crate) fn new(alloc: Global, task: &'t Task) -> Content<'t>
+    pub(crate) fn new(alloc: Global, task: &'t Task, most: u64) -> Content<'t>
         ensures task { result.task.now ≡ task.now }
+        ensures most { result.most ≡ most }
         ensures entries { result.entries.items ≡ [] }
         ensures settled { result.settled.keys ≡ [] }
         ensures posted { result.posted ≡ 1 }
@@ -37,6 +41,8 @@ impl<'t> Content<'t> {
     {
         Content {
             task,
+            alloc,
+            most,
             entries: Vec::new(alloc),
             settled: HashSet::new(alloc),
             posted: 1,

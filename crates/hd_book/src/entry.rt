@@ -10,6 +10,13 @@ pub(crate) struct Entry {
     pub(crate) cost: u64,
 }
 
+/// Where a kid leads, and what its plan costs.
+#[derive(Debug, Drop)]
+pub(crate) struct Place {
+    pub(crate) state: State,
+    pub(crate) cost: u64,
+}
+
 /// The bound, and the least-numbered entry at it.
 #[derive(Clone, Copy, Debug)]
 pub(crate) struct Best {

@@ -2,7 +2,7 @@
 ghost use Rattle.std.specs.Prelude.{◌≡◌, ℕ, ◌<◌, ◌++◌, false, true, [], ◌∷◌, List, All, Some, None, map, length, flat_map};
 ghost use Rattle.std.specs.List.{AllByRecursion};
 ghost use Rattle.hd_task.specs.declared.task.Task.{Task};
-ghost use Rattle.hd_task.specs.declared.plan.TheConstants.{ROOT};
+ghost use Rattle.hd_task.specs.declared.plan.TheConstants.{ROOT_PARENT};
 ghost use Rattle.hd_task.specs.Plans.{exec};
 ghost use Rattle.hd_task.specs.Expansions.{generated, goal_cost, bound_of, departures_of};
 ghost use Rattle.hd_task.specs.Entries.{plan_of};
@@ -15,10 +15,10 @@ ghost use Rattle.hd_book.specs.Settling.{BookState, expansions, IsKept, IsOf, en
 /// What a book posts names what its expansions generate, in order: a kid is a place in both.
 pub fn kids_name_plans()
     ensures names { (t : Task) (expanded : List (List ℕ))
-        → length expanded < ROOT
+        → length expanded < ROOT_PARENT
         → map (plan_of expanded) (posted_by t expanded) ≡ map Some (generated t expanded) }
     ensures count { (t : Task) (expanded : List (List ℕ))
-        → length expanded < ROOT → length (posted_by t expanded) ≡ length (generated t expanded) }
+        → length expanded < ROOT_PARENT → length (posted_by t expanded) ≡ length (generated t expanded) }
 {}
 
 /// A book without entries is kept, and so is each book after a batch that is not refused: no batch can make a book hold what
@@ -27,7 +27,7 @@ pub fn books_are_kept()
     ensures first { (t : Task) → IsKept (record { task = t; entries = []; marks = false ∷ [] }) }
     ensures batch { (b : BookState) (outcomes : List Outcome)
         → IsKept b → AllByRecursion (IsOf b.task) outcomes → first_refusal b [] outcomes ≡ None
-        → length (all_settled b outcomes).entries < ROOT → IsKept (all_settled b outcomes) }
+        → length (all_settled b outcomes).entries < ROOT_PARENT → IsKept (all_settled b outcomes) }
     ensures entries { (b : BookState) (outcomes : List Outcome)
         → (all_settled b outcomes).entries ≡ b.entries ++ flat_map entry_of outcomes }
 {}

@@ -2,7 +2,7 @@
 ghost use Rattle.std.specs.Prelude.{◌≡◌, map, slice_set, is_some, option_map, None, IfOk, IfErr, OnOk, OnErr};
 ghost use Rattle.std.specs.Result.{is_ok};
 ghost use Rattle.hd_book.specs.declared.refusal.Refusal.TheVariants as Refusal;
-ghost use Rattle.hd_book.specs.Holding.{out_at, out_of, view_of, without, IsHeld};
+ghost use Rattle.hd_book.specs.Holding.{out_at, out_of, state_of, view_of, without, IsHeld};
 ghost use Rattle.hd_book.specs.Releasing.{IsReleased};
 
 use crate::content::Content;
@@ -28,6 +28,8 @@ impl<'t> Content<'t> {
     pub(crate) fn redeem(&mut self, ticket: Ticket) -> Result<Redeemed<'t>, Refusal>
         requires held { IsHeld self.old }
         ensures held { IsHeld self.new }
+        ensures state { state_of self.new ≡ state_of self.old }
+        ensures most { self.new.most ≡ self.old.most }
         ensures out { is_ok result ≡ is_some (out_at (view_of self.old) ticket) }
         ensures released { IfOk result (IsReleased self.old.task.now (out_at (view_of self.old) ticket)) }
         ensures refused { IfErr result (λ r. r ≡ Refusal.NotOut) }

@@ -1,12 +1,12 @@
 //! What an accepted batch does to the parts of a book. Nothing here asks for memory: the room was made before.
-ghost use Rattle.std.specs.Prelude.{◌≡◌, ℕ, ◌+◌, ◌<◌, ◌≤◌, ◌^◌, ◌++◌, ◌||◌, if◌then◌else◌, [], ◌∷◌, List, Some, vec_len, vec_capacity, length, map, slice_get, option_map, IfSome};
+ghost use Rattle.std.specs.Prelude.{◌≡◌, ℕ, ◌+◌, ◌<◌, ◌≤◌, ◌^◌, ◌++◌, ◌||◌, if◌then◌else◌, [], ◌∷◌, List, Some, vec_len, vec_capacity, length, map, slice_get, option_map};
 ghost use Rattle.std.specs.List.{AllByRecursion};
 ghost use Rattle.std.specs.HashSet.{spare};
 ghost use Rattle.hd_task.specs.declared.plan.Kid.{Kid};
 ghost use Rattle.hd_task.specs.Applying.{says_yes};
 ghost use Rattle.hd_task.specs.Expansions.{goal_cost, departure_at};
 ghost use Rattle.hd_task.specs.Plans.{IsStateOf, node};
-ghost use Rattle.hd_node.specs.declared.expansion.Child.{Child};
+ghost use Rattle.hd_node.specs.Children.{ChildView};
 ghost use Rattle.hd_book.specs.Settling.{is_settled_by, entry_of, IsOf};
 ghost use Rattle.hd_book.specs.Holding.{has, parcel_of, released_from, released_at, released_by, IsParcelOf};
 ghost use Rattle.hd_book.specs.Growing.{entered, entered_by, better, best_by, departure_by, kids_at, kids_in};
@@ -14,29 +14,30 @@ ghost use Rattle.hd_book.specs.Growing.{entered, entered_by, better, best_by, de
 use crate::content::Content;
 use crate::entry::{Best, Entry};
 use hd_node::{Child, Expansion, Outcome, Parcel};
-use hd_task::{Departure, GoalTest, Kid, Task, goal};
+use hd_task::{Departure, GoalTest, Kid, Task};
 use std::collections::HashSet;
 
-/// How many kids the expansions among outcomes have, if a `usize` holds the number.
-pub(crate) fn kids_of(outcomes: &[Outcome]) -> Option<usize>
-    ensures { IfSome result (λ n. n ≡ kids_in outcomes.now) }
+/// How many kids the expansions among outcomes have.
+pub(crate) fn kids_of(outcomes: &[Outcome]) -> usize
+    requires fits { kids_in outcomes.now < 2 ^ 64 }
+    ensures { result ≡ kids_in outcomes.now }
 {
     let mut count = 0usize;
     for outcome in outcomes {
         if let Outcome::Expanded(expansion) = outcome {
-            count = count.checked_add(expansion.children.len())?;
+            count += expansion.children().len();
         }
     }
-    Some(count)
+    count
 }
 
 /// What an expansion costs, if it meets the goal.
 fn goal_cost(expansion: &Expansion) -> Option<u64>
-    ensures { result ≡ goal_cost expansion.now.task.now
+    ensures { result ≡ goal_cost expansion.now.task
         (Some (node expansion.now.state expansion.now.cost)) }
 {
-    match goal(expansion.task, &expansion.state) {
-        GoalTest::Yes => Some(expansion.cost),
+    match expansion.goal() {
+        GoalTest::Yes => Some(expansion.cost()),
         GoalTest::No => None,
         GoalTest::Departs => None,
     }
@@ -101,7 +102,7 @@ pub(crate) fn departure_after(
 fn first_departure(expansion: &Expansion, entry: u64) -> Option<Departure>
     ensures { result ≡ option_map (departure_at entry) (slice_get expansion.now.departures 0) }
 {
-    match expansion.departures.as_slice().first() {
+    match expansion.departures().first() {
         Some(by) => Some(Departure { entry, by: *by }),
         None => None,
     }
@@ -134,9 +135,9 @@ pub(crate) fn push_reserved<T: Drop>(items: &mut Vec<T>, item: T)
 }
 
 /// Pushes the kids of an entry as parcels.
-fn release<'t>(parcels: &mut Vec<Parcel<'t>>, task: &'t Task, entry: u32, children: Vec<Child>)
+fn release<'t>(parcels: &mut Vec<Parcel<'t>>, task: &'t Task, entry: u64, children: Vec<Child>)
     requires room { vec_len parcels.old + length children.items ≤ vec_capacity parcels.old }
-    requires of_task { AllByRecursion (λ (c : Child). IsStateOf task.now c.state) children.items }
+    requires of_task { AllByRecursion (λ (c : ChildView). IsStateOf task.now c.state) children.items }
     requires tasks { AllByRecursion (IsParcelOf task.now) parcels.old.items }
     ensures released { map parcel_of parcels.new.items ≡ map parcel_of parcels.old.items
         ++ map (released_from entry) children.items }
@@ -145,32 +146,21 @@ fn release<'t>(parcels: &mut Vec<Parcel<'t>>, task: &'t Task, entry: u32, childr
     ensures tasks { AllByRecursion (IsParcelOf task.now) parcels.new.items }
 {
     for child in children {
-        let kid = Kid {
-            parent: entry,
-            action: child.action,
-        };
-        push_reserved(
-            parcels,
-            Parcel {
-                task,
-                kid,
-                state: child.state,
-                cost: child.cost,
-            },
-        );
+        push_reserved(parcels, Parcel::of_child(task, entry, child));
     }
 }
 
 /// Adds an expansion to the entries, and its kids to the parcels.
 fn enter_expansion<'t>(
+    task: &'t Task,
     entries: &mut Vec<Entry>,
     parcels: &mut Vec<Parcel<'t>>,
     expansion: Expansion<'t>,
 )
+    requires of_task { expansion.task ≡ task.now }
     requires room { vec_len entries.old < vec_capacity entries.old }
-    requires fits { vec_len entries.old < 2 ^ 32 }
     requires parcels { vec_len parcels.old + length expansion.children ≤ vec_capacity parcels.old }
-    requires tasks { AllByRecursion (IsParcelOf expansion.task.now) parcels.old.items }
+    requires tasks { AllByRecursion (IsParcelOf task.now) parcels.old.items }
     ensures entries { entries.new.items ≡ entries.old.items
         ++ record {
           kid = expansion.entry.kid;
@@ -182,19 +172,19 @@ fn enter_expansion<'t>(
         ++ map (released_from (vec_len entries.old)) expansion.entry.children }
     ensures len { vec_len parcels.new ≡ vec_len parcels.old + length expansion.entry.children }
     ensures capacity { vec_capacity parcels.old ≤ vec_capacity parcels.new }
-    ensures tasks { AllByRecursion (IsParcelOf expansion.entry.task.now) parcels.new.items }
+    ensures tasks { AllByRecursion (IsParcelOf task.now) parcels.new.items }
 {
-    let Expansion {
-        task,
-        kid,
-        state,
-        cost,
-        children,
-        ..
-    } = expansion;
-    let entry = entries.len() as u32;
-    release(parcels, task, entry, children.into_vec());
-    push_reserved(entries, Entry { kid, state, cost });
+    let parts = expansion.into_parts();
+    let entry = entries.len() as u64;
+    release(parcels, task, entry, parts.children.into_vec());
+    push_reserved(
+        entries,
+        Entry {
+            kid: parts.kid,
+            state: parts.state,
+            cost: parts.cost,
+        },
+    );
 }
 
 /// Adds an outcome to the entries, if it is an expansion, and its kids to the parcels.
@@ -206,7 +196,6 @@ fn enter_outcome<'t>(
 )
     requires of_task { IsOf task.now outcome }
     requires room { vec_len entries.old + length (entered outcome) ≤ vec_capacity entries.old }
-    requires fits { vec_len entries.old + length (entered outcome) ≤ 2 ^ 32 }
     requires parcels { vec_len parcels.old + kids_at outcome ≤ vec_capacity parcels.old }
     requires tasks { AllByRecursion (IsParcelOf task.now) parcels.old.items }
     ensures entries { entries.new.items ≡ entries.old.items ++ entered outcome.entry }
@@ -219,7 +208,7 @@ fn enter_outcome<'t>(
     ensures tasks { AllByRecursion (IsParcelOf task.now) parcels.new.items }
 {
     match outcome {
-        Outcome::Expanded(expansion) => enter_expansion(entries, parcels, expansion),
+        Outcome::Expanded(expansion) => enter_expansion(task, entries, parcels, expansion),
         Outcome::Duplicate(_, _) => {}
         Outcome::Bounded(_, _) => {}
     }
@@ -235,7 +224,6 @@ pub(crate) fn enter<'t>(
     requires of_task { AllByRecursion (IsOf task.now) outcomes.items }
     requires room { vec_len entries.old + length (entered_by outcomes.items)
         ≤ vec_capacity entries.old }
-    requires fits { vec_len entries.old + length (entered_by outcomes.items) ≤ 2 ^ 32 }
     requires parcels { vec_len parcels.old + kids_in outcomes.items ≤ vec_capacity parcels.old }
     requires tasks { AllByRecursion (IsParcelOf task.now) parcels.old.items }
     ensures entries { entries.new.items ≡ entries.old.items ++ entered_by outcomes.entry.items }

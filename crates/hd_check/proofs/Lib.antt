@@ -1,11 +1,9 @@
 pub mod Apart
 pub mod Arguments
 pub mod Bodies
-pub mod Changed
 pub mod CheckedTasks
 pub mod Faultless
 pub mod FirstValues
-pub mod FluentKeys
 pub mod HaveTypes
 pub mod MetricNames
 pub mod MetricUse

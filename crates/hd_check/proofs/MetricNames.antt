@@ -1,8 +1,8 @@
 -- In texts without a fault the metric's function is used as a cost alone.
 use Rattle.hd_base.proofs.Tests.{position_or_len-lt}
 use Rattle.hd_base.proofs.Options.{false-from_none, option_or_none, true-from_none}
-use Rattle.std.proofs.Common.{◌≡◌, ◌≢◌, ℕ, ◌==◌, Bool, true, false, not, List, [], ◌∷◌, ◌++◌, map, length, get_or, Option, Some, None, refl, sym, ap, ◌∙◌, subst, eq-eqb}
-use Rattle.std.proofs.lemmas.Bool.{false≢true, lt-ltb, ne_eqb, not-true}
+use Rattle.std.proofs.Common.{◌≡◌, ◌≢◌, ℕ, ◌==◌, Bool, true, false, not, List, [], ◌∷◌, ◌++◌, map, length, get_or, Option, Some, None, refl, sym, ap, ◌∙◌, eq-eqb}
+use Rattle.std.proofs.lemmas.Bool.{false≢true, lt-ltb, ne_eqb}
 use Rattle.std.proofs.lemmas.Option.{none-some}
 use Rattle.std.proofs.lemmas.List.Quantifiers.{position-Some}
 use Rattle.std.proofs.lemmas.Slice.Eq.{bytes_eq-Decides}
@@ -24,7 +24,6 @@ use Rattle.hd_terms.specs.declared.tree.Leaf.TheVariants.{Number, Fluent}
 use Rattle.hd_pddl.specs.declared.tree.Action.{Action}
 use Rattle.hd_pddl.specs.declared.tree.Init.{Init}
 use Rattle.hd_pddl.specs.declared.tree.Init.TheVariants as inits
-use Rattle.hd_lifted.specs.declared.schema.Schema.{Schema}
 use Rattle.hd_lifted.specs.declared.task.InitialValue.{InitialValue}
 use Rattle.hd_lifted.specs.Effects.{is_cost}
 use Rattle.hd_names.specs.declared.fault.Fault.TheVariants.{UnknownName}
@@ -38,13 +37,13 @@ use Rattle.hd_check.specs.Conditions.{part_fault, condition_fault, comparisons_i
 use Rattle.hd_check.specs.Effects.{effect_fault, effects_fault, change_fault, is_metric, lifted_change, lifted_effect, changes_in}
 use Rattle.hd_check.specs.Schemas.{parameters_in, body_fault, action_fault, actions_fault, schema_with, lifted_schema}
 use Rattle.hd_check.specs.Initial.{fluent_of, values_in}
-use Rattle.hd_metric.specs.Metric.{read_in, read_by_part, read_by_condition, is_fixed, change_of_metric, misused_by_change, misused_by_effect, misused_by_action, misused_by_actions}
-use Rattle.hd_lifted.specs.MetricUse.{IsFreeOf, ComparesWithout, IsFixed, LeavesAlone, AmountFits, IsCostOf, CountsCost}
+use Rattle.hd_metric.specs.Metric.{read_in, read_by_part, read_by_condition, change_of_metric, misused_by_change, misused_by_effect, misused_by_action, misused_by_actions}
+use Rattle.hd_lifted.specs.MetricUse.{IsFreeOf, ComparesWithout, IsCostOf, CountsCost}
 
 -- ---- numbers of names
 
 -- a name that is one of these has a place
-pub position-there : (names : List (List ℕ)) (n : List ℕ) → is_named names n ≡ true → position (bytes_eq n) names ≡ Some (number_in names n)
+position-there : (names : List (List ℕ)) (n : List ℕ) → is_named names n ≡ true → position (bytes_eq n) names ≡ Some (number_in names n)
 position-there names n e =
     let lt = position_or_len-lt (bytes_eq n) names e in
     rw (lt-ltb (prefix_len (λ x. not (bytes_eq n x)) names) (length names) lt) refl
@@ -63,11 +62,11 @@ same_number : (names : List (List ℕ)) (m n : List ℕ) (f : ℕ) → position 
 same_number names m n f is same =
     ap (λ (k : List ℕ). number_in names k) ((bytes_eq-Decides n m).0 same) ∙ ap or_zero is
 
-pub other_number : (names : List (List ℕ)) (m n : List ℕ) (f : ℕ) → position (bytes_eq m) names ≡ Some f → is_named names n ≡ true
+other_number : (names : List (List ℕ)) (m n : List ℕ) (f : ℕ) → position (bytes_eq m) names ≡ Some f → is_named names n ≡ true
     → bytes_eq n m ≡ false → number_in names n ≢ f
 other_number names m n f is named other same = false≢true (sym other ∙ same_name names m n f is named same)
 
-pub fluent_named : (s : Scope) (ps : Table ℕ) (a : Atom) → applied_fault s.functions s ps a ≡ None → is_named s.functions.names a.name.name ≡ true
+fluent_named : (s : Scope) (ps : Table ℕ) (a : Atom) → applied_fault s.functions s ps a ≡ None → is_named s.functions.names a.name.name ≡ true
 fluent_named s ps a e =
     let parts = option_or_none (unknown_in kinds.Name s.functions.names a.name) (arity_fault s.functions a or arguments_fault s ps a.terms (parameters_of s.functions a.name)) e in
     true-from_none (is_named s.functions.names a.name.name) (UnknownName (spelled kinds.Name a.name.name) a.name.at) parts.0
@@ -107,20 +106,6 @@ compares_not s ps m f is (conditions.Compare c ∷ cs) e r =
 
 -- ---- what changes it
 
--- a function whose name is none of these is changed by no schema
-abbrev pub AreAlone : Scope → List (List ℕ) → List Schema → Type 0
-AreAlone s changed schemas =
-    (n : List ℕ) → is_named s.functions.names n ≡ true → is_named changed n ≡ false
-    → AllByRecursion (LeavesAlone (number_in s.functions.names n)) schemas
-
-plain : (changed : List (List ℕ)) (schemas : List Schema) (s : Scope) (ps : Table ℕ) → AreAlone s changed schemas → (x : trees.Expression Leaf)
-    → expression_fault s ps x ≡ None → is_fixed changed x ≡ true → IsFixed schemas (lifted_expression s ps x)
-plain changed schemas s ps alone (trees.leaf (Number v at)) none e = tt
-plain changed schemas s ps alone (trees.leaf (Fluent a)) none e =
-    alone a.name.name (fluent_named s ps a none) (not-true (is_named changed a.name.name) e)
-plain changed schemas s ps alone (trees.negate x) none e = absurd (false≢true e)
-plain changed schemas s ps alone (trees.binary o x y) none e = absurd (false≢true e)
-
 -- only an increase of the metric is a cost
 not_cost : (w : words.Change) → is_cost (lifted_change false w) ≡ false
 not_cost changes.Assign = refl
@@ -128,34 +113,35 @@ not_cost changes.ScaleUp = refl
 not_cost changes.Increase = refl
 not_cost changes.Decrease = refl
 
-a_cost : (changed : List (List ℕ)) (c : FluentChange) (w : words.Change) → change_of_metric changed c w ≡ None
-    → (is_cost (lifted_change true w) ≡ true) × (is_fixed changed c.amount ≡ true)
-a_cost changed c changes.Assign e = absurd (none-some c.fluent.name.at (sym e))
-a_cost changed c changes.ScaleUp e = absurd (none-some c.fluent.name.at (sym e))
-a_cost changed c changes.Increase e = (refl, true-from_none (is_fixed changed c.amount) c.at e)
-a_cost changed c changes.Decrease e = absurd (none-some c.fluent.name.at (sym e))
+a_cost : (m : List ℕ) (c : FluentChange) (w : words.Change) → change_of_metric m c w ≡ None
+    → (is_cost (lifted_change true w) ≡ true) × (read_in m c.amount ≡ None)
+a_cost m c changes.Assign e = absurd (none-some c.fluent.name.at (sym e))
+a_cost m c changes.ScaleUp e = absurd (none-some c.fluent.name.at (sym e))
+a_cost m c changes.Increase e = (refl, e)
+a_cost m c changes.Decrease e = absurd (none-some c.fluent.name.at (sym e))
 
-counts : (s : Scope) (ps : Table ℕ) (m : List ℕ) (f : ℕ) (changed : List (List ℕ)) (schemas : List Schema) → AreAlone s changed schemas → position (bytes_eq m) s.functions.names ≡ Some f
-    → s.metric ≡ Some f → (c : FluentChange) → change_fault s ps c ≡ None → misused_by_change changed m c ≡ None
-    → IsCostOf schemas f (lifted_effect s ps c)
-counts s ps m f changed schemas alone is metric c e r = by (bytes_eq c.fluent.name.name m) refl where
-  by : (b : Bool) → bytes_eq c.fluent.name.name m ≡ b → IsCostOf schemas f (lifted_effect s ps c)
+counts : (s : Scope) (ps : Table ℕ) (m : List ℕ) (f : ℕ) → position (bytes_eq m) s.functions.names ≡ Some f
+    → s.metric ≡ Some f → (c : FluentChange) → change_fault s ps c ≡ None → misused_by_change m c ≡ None
+    → IsCostOf f (lifted_effect s ps c)
+counts s ps m f is metric c e r = by (bytes_eq c.fluent.name.name m) refl where
+  by : (b : Bool) → bytes_eq c.fluent.name.name m ≡ b → IsCostOf f (lifted_effect s ps c)
   by true same =
-      let told : change_of_metric changed c c.change ≡ None =
-      sym (ap (λ (b : Bool). if b then change_of_metric changed c c.change else read_in m c.amount) same) ∙ r in
+      let told : change_of_metric m c c.change ≡ None =
+      sym (ap (λ (b : Bool). if b then change_of_metric m c c.change else read_in m c.amount) same) ∙ r in
+      let parts = option_or_none (applied_fault s.functions s ps c.fluent) (expression_fault s ps c.amount) e in
       let number : number_in s.functions.names c.fluent.name.name ≡ f = same_number s.functions.names m c.fluent.name.name f is same in
-      let both = a_cost changed c c.change told in
+      let both = a_cost m c c.change told in
       let here : is_metric s.metric (number_in s.functions.names c.fluent.name.name) ≡ true =
       ap (λ (o : Option ℕ). is_metric o (number_in s.functions.names c.fluent.name.name)) metric ∙ eq-eqb f (number_in s.functions.names c.fluent.name.name) (sym number) in
       let cost : is_cost (lifted_change (is_metric s.metric (number_in s.functions.names c.fluent.name.name)) c.change) ≡ true =
       ap (λ (b : Bool). is_cost (lifted_change b c.change)) here ∙ both.0 in
       record {
         cost = cost ∙ sym (eq-eqb (number_in s.functions.names c.fluent.name.name) f number);
-        amount = subst (λ (b : Bool). AmountFits schemas f b (lifted_expression s ps c.amount)) (sym cost) (plain changed schemas s ps alone c.amount (option_or_none (applied_fault s.functions s ps c.fluent) (expression_fault s ps c.amount) e).1 both.1);
+        amount = reads_not s ps m f is c.amount parts.1 both.1;
       }
   by false other =
       let told : read_in m c.amount ≡ None =
-      sym (ap (λ (b : Bool). if b then change_of_metric changed c c.change else read_in m c.amount) other) ∙ r in
+      sym (ap (λ (b : Bool). if b then change_of_metric m c c.change else read_in m c.amount) other) ∙ r in
       let parts = option_or_none (applied_fault s.functions s ps c.fluent) (expression_fault s ps c.amount) e in
       let number = other_number s.functions.names m c.fluent.name.name f is (fluent_named s ps c.fluent parts.0) other in
       let here : is_metric s.metric (number_in s.functions.names c.fluent.name.name) ≡ false =
@@ -165,50 +151,50 @@ counts s ps m f changed schemas alone is metric c e r = by (bytes_eq c.fluent.na
       ap (λ (b : Bool). is_cost (lifted_change b c.change)) here ∙ not_cost c.change in
       record {
         cost = cost ∙ sym (ne_eqb (number_in s.functions.names c.fluent.name.name) f number);
-        amount = subst (λ (b : Bool). AmountFits schemas f b (lifted_expression s ps c.amount)) (sym cost) (reads_not s ps m f is c.amount parts.1 told);
+        amount = reads_not s ps m f is c.amount parts.1 told;
       }
 
-changes_count : (s : Scope) (ps : Table ℕ) (m : List ℕ) (f : ℕ) (changed : List (List ℕ)) (schemas : List Schema) → AreAlone s changed schemas → position (bytes_eq m) s.functions.names ≡ Some f
-    → s.metric ≡ Some f → (es : List Effect) → effects_fault s ps es ≡ None → misused_by_effect changed m es ≡ None
-    → AllByRecursion (IsCostOf schemas f) (changes_in s ps es)
-changes_count s ps m f changed schemas alone is metric [] e r = tt
-changes_count s ps m f changed schemas alone is metric (effects.Add a ∷ es) e r =
-    changes_count s ps m f changed schemas alone is metric es (option_or_none (effect_fault s ps (effects.Add a)) (effects_fault s ps es) e).1 r
-changes_count s ps m f changed schemas alone is metric (effects.Delete a ∷ es) e r =
-    changes_count s ps m f changed schemas alone is metric es (option_or_none (effect_fault s ps (effects.Delete a)) (effects_fault s ps es) e).1 r
-changes_count s ps m f changed schemas alone is metric (effects.Change c ∷ es) e r =
+changes_count : (s : Scope) (ps : Table ℕ) (m : List ℕ) (f : ℕ) → position (bytes_eq m) s.functions.names ≡ Some f
+    → s.metric ≡ Some f → (es : List Effect) → effects_fault s ps es ≡ None → misused_by_effect m es ≡ None
+    → AllByRecursion (IsCostOf f) (changes_in s ps es)
+changes_count s ps m f is metric [] e r = tt
+changes_count s ps m f is metric (effects.Add a ∷ es) e r =
+    changes_count s ps m f is metric es (option_or_none (effect_fault s ps (effects.Add a)) (effects_fault s ps es) e).1 r
+changes_count s ps m f is metric (effects.Delete a ∷ es) e r =
+    changes_count s ps m f is metric es (option_or_none (effect_fault s ps (effects.Delete a)) (effects_fault s ps es) e).1 r
+changes_count s ps m f is metric (effects.Change c ∷ es) e r =
     let parts = option_or_none (change_fault s ps c) (effects_fault s ps es) e in
-    let uses = option_or_none (misused_by_change changed m c) (misused_by_effect changed m es) r in
-    (counts s ps m f changed schemas alone is metric c parts.0 uses.0, changes_count s ps m f changed schemas alone is metric es parts.1 uses.1)
+    let uses = option_or_none (misused_by_change m c) (misused_by_effect m es) r in
+    (counts s ps m f is metric c parts.0 uses.0, changes_count s ps m f is metric es parts.1 uses.1)
 
-schema_counts : (s : Scope) (ps : Table ℕ) (m : List ℕ) (f : ℕ) (changed : List (List ℕ)) (schemas : List Schema) → AreAlone s changed schemas → position (bytes_eq m) s.functions.names ≡ Some f
-    → s.metric ≡ Some f → (a : Action) → body_fault s ps a ≡ None → misused_by_action changed m a ≡ None → CountsCost schemas f (schema_with s ps a)
+schema_counts : (s : Scope) (ps : Table ℕ) (m : List ℕ) (f : ℕ) → position (bytes_eq m) s.functions.names ≡ Some f
+    → s.metric ≡ Some f → (a : Action) → body_fault s ps a ≡ None → misused_by_action m a ≡ None → CountsCost f (schema_with s ps a)
 unfolding body_fault schema_with
-schema_counts s ps m f changed schemas alone is metric a e r =
+schema_counts s ps m f is metric a e r =
     let parts = option_or_none (condition_fault s ps a.precondition) (effects_fault s ps a.effect) e in
-    let uses = option_or_none (read_by_condition m a.precondition) (misused_by_effect changed m a.effect) r in
+    let uses = option_or_none (read_by_condition m a.precondition) (misused_by_effect m a.effect) r in
     record {
       comparisons = compares_not s ps m f is a.precondition parts.0 uses.0;
-      effects = changes_count s ps m f changed schemas alone is metric a.effect parts.1 uses.1;
+      effects = changes_count s ps m f is metric a.effect parts.1 uses.1;
     }
 
-action_counts : (s : Scope) (m : List ℕ) (f : ℕ) (changed : List (List ℕ)) (schemas : List Schema) → AreAlone s changed schemas → position (bytes_eq m) s.functions.names ≡ Some f
-    → s.metric ≡ Some f → (a : Action) → action_fault s a ≡ None → misused_by_action changed m a ≡ None → CountsCost schemas f (lifted_schema s a)
+action_counts : (s : Scope) (m : List ℕ) (f : ℕ) → position (bytes_eq m) s.functions.names ≡ Some f
+    → s.metric ≡ Some f → (a : Action) → action_fault s a ≡ None → misused_by_action m a ≡ None → CountsCost f (lifted_schema s a)
 unfolding action_fault lifted_schema
-action_counts s m f changed schemas alone is metric a e r =
+action_counts s m f is metric a e r =
     let parts = option_or_none (declared_fault kinds.Variable s.types [] a.parameters) (body_fault s (parameters_in s a) a) e in
-    schema_counts s (parameters_in s a) m f changed schemas alone is metric a parts.1 r
+    schema_counts s (parameters_in s a) m f is metric a parts.1 r
 
 -- actions that use the metric's function as they may
-pub actions_count : (s : Scope) (m : List ℕ) (f : ℕ) (changed : List (List ℕ)) (schemas : List Schema) → AreAlone s changed schemas → position (bytes_eq m) s.functions.names ≡ Some f
+pub actions_count : (s : Scope) (m : List ℕ) (f : ℕ) → position (bytes_eq m) s.functions.names ≡ Some f
     → s.metric ≡ Some f → (names : List (List ℕ)) (as' : List Action) → actions_fault s names as' ≡ None
-    → misused_by_actions changed m as' ≡ None → AllByRecursion (CountsCost schemas f) (map (lifted_schema s) as')
-actions_count s m f changed schemas alone is metric names [] e r = tt
-actions_count s m f changed schemas alone is metric names (a ∷ as') e r =
+    → misused_by_actions m as' ≡ None → AllByRecursion (CountsCost f) (map (lifted_schema s) as')
+actions_count s m f is metric names [] e r = tt
+actions_count s m f is metric names (a ∷ as') e r =
     let parts = option_or_none (duplicate_in kinds.Name names a.name) (action_fault s a or actions_fault s (names ++ a.name.name ∷ []) as') e in
     let later = option_or_none (action_fault s a) (actions_fault s (names ++ a.name.name ∷ []) as') parts.1 in
-    let uses = option_or_none (misused_by_action changed m a) (misused_by_actions changed m as') r in
-    (action_counts s m f changed schemas alone is metric a later.0 uses.0, actions_count s m f changed schemas alone is metric (names ++ a.name.name ∷ []) as' later.1 uses.1)
+    let uses = option_or_none (misused_by_action m a) (misused_by_actions m as') r in
+    (action_counts s m f is metric a later.0 uses.0, actions_count s m f is metric (names ++ a.name.name ∷ []) as' later.1 uses.1)
 
 -- ---- first values
 

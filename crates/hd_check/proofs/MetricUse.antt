@@ -23,13 +23,12 @@ use Rattle.hd_check.specs.Terms.{parameters_of}
 use Rattle.hd_check.specs.Conditions.{condition_fault}
 use Rattle.hd_check.specs.Schemas.{actions_fault}
 use Rattle.hd_check.specs.Initial.{no_parameters, initial_fault}
-use Rattle.hd_metric.specs.Metric.{changed_by, read_by_condition, nonzero_in, missing_in, misused_in_domain, misused_in_problem, misused_by_actions}
+use Rattle.hd_metric.specs.Metric.{read_by_condition, nonzero_in, missing_in, misused_in_domain, misused_in_problem, misused_by_actions}
 use Rattle.hd_check.specs.MetricName.{metric_name_fault, bad_metric}
 use Rattle.hd_check.specs.Whole.{domain_in, lifted_domain, problem_in, lifted_problem, task_with, task_behind, task_below, lifted_task, in_text, domain_fault, fault_in_problem, problem_fault, metric_fault, fault_behind, fault_below, IsFaultless}
 use Rattle.hd_lifted.specs.MetricUse.{IsCostFunction}
 use Rattle.hd_check.proofs.Arguments.{Lists, named-number, signature-there}
 use Rattle.hd_check.proofs.Faultless.{text_none, domain_agrees}
-use Rattle.hd_check.proofs.Changed.{actions_alone}
 use Rattle.hd_check.proofs.MetricNames.{compares_not, actions_count, values_without}
 
 -- the metric's function has no parameters
@@ -60,7 +59,7 @@ record NamesMetric (functions : Table (List ℕ)) (d : DomainAst) (p : ProblemAs
   name : NameAt
   is : position (bytes_eq name.name) functions.names ≡ Some f
   asked : metric_name_fault functions (Some name) ≡ None
-  actions : misused_by_actions (changed_by [] d.actions) name.name d.actions ≡ None
+  actions : misused_by_actions name.name d.actions ≡ None
   goal : read_by_condition name.name p.goal ≡ None
 
 names_metric : (functions : Table (List ℕ)) (d : DomainAst) (p : ProblemAst) (o : Option NameAt) (f : ℕ) → metric_in functions.names o ≡ Some f
@@ -94,7 +93,7 @@ below types parents d p f e metric =
     (bad_none (misused_in_problem p.metric p) (text_none Problem (bad_metric (misused_in_problem p.metric p)) uses.1)) in
     record {
       declared = no_parameters_asked (task_below types parents d p).functions (scope_of types parents d p.metric).functions (domain_agrees types parents d p).functions n.name f n.is n.asked;
-      schemas = actions_count (scope_of types parents d p.metric) n.name.name f (changed_by [] d.actions) (task_below types parents d p).schemas (λ name named new. (actions_alone (scope_of types parents d p.metric) name named [] [] d.actions domain.1 new).1) n.is metric [] d.actions domain.1 n.actions;
+      schemas = actions_count (scope_of types parents d p.metric) n.name.name f n.is metric [] d.actions domain.1 n.actions;
       goal = compares_not (with_objects (scope_of types parents d p.metric) p.objects) no_parameters n.name.name f n.is p.goal last.0 n.goal;
       values = values_without (with_objects (scope_of types parents d p.metric) p.objects) f metric p.init;
     }

@@ -12,6 +12,7 @@ use Rattle.hd_lifted.specs.declared.schema.Argument.TheVariants.{Parameter, Obje
 use Rattle.hd_lifted.specs.declared.schema.Ground.{Ground}
 use Rattle.hd_lifted.specs.declared.task.InitialValue.{InitialValue}
 use Rattle.hd_check.specs.declared.initial.Initial.{Initial}
+use Rattle.hd_check.specs.declared.initial.Found.{Found}
 use Rattle.hd_names.specs.declared.scope.Scope.{Scope}
 use Rattle.hd_names.specs.declared.table.Table.{Table}
 use Rattle.hd_names.specs.declared.fault.Fault.{Fault}
@@ -66,20 +67,33 @@ abbrev pub value_fault : Scope → List (List ℕ) → trees.InitialValue → Op
 value_fault s given v =
     applied_fault s.functions s no_parameters v.fluent or second_value given (key_of (fluent_of s v)) v.fluent or range_fault v
 
+-- the first fault of an atom or a first value, behind values of these fluents
+abbrev pub said_fault : Scope → List (List ℕ) → Init → Option Fault
+said_fault s given (inits.Atom a) = applied_fault s.predicates s no_parameters a
+said_fault s given (inits.NotAtom a) = applied_fault s.predicates s no_parameters a
+said_fault s given (inits.Value v) = value_fault s given v
+
+-- the fluents that have a value behind it
+abbrev pub given_after : Scope → List (List ℕ) → Init → List (List ℕ)
+given_after s given (inits.Atom a) = given
+given_after s given (inits.NotAtom a) = given
+given_after s given (inits.Value v) = with_value s given v
+
 -- the first fault of what holds at first, behind values of these fluents
 abbrev pub initial_fault : Scope → List (List ℕ) → List Init → Option Fault
 initial_fault s given [] = None
-initial_fault s given (inits.Atom a ∷ is) = applied_fault s.predicates s no_parameters a or initial_fault s given is
-initial_fault s given (inits.NotAtom a ∷ is) = applied_fault s.predicates s no_parameters a or initial_fault s given is
-initial_fault s given (inits.Value v ∷ is) =
-    value_fault s given v or initial_fault s (with_value s given v) is
+initial_fault s given (i ∷ is) = said_fault s given i or initial_fault s (given_after s given i) is
+
+-- the atom that is true at first
+abbrev pub atom_in : Scope → Init → List Ground
+atom_in s (inits.Atom a) = ground_of s.predicates s a ∷ []
+atom_in s (inits.NotAtom a) = []
+atom_in s (inits.Value v) = []
 
 -- the atoms that are true at first, as written
 abbrev pub atoms_in : Scope → List Init → List Ground
 atoms_in s [] = []
-atoms_in s (inits.Atom a ∷ is) = ground_of s.predicates s a ∷ atoms_in s is
-atoms_in s (inits.NotAtom a ∷ is) = atoms_in s is
-atoms_in s (inits.Value v ∷ is) = atoms_in s is
+atoms_in s (i ∷ is) = atom_in s i ++ atoms_in s is
 
 -- the first value of a fluent; the metric's function is no part of a state
 abbrev pub value_in : Scope → trees.InitialValue → List InitialValue
@@ -87,12 +101,15 @@ value_in s v =
     if is_metric s.metric (number_in s.functions.names v.fluent.name.name) then []
     else record { fluent = fluent_of s v; value = v.value } ∷ []
 
+abbrev pub value_said : Scope → Init → List InitialValue
+value_said s (inits.Atom a) = []
+value_said s (inits.NotAtom a) = []
+value_said s (inits.Value v) = value_in s v
+
 -- the first values of fluents
 abbrev pub values_in : Scope → List Init → List InitialValue
 values_in s [] = []
-values_in s (inits.Atom a ∷ is) = values_in s is
-values_in s (inits.NotAtom a ∷ is) = values_in s is
-values_in s (inits.Value v ∷ is) = value_in s v ++ values_in s is
+values_in s (i ∷ is) = value_said s i ++ values_in s is
 
 -- what holds at first
 abbrev pub lifted_initial : Scope → List Init → Initial
@@ -118,6 +135,18 @@ NotesFluent result old new s v = ChecksInto StopsAt result new (value_fault s ol
 abbrev pub Gathers
     : {R : Type 0} → Result R Stop → List InitialValue → List InitialValue → List (List ℕ) → Scope → trees.InitialValue → Type 0
 Gathers result old new given s v = ChecksInto StopsAt result new (value_fault s given v) (old ++ value_in s v)
+
+-- what was found, with what is said behind it
+abbrev pub NotesSaid : {R : Type 0} → Result R Stop → Found → Found → Scope → Init → Type 0
+NotesSaid result old new s i = ChecksInto StopsAt result new.given (said_fault s old.given i) (given_after s old.given i)
+
+abbrev pub GathersAtoms : {R : Type 0} → Result R Stop → Found → Found → Scope → Init → Type 0
+GathersAtoms result old new s i =
+    ChecksInto StopsAt result new.atoms.items (said_fault s old.given i) (old.atoms.items ++ atom_in s i)
+
+abbrev pub GathersValues : {R : Type 0} → Result R Stop → Found → Found → Scope → Init → Type 0
+GathersValues result old new s i =
+    ChecksInto StopsAt result new.values.items (said_fault s old.given i) (old.values.items ++ value_said s i)
 
 abbrev pub LiftsInitial : Result Initial Stop → Scope → List Init → Type 0
 LiftsInitial result s is = Checks StopsAt result (initial_fault s [] is) (lifted_initial s is)

@@ -3,6 +3,7 @@ use Rattle.std.specs.Prelude.{ℕ, List, [], ◌∷◌, ◌++◌, Option, None, 
 use Rattle.hd_terms.specs.declared.typed.ItemKind.TheVariants as kinds
 use Rattle.hd_pddl.specs.declared.tree.Action.{Action}
 use Rattle.hd_lifted.specs.declared.schema.Schema.{Schema}
+use Rattle.hd_check.specs.declared.schemas.Body.{Body}
 use Rattle.hd_names.specs.declared.scope.Scope.{Scope}
 use Rattle.hd_names.specs.declared.table.Table.{Table}
 use Rattle.hd_names.specs.declared.fault.Fault.{Fault}
@@ -13,7 +14,7 @@ use Rattle.hd_names.specs.Fault.{StopsAt}
 use Rattle.hd_names.specs.Names.{declared_fault, duplicate_in}
 use Rattle.hd_names.specs.Scope.{typed_table}
 use Rattle.hd_check.specs.Conditions.{condition_fault, lifted_condition}
-use Rattle.hd_check.specs.Effects.{effects_fault, adds_in, deletes_in, changes_in}
+use Rattle.hd_check.specs.Effects.{effects_fault, lifted_effects}
 
 -- the parameters of an action
 abbrev pub parameters_in : Scope → Action → Table ℕ
@@ -33,16 +34,24 @@ actions_fault s names [] = None
 actions_fault s names (a ∷ as') =
     duplicate_in kinds.Name names a.name or action_fault s a or actions_fault s (names ++ a.name.name ∷ []) as'
 
+-- what an action's precondition and effect stand for
+abbrev pub body_of : Scope → Table ℕ → Action → Body
+body_of s ps a = record { condition = lifted_condition s ps a.precondition; effects = lifted_effects s ps a.effect }
+
+-- what an action of this name, with these parameters and this body, stands for
+abbrev pub schema_by : List ℕ → Table ℕ → Body → Schema
+schema_by name ps body = record {
+  name = name;
+  parameters = ps.items;
+  condition = body.condition;
+  deletes = body.effects.deletes;
+  adds = body.effects.adds;
+  effects = body.effects.changes;
+}
+
 -- what an action with these parameters stands for
 unfoldable pub schema_with : Scope → Table ℕ → Action → Schema
-schema_with s ps a = record {
-  name = a.name.name;
-  parameters = ps.items;
-  condition = lifted_condition s ps a.precondition;
-  deletes = deletes_in s ps a.effect;
-  adds = adds_in s ps a.effect;
-  effects = changes_in s ps a.effect;
-}
+schema_with s ps a = schema_by a.name.name ps (body_of s ps a)
 
 -- what an action stands for
 unfoldable pub lifted_schema : Scope → Action → Schema

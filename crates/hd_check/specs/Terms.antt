@@ -38,10 +38,14 @@ abbrev pub term_fault : Scope → Table ℕ → Term → Option Fault
 term_fault s ps (Name n) = unknown_in kinds.Name s.objects.names n
 term_fault s ps (Variable n) = unknown_in kinds.Variable ps.names n
 
--- the type that is declared
+-- the type that is declared of an object or a parameter
+abbrev pub type_at : Scope → Table ℕ → Argument → ℕ
+type_at s ps (Object n) = slice_index_or s.objects.items n 0
+type_at s ps (Parameter n) = slice_index_or ps.items n 0
+
+-- so of what a term stands for
 abbrev pub type_of_term : Scope → Table ℕ → Term → ℕ
-type_of_term s ps (Name n) = slice_index_or s.objects.items (number_in s.objects.names n.name) 0
-type_of_term s ps (Variable n) = slice_index_or ps.items (number_in ps.names n.name) 0
+type_of_term s ps t = type_at s ps (lifted_term s ps t)
 
 -- the fault that a term's type is none below what is wanted
 abbrev pub wrong_type : Term → Fault
@@ -64,9 +68,12 @@ arguments_fault s ps (t ∷ ts) (u ∷ us) = argument_fault s ps t u or argument
 
 -- ---- atoms and fluents: of the predicates, or of the functions
 
--- the types of a name's parameters
+-- the types of the parameters of a number, and of a name
+abbrev pub parameters_at : Table (List ℕ) → ℕ → List ℕ
+parameters_at symbols k = slice_index_or symbols.items k []
+
 abbrev pub parameters_of : Table (List ℕ) → NameAt → List ℕ
-parameters_of symbols n = slice_index_or symbols.items (number_in symbols.names n.name) []
+parameters_of symbols n = parameters_at symbols (number_in symbols.names n.name)
 
 -- it has as many arguments as its name has parameters
 abbrev pub arity_fault : Table (List ℕ) → Atom → Option Fault

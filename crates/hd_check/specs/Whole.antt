@@ -7,13 +7,17 @@ use Rattle.hd_terms.specs.declared.typed.ItemKind.TheVariants as kinds
 use Rattle.hd_pddl.specs.declared.tree.DomainAst.{DomainAst}
 use Rattle.hd_pddl.specs.declared.tree.ProblemAst.{ProblemAst}
 use Rattle.hd_pddl.specs.declared.tree.Signature.{Signature}
+use Rattle.hd_lifted.specs.declared.schema.Condition.{Condition}
 use Rattle.hd_lifted.specs.declared.schema.Schema.{Schema}
 use Rattle.hd_lifted.specs.declared.task.LiftedTask.{LiftedTask}
 use Rattle.hd_lifted.specs.declared.task.Object.{Object}
 use Rattle.hd_lifted.specs.declared.task.Signature as lifted
 use Rattle.hd_lifted.specs.Types.{IsAcyclic}
+use Rattle.hd_check.specs.declared.checking.TypesPart.{TypesPart}
 use Rattle.hd_check.specs.declared.checking.DomainPart.{DomainPart}
+use Rattle.hd_check.specs.declared.checking.Ends.{Ends}
 use Rattle.hd_check.specs.declared.checking.ProblemPart.{ProblemPart}
+use Rattle.hd_check.specs.declared.checking.Declared.{Declared}
 use Rattle.hd_check.specs.declared.fault.Source.{Source}
 use Rattle.hd_check.specs.declared.fault.Source.TheVariants.{Domain, Problem}
 use Rattle.hd_names.specs.declared.fault.Fault.{Fault}
@@ -59,31 +63,49 @@ domain_in s d = record { scope = s; schemas = map (lifted_schema s) d.actions }
 unfoldable pub lifted_domain : List (List ℕ) → List ℕ → DomainAst → Option NameAt → DomainPart
 lifted_domain types parents d metric = domain_in (scope_of types parents d metric) d
 
--- what a problem's part stands for in this scope, which has its objects
+-- what a problem's goal, its initial state and its goal, and its part stand for in this scope, which has its objects
+abbrev pub goal_in : Scope → ProblemAst → Condition
+goal_in s p = lifted_condition s no_parameters p.goal
+
+abbrev pub ends_in : Scope → ProblemAst → Ends
+ends_in s p = record { initial = lifted_initial s p.init; goal = goal_in s p }
+
 unfoldable pub problem_in : Scope → ProblemAst → ProblemPart
-problem_in s p = record {
-  scope = s;
-  initial = lifted_initial s p.init;
-  goal = lifted_condition s no_parameters p.goal;
-}
+problem_in s p = record { scope = s; ends = ends_in s p }
 
 -- what a problem's part stands for, by the scope of its domain
 unfoldable pub lifted_problem : Scope → ProblemAst → ProblemPart
 lifted_problem s p = problem_in (with_objects s p.objects) p
 
--- the lifted task whose parts stand for these
-unfoldable pub task_with : DomainAst → ProblemAst → List Schema → ProblemPart → LiftedTask
-task_with d p schemas part = record {
+-- the constants and the objects
+abbrev pub all_objects : List (List ℕ) → DomainAst → ProblemAst → List Object
+all_objects types d p = lifted_objects types d.constants ++ lifted_objects types p.objects
+
+-- what both texts declare, the types and actions aside
+abbrev pub declared_in : List (List ℕ) → DomainAst → ProblemAst → Declared
+declared_in types d p = record {
+  objects = all_objects types d p;
+  predicates = lifted_signatures types d.predicates;
+  functions = lifted_signatures types d.functions;
+}
+
+-- the lifted task that has these parts
+abbrev pub task_by : List Schema → ProblemPart → Declared → LiftedTask
+task_by schemas part declared = record {
   hierarchy = part.scope.hierarchy;
-  objects = map (lifted_object part.scope.types) d.constants ++ map (lifted_object part.scope.types) p.objects;
-  predicates = map (lifted_signature part.scope.types) d.predicates;
-  functions = map (lifted_signature part.scope.types) d.functions;
+  objects = declared.objects;
+  predicates = declared.predicates;
+  functions = declared.functions;
   schemas = schemas;
-  atoms = part.initial.atoms;
-  values = part.initial.values;
-  goal = part.goal;
+  atoms = part.ends.initial.atoms;
+  values = part.ends.initial.values;
+  goal = part.ends.goal;
   metric = part.scope.metric;
 }
+
+-- the lifted task whose parts stand for these
+unfoldable pub task_with : DomainAst → ProblemAst → List Schema → ProblemPart → LiftedTask
+task_with d p schemas part = task_by schemas part (declared_in part.scope.types d p)
 
 -- the lifted task of a problem whose domain's part stands for this
 unfoldable pub task_behind : DomainPart → DomainAst → ProblemAst → LiftedTask
@@ -116,10 +138,13 @@ fault_before_cycles d p = in_text Problem (mismatch d p) or in_text Domain (type
 unfoldable pub domain_fault : List (List ℕ) → List ℕ → DomainAst → Option NameAt → Option Fault
 domain_fault types parents d metric = scope_fault types d or actions_fault (scope_of types parents d metric) [] d.actions
 
+-- the first fault of a problem's goal and of its metric's name in this scope, which has the problem's objects
+abbrev pub goal_fault : Scope → ProblemAst → Option Fault
+goal_fault s p = condition_fault s no_parameters p.goal or metric_name_fault s.functions p.metric
+
 -- the first fault of a problem in this scope, which has its objects
 unfoldable pub fault_in_problem : Scope → ProblemAst → Option Fault
-fault_in_problem s p =
-    initial_fault s [] p.init or condition_fault s no_parameters p.goal or metric_name_fault s.functions p.metric
+fault_in_problem s p = initial_fault s [] p.init or goal_fault s p
 
 -- the first fault of a problem, up to the metric's name, by the scope of its domain
 unfoldable pub problem_fault : Scope → ProblemAst → Option Fault
@@ -179,6 +204,25 @@ HoldsOfFaultless P = (d : DomainAst) (p : ProblemAst) → IsFaultless d p → P 
 abbrev pub ChecksNames : Result (List (List ℕ)) CheckError → DomainAst → ProblemAst → Type 0
 ChecksNames result d p = Checks TellsOf result (fault_before_cycles d p) (type_names d.types)
 
+-- the hierarchy of the types, or a type on a cycle, told of the domain; want of memory says nothing
+abbrev pub ClimbsText : Result (List ℕ) CheckError → List Typed → Type 0
+ClimbsText (Ok h) ts = (h ≡ parents_of ts) × IsAcyclic (parents_of ts)
+ClimbsText (Err (In source fault)) ts = (source ≡ Domain) × TellsCycle ts fault
+ClimbsText (Err NoMemory) ts = Unit {0}
+
+-- these are the types of a domain, no fault comes before their cycles, and none lies on a cycle
+pub record AreTypes (types : TypesPart) (d : DomainAst) (p : ProblemAst) : Type 0 where
+  pub before_cycles : fault_before_cycles d p ≡ None
+  pub names : types.names ≡ type_names d.types
+  pub hierarchy : types.hierarchy ≡ parents_of d.types
+  pub acyclic : IsAcyclic (parents_of d.types)
+
+-- the types, or a fault that stands in the texts up to the cycles of types; want of memory says nothing
+abbrev pub ChecksTypes : Result TypesPart CheckError → DomainAst → ProblemAst → Type 0
+ChecksTypes (Ok types) d p = AreTypes types d p
+ChecksTypes (Err (In source fault)) d p = Stands d p (In source fault)
+ChecksTypes (Err NoMemory) d p = Unit {0}
+
 -- what a domain's actions stand for in this scope
 abbrev pub ChecksActions : Result DomainPart Stop → Scope → DomainAst → Type 0
 ChecksActions result s d = Checks StopsAt result (actions_fault s [] d.actions) (domain_in s d)
@@ -187,6 +231,19 @@ ChecksActions result s d = Checks StopsAt result (actions_fault s [] d.actions) 
 abbrev pub ChecksDomain : Result DomainPart Stop → List (List ℕ) → List ℕ → DomainAst → Option NameAt → Type 0
 ChecksDomain result types parents d metric =
     Checks StopsAt result (domain_fault types parents d metric) (lifted_domain types parents d metric)
+
+-- the lifted task whose parts stand for these, where the metric's function is not misused
+abbrev pub ChecksUses : Result LiftedTask CheckError → List Schema → ProblemPart → DomainAst → ProblemAst → Type 0
+ChecksUses result schemas part d p = Checks TellsOf result (metric_fault d p) (task_with d p schemas part)
+
+-- the lifted task of a problem whose domain's part stands for this
+abbrev pub ChecksBehind : Result LiftedTask CheckError → DomainPart → DomainAst → ProblemAst → Type 0
+ChecksBehind result part d p = Checks TellsOf result (fault_behind part d p) (task_behind part d p)
+
+-- the lifted task of a domain and a problem whose types are these
+abbrev pub ChecksBelow : Result LiftedTask CheckError → TypesPart → DomainAst → ProblemAst → Type 0
+ChecksBelow result types d p =
+    Checks TellsOf result (fault_below types.names types.hierarchy d p) (task_below types.names types.hierarchy d p)
 
 -- what a part answers, told of its text
 abbrev pub of_text : {R : Type 0} → Source → Result R Stop → Result R CheckError

@@ -4,7 +4,8 @@ ghost use Rattle.hd_base.specs.Answers.{Checks};
 ghost use Rattle.hd_check.specs.Lifting.{LiftsIn};
 ghost use Rattle.hd_check.specs.Fault.{TellsOf};
 ghost use Rattle.hd_check.specs.MetricName.{bad_metric};
-ghost use Rattle.hd_check.specs.Whole.{of_text, in_text, lifted_objects, lifted_signatures, problem_in, lifted_problem, task_with, fault_in_problem, problem_fault, metric_fault, ChecksNames, ChecksActions, ChecksDomain, Answers};
+ghost use Rattle.hd_names.specs.Scope.{type_names};
+ghost use Rattle.hd_check.specs.Whole.{of_text, in_text, lifted_objects, lifted_signatures, all_objects, declared_in, goal_in, ends_in, goal_fault, problem_in, task_by, lifted_problem, task_with, fault_in_problem, problem_fault, metric_fault, ChecksNames, ClimbsText, ChecksTypes, ChecksActions, ChecksDomain, ChecksUses, ChecksBehind, ChecksBelow, Answers};
 
 use crate::conditions::condition_of;
 use crate::context::Context;
@@ -12,7 +13,7 @@ use crate::fault::{CheckError, Source, error_in};
 use crate::initial::{Initial, initial_of, no_parameters};
 use crate::metric::check_metric_name;
 use crate::schemas::schemas_of;
-use hd_base::Sequence;
+use hd_base::{Seed, Sequence};
 use hd_forms::NameAt;
 use hd_lifted::{Checked, Condition, Hierarchy, LiftedTask, Object, Schema, Signature};
 use hd_metric::{misused_in_domain, misused_in_problem};
@@ -24,6 +25,13 @@ use hd_pddl::{DomainAst, ProblemAst};
 use hd_terms::Typed;
 use std::alloc::{AllocError, Global};
 
+/// The names of a domain's types, and which is below which.
+#[derive(Debug, Drop)]
+pub struct TypesPart {
+    pub names: Names,
+    pub hierarchy: Hierarchy,
+}
+
 /// What a domain's constants, predicates, functions and actions stand for.
 #[derive(Debug, Drop)]
 pub struct DomainPart {
@@ -31,12 +39,26 @@ pub struct DomainPart {
     pub schemas: Sequence<Schema>,
 }
 
+/// What a problem's initial state and goal stand for.
+#[derive(Debug, Drop)]
+pub struct Ends {
+    pub initial: Initial,
+    pub goal: Condition,
+}
+
 /// What a problem's objects, initial state and goal stand for. The scope is the domain's, with the objects.
 #[derive(Debug, Drop)]
 pub struct ProblemPart {
     pub scope: Scope,
-    pub initial: Initial,
-    pub goal: Condition,
+    pub ends: Ends,
+}
+
+/// The objects, predicates and functions of a task.
+#[derive(Debug, Drop)]
+pub struct Declared {
+    pub objects: Sequence<Object>,
+    pub predicates: Sequence<Signature>,
+    pub functions: Sequence<Signature>,
 }
 
 /// What a part answers, told of its text.
@@ -51,15 +73,47 @@ fn of_text<T>(source: Source, answer: Result<T, Stop>) -> Result<T, CheckError>
 
 /// The names of the types, where the problem belongs to the domain.
 #[tactic(auto, unfolding(crate::specs::Whole::fault_before_cycles), using(crate::proofs::Telling::told_of))]
-fn check_names(alloc: Global, domain: &DomainAst, problem: &ProblemAst) -> Result<Names, CheckError>
+fn check_names(
+    alloc: Global,
+    seed: Seed,
+    domain: &DomainAst,
+    problem: &ProblemAst,
+) -> Result<Names, CheckError>
     ensures { ChecksNames result domain.now problem.now }
 {
     if problem.domain.name == domain.name.name {
-        let types = types_of(alloc, domain.types.as_slice());
+        let types = types_of(alloc, seed, domain.types.as_slice());
         of_text(Source::Domain, types)
     } else {
         let fault = Fault::DomainMismatch(problem.domain.at);
         Err(CheckError::In(Source::Problem, fault))
+    }
+}
+
+/// The hierarchy of the types of these names.
+#[tactic(auto, using(crate::proofs::Standing::climbs_text))]
+fn hierarchy_in(alloc: Global, names: &Names, domain: &DomainAst) -> Result<Hierarchy, CheckError>
+    requires { names.now ≡ type_names domain.now.types }
+    ensures { ClimbsText result domain.now.types }
+{
+    let hierarchy = hierarchy_of(alloc, names, domain.types.as_slice());
+    of_text(Source::Domain, hierarchy)
+}
+
+/// The types, where the problem belongs to the domain and no type lies on a cycle.
+#[tactic(auto, using(crate::proofs::Standing::tells_before, crate::proofs::Standing::tells_cycle))]
+fn types_part(
+    alloc: Global,
+    seed: Seed,
+    domain: &DomainAst,
+    problem: &ProblemAst,
+) -> Result<TypesPart, CheckError>
+    ensures { ChecksTypes result domain.now problem.now }
+{
+    let names = check_names(alloc, seed, domain, problem)?;
+    match hierarchy_in(alloc, &names, domain) {
+        Ok(hierarchy) => Ok(TypesPart { names, hierarchy }),
+        Err(error) => Err(error),
     }
 }
 
@@ -68,8 +122,13 @@ fn check_names(alloc: Global, domain: &DomainAst, problem: &ProblemAst) -> Resul
 fn domain_in(alloc: Global, scope: Scope, domain: &DomainAst) -> Result<DomainPart, Stop>
     ensures { ChecksActions result scope domain.now }
 {
-    let schemas = schemas_of(alloc, &scope, domain.actions.as_slice())?;
-    Ok(DomainPart { scope, schemas })
+    match schemas_of(alloc, &scope, domain.actions.as_slice()) {
+        Ok(schemas) => Ok(DomainPart { scope, schemas }),
+        Err(stop) => {
+            drop(scope);
+            Err(stop)
+        }
+    }
 }
 
 /// What a domain's part stands for.
@@ -87,24 +146,54 @@ fn domain_part(
     domain_in(alloc, scope, domain)
 }
 
+/// What a problem's goal stands for in this scope, where the metric's function is declared.
+fn goal_in(alloc: Global, scope: &Scope, problem: &ProblemAst) -> Result<Condition, Stop>
+    ensures { LiftsIn result goal_fault goal_in scope.now problem.now }
+{
+    let none = no_parameters(alloc, scope);
+    let context = Context {
+        scope,
+        parameters: &none,
+    };
+    let goal = condition_of(alloc, context, problem.goal.as_slice());
+    drop(none);
+    let goal = goal?;
+    match check_metric_name(alloc, &scope.functions, &problem.metric) {
+        Ok(()) => Ok(goal),
+        Err(stop) => {
+            drop(goal);
+            Err(stop)
+        }
+    }
+}
+
+/// What a problem's initial state and goal stand for in this scope, which has its objects.
+#[tactic(auto, unfolding(crate::specs::Whole::fault_in_problem))]
+fn ends_in(alloc: Global, scope: &Scope, problem: &ProblemAst) -> Result<Ends, Stop>
+    ensures { LiftsIn result fault_in_problem ends_in scope.now problem.now }
+{
+    let initial = initial_of(alloc, scope, problem.init.as_slice())?;
+    match goal_in(alloc, scope, problem) {
+        Ok(goal) => Ok(Ends { initial, goal }),
+        Err(stop) => {
+            drop(initial);
+            Err(stop)
+        }
+    }
+}
+
 /// What a problem's part stands for in this scope, which has its objects.
-#[tactic(auto, unfolding(crate::specs::Whole::problem_in, crate::specs::Whole::fault_in_problem))]
+#[tactic(auto, unfolding(crate::specs::Whole::problem_in))]
 fn problem_in(alloc: Global, scope: Scope, problem: &ProblemAst) -> Result<ProblemPart, Stop>
     ensures { LiftsIn result fault_in_problem problem_in scope problem.now }
 {
-    let initial = initial_of(alloc, &scope, problem.init.as_slice())?;
-    let none = no_parameters(alloc);
-    let context = Context {
-        scope: &scope,
-        parameters: &none,
-    };
-    let goal = condition_of(alloc, context, problem.goal.as_slice())?;
-    check_metric_name(alloc, &scope.functions, &problem.metric)?;
-    Ok(ProblemPart {
-        scope,
-        initial,
-        goal,
-    })
+    match ends_in(alloc, &scope, problem) {
+        Ok(ends) => Ok(ProblemPart { scope, ends }),
+        Err(stop) => {
+            drop(scope);
+            Err(stop)
+        }
+    }
 }
 
 /// What a problem's part stands for, by the scope of its domain.
@@ -160,6 +249,69 @@ fn signatures_in(
     Ok(Sequence::from_vec(signatures))
 }
 
+/// The constants and the objects that are declared.
+fn objects_in(
+    alloc: Global,
+    types: &Names,
+    domain: &DomainAst,
+    problem: &ProblemAst,
+) -> Result<Sequence<Object>, AllocError>
+    ensures { IfOk result (λ s. s ≡ all_objects types.now domain.now problem.now) }
+{
+    let constants = objects_of(alloc, types, Vec::new(alloc), domain.constants.as_slice())?;
+    let objects = objects_of(alloc, types, constants, problem.objects.as_slice())?;
+    Ok(Sequence::from_vec(objects))
+}
+
+/// What both texts declare, the types and actions aside.
+fn declared_in(
+    alloc: Global,
+    types: &Names,
+    domain: &DomainAst,
+    problem: &ProblemAst,
+) -> Result<Declared, AllocError>
+    ensures { IfOk result (λ declared. declared ≡ declared_in types.now domain.now problem.now) }
+{
+    let objects = objects_in(alloc, types, domain, problem)?;
+    let predicates = signatures_in(alloc, types, domain.predicates.as_slice())?;
+    let functions = signatures_in(alloc, types, domain.functions.as_slice())?;
+    Ok(Declared {
+        objects,
+        predicates,
+        functions,
+    })
+}
+
+/// The lifted task that has these parts.
+fn task_by(schemas: Sequence<Schema>, part: ProblemPart, declared: Declared) -> LiftedTask
+    ensures { result ≡ task_by schemas part declared }
+{
+    let ProblemPart { scope, ends } = part;
+    let Scope {
+        types,
+        hierarchy,
+        objects,
+        predicates,
+        functions,
+        metric,
+    } = scope;
+    drop(types);
+    drop(objects);
+    drop(predicates);
+    drop(functions);
+    LiftedTask {
+        hierarchy,
+        objects: declared.objects,
+        predicates: declared.predicates,
+        functions: declared.functions,
+        schemas,
+        atoms: ends.initial.atoms,
+        values: ends.initial.values,
+        goal: ends.goal,
+        metric,
+    }
+}
+
 /// The lifted task of a domain and a problem whose parts stand for these.
 #[tactic(auto, unfolding(crate::specs::Whole::task_with))]
 fn task_of(
@@ -171,43 +323,97 @@ fn task_of(
 ) -> Result<LiftedTask, AllocError>
     ensures { IfOk result (λ task. task ≡ task_with domain.now problem.now schemas part) }
 {
-    let ProblemPart {
-        scope,
-        initial,
-        goal,
-    } = part;
-    let types = &scope.types;
-    let constants = objects_of(alloc, types, Vec::new(alloc), domain.constants.as_slice())?;
-    let objects = objects_of(alloc, types, constants, problem.objects.as_slice())?;
-    let predicates = signatures_in(alloc, types, domain.predicates.as_slice())?;
-    let functions = signatures_in(alloc, types, domain.functions.as_slice())?;
-    Ok(LiftedTask {
-        hierarchy: scope.hierarchy,
-        objects: Sequence::from_vec(objects),
-        predicates,
-        functions,
-        schemas,
-        atoms: initial.atoms,
-        values: initial.values,
-        goal,
-        metric: scope.metric,
-    })
+    match declared_in(alloc, &part.scope.types, domain, problem) {
+        Ok(declared) => Ok(task_by(schemas, part, declared)),
+        Err(error) => {
+            drop(part);
+            drop(schemas);
+            Err(error)
+        }
+    }
 }
 
 /// Asks that the metric's function is used as it may be.
 #[tactic(auto, unfolding(crate::specs::Whole::metric_fault))]
-fn check_uses(alloc: Global, domain: &DomainAst, problem: &ProblemAst) -> Result<(), CheckError>
+fn check_uses(domain: &DomainAst, problem: &ProblemAst) -> Result<(), CheckError>
     ensures { Checks TellsOf result (metric_fault domain.now problem.now) tt }
 {
-    let place = misused_in_domain(alloc, &problem.metric, domain)?;
-    check_metric(Source::Domain, place)?;
+    check_metric(Source::Domain, misused_in_domain(&problem.metric, domain))?;
     check_metric(
         Source::Problem,
         misused_in_problem(&problem.metric, problem),
     )
 }
 
-/// Checks a domain and a problem: their names, types and metric.
+/// The lifted task of parts without a fault, where the metric's function is used as it may be.
+fn task_by_uses(
+    alloc: Global,
+    schemas: Sequence<Schema>,
+    part: ProblemPart,
+    domain: &DomainAst,
+    problem: &ProblemAst,
+) -> Result<LiftedTask, CheckError>
+    ensures { ChecksUses result schemas part domain.now problem.now }
+{
+    match check_uses(domain, problem) {
+        Ok(()) => Ok(task_of(alloc, domain, problem, schemas, part)?),
+        Err(error) => {
+            drop(part);
+            drop(schemas);
+            Err(error)
+        }
+    }
+}
+
+/// The lifted task of a problem whose domain's part stands for this.
+#[tactic(auto, unfolding(crate::specs::Whole::task_behind, crate::specs::Whole::fault_behind), using(crate::proofs::Telling::told_of))]
+fn task_behind(
+    alloc: Global,
+    part: DomainPart,
+    domain: &DomainAst,
+    problem: &ProblemAst,
+) -> Result<LiftedTask, CheckError>
+    ensures { ChecksBehind result part domain.now problem.now }
+{
+    let DomainPart { scope, schemas } = part;
+    let second = problem_part(alloc, scope, problem);
+    match of_text(Source::Problem, second) {
+        Ok(second) => task_by_uses(alloc, schemas, second, domain, problem),
+        Err(error) => Err(error),
+    }
+}
+
+/// The lifted task of a domain and a problem whose types are these.
+#[tactic(auto, unfolding(crate::specs::Whole::task_below, crate::specs::Whole::fault_below), using(crate::proofs::Telling::told_of))]
+fn task_below(
+    alloc: Global,
+    types: TypesPart,
+    domain: &DomainAst,
+    problem: &ProblemAst,
+) -> Result<LiftedTask, CheckError>
+    ensures { ChecksBelow result types domain.now problem.now }
+{
+    let TypesPart { names, hierarchy } = types;
+    let first = domain_part(alloc, names, hierarchy, domain, &problem.metric);
+    let first = of_text(Source::Domain, first)?;
+    task_behind(alloc, first, domain, problem)
+}
+
+/// The lifted task of a domain and a problem without a fault.
+#[tactic(auto, using(crate::proofs::Standing::stops_before, crate::proofs::Standing::answers_below))]
+fn lifted_task(
+    alloc: Global,
+    seed: Seed,
+    domain: &DomainAst,
+    problem: &ProblemAst,
+) -> Result<LiftedTask, CheckError>
+    ensures { Answers domain.now problem.now result }
+{
+    let types = types_part(alloc, seed, domain, problem)?;
+    task_below(alloc, types, domain, problem)
+}
+
+/// Checks a domain and a problem: their names, types and metric. Its tables hash by the seed, which changes no answer.
 ///
 /// # Errors
 ///
@@ -215,16 +421,19 @@ fn check_uses(alloc: Global, domain: &DomainAst, problem: &ProblemAst) -> Result
 /// predicates, functions and actions of the domain, then the objects, initial state, goal and metric of the problem.
 /// Of types on cycles any may be told by the contract; that it is the first listed is tested. `NoMemory` where memory runs
 /// out.
-pub fn check(alloc: Global, domain: DomainAst, problem: ProblemAst) -> Result<Checked, CheckError>
+pub fn check(
+    alloc: Global,
+    seed: Seed,
+    domain: DomainAst,
+    problem: ProblemAst,
+) -> Result<Checked, CheckError>
     ensures { Answers domain problem result }
 {
-    let types = check_names(alloc, &domain, &problem)?;
-    let climbed = hierarchy_of(alloc, &types, domain.types.as_slice());
-    let hierarchy = of_text(Source::Domain, climbed)?;
-    let first = domain_part(alloc, types, hierarchy, &domain, &problem.metric);
-    let first = of_text(Source::Domain, first)?;
-    let second = of_text(Source::Problem, problem_part(alloc, first.scope, &problem))?;
-    check_uses(alloc, &domain, &problem)?;
-    let task = task_of(alloc, &domain, &problem, first.schemas, second)?;
-    Ok(Checked::new(task))
+    let answer = lifted_task(alloc, seed, &domain, &problem);
+    drop(domain);
+    drop(problem);
+    match answer {
+        Ok(task) => Ok(Checked::new(task)),
+        Err(error) => Err(error),
+    }
 }

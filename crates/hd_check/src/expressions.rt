@@ -29,8 +29,13 @@ pub fn expression_of(
         }
         ExprParts::Binary(operation, left, right) => {
             let left = expression_of(alloc, context, left)?;
-            let right = expression_of(alloc, context, right)?;
-            Ok(Expr::binary(alloc, operation, left, right)?)
+            match expression_of(alloc, context, right) {
+                Ok(right) => Ok(Expr::binary(alloc, operation, left, right)?),
+                Err(stop) => {
+                    drop(left);
+                    Err(stop)
+                }
+            }
         }
     }
 }

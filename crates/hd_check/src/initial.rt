@@ -3,7 +3,7 @@ ghost use Rattle.std.specs.Prelude.{◌≡◌, IfOk};
 ghost use Rattle.hd_base.specs.Answers.{Checks};
 ghost use Rattle.hd_names.specs.Fault.{StopsAt};
 ghost use Rattle.hd_check.specs.Initial.{no_parameters, object_in, ground_form, range_fault};
-ghost use Rattle.hd_check.specs.Initial.{LiftsGround, Notes, LiftsFluent, NotesFluent, Gathers, LiftsInitial};
+ghost use Rattle.hd_check.specs.Initial.{LiftsGround, Notes, LiftsFluent, NotesFluent, Gathers, NotesSaid, GathersAtoms, GathersValues, LiftsInitial};
 
 use crate::context::Context;
 use crate::effects::is_metric;
@@ -11,7 +11,7 @@ use crate::keys::Keys;
 use crate::terms::applied_of;
 use hd_base::{Sequence, Tuple, in_range};
 use hd_lifted::{Applied, Argument, Ground, InitialValue};
-use hd_names::{Fault, Names, Scope, Stop, Table, duplicate};
+use hd_names::{Fault, Scope, Stop, Table, duplicate};
 use hd_pddl::Init;
 use hd_terms::{Atom, ItemKind};
 use smallvec::SmallVec;
@@ -25,11 +25,11 @@ pub struct Initial {
 }
 
 /// Outside of actions there are no parameters.
-pub fn no_parameters(alloc: Global) -> Table<usize>
+pub fn no_parameters(alloc: Global, scope: &Scope) -> Table<usize>
     ensures { result ≡ no_parameters }
 {
     Table {
-        names: Names::none(alloc),
+        names: scope.types.none_alike(alloc),
         items: Sequence::empty(alloc),
     }
 }
@@ -67,13 +67,14 @@ fn ground_of(
 ) -> Result<Ground, Stop>
     ensures { LiftsGround result symbols.now scope.now atom.now }
 {
-    let parameters = no_parameters(alloc);
+    let parameters = no_parameters(alloc, scope);
     let context = Context {
         scope,
         parameters: &parameters,
     };
-    let applied = applied_of(alloc, symbols, context, atom)?;
-    Ok(ground_form(alloc, &applied)?)
+    let applied = applied_of(alloc, symbols, context, atom);
+    drop(parameters);
+    Ok(ground_form(alloc, &applied?)?)
 }
 
 /// Asks that a first value is in the range.
@@ -135,28 +136,60 @@ fn add_value(
     Ok(())
 }
 
-/// What holds at first.
-pub fn initial_of(alloc: Global, scope: &Scope, init: &[Init]) -> Result<Initial, Stop>
-    ensures { LiftsInitial result scope.now init.now }
-{
-    let mut given = Keys::none(alloc);
-    let mut atoms = Vec::new(alloc);
-    let mut values = Vec::new(alloc);
-    let mut rest = init;
-    while let [first, after @ ..] = rest {
-        match first {
+/// What was found of what holds at first, and the fluents that have a value.
+#[derive(Drop)]
+struct Found {
+    given: Keys,
+    atoms: Vec<Ground>,
+    values: Vec<InitialValue>,
+}
+
+impl Found {
+    /// Adds an atom, or a first value.
+    fn add(&mut self, alloc: Global, scope: &Scope, said: &Init) -> Result<(), Stop>
+        ensures given { NotesSaid result self.old self.new scope.now said.now }
+        ensures atoms { GathersAtoms result self.old self.new scope.now said.now }
+        ensures values { GathersValues result self.old self.new scope.now said.now }
+    {
+        match said {
             Init::Atom(atom) => {
-                atoms.push(ground_of(alloc, &scope.predicates, scope, atom)?)?;
+                self.atoms
+                    .push(ground_of(alloc, &scope.predicates, scope, atom)?)?;
             }
             Init::NotAtom(atom) => {
                 ground_of(alloc, &scope.predicates, scope, atom)?;
             }
             Init::Value(value) => {
-                add_value(alloc, scope, &mut given, &mut values, value)?;
+                add_value(alloc, scope, &mut self.given, &mut self.values, value)?;
             }
+        }
+        Ok(())
+    }
+}
+
+/// What holds at first.
+pub fn initial_of(alloc: Global, scope: &Scope, init: &[Init]) -> Result<Initial, Stop>
+    ensures { LiftsInitial result scope.now init.now }
+{
+    let mut found = Found {
+        given: Keys::none(alloc, scope.types.seed()),
+        atoms: Vec::new(alloc),
+        values: Vec::new(alloc),
+    };
+    let mut rest = init;
+    while let [first, after @ ..] = rest {
+        if let Err(stop) = found.add(alloc, scope, first) {
+            drop(found);
+            return Err(stop);
         }
         rest = after;
     }
+    let Found {
+        given,
+        atoms,
+        values,
+    } = found;
+    drop(given);
     Ok(Initial {
         atoms: Sequence::from_vec(atoms),
         values: Sequence::from_vec(values),

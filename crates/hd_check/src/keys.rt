@@ -4,6 +4,7 @@ ghost use Rattle.hd_base.specs.Names.{is_named};
 ghost use Rattle.hd_check.specs.Initial.{key_of};
 ghost use Rattle.hd_names.specs.Names.{with_name};
 
+use hd_base::Seed;
 use hd_lifted::Ground;
 use indexmap::IndexSet;
 use smallvec::SmallVec;
@@ -16,7 +17,7 @@ type Key = SmallVec<usize, 4>;
 /// Fluents, each once, in the order in which they were added. Contracts see the list of their keys.
 #[derive(Debug, Drop)]
 pub struct Keys {
-    keys: IndexSet<Key>,
+    keys: IndexSet<Key, Seed>,
 }
 
 impl Model for Keys {
@@ -28,12 +29,12 @@ impl Model for Keys {
 }
 
 impl Keys {
-    /// No fluents.
-    pub fn none(alloc: Global) -> Keys
+    /// No fluents, in a table that hashes by this seed.
+    pub fn none(alloc: Global, seed: Seed) -> Keys
         ensures { result ≡ [] }
     {
         Keys {
-            keys: IndexSet::new(alloc),
+            keys: IndexSet::with_hasher(alloc, seed),
         }
     }
 

@@ -3,7 +3,7 @@ ghost use Rattle.hd_base.specs.Answers.{Checks};
 ghost use Rattle.hd_names.specs.Fault.{StopsAt};
 ghost use Rattle.hd_check.specs.MetricName.{metric_name_fault};
 
-use crate::terms::{parameters_of, wrong_arity};
+use crate::terms::{parameters_at, wrong_arity};
 use hd_base::Sequence;
 use hd_forms::NameAt;
 use hd_names::{Stop, Table, known};
@@ -21,8 +21,8 @@ pub fn check_metric_name(
     let Some(name) = metric else {
         return Ok(());
     };
-    known(alloc, ItemKind::Name, &functions.names, name)?;
-    if parameters_of(functions, name).is_empty() {
+    let number = known(alloc, ItemKind::Name, &functions.names, name)?;
+    if parameters_at(functions, number).is_empty() {
         Ok(())
     } else {
         Err(wrong_arity(alloc, name))

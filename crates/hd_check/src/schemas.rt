@@ -1,19 +1,75 @@
 //! Actions.
-ghost use Rattle.hd_check.specs.Lifting.{LiftsIn};
-ghost use Rattle.hd_check.specs.Schemas.{action_fault, lifted_schema, LiftsBody, LiftsActions};
+ghost use Rattle.std.specs.Prelude.{◌≡◌, IfOk};
+ghost use Rattle.hd_check.specs.Lifting.{Lifts, LiftsIn};
+ghost use Rattle.hd_check.specs.Schemas.{body_fault, body_of, schema_by, action_fault, lifted_schema, LiftsBody, LiftsActions};
 
 use crate::conditions::condition_of;
 use crate::context::Context;
-use crate::effects::effects_of;
-use hd_base::Sequence;
-use hd_lifted::Schema;
-use hd_names::{Names, Scope, Stop, Table, declare, table_of};
+use crate::effects::{Effects, effects_of};
+use hd_base::{Name, Sequence};
+use hd_lifted::{Condition, Schema};
+use hd_names::{Scope, Stop, Table, declare, table_of};
 use hd_pddl::Action;
 use hd_terms::ItemKind;
-use std::alloc::Global;
+use std::alloc::{AllocError, Global};
+
+/// What an action's precondition and effect stand for.
+#[derive(Debug, Drop)]
+pub struct Body {
+    pub condition: Condition,
+    pub effects: Effects,
+}
+
+/// What an action's precondition and effect stand for.
+#[tactic(auto, unfolding(crate::specs::Schemas::body_fault))]
+fn body_of(alloc: Global, context: Context<'_>, action: &Action) -> Result<Body, Stop>
+    ensures { Lifts result body_fault body_of context.entry action.now }
+{
+    let condition = condition_of(alloc, context, action.precondition.as_slice())?;
+    match effects_of(alloc, context, action.effect.as_slice()) {
+        Ok(effects) => Ok(Body { condition, effects }),
+        Err(stop) => {
+            drop(condition);
+            Err(stop)
+        }
+    }
+}
+
+/// What an action of this name, with these parameters and this body, stands for.
+fn schema_by(name: Name, parameters: Table<usize>, body: Body) -> Schema
+    ensures { result ≡ schema_by name parameters body }
+{
+    Schema {
+        name,
+        parameters: parameters.items,
+        condition: body.condition,
+        deletes: body.effects.deletes,
+        adds: body.effects.adds,
+        effects: body.effects.changes,
+    }
+}
+
+/// What an action with these parameters and this body stands for.
+fn named(
+    alloc: Global,
+    action: &Action,
+    parameters: Table<usize>,
+    body: Body,
+) -> Result<Schema, AllocError>
+    ensures { IfOk result (λ schema. schema ≡ schema_by action.now.name.name parameters body) }
+{
+    match action.name.name.copied(alloc) {
+        Ok(name) => Ok(schema_by(name, parameters, body)),
+        Err(error) => {
+            drop(parameters);
+            drop(body);
+            Err(error)
+        }
+    }
+}
 
 /// What an action with these parameters stands for.
-#[tactic(auto, unfolding(crate::specs::Schemas::schema_with, crate::specs::Schemas::body_fault))]
+#[tactic(auto, unfolding(crate::specs::Schemas::schema_with))]
 fn schema_with(
     alloc: Global,
     scope: &Scope,
@@ -22,22 +78,17 @@ fn schema_with(
 ) -> Result<Schema, Stop>
     ensures { LiftsBody result scope.now parameters action.now }
 {
-    let precondition = action.precondition.as_slice();
     let context = Context {
         scope,
         parameters: &parameters,
     };
-    let condition = condition_of(alloc, context, precondition)?;
-    let effects = effects_of(alloc, context, action.effect.as_slice())?;
-    let name = action.name.name.copied(alloc)?;
-    Ok(Schema {
-        name,
-        parameters: parameters.items,
-        condition,
-        deletes: effects.deletes,
-        adds: effects.adds,
-        effects: effects.changes,
-    })
+    match body_of(alloc, context, action) {
+        Ok(body) => Ok(named(alloc, action, parameters, body)?),
+        Err(stop) => {
+            drop(parameters);
+            Err(stop)
+        }
+    }
 }
 
 /// What an action stands for.
@@ -58,7 +109,7 @@ pub fn schemas_of(
 ) -> Result<Sequence<Schema>, Stop>
     ensures { LiftsActions result scope.now actions.now }
 {
-    let mut names = Names::none(alloc);
+    let mut names = scope.types.none_alike(alloc);
     let mut schemas = Vec::new(alloc);
     let mut rest = actions;
     while let [first, after @ ..] = rest {

@@ -2,7 +2,7 @@
 ghost use Rattle.std.specs.Prelude.{◌≡◌, Some, length};
 ghost use Rattle.hd_names.specs.Fault.{StopsAt};
 ghost use Rattle.hd_check.specs.Lifting.{Lifts, within};
-ghost use Rattle.hd_check.specs.Terms.{lifted_term, term_fault, type_of_term, wrong_type, parameters_of, LiftsArgument, LiftsArguments, LiftsApplied};
+ghost use Rattle.hd_check.specs.Terms.{lifted_term, term_fault, type_at, wrong_type, parameters_at, LiftsArgument, LiftsArguments, LiftsApplied};
 ghost use Rattle.hd_names.specs.declared.fault.Fault.TheVariants.{WrongArity};
 
 use crate::context::Context;
@@ -30,18 +30,16 @@ pub fn term_of(alloc: Global, context: Context<'_>, term: &Term) -> Result<Argum
     }
 }
 
-/// The declared type of a term.
-fn type_of_term(context: Context<'_>, term: &Term) -> usize
-    ensures { result ≡ within context.entry type_of_term term.now }
+/// The declared type of an object or a parameter.
+fn type_at(context: Context<'_>, argument: Argument) -> usize
+    ensures { result ≡ within context.entry type_at argument }
 {
-    match term {
-        Term::Name(name) => {
-            let number = context.scope.objects.names.number_of(&name.name);
+    match argument {
+        Argument::Object(number) => {
             let types = context.scope.objects.items.as_slice();
             types.get(number).copied().unwrap_or(0)
         }
-        Term::Variable(name) => {
-            let place = context.parameters.names.number_of(&name.name);
+        Argument::Parameter(place) => {
             let types = context.parameters.items.as_slice();
             types.get(place).copied().unwrap_or(0)
         }
@@ -72,7 +70,7 @@ fn argument_of(
     ensures { LiftsArgument result context.entry term.now wanted }
 {
     let argument = term_of(alloc, context, term)?;
-    let declared = type_of_term(context, term);
+    let declared = type_at(context, argument);
     if context.scope.hierarchy.is_subtype(declared, wanted) {
         Ok(argument)
     } else {
@@ -102,11 +100,10 @@ fn arguments_of(
     Ok(Tuple::from_small_vec(arguments))
 }
 
-/// The types of the parameters of a predicate or a function.
-pub fn parameters_of<'a>(symbols: &'a Table<Sequence<usize>>, name: &NameAt) -> &'a [usize]
-    ensures { result.now ≡ parameters_of symbols.now name.now }
+/// The types of the parameters of the predicate, or the function, of this number.
+pub fn parameters_at(symbols: &Table<Sequence<usize>>, number: usize) -> &[usize]
+    ensures { result.now ≡ parameters_at symbols.now number }
 {
-    let number = symbols.names.number_of(&name.name);
     match symbols.items.as_slice().get(number) {
         Some(types) => types.as_slice(),
         None => &[],
@@ -133,7 +130,7 @@ pub fn applied_of(
     ensures { LiftsApplied result symbols.now context.entry atom.now }
 {
     let symbol = known(alloc, ItemKind::Name, &symbols.names, &atom.name)?;
-    let types = parameters_of(symbols, &atom.name);
+    let types = parameters_at(symbols, symbol);
     if atom.terms.len() != types.len() {
         return Err(wrong_arity(alloc, &atom.name));
     }

@@ -1,5 +1,5 @@
 -- What an action does to a state, and what it costs (PDDL 2.1). The schema's parameters stand for a list of objects.
-use Rattle.std.specs.Prelude.{ℕ, Bool, true, false, not, ◌&&◌, ◌||◌, if◌then◌else◌, List, [], ◌∷◌, Option, Some, is_some, ℤ, pos, ◌+ℤ◌, ◌-ℤ◌, ◌*ℤ◌}
+use Rattle.std.specs.Prelude.{ℕ, Bool, true, false, not, ◌&&◌, ◌||◌, if◌then◌else◌, List, [], ◌∷◌, Option, Some, None, is_some, ℤ, pos, negsuc, ◌+ℤ◌, ◌-ℤ◌, ◌*ℤ◌}
 use Rattle.std.specs.List.{list_any, list_all, fold}
 use Rattle.hd_base.specs.Numbers.{fits}
 use Rattle.hd_base.specs.Values.{of_both}
@@ -89,6 +89,12 @@ sum_of_costs v a objects = fold (with_cost v objects) (Some (pos 0)) a.effects
 -- the cost of an action: 1 without a metric
 unfoldable pub step_cost : LiftedTask → Values → Schema → List ℕ → Option ℤ
 step_cost t v a objects = if is_some t.metric then sum_of_costs v a objects else Some (pos 1)
+
+-- a cost is there and negative
+abbrev pub is_negative : Option ℤ → Bool
+is_negative None = false
+is_negative (Some (pos n)) = false
+is_negative (Some (negsuc n)) = true
 
 -- ---- the range
 

@@ -1,6 +1,6 @@
 -- Small tasks on which the definitions are computed.
 use Rattle.std.specs.Prelude.{ℕ, Bool, true, false, List, [], ◌∷◌, codes, Option, Some, None, ℤ, pos}
-use Rattle.hd_base.specs.declared.operation.Operation.TheVariants.{Multiply}
+use Rattle.hd_base.specs.declared.operation.Operation.TheVariants.{Subtract, Multiply}
 use Rattle.hd_base.specs.declared.relation.Relation.{Relation}
 use Rattle.hd_base.specs.declared.relation.Relation.TheVariants.{GreaterOrEqual}
 use Rattle.hd_lifted.specs.declared.schema.Argument.TheVariants.{Parameter, Object}
@@ -24,7 +24,7 @@ use Rattle.hd_base.specs.Expression.{Expression, leaf, binary as operation}
 use Rattle.hd_lifted.specs.States.{initial_state}
 use Rattle.hd_lifted.specs.Conditions.{comparison_holds, comparison_stays}
 use Rattle.hd_lifted.specs.Steps.{Reached, start}
-use Rattle.hd_lifted.specs.Plans.{Instance}
+use Rattle.hd_lifted.specs.Plans.{Instance, exec}
 use Rattle.hd_lifted.specs.Departures.{goal_departs, instance_departs}
 
 -- ---- parts
@@ -230,6 +230,36 @@ p_with_q = instance 0 (0 ∷ 1 ∷ [])
 abbrev pub scaling : LiftedTask
 scaling = small (changing [] (effect ScaleUp (alone 0) (number (pos 3)) ∷ [])) [] (initial 0 [] (pos 5) ∷ [])
 
+-- ---- costs that depend on the state
+
+-- the action increases x, which is 0 at first, by 1 and costs this; the metric's function is c. y has no value
+abbrev paying : Expression (Operand Applied) → LiftedTask
+paying amount = record {
+  hierarchy = [];
+  objects = [];
+  predicates = [];
+  functions = signature (codes "x") [] ∷ signature (codes "y") [] ∷ signature (codes "c") [] ∷ [];
+  schemas = changing [] (effect Increase (alone 0) (number (pos 1)) ∷ effect Cost (alone 2) amount ∷ []) ∷ [];
+  atoms = [];
+  values = initial 0 [] (pos 0) ∷ [];
+  goal = always;
+  metric = Some 2;
+}
+
+-- it costs 1 without x: 1, then 0, then -1
+abbrev pub cheaper : LiftedTask
+cheaper = paying (operation Subtract (number (pos 1)) (fluent (alone 0)))
+
+-- its cost is missing
+abbrev pub unpriced : LiftedTask
+unpriced = paying (fluent (alone 1))
+
+abbrev pub twice : List Instance
+twice = only ∷ only ∷ []
+
+abbrev pub thrice : List Instance
+thrice = only ∷ twice
+
 -- ---- conditions
 
 -- the atom a is false
@@ -255,9 +285,17 @@ compares t relation = comparison_holds (initial_state t).values [] (x_and_y rela
 abbrev pub compares_in_range : LiftedTask → Relation → Bool
 compares_in_range t relation = comparison_stays (initial_state t).values [] (x_and_y relation)
 
+-- whether the one instance departs from the range where a plan leads
+abbrev departs_at : LiftedTask → Option Reached → Bool
+departs_at t None = false
+departs_at t (Some r) = instance_departs t r only
+
+abbrev pub departs_behind : LiftedTask → List Instance → Bool
+departs_behind t p = departs_at t (exec t p)
+
 -- whether the one instance, or the goal, departs from the range at first
 abbrev pub action_departs : LiftedTask → Bool
-action_departs t = instance_departs t (start t) only
+action_departs t = departs_behind t []
 
 abbrev pub departs_at_first : LiftedTask → Bool
 departs_at_first t = goal_departs t (start t)

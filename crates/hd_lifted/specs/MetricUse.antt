@@ -1,5 +1,5 @@
 -- How a checked task uses the metric's function, of which only increases are a cost. (Our own.)
-use Rattle.std.specs.Prelude.{◌≡◌, ◌≢◌, ℕ, ◌==◌, Bool, true, false, List, length, slice_get}
+use Rattle.std.specs.Prelude.{◌≡◌, ◌≢◌, ℕ, ◌==◌, false, length, slice_get}
 use Rattle.std.specs.List.{AllByRecursion}
 use Rattle.std.specs.Option.{IsSomeAnd}
 use Rattle.hd_base.specs.declared.expression.Operand.{Operand}
@@ -25,39 +25,23 @@ IsFreeOf f (binary o x y) = IsFreeOf f x × IsFreeOf f y
 abbrev pub ComparesWithout : ℕ → Comparison → Type 0
 ComparesWithout f c = IsFreeOf f c.left × IsFreeOf f c.right
 
--- no effect of a schema changes a function
-abbrev pub LeavesAlone : ℕ → Schema → Type 0
-LeavesAlone g a = AllByRecursion (λ (e : NumericEffect). e.fluent.symbol ≢ g) a.effects
-
 -- no effect of a schema is a cost
 abbrev pub HasNoCost : Schema → Type 0
 HasNoCost a = AllByRecursion (λ (e : NumericEffect). is_cost e.change ≡ false) a.effects
 
--- an amount is a number, or a fluent of a function that no schema changes
-abbrev pub IsFixed : List Schema → Expression (Operand Applied) → Type 0
-IsFixed as' (leaf (Number v)) = Unit {0}
-IsFixed as' (leaf (Fluent a)) = AllByRecursion (LeavesAlone a.symbol) as'
-IsFixed as' (negate x) = ⊥
-IsFixed as' (binary o x y) = ⊥
-
--- an effect that is a cost adds what no schema changes, and another reads no fluent of the function
-abbrev pub AmountFits : List Schema → ℕ → Bool → Expression (Operand Applied) → Type 0
-AmountFits as' f true x = IsFixed as' x
-AmountFits as' f false x = IsFreeOf f x
-
--- an effect is a cost exactly where it changes the function
-pub record IsCostOf (as' : List Schema) (f : ℕ) (e : NumericEffect) : Type 0 where
+-- an effect is a cost exactly where it changes the function, and its amount reads no fluent of the function
+pub record IsCostOf (f : ℕ) (e : NumericEffect) : Type 0 where
   pub cost : is_cost e.change ≡ (e.fluent.symbol == f)
-  pub amount : AmountFits as' f (is_cost e.change) e.amount
+  pub amount : IsFreeOf f e.amount
 
--- a schema, one of these: its comparisons and its effects
-pub record CountsCost (as' : List Schema) (f : ℕ) (a : Schema) : Type 0 where
+-- so is each effect of a schema, and its comparisons read no fluent of the function
+pub record CountsCost (f : ℕ) (a : Schema) : Type 0 where
   pub comparisons : AllByRecursion (ComparesWithout f) a.condition.comparisons
-  pub effects : AllByRecursion (IsCostOf as' f) a.effects
+  pub effects : AllByRecursion (IsCostOf f) a.effects
 
--- a function without parameters, which only costs change, and which no comparison, no other amount and no first value has
+-- a function without parameters, which only costs change, and which no comparison, no amount and no first value has
 pub record IsCostFunction (t : LiftedTask) (f : ℕ) : Type 0 where
   pub declared : IsSomeAnd (slice_get t.functions f) (λ (s : Signature). length s.parameters ≡ 0)
-  pub schemas : AllByRecursion (CountsCost t.schemas f) t.schemas
+  pub schemas : AllByRecursion (CountsCost f) t.schemas
   pub goal : AllByRecursion (ComparesWithout f) t.goal.comparisons
   pub values : AllByRecursion (λ (v : InitialValue). v.fluent.symbol ≢ f) t.values

@@ -54,11 +54,18 @@ pub record IsValidAt (t : LiftedTask) (p : List Instance) (cost : ℤ) : Type 0 
   pub valid : IsValid t p
   pub costs : valid.end.cost ≡ Some cost
 
--- a plan is optimal if it is valid at a cost and no valid plan costs less; a plan whose cost is missing is not compared
+-- a plan is valid at a cost that is at least this one
+pub record CostsAtLeast (t : LiftedTask) (p : List Instance) (least : ℤ) : Type 0 where
+  pub cost : ℤ
+  pub valid : IsValidAt t p cost
+  pub no_less : least ≤ℤ cost
+
+-- a plan is optimal if it is valid at a cost and each valid plan costs at least as much: where the cost of a valid plan is
+-- missing, no plan is optimal
 pub record IsOptimal (t : LiftedTask) (p : List Instance) : Type 0 where
   pub cost : ℤ
   pub valid : IsValidAt t p cost
-  pub least : (q : List Instance) (d : ℤ) → IsValidAt t q d → cost ≤ℤ d
+  pub least : (q : List Instance) → IsValid t q → CostsAtLeast t q cost
 
 -- no plan is valid, at whatever cost
 abbrev pub HasNoPlan : LiftedTask → Type 0

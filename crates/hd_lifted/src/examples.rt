@@ -6,7 +6,7 @@ ghost use Rattle.hd_lifted.specs.Types.{IsSubtype, is_subtype};
 ghost use Rattle.hd_lifted.specs.States.{initial_state};
 ghost use Rattle.hd_lifted.specs.Conditions.{literal_holds, equality_holds};
 ghost use Rattle.hd_lifted.specs.Plans.{IsInstance, exec, IsValidAt};
-ghost use Rattle.hd_lifted.specs.Example.{value_at, is_true_at, cost_at, journey, a_to_b, a_to_c, way_by_b, the_fuel, the_start, only, the_x, the_y, the_atom, swapping, up_and_down, one_up, missing_amount, first_assignment, delete_and_add, mixing, p_with_p, p_with_q, scaling, not_the_atom, parameters_are, first_is_q, compares, compares_in_range, action_departs, departs_at_first, squared, three_types};
+ghost use Rattle.hd_lifted.specs.Example.{value_at, is_true_at, cost_at, journey, a_to_b, a_to_c, way_by_b, the_fuel, the_start, only, the_x, the_y, the_atom, swapping, up_and_down, one_up, missing_amount, first_assignment, delete_and_add, cheaper, unpriced, twice, thrice, departs_behind, mixing, p_with_p, p_with_q, scaling, not_the_atom, parameters_are, first_is_q, compares, compares_in_range, action_departs, departs_at_first, squared, three_types};
 
 /// The definitions on the small tasks of `specs/Example.antt`.
 pub fn examples_compute()
@@ -34,6 +34,17 @@ pub fn examples_compute()
     ensures misses { value_at the_x (exec missing_amount (only ∷ [])) ≡ None }
     ensures misses_no_step { cost_at (exec missing_amount (only ∷ [])) ≡ Some (pos 1) }
     ensures assigns { value_at the_x (exec first_assignment (only ∷ [])) ≡ Some (pos 3) }
+
+    // A cost that depends on the state: 1, then 0. The third step would cost -1, so that it is none, and departs.
+    ensures pays { cost_at (exec cheaper twice) ≡ Some (pos 1) }
+    ensures stays { departs_behind cheaper (only ∷ []) ≡ false }
+    ensures no_third { exec cheaper thrice ≡ None }
+    ensures third_departs { departs_behind cheaper twice ≡ true }
+
+    // A cost that is missing stops nothing.
+    ensures goes_on { value_at the_x (exec unpriced twice) ≡ Some (pos 2) }
+    ensures has_no_cost { cost_at (exec unpriced twice) ≡ None }
+    ensures does_not_depart { departs_behind unpriced twice ≡ false }
 
     // Deletes come before adds.
     ensures adds_last { is_true_at the_atom (exec delete_and_add (only ∷ [])) ≡ true }

@@ -1,6 +1,6 @@
--- What a metric asks of the texts: the function is at first 0, is changed only by increases, and is read nowhere else; and
--- what each increase adds is the same in every state. (Our own.)
-use Rattle.std.specs.Prelude.{ℕ, nat_abs, ◌==◌, Bool, true, false, not, ◌&&◌, if◌then◌else◌, List, [], ◌∷◌, Option, Some, None}
+-- What a metric asks of the texts: the function is at first 0, is changed only by increases, and is read nowhere, also in no
+-- amount. (Our own.)
+use Rattle.std.specs.Prelude.{ℕ, nat_abs, ◌==◌, Bool, false, not, ◌&&◌, if◌then◌else◌, List, [], ◌∷◌, Option, Some, None}
 use Rattle.std.specs.List.{list_any}
 use Rattle.std.specs.Str.{bytes_eq}
 use Rattle.hd_forms.specs.declared.names.NameAt.{NameAt}
@@ -20,26 +20,6 @@ use Rattle.hd_pddl.specs.declared.tree.ProblemAst.{ProblemAst}
 use Rattle.hd_pddl.specs.declared.tree.Init.{Init}
 use Rattle.hd_pddl.specs.declared.tree.Init.TheVariants as inits
 use Rattle.hd_base.specs.Options.{◌or◌}
-use Rattle.hd_base.specs.Names.{is_named}
-use Rattle.hd_names.specs.Names.{with_name}
-
--- ---- the functions that actions change
-
--- the function that a part of an effect changes, with others
-abbrev pub with_changed : List (List ℕ) → Effect → List (List ℕ)
-with_changed names (effects.Add a) = names
-with_changed names (effects.Delete a) = names
-with_changed names (effects.Change c) = with_name names c.fluent.name.name
-
--- the functions that an effect changes, with others
-abbrev pub changed_in : List (List ℕ) → List Effect → List (List ℕ)
-changed_in names [] = names
-changed_in names (e ∷ es) = changed_in (with_changed names e) es
-
--- the functions that actions change, with others
-abbrev pub changed_by : List (List ℕ) → List Action → List (List ℕ)
-changed_by names [] = names
-changed_by names (a ∷ as') = changed_by (changed_in names a.effect) as'
 
 -- ---- the first place where the function f is used as it may not be
 
@@ -63,44 +43,36 @@ abbrev pub read_by_condition : List ℕ → List Condition → Option ℕ
 read_by_condition f [] = None
 read_by_condition f (c ∷ cs) = read_by_part f c or read_by_condition f cs
 
--- an amount is the same in every state: a number, or a fluent of a function that no action changes
-abbrev pub is_fixed : List (List ℕ) → Expression Leaf → Bool
-is_fixed changed (leaf (Number v at)) = true
-is_fixed changed (leaf (Fluent a)) = not (is_named changed a.name.name)
-is_fixed changed (negate x) = false
-is_fixed changed (binary o x y) = false
-
--- a change of it has to be an increase, else its name is told, by a fixed amount, else the amount's first token is
-abbrev pub change_of_metric : List (List ℕ) → FluentChange → Change → Option ℕ
-change_of_metric changed c Increase = if is_fixed changed c.amount then None else Some c.at
-change_of_metric changed c Assign = Some c.fluent.name.at
-change_of_metric changed c ScaleUp = Some c.fluent.name.at
-change_of_metric changed c Decrease = Some c.fluent.name.at
+-- a change of it has to be an increase, else its name is told, by an amount that does not read it
+abbrev pub change_of_metric : List ℕ → FluentChange → Change → Option ℕ
+change_of_metric f c Increase = read_in f c.amount
+change_of_metric f c Assign = Some c.fluent.name.at
+change_of_metric f c ScaleUp = Some c.fluent.name.at
+change_of_metric f c Decrease = Some c.fluent.name.at
 
 -- where a change misuses it: one of another function may not read it
-abbrev pub misused_by_change : List (List ℕ) → List ℕ → FluentChange → Option ℕ
-misused_by_change changed f c =
-    if bytes_eq c.fluent.name.name f then change_of_metric changed c c.change else read_in f c.amount
+abbrev pub misused_by_change : List ℕ → FluentChange → Option ℕ
+misused_by_change f c = if bytes_eq c.fluent.name.name f then change_of_metric f c c.change else read_in f c.amount
 
 -- where a part of an effect misuses it
-abbrev pub misused_by_part : List (List ℕ) → List ℕ → Effect → Option ℕ
-misused_by_part changed f (effects.Add a) = None
-misused_by_part changed f (effects.Delete a) = None
-misused_by_part changed f (effects.Change c) = misused_by_change changed f c
+abbrev pub misused_by_part : List ℕ → Effect → Option ℕ
+misused_by_part f (effects.Add a) = None
+misused_by_part f (effects.Delete a) = None
+misused_by_part f (effects.Change c) = misused_by_change f c
 
 -- where an effect misuses it
-abbrev pub misused_by_effect : List (List ℕ) → List ℕ → List Effect → Option ℕ
-misused_by_effect changed f [] = None
-misused_by_effect changed f (e ∷ es) = misused_by_part changed f e or misused_by_effect changed f es
+abbrev pub misused_by_effect : List ℕ → List Effect → Option ℕ
+misused_by_effect f [] = None
+misused_by_effect f (e ∷ es) = misused_by_part f e or misused_by_effect f es
 
 -- where an action misuses it: its precondition may not read it
-abbrev pub misused_by_action : List (List ℕ) → List ℕ → Action → Option ℕ
-misused_by_action changed f a = read_by_condition f a.precondition or misused_by_effect changed f a.effect
+abbrev pub misused_by_action : List ℕ → Action → Option ℕ
+misused_by_action f a = read_by_condition f a.precondition or misused_by_effect f a.effect
 
 -- where actions misuse it
-abbrev pub misused_by_actions : List (List ℕ) → List ℕ → List Action → Option ℕ
-misused_by_actions changed f [] = None
-misused_by_actions changed f (a ∷ as') = misused_by_action changed f a or misused_by_actions changed f as'
+abbrev pub misused_by_actions : List ℕ → List Action → Option ℕ
+misused_by_actions f [] = None
+misused_by_actions f (a ∷ as') = misused_by_action f a or misused_by_actions f as'
 
 -- ---- its first value
 
@@ -130,7 +102,7 @@ missing_in m is = if list_any (is_value_of m.name) is then None else Some m.at
 -- the first place in a domain where the metric's function is misused
 abbrev pub misused_in_domain : Option NameAt → DomainAst → Option ℕ
 misused_in_domain None d = None
-misused_in_domain (Some m) d = misused_by_actions (changed_by [] d.actions) m.name d.actions
+misused_in_domain (Some m) d = misused_by_actions m.name d.actions
 
 -- the first such place in a problem: a first value that is not 0, the goal, and the metric where there is no first value
 abbrev pub misused_in_problem : Option NameAt → ProblemAst → Option ℕ

@@ -1,50 +1,12 @@
 //! How a metric's function may be used.
-ghost use Rattle.std.specs.Prelude.{◌≡◌, [], IfOk};
+ghost use Rattle.std.specs.Prelude.{◌≡◌};
 ghost use Rattle.std.specs.List.{list_any};
-ghost use Rattle.hd_metric.specs.Metric.{with_changed, changed_in, changed_by, read_in, read_by_part, read_by_condition, is_fixed, change_of_metric, misused_by_part, misused_by_effect, misused_by_action, misused_by_actions, is_value_of, nonzero_at, nonzero_in, missing_in, misused_in_domain, misused_in_problem};
+ghost use Rattle.hd_metric.specs.Metric.{read_in, read_by_part, read_by_condition, change_of_metric, misused_by_part, misused_by_effect, misused_by_action, misused_by_actions, is_value_of, nonzero_at, nonzero_in, missing_in, misused_in_domain, misused_in_problem};
 
 use hd_base::Name;
 use hd_forms::{Change, NameAt};
-use hd_names::Names;
 use hd_pddl::{Action, DomainAst, Init, ProblemAst};
 use hd_terms::{Condition, Effect, Expr, ExprParts, FluentChange, Leaf};
-use std::alloc::{AllocError, Global};
-
-/// The function that a part of an effect changes, with others.
-fn add_changed(alloc: Global, names: &mut Names, part: &Effect) -> Result<(), AllocError>
-    ensures { IfOk result (λ _. names.new ≡ with_changed names.old part.now) }
-{
-    match part {
-        Effect::Add(_) => Ok(()),
-        Effect::Delete(_) => Ok(()),
-        Effect::Change(change) => names.add(alloc, &change.fluent.name.name),
-    }
-}
-
-/// The functions that an effect changes, with others.
-fn add_all_changed(alloc: Global, names: &mut Names, effect: &[Effect]) -> Result<(), AllocError>
-    ensures { IfOk result (λ _. names.new ≡ changed_in names.old effect.now) }
-{
-    let mut rest = effect;
-    while let [first, after @ ..] = rest {
-        add_changed(alloc, names, first)?;
-        rest = after;
-    }
-    Ok(())
-}
-
-/// The functions that actions change.
-fn changed_by(alloc: Global, actions: &[Action]) -> Result<Names, AllocError>
-    ensures { IfOk result (λ names. names ≡ changed_by [] actions.now) }
-{
-    let mut names = Names::none(alloc);
-    let mut rest = actions;
-    while let [first, after @ ..] = rest {
-        add_all_changed(alloc, &mut names, first.effect.as_slice())?;
-        rest = after;
-    }
-    Ok(names)
-}
 
 /// The first place where an expression reads a function.
 fn read_in(function: &Name, expression: &Expr) -> Option<usize>
@@ -97,30 +59,12 @@ fn read_by_condition(function: &Name, condition: &[Condition]) -> Option<usize>
     None
 }
 
-/// Whether an amount is the same in every state: a number, or a fluent of a function that no action changes.
-fn is_fixed(changed: &Names, amount: &Expr) -> bool
-    ensures { result ≡ is_fixed changed.now amount.now }
-{
-    match amount.parts() {
-        ExprParts::Leaf(Leaf::Number(_, _)) => true,
-        ExprParts::Leaf(Leaf::Fluent(fluent)) => !changed.has(&fluent.name.name),
-        ExprParts::Negate(_) => false,
-        ExprParts::Binary(_, _, _) => false,
-    }
-}
-
-/// The place where a change of the metric's function is none that it may have.
-fn change_of_metric(changed: &Names, change: &FluentChange) -> Option<usize>
-    ensures { result ≡ change_of_metric changed.now change.now change.now.change }
+/// The place where a change of the metric's function is none that it may have, or reads it.
+fn change_of_metric(function: &Name, change: &FluentChange) -> Option<usize>
+    ensures { result ≡ change_of_metric function.now change.now change.now.change }
 {
     match change.change {
-        Change::Increase => {
-            if is_fixed(changed, &change.amount) {
-                None
-            } else {
-                Some(change.at)
-            }
-        }
+        Change::Increase => read_in(function, &change.amount),
         Change::Assign => Some(change.fluent.name.at),
         Change::ScaleUp => Some(change.fluent.name.at),
         Change::Decrease => Some(change.fluent.name.at),
@@ -128,15 +72,15 @@ fn change_of_metric(changed: &Names, change: &FluentChange) -> Option<usize>
 }
 
 /// The place where a part of an effect misuses the metric's function.
-fn misused_by_part(changed: &Names, function: &Name, part: &Effect) -> Option<usize>
-    ensures { result ≡ misused_by_part changed.now function.now part.now }
+fn misused_by_part(function: &Name, part: &Effect) -> Option<usize>
+    ensures { result ≡ misused_by_part function.now part.now }
 {
     match part {
         Effect::Add(_) => None,
         Effect::Delete(_) => None,
         Effect::Change(change) => {
             if change.fluent.name.name == *function {
-                change_of_metric(changed, change)
+                change_of_metric(function, change)
             } else {
                 read_in(function, &change.amount)
             }
@@ -145,12 +89,12 @@ fn misused_by_part(changed: &Names, function: &Name, part: &Effect) -> Option<us
 }
 
 /// The first place where an effect misuses the metric's function.
-fn misused_by_effect(changed: &Names, function: &Name, effect: &[Effect]) -> Option<usize>
-    ensures { result ≡ misused_by_effect changed.now function.now effect.now }
+fn misused_by_effect(function: &Name, effect: &[Effect]) -> Option<usize>
+    ensures { result ≡ misused_by_effect function.now effect.now }
 {
     let mut rest = effect;
     while let [first, after @ ..] = rest {
-        if let Some(at) = misused_by_part(changed, function, first) {
+        if let Some(at) = misused_by_part(function, first) {
             return Some(at);
         }
         rest = after;
@@ -159,22 +103,22 @@ fn misused_by_effect(changed: &Names, function: &Name, effect: &[Effect]) -> Opt
 }
 
 /// The place where an action misuses the metric's function.
-fn misused_by_action(changed: &Names, function: &Name, action: &Action) -> Option<usize>
-    ensures { result ≡ misused_by_action changed.now function.now action.now }
+fn misused_by_action(function: &Name, action: &Action) -> Option<usize>
+    ensures { result ≡ misused_by_action function.now action.now }
 {
     match read_by_condition(function, action.precondition.as_slice()) {
         Some(at) => Some(at),
-        None => misused_by_effect(changed, function, action.effect.as_slice()),
+        None => misused_by_effect(function, action.effect.as_slice()),
     }
 }
 
 /// The first place where actions misuse the metric's function.
-fn misused_by_actions(changed: &Names, function: &Name, actions: &[Action]) -> Option<usize>
-    ensures { result ≡ misused_by_actions changed.now function.now actions.now }
+fn misused_by_actions(function: &Name, actions: &[Action]) -> Option<usize>
+    ensures { result ≡ misused_by_actions function.now actions.now }
 {
     let mut rest = actions;
     while let [first, after @ ..] = rest {
-        if let Some(at) = misused_by_action(changed, function, first) {
+        if let Some(at) = misused_by_action(function, first) {
             return Some(at);
         }
         rest = after;
@@ -250,19 +194,13 @@ fn missing_in(metric: &NameAt, init: &[Init]) -> Option<usize>
 }
 
 /// The first place in a domain where the metric's function is misused.
-pub fn misused_in_domain(
-    alloc: Global,
-    metric: &Option<NameAt>,
-    domain: &DomainAst,
-) -> Result<Option<usize>, AllocError>
-    ensures { IfOk result (λ at. at ≡ misused_in_domain metric.now domain.now) }
+pub fn misused_in_domain(metric: &Option<NameAt>, domain: &DomainAst) -> Option<usize>
+    ensures { result ≡ misused_in_domain metric.now domain.now }
 {
     let Some(name) = metric else {
-        return Ok(None);
+        return None;
     };
-    let actions = domain.actions.as_slice();
-    let changed = changed_by(alloc, actions)?;
-    Ok(misused_by_actions(&changed, &name.name, actions))
+    misused_by_actions(&name.name, domain.actions.as_slice())
 }
 
 /// The first such place in a problem.

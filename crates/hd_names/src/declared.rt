@@ -42,7 +42,7 @@ pub fn table_of(
 ) -> Result<Table<usize>, Stop>
     ensures { ChecksTable result kind types.now declared.now }
 {
-    let mut names = Names::none(alloc);
+    let mut names = types.none_alike(alloc);
     let items = declare_all(alloc, kind, types, &mut names, declared)?;
     Ok(Table { names, items })
 }
@@ -55,7 +55,7 @@ fn parameter_types(
 ) -> Result<Sequence<usize>, Stop>
     ensures { DeclaresTypes result kinds.Variable types.now [] declared.now }
 {
-    let mut names = Names::none(alloc);
+    let mut names = types.none_alike(alloc);
     declare_all(alloc, ItemKind::Variable, types, &mut names, declared)
 }
 
@@ -67,7 +67,7 @@ pub fn signatures_of(
 ) -> Result<Table<Sequence<usize>>, Stop>
     ensures { ChecksSignatures result types.now declared.now }
 {
-    let mut names = Names::none(alloc);
+    let mut names = types.none_alike(alloc);
     let mut items = Vec::new(alloc);
     let mut rest = declared;
     while let [first, after @ ..] = rest {

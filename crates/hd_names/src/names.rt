@@ -1,5 +1,5 @@
 //! The numbers of names, and the faults of names.
-ghost use Rattle.std.specs.Prelude.{◌≡◌, [], Some, IfOk, length};
+ghost use Rattle.std.specs.Prelude.{◌≡◌, [], Some, not, IfOk, OnOk, length};
 ghost use Rattle.std.specs.List.{position};
 ghost use Rattle.std.specs.Str.{bytes_eq};
 ghost use Rattle.hd_base.specs.Names.{is_named};
@@ -8,9 +8,9 @@ ghost use Rattle.hd_names.specs.Names.{number_in, spelled, with_name, Knows, Kno
 ghost use Rattle.hd_names.specs.declared.fault.Fault.TheVariants.{UnknownName, Duplicate};
 
 use crate::fault::{Fault, Stop};
-use hd_base::Name;
+use hd_base::{Name, Seed};
 use hd_forms::NameAt;
-use hd_terms::ItemKind;
+use hd_terms::{ItemKind, TypeName};
 use indexmap::IndexSet;
 use std::alloc::{AllocError, Global};
 use std::marker::Model;
@@ -18,7 +18,7 @@ use std::marker::Model;
 /// Names, each once, which contracts see as the list of their bytes. A name's number is its place.
 #[derive(Debug, Drop)]
 pub struct Names {
-    names: IndexSet<String>,
+    names: IndexSet<String, Seed>,
 }
 
 impl Model for Names {
@@ -30,13 +30,25 @@ impl Model for Names {
 }
 
 impl Names {
-    /// No names.
-    pub fn none(alloc: Global) -> Names
+    /// No names, in a table that hashes by this seed.
+    pub fn none(alloc: Global, seed: Seed) -> Names
         ensures { result ≡ [] }
     {
         Names {
-            names: IndexSet::new(alloc),
+            names: IndexSet::with_hasher(alloc, seed),
         }
+    }
+
+    /// No names, in a table that hashes as this one does.
+    pub fn none_alike(&self, alloc: Global) -> Names
+        ensures { result ≡ [] }
+    {
+        Names::none(alloc, self.seed())
+    }
+
+    /// What the table hashes by, which contracts do not see.
+    pub fn seed(&self) -> Seed {
+        *self.names.hasher()
     }
 
     /// How many names there are.
@@ -70,15 +82,13 @@ impl Names {
         }
     }
 
-    /// One name more, if it is none of them yet.
-    pub fn add(&mut self, alloc: Global, name: &Name) -> Result<(), AllocError>
-        ensures { IfOk result (λ _. self.new ≡ with_name self.old name.now) }
+    /// One name more, if it is none of them yet: whether it was none.
+    pub fn add(&mut self, alloc: Global, name: &Name) -> Result<bool, AllocError>
+        ensures new { IfOk result (λ new. new ≡ not (is_named self.old name.now)) }
+        ensures names { OnOk result (self.new ≡ with_name self.old name.now) }
     {
-        if !self.names.contains(name.as_str()) {
-            let text = String::from_str(alloc, name.as_str())?;
-            self.names.insert(text)?;
-        }
-        Ok(())
+        let text = String::from_str(alloc, name.as_str())?;
+        Ok(self.names.insert(text)?)
     }
 }
 
@@ -119,10 +129,9 @@ pub fn duplicate(alloc: Global, kind: ItemKind, name: &NameAt) -> Stop
 pub fn known(alloc: Global, kind: ItemKind, names: &Names, name: &NameAt) -> Result<usize, Stop>
     ensures { Knows result kind names.now name.now }
 {
-    if names.has(&name.name) {
-        Ok(names.number_of(&name.name))
-    } else {
-        Err(unknown(alloc, kind, name))
+    match names.place_of(&name.name) {
+        Some(number) => Ok(number),
+        None => Err(unknown(alloc, kind, name)),
     }
 }
 
@@ -130,20 +139,19 @@ pub fn known(alloc: Global, kind: ItemKind, names: &Names, name: &NameAt) -> Res
 pub fn declare(alloc: Global, kind: ItemKind, names: &mut Names, name: &NameAt) -> Result<(), Stop>
     ensures { Declares result names.new kind names.old name.now }
 {
-    if names.has(&name.name) {
-        Err(duplicate(alloc, kind, name))
-    } else {
-        names.add(alloc, &name.name)?;
+    if names.add(alloc, &name.name)? {
         Ok(())
+    } else {
+        Err(duplicate(alloc, kind, name))
     }
 }
 
 /// The number of a type that is named: `object`, which is 0, where none is.
-pub fn type_of(alloc: Global, types: &Names, of: &Option<NameAt>) -> Result<usize, Stop>
+pub fn type_of(alloc: Global, types: &Names, of: &Option<TypeName>) -> Result<usize, Stop>
     ensures { KnowsType result types.now of.now }
 {
     match of {
         None => Ok(0),
-        Some(name) => known(alloc, ItemKind::Name, types, name),
+        Some(name) => known(alloc, ItemKind::Name, types, name.get()),
     }
 }

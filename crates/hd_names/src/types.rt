@@ -8,30 +8,34 @@ ghost use Rattle.hd_names.specs.declared.fault.Fault.TheVariants.{TypeCycle};
 
 use crate::fault::{Fault, Stop};
 use crate::names::{Names, declare, spelled};
-use hd_base::{Name, Sequence};
+use hd_base::{Name, Seed, Sequence};
 use hd_forms::NameAt;
 use hd_lifted::Hierarchy;
-use hd_terms::{ItemKind, Typed};
+use hd_terms::{ItemKind, TypeName, Typed};
 use std::alloc::{AllocError, Global};
 
 /// The names that are there before any type is listed: `object` alone.
-fn object_alone(alloc: Global) -> Result<Names, AllocError>
+fn object_alone(alloc: Global, seed: Seed) -> Result<Names, AllocError>
     ensures { IfOk result (λ names. names ≡ codes "object" ∷ []) }
 {
-    let mut names = Names::none(alloc);
+    let mut names = Names::none(alloc, seed);
     let object = Name::from_string(String::from_str(alloc, "object")?);
     names.add(alloc, &object)?;
     Ok(names)
 }
 
 /// A type that is named as a supertype is known.
-fn add_supertype(alloc: Global, names: &mut Names, of: &Option<NameAt>) -> Result<(), AllocError>
+fn add_supertype(alloc: Global, names: &mut Names, of: &Option<TypeName>) -> Result<(), AllocError>
     ensures { IfOk result (λ _. names.new ≡ with_supertype names.old of.now) }
 {
-    match of {
-        None => Ok(()),
-        Some(name) => names.add(alloc, &name.name),
+    if let Some(name) = of {
+        // Most are there, and `add` would copy the name first.
+        let name = &name.get().name;
+        if !names.has(name) {
+            names.add(alloc, name)?;
+        }
     }
+    Ok(())
 }
 
 /// The supertypes, behind the names that are there.
@@ -58,23 +62,23 @@ fn declare_types(alloc: Global, names: &mut Names, listed: &[Typed]) -> Result<(
     Ok(())
 }
 
-/// The names of all types, by number.
-pub fn types_of(alloc: Global, listed: &[Typed]) -> Result<Names, Stop>
+/// The names of all types, by number, in a table that hashes by this seed.
+pub fn types_of(alloc: Global, seed: Seed, listed: &[Typed]) -> Result<Names, Stop>
     ensures { ChecksTypes result listed.now }
 {
-    let mut names = object_alone(alloc)?;
+    let mut names = object_alone(alloc, seed)?;
     declare_types(alloc, &mut names, listed)?;
     add_supertypes(alloc, &mut names, listed)?;
     Ok(names)
 }
 
 /// The number of a type: `object`, which is 0, where none is named.
-pub fn number_of_type(types: &Names, of: &Option<NameAt>) -> usize
+pub fn number_of_type(types: &Names, of: &Option<TypeName>) -> usize
     ensures { result ≡ type_number types.now of.now }
 {
     match of {
         None => 0,
-        Some(name) => types.number_of(&name.name),
+        Some(name) => types.number_of(&name.get().name),
     }
 }
 

@@ -16,13 +16,12 @@ use Rattle.hd_task.specs.Plans.{Node, step_by}
 use Rattle.hd_task.specs.Departures.{action_departs}
 use Rattle.hd_task.specs.Stepping.{IsStepAnswer}
 use Rattle.hd_task.specs.Expansions.{is_applicable}
-use Rattle.hd_node.specs.declared.expansion.Child.{Child}
-use Rattle.hd_node.specs.Children.{child_to, child_at, departing_by, departing_by_goal}
+use Rattle.hd_node.specs.Children.{ChildView, child_to, child_at, departing_by, departing_by_goal}
 
 -- ---- one action
 
 -- what an action finds at a node: a child or none, and what departs by it
-record Finds (t : Task) (r : Node) (n : ℕ) (child : Option Child) (departs : List DepartsBy) : Type 0 where
+record Finds (t : Task) (r : Node) (n : ℕ) (child : Option ChildView) (departs : List DepartsBy) : Type 0 where
   pub child_is : child_at t r n ≡ child
   pub departs_is : departing_by t r n ≡ departs
 
@@ -36,7 +35,7 @@ leaves : (t : Task) (r : Node) (n : ℕ) → action_departs t r n ≡ true → d
 leaves t r n e = cond-true (action_departs t r n) (Action n ∷ []) [] e
 
 -- the child and the departures that an answer of `step` tells
-abbrev pub child_of : ℕ → Reached → Option Child
+abbrev pub child_of : ℕ → Reached → Option ChildView
 child_of n No = None
 child_of n (Next s cost) = Some (record { action = n; state = s; cost = cost })
 child_of n Departs = None
@@ -58,7 +57,7 @@ finds t r n Departs a = record { child_is = stops t r n (sym a.applicable); depa
 
 -- ---- the actions up to a number
 
-one_child : (o : Option Child) (f : ℕ → Option Child) (n : ℕ) → f n ≡ o → filter_map f (n ∷ []) ≡ option_to_list o
+one_child : (o : Option ChildView) (f : ℕ → Option ChildView) (n : ℕ) → f n ≡ o → filter_map f (n ∷ []) ≡ option_to_list o
 one_child None f n e = ap (λ o. cons_option o []) e
 one_child (Some c) f n e = ap (λ o. cons_option o []) e
 
@@ -86,7 +85,7 @@ departing_more t r n =
 -- ---- lists that grow by what an action finds
 
 -- the children by the actions below a number
-abbrev pub children_below : Task → Node → ℕ → List Child
+abbrev pub children_below : Task → Node → ℕ → List ChildView
 children_below t r n = filter_map (child_at t r) (range_with_len 0 n)
 
 -- what departs by the goal and by the actions below a number
@@ -94,7 +93,7 @@ abbrev pub found_below : Task → Node → ℕ → List DepartsBy
 found_below t r n = departing_by_goal t r.state ++ departing_below t r n
 
 children_next :
-    (t : Task) (r : Node) (n : ℕ) (child : Option Child) (departs : List DepartsBy) (old new : List Child)
+    (t : Task) (r : Node) (n : ℕ) (child : Option ChildView) (departs : List DepartsBy) (old new : List ChildView)
     → Finds t r n child departs → old ≡ children_below t r n → new ≡ old ++ option_to_list child → new ≡ children_below t r (n + 1)
 children_next t r n child departs old new f eo en =
     en
@@ -102,7 +101,7 @@ children_next t r n child departs old new f eo en =
     ∙ (ap (λ xs. xs ++ option_to_list (child_at t r n)) eo ∙ sym (children_more t r n)))
 
 found_next :
-    (t : Task) (r : Node) (n : ℕ) (child : Option Child) (departs old new : List DepartsBy)
+    (t : Task) (r : Node) (n : ℕ) (child : Option ChildView) (departs old new : List DepartsBy)
     → Finds t r n child departs → old ≡ found_below t r n → new ≡ old ++ departs → new ≡ found_below t r (n + 1)
 found_next t r n child departs old new f eo en =
     en
@@ -113,7 +112,7 @@ found_next t r n child departs old new f eo en =
 
 -- both lists after one action more, by the answer of `step`
 pub found_by_step :
-    (t : Task) (r : Node) (n : ℕ) (answer x : Reached) (cs cs' : List Child) (ds ds' : List DepartsBy)
+    (t : Task) (r : Node) (n : ℕ) (answer x : Reached) (cs cs' : List ChildView) (ds ds' : List DepartsBy)
     → IsStepAnswer t r n answer → answer ≡ x → cs ≡ children_below t r n → ds ≡ found_below t r n
     → cs' ≡ cs ++ option_to_list (child_of n x) → ds' ≡ ds ++ departing_of n x
     → (cs' ≡ children_below t r (n + 1)) × (ds' ≡ found_below t r (n + 1))

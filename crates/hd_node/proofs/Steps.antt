@@ -14,10 +14,9 @@ use Rattle.hd_task.specs.Effects.{effects_stay, step_cost}
 use Rattle.hd_task.specs.Plans.{Node, node, after_step, step, step_of, step_by}
 use Rattle.hd_task.specs.Departures.{cost_stays, departs_by, action_departs}
 use Rattle.hd_task.specs.Expansions.{is_applicable, applicable_at}
-use Rattle.hd_node.specs.declared.expansion.Child.{Child}
-use Rattle.hd_node.specs.Children.{child_to, child_at, children_at}
+use Rattle.hd_node.specs.Children.{ChildView, child_to, child_at, children_at}
 
-abbrev action_of : Child → ℕ
+abbrev action_of : ChildView → ℕ
 action_of c = c.action
 
 actions_agree : (t : Task) (r : Node) (ns : List ℕ) → map action_of (filter_map (child_at t r) ns) ≡ filter (is_applicable t (Some r)) ns
@@ -38,25 +37,25 @@ unfolding children_at applicable_at
 children-actions t r = actions_agree t r (range_with_len 0 (length t.actions))
 
 -- what holds of a child
-pub record IsStep (t : Task) (r : Node) (c : Child) : Type 0 where
+pub record IsStep (t : Task) (r : Node) (c : ChildView) : Type 0 where
   pub leads : step_by t r c.action ≡ Some (node c.state c.cost)
   pub applies : is_applicable t (Some r) c.action ≡ true
 
-child_step : (t : Task) (r : Node) (n : ℕ) (o : Option Node) (c : Child) → is_applicable t (Some r) n ≡ true → step_by t r n ≡ o → child_to n o ≡ Some c → IsStep t r c
+child_step : (t : Task) (r : Node) (n : ℕ) (o : Option Node) (c : ChildView) → is_applicable t (Some r) n ≡ true → step_by t r n ≡ o → child_to n o ≡ Some c → IsStep t r c
 child_step t r n None c b is e = absurd (none-some c e)
 child_step t r n (Some to) c b is e =
     let same : record { action = n; state = to.state; cost = to.cost } ≡ c = same_Some _ c e in
     subst (IsStep t r) same (record { leads = is; applies = b })
 
-child_is : (t : Task) (r : Node) (n : ℕ) (b : Bool) (c : Child) → is_applicable t (Some r) n ≡ b → cond b (child_to n (step_by t r n)) None ≡ Some c → IsStep t r c
+child_is : (t : Task) (r : Node) (n : ℕ) (b : Bool) (c : ChildView) → is_applicable t (Some r) n ≡ b → cond b (child_to n (step_by t r n)) None ≡ Some c → IsStep t r c
 child_is t r n true c eb e = child_step t r n (step_by t r n) c eb refl e
 child_is t r n false c eb e = absurd (none-some c e)
 
-among_option : (o : Option Child) (xs : List Child) (c : Child) → Contains (cons_option o xs) c → (o ≡ Some c) ⊎ Contains xs c
+among_option : (o : Option ChildView) (xs : List ChildView) (c : ChildView) → Contains (cons_option o xs) c → (o ≡ Some c) ⊎ Contains xs c
 among_option None xs c k = inr k
 among_option (Some x) xs c k = elim (Contains-cons_cases x xs c k) [ inl e ↦ inl (ap Some e) | inr k ↦ inr k ]
 
-steps_among : (t : Task) (r : Node) (ns : List ℕ) (c : Child) → Contains (filter_map (child_at t r) ns) c → IsStep t r c
+steps_among : (t : Task) (r : Node) (ns : List ℕ) (c : ChildView) → Contains (filter_map (child_at t r) ns) c → IsStep t r c
 steps_among t r [] c k = absurd (Contains-nil c k)
 steps_among t r (n ∷ ns) c k =
     elim (among_option (child_at t r n) (filter_map (child_at t r) ns) c k) [
@@ -64,7 +63,7 @@ steps_among t r (n ∷ ns) c k =
       | inr k ↦ steps_among t r ns c k
     ]
 
-pub children_step : (t : Task) (r : Node) (c : Child) → Contains (children_at t r) c → IsStep t r c
+pub children_step : (t : Task) (r : Node) (c : ChildView) → Contains (children_at t r) c → IsStep t r c
 unfolding children_at
 children_step t r c k = steps_among t r (range_with_len 0 (length t.actions)) c k
 

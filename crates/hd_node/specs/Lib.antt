@@ -1,3 +1,6 @@
 pub mod Children
+pub mod Estimate
 pub mod EstimateValue
+pub mod Expansion
 pub mod Outcome
+pub mod Parcel

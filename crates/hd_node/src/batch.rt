@@ -36,7 +36,7 @@ impl<'t> Outcome<'t> {
         ensures { result ≡ kid_of self.now }
     {
         match self {
-            Outcome::Expanded(expansion) => expansion.kid,
+            Outcome::Expanded(expansion) => expansion.kid(),
             Outcome::Duplicate(kid, _) => *kid,
             Outcome::Bounded(kid, _) => *kid,
         }

@@ -1,104 +1,136 @@
 //! Expansions: the children and the departures of a plan.
 ghost use Rattle.std.specs.Prelude.{◌≡◌, Some, IfOk, IfErr};
 ghost use Rattle.hd_task.specs.Plans.{IsStateOf, node};
+ghost use Rattle.hd_task.specs.Applying.{goal_of};
 ghost use Rattle.hd_task.specs.Expansions.{departing_at};
 ghost use Rattle.hd_node.specs.Children.{children_at, departing_by_goal};
 
-use crate::Parcel;
+use crate::{Child, Parcel};
 use hd_base::{NoMemory, Sequence};
 use hd_task::{ActionId, DepartsBy, GoalTest, Kid, Reached, State, Task, goal, step};
 use std::alloc::Global;
+use std::marker::Model;
 
-/// Where an applicable action leads from an expanded plan.
-#[derive(Debug, PartialEq, Eq, Drop)]
-pub struct Child {
-    /// The action's number.
-    pub action: u32,
-    /// The state after it.
-    pub state: State,
-    /// The cost of the plan with it.
-    pub cost: u64,
-}
-
-/// The expansion of a parcel: where each applicable action leads, and what departs from the range.
+/// The expansion of a parcel: where each applicable action leads, what departs from the range, and whether the goal holds.
 #[derive(Debug, Drop)]
 pub struct Expansion<'t> {
-    pub task: &'t Task,
-    pub kid: Kid,
-    pub state: State,
-    pub cost: u64,
+    task: &'t Task,
+    kid: Kid,
+    state: State,
+    cost: u64,
     /// One for each applicable action, in order.
-    pub children: Sequence<Child>,
+    children: Sequence<Child>,
     /// What departs, the goal first, then actions in order.
-    pub departures: Sequence<DepartsBy>,
+    departures: Sequence<DepartsBy>,
+    goal: GoalTest,
     // The state has the task's widths.
     ghost of_task: { IsStateOf task.now state },
     // The children are exactly those of the applicable actions.
     ghost all_children: { children ≡ children_at task.now (node state cost) },
     // The departures are exactly those at the state and cost.
     ghost all_departures: { departures ≡ departing_at task.now (Some (node state cost)) },
+    // The goal's test is that of the state.
+    ghost is_goal: { goal ≡ goal_of task.now state },
 }
 
-/// What departs at a node before any action: the goal, if it does.
+impl<'t> Model for Expansion<'t> {
+    ghost use Rattle.hd_node.specs.Expansion.{ExpansionView};
+    ghost use Rattle.hd_task.specs.contracts.task.Task as tasks;
+    ghost use Rattle.std.specs.Coded.{codes};
+
+    ghost Value = { ExpansionView };
+
+    ghost coded = { Prim.hlevel (codes, tasks.the_row.coded) };
+
+    ghost view = { λ e. record {
+      task = e.task.now;
+      kid = e.kid;
+      state = e.state;
+      cost = e.cost;
+      children = e.children;
+      departures = e.departures;
+      goal = e.goal;
+      of_task = e.of_task;
+      all_children = e.all_children;
+      all_departures = e.all_departures;
+      is_goal = e.is_goal;
+    } };
+}
+
+/// The parts of an expansion with which a search goes on.
+#[derive(Debug, Drop)]
+pub struct ExpansionParts {
+    pub kid: Kid,
+    pub state: State,
+    pub cost: u64,
+    /// One for each applicable action, in order.
+    pub children: Sequence<Child>,
+}
+
+/// What departs at a node before any action: the goal, if its test says so.
 #[tactic(auto, unfolding(hd_task::specs::Applying::test_of))]
-fn goal_departure(alloc: Global, task: &Task, state: &State) -> Result<Vec<DepartsBy>, NoMemory>
-    requires { IsStateOf task.now state.now }
+fn goal_departure(
+    alloc: Global,
+    task: &Task,
+    state: &State,
+    test: GoalTest,
+) -> Result<Vec<DepartsBy>, NoMemory>
+    requires { test ≡ goal_of task.now state.now }
     ensures { IfOk result (λ v. v.items ≡ departing_by_goal task.now state.now) }
 {
     let mut departures = Vec::new(alloc);
-    if let GoalTest::Departs = goal(task, state) {
+    if let GoalTest::Departs = test {
         departures.push(DepartsBy::Goal)?;
     }
     Ok(departures)
 }
 
-/// What a node leads to, and what departs there.
+/// What a node leads to, and what departs there, where the goal's test is known.
 fn explore(
     alloc: Global,
     task: &Task,
     state: &State,
     cost: u64,
+    test: GoalTest,
 ) -> Result<(Sequence<Child>, Sequence<DepartsBy>), NoMemory>
-    requires { IsStateOf task.now state.now }
+    requires of_task { IsStateOf task.now state.now }
+    requires is_goal { test ≡ goal_of task.now state.now }
     ensures children { IfOk result (λ r. r.0 ≡ children_at task.now (node state.now cost)) }
     ensures departs { IfOk result (λ r. r.1 ≡ departing_at task.now (Some (node state.now cost))) }
 {
     let mut children = Vec::new(alloc);
-    let mut departures = goal_departure(alloc, task, state)?;
+    let mut departures = goal_departure(alloc, task, state, test)?;
     for action in 0..task.actions.len() as u32 {
         match step(alloc, task, state, cost, ActionId(action))? {
             Reached::No => {}
             Reached::Departs => departures.push(DepartsBy::Action(action))?,
-            Reached::Next(state, cost) => children.push(Child {
-                action,
-                state,
-                cost,
-            })?,
+            Reached::Next(state, cost) => children.push(Child::of(action, state, cost))?,
         }
     }
     Ok((Sequence::from_vec(children), Sequence::from_vec(departures)))
 }
 
 impl<'t> Expansion<'t> {
-    /// The expansion of a parcel: applies each action of the task, and tests the goal, at the parcel's state and cost.
+    /// The expansion of a parcel of a task: applies each action, and tests the goal, at the parcel's state and cost.
     ///
     /// # Errors
     /// The parcel and `NoMemory` where there is no room for the children's states.
-    pub fn of(alloc: Global, parcel: Parcel<'t>) -> Result<Expansion<'t>, (Parcel<'t>, NoMemory)>
-        ensures task { IfOk result (λ e. e.task.now ≡ parcel.entry.task.now) }
+    pub fn of(
+        alloc: Global,
+        task: &'t Task,
+        parcel: Parcel<'t>,
+    ) -> Result<Expansion<'t>, (Parcel<'t>, NoMemory)>
+        requires { parcel.task ≡ task.now }
+        ensures task { IfOk result (λ e. e.task ≡ task.now) }
         ensures kid { IfOk result (λ e. e.kid ≡ parcel.entry.kid) }
         ensures state { IfOk result (λ e. e.state ≡ parcel.entry.state) }
         ensures cost { IfOk result (λ e. e.cost ≡ parcel.entry.cost) }
         ensures err { IfErr result (λ e. e.0 ≡ parcel.entry) }
     {
-        match explore(alloc, parcel.task, &parcel.state, parcel.cost) {
+        let test = goal(task, parcel.state());
+        match explore(alloc, task, parcel.state(), parcel.cost(), test) {
             Ok((children, departures)) => {
-                let Parcel {
-                    task,
-                    kid,
-                    state,
-                    cost,
-                } = parcel;
+                let (kid, state, cost) = parcel.into_parts();
                 Ok(Expansion {
                     task,
                     kid,
@@ -106,9 +138,74 @@ impl<'t> Expansion<'t> {
                     cost,
                     children,
                     departures,
+                    goal: test,
                 })
             }
             Err(error) => Err((parcel, error)),
+        }
+    }
+
+    /// The kid that names the plan.
+    pub fn kid(&self) -> Kid
+        ensures { result ≡ self.now.kid }
+    {
+        self.kid
+    }
+
+    /// The state that the plan leads to.
+    pub fn state(&self) -> &State
+        ensures { result.now ≡ self.now.state }
+    {
+        &self.state
+    }
+
+    /// What the plan costs.
+    pub fn cost(&self) -> u64
+        ensures { result ≡ self.now.cost }
+    {
+        self.cost
+    }
+
+    /// Where each applicable action leads, in order.
+    pub fn children(&self) -> &[Child]
+        ensures { result.now ≡ self.now.children }
+    {
+        self.children.as_slice()
+    }
+
+    /// What departs, the goal first, then actions in order.
+    pub fn departures(&self) -> &[DepartsBy]
+        ensures { result.now ≡ self.now.departures }
+    {
+        self.departures.as_slice()
+    }
+
+    /// Whether the goal holds at the state, or departs there.
+    pub fn goal(&self) -> GoalTest
+        ensures { result ≡ self.now.goal }
+    {
+        self.goal
+    }
+
+    /// The parts with which a search goes on.
+    pub fn into_parts(self) -> ExpansionParts
+        ensures kid { result.kid ≡ self.entry.kid }
+        ensures state { result.state ≡ self.entry.state }
+        ensures cost { result.cost ≡ self.entry.cost }
+        ensures children { result.children ≡ self.entry.children }
+    {
+        let Expansion {
+            kid,
+            state,
+            cost,
+            children,
+            ..
+        } = self;
+        ExpansionParts {
+            kid,
+            state,
+            cost,
+            children,
         }
     }
 }

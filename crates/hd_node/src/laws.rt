@@ -5,17 +5,16 @@ ghost use Rattle.hd_task.specs.declared.task.Task.{Task};
 ghost use Rattle.hd_task.specs.Plans.{Node, node, step_by};
 ghost use Rattle.hd_task.specs.Expansions.{applicable_at};
 ghost use Rattle.hd_node.specs.declared.batch.TheConstants.{MAX_OUTCOMES};
-ghost use Rattle.hd_node.specs.declared.expansion.Child.{Child};
-ghost use Rattle.hd_node.specs.Children.{children_at};
+ghost use Rattle.hd_node.specs.Children.{ChildView, children_at};
 
 /// The children of a node are those of its applicable actions, in order; each stands where its step leads, at a cost in
 /// the range.
 pub fn children_are_the_steps()
     ensures actions { (t : Task) (r : Node)
-        → map (λ (c : Child). c.action) (children_at t r) ≡ applicable_at t (Some r) }
-    ensures leads { (t : Task) (r : Node) (c : Child)
+        → map (λ (c : ChildView). c.action) (children_at t r) ≡ applicable_at t (Some r) }
+    ensures leads { (t : Task) (r : Node) (c : ChildView)
         → Contains (children_at t r) c → step_by t r c.action ≡ Some (node c.state c.cost) }
-    ensures in_range { (t : Task) (r : Node) (c : Child)
+    ensures in_range { (t : Task) (r : Node) (c : ChildView)
         → Contains (children_at t r) c → c.cost ≤ RANGE_END }
 {}
 

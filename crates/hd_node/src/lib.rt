@@ -3,12 +3,14 @@
 #![tactic(auto)]
 
 mod batch;
+mod child;
 mod estimate;
 mod expansion;
 pub mod laws;
 mod parcel;
 
 pub use batch::{Batch, By, MAX_OUTCOMES, Outcome};
+pub use child::Child;
 pub use estimate::{Estimate, EstimateValue};
-pub use expansion::{Child, Expansion};
+pub use expansion::{Expansion, ExpansionParts};
 pub use parcel::Parcel;

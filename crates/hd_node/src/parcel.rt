@@ -1,7 +1,12 @@
 //! Generated plans that wait to be expanded.
+ghost use Rattle.std.specs.Prelude.{◌≡◌, IfOk};
 ghost use Rattle.hd_task.specs.Plans.{IsStateOf};
 
+use crate::Child;
+use hd_base::NoMemory;
 use hd_task::{Kid, State, Task};
+use std::alloc::Global;
+use std::marker::Model;
 
 /// A generated plan that waits to be expanded: the kid that names it, and where it leads.
 ///
@@ -9,12 +14,111 @@ use hd_task::{Kid, State, Task};
 /// book tests it.
 #[derive(Debug, Drop)]
 pub struct Parcel<'t> {
-    pub task: &'t Task,
-    pub kid: Kid,
-    /// The state that the plan leads to.
-    pub state: State,
-    /// What the plan costs.
-    pub cost: u64,
+    pub(crate) task: &'t Task,
+    pub(crate) kid: Kid,
+    pub(crate) state: State,
+    pub(crate) cost: u64,
     // The state has the task's widths.
     ghost of_task: { IsStateOf task.now state },
+}
+
+impl<'t> Model for Parcel<'t> {
+    ghost use Rattle.hd_node.specs.Parcel.{ParcelView};
+    ghost use Rattle.hd_task.specs.contracts.task.Task as tasks;
+    ghost use Rattle.std.specs.Coded.{codes};
+
+    ghost Value = { ParcelView };
+
+    ghost coded = { Prim.hlevel (codes, tasks.the_row.coded) };
+
+    ghost view = { λ p. record {
+      task = p.task.now;
+      kid = p.kid;
+      state = p.state;
+      cost = p.cost;
+      of_task = p.of_task;
+    } };
+}
+
+impl<'t> Parcel<'t> {
+    /// The parcel that says of a kid where it leads.
+    ///
+    /// # Errors
+    /// `NoMemory` where there is no room for it.
+    pub fn of(
+        _alloc: Global,
+        task: &'t Task,
+        kid: Kid,
+        state: State,
+        cost: u64,
+    ) -> Result<Parcel<'t>, NoMemory>
+        requires { IsStateOf task.now state }
+        ensures task { IfOk result (λ p. p.task ≡ task.now) }
+        ensures kid { IfOk result (λ p. p.kid ≡ kid) }
+        ensures state { IfOk result (λ p. p.state ≡ state) }
+        ensures cost { IfOk result (λ p. p.cost ≡ cost) }
+    {
+        Ok(Parcel {
+            task,
+            kid,
+            state,
+            cost,
+        })
+    }
+
+    /// The parcel of an entry's child. It takes no memory, since the child has all that a parcel has; so what a batch releases
+    /// can be made where nothing may fail any more.
+    pub fn of_child(task: &'t Task, parent: u64, child: Child) -> Parcel<'t>
+        requires { IsStateOf task.now child.state }
+        ensures task { result.task ≡ task.now }
+        ensures kid { result.kid ≡ record { parent = parent; action = child.action } }
+        ensures state { result.state ≡ child.state }
+        ensures cost { result.cost ≡ child.cost }
+    {
+        let (action, state, cost) = child.into_parts();
+        Parcel {
+            task,
+            kid: Kid { parent, action },
+            state,
+            cost,
+        }
+    }
+
+    /// The kid that names the plan.
+    pub fn kid(&self) -> Kid
+        ensures { result ≡ self.now.kid }
+    {
+        self.kid
+    }
+
+    /// The state that the plan leads to.
+    pub fn state(&self) -> &State
+        ensures state { result.now ≡ self.now.state }
+        ensures of_task { IsStateOf self.now.task result.now }
+    {
+        &self.state
+    }
+
+    /// What the plan costs.
+    pub fn cost(&self) -> u64
+        ensures { result ≡ self.now.cost }
+    {
+        self.cost
+    }
+
+    /// The kid, the state and the cost.
+    pub fn into_parts(self) -> (Kid, State, u64)
+        ensures kid { result.0 ≡ self.entry.kid }
+        ensures state { result.1 ≡ self.entry.state }
+        ensures cost { result.2 ≡ self.entry.cost }
+        ensures of_task { IsStateOf self.entry.task result.1 }
+    {
+        let Parcel {
+            kid,
+            state,
+            cost,
+            ..
+        } = self;
+        (kid, state, cost)
+    }
 }

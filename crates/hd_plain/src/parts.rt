@@ -56,7 +56,7 @@ pub fn condition_of(alloc: Global, said: &hd_lifted::Condition) -> Result<Condit
 }
 
 /// A name alone, by its number.
-fn form_at(alloc: Global, number: u32) -> GroundForm
+fn form_at(alloc: Global, number: usize) -> GroundForm
     ensures { result ≡ form_at number }
 {
     GroundForm {
@@ -66,7 +66,7 @@ fn form_at(alloc: Global, number: u32) -> GroundForm
 }
 
 /// The action that is the schema of this number.
-fn action_of(alloc: Global, number: u32, schema: &Schema) -> Result<Action, NoMemory>
+fn action_of(alloc: Global, number: usize, schema: &Schema) -> Result<Action, NoMemory>
     ensures { IfOk result (λ a. a ≡ action_of number schema.now) }
 {
     Ok(Action {
@@ -87,14 +87,14 @@ pub fn actions_of(alloc: Global, schemas: &[Schema]) -> Result<Sequence<Action>,
     let mut actions = Vec::new(alloc);
     let mut rest = schemas;
     while let [first, after @ ..] = rest {
-        actions.push(action_of(alloc, actions.len() as u32, first)?)?;
+        actions.push(action_of(alloc, actions.len(), first)?)?;
         rest = after;
     }
     Ok(Sequence::from_vec(actions))
 }
 
 /// So many names alone, by their numbers in order.
-pub fn forms_of(alloc: Global, count: u32) -> Result<Sequence<GroundForm>, NoMemory>
+pub fn forms_of(alloc: Global, count: usize) -> Result<Sequence<GroundForm>, NoMemory>
     ensures { IfOk result (λ s. s ≡ map form_at (numbers_below count)) }
 {
     let mut forms = Vec::new(alloc);

@@ -19,7 +19,7 @@ fn task_with(alloc: Global, lifted: &LiftedTask) -> Result<Task, PlainError>
 {
     let count = lifted.predicates.len();
     let names = names_in(alloc, lifted)?;
-    let atoms = forms_of(alloc, count as u32)?;
+    let atoms = forms_of(alloc, count)?;
     let start = State {
         atoms: initial_bits(alloc, count, lifted.atoms.as_slice())?,
         fluents: Sequence::empty(alloc),

@@ -1,5 +1,5 @@
 -- What `apply` and `goal` answer decides what happens at a plan, given the plan's cost.
-use Rattle.std.proofs.Common.{◌≡◌, ℕ, ◌+◌, Bool, true, false, cond, not, ◌&&◌, ◌||◌, Option, Some, None, is_some, slice_get, refl, ap, ◌∙◌, ◌^◌, nat_le}
+use Rattle.std.proofs.Common.{◌≡◌, ℕ, ◌+◌, Bool, true, false, cond, not, ◌&&◌, ◌||◌, Option, Some, None, is_some, slice_get, refl, ap, ◌∙◌}
 use Rattle.hd_base.specs.Numbers.{cost_in_range}
 use Rattle.hd_base.proofs.Truth.{not-not}
 use Rattle.hd_task.specs.declared.state.State.{State}

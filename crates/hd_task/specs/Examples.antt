@@ -1,7 +1,8 @@
 -- Small tasks on which the definitions are computed.
-use Rattle.std.specs.Prelude.{ℕ, Bool, true, false, List, [], ◌∷◌, ◌++◌, codes, refl, ℤ, pos}
+use Rattle.std.specs.Prelude.{ℕ, Bool, true, false, List, [], ◌∷◌, ◌++◌, codes, refl, ℤ, pos, negsuc}
 use Rattle.hd_base.specs.declared.expression.Operand.TheVariants.{Number, Fluent}
-use Rattle.hd_base.specs.Expression.{leaf}
+use Rattle.hd_base.specs.declared.operation.Operation.TheVariants.{Subtract}
+use Rattle.hd_base.specs.Expression.{leaf, binary}
 use Rattle.hd_task.specs.declared.state.State.{State}
 use Rattle.hd_task.specs.declared.form.GroundForm.{GroundForm}
 use Rattle.hd_task.specs.declared.form.Names.{Names}
@@ -14,6 +15,7 @@ use Rattle.hd_task.specs.declared.action.Action.{Action}
 use Rattle.hd_task.specs.declared.plan.Kid.{Kid}
 use Rattle.hd_task.specs.declared.task.Task.{Task}
 use Rattle.hd_base.specs.declared.range.TheConstants.{RANGE_END}
+use Rattle.hd_task.specs.Expressions.{Expr}
 use Rattle.hd_task.specs.Plans.{Node, node}
 
 -- ---- parts
@@ -65,7 +67,8 @@ two_actions = record {
   start_in_range = refl;
   actions_fit = refl;
   goal_fits = refl;
-  costs_fixed = refl;
+  costs_fit = refl;
+  constant_costs_fit = refl;
 }
 
 -- its state where both are true
@@ -116,7 +119,8 @@ two_ways = record {
   start_in_range = refl;
   actions_fit = refl;
   goal_fits = refl;
-  costs_fixed = refl;
+  costs_fit = refl;
+  constant_costs_fit = refl;
 }
 
 -- its start, after so high a cost
@@ -150,7 +154,8 @@ delete_and_add = record {
   start_in_range = refl;
   actions_fit = refl;
   goal_fits = refl;
-  costs_fixed = refl;
+  costs_fit = refl;
+  constant_costs_fit = refl;
 }
 
 -- the state of these values, without atoms
@@ -186,7 +191,8 @@ swapping = record {
   start_in_range = refl;
   actions_fit = refl;
   goal_fits = refl;
-  costs_fixed = refl;
+  costs_fit = refl;
+  constant_costs_fit = refl;
 }
 
 -- the action increases a fluent by 3 and decreases it by 1
@@ -206,7 +212,8 @@ up_and_down = record {
   start_in_range = refl;
   actions_fit = refl;
   goal_fits = refl;
-  costs_fixed = refl;
+  costs_fit = refl;
+  constant_costs_fit = refl;
 }
 
 -- `up` makes b true where it is false, and increases x by 1; the goal is b
@@ -235,7 +242,8 @@ one_up = record {
   start_in_range = refl;
   actions_fit = refl;
   goal_fits = refl;
-  costs_fixed = refl;
+  costs_fit = refl;
+  constant_costs_fit = refl;
 }
 
 -- its state where b is false and x has this value
@@ -245,3 +253,43 @@ with_x n = record { atoms = false ∷ []; fluents = pos n ∷ [] }
 -- where b is true and x is at the end of the range
 abbrev pub x_at_end : State
 x_at_end = record { atoms = true ∷ []; fluents = pos RANGE_END ∷ [] }
+
+-- ---- costs that depend on the state
+
+-- `go` takes 3 of x, at these costs
+abbrev going : List Expr → Action
+going costs = record (number_action (record { fluent = 0; change = Sum (Decrease (leaf (Number (pos 3))) ∷ []) } ∷ [])) { costs = costs }
+
+-- it costs what x is before it
+abbrev pub by_x : Task
+by_x = record {
+  names = names (codes "go" ∷ []) [] (codes "x" ∷ []);
+  atoms = [];
+  fluents = form 0 ∷ [];
+  initial = one_number 7;
+  actions = going (leaf (Fluent 0) ∷ []) ∷ [];
+  goal = always;
+  metric = true;
+  limits = refl;
+  named = refl;
+  start_atoms = refl;
+  start_fluents = refl;
+  start_in_range = refl;
+  actions_fit = refl;
+  goal_fits = refl;
+  costs_fit = refl;
+  constant_costs_fit = refl;
+}
+
+-- it costs 10 less than x is: a negative cost where x is below 10
+abbrev pub by_x_less_ten : Task
+by_x_less_ten = record by_x {
+  actions = going (binary Subtract (leaf (Fluent 0)) (leaf (Number (pos 10))) ∷ []) ∷ [];
+  actions_fit = refl;
+  costs_fit = refl;
+  constant_costs_fit = refl;
+}
+
+-- an action that costs -1 in each state
+abbrev pub paying : Action
+paying = going (leaf (Number (negsuc 0)) ∷ [])

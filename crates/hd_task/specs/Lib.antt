@@ -1,3 +1,4 @@
+pub mod ActionTest
 pub mod Applying
 pub mod Conditions
 pub mod Covers

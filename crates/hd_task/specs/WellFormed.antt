@@ -1,5 +1,5 @@
--- What a task keeps: its numbers name what it has, its costs are fixed. Tests that compute. (Our own.)
-use Rattle.std.specs.Prelude.{ℕ, Bool, true, false, ◌&&◌, ◌||◌, ◌==◌, List, [], ◌∷◌, length, map, ℤ, pos, ◌+ℤ◌, int_le, nat_lt, nat_le}
+-- What a task keeps: its numbers name what it has, and no constant cost is negative. Tests that compute. (Our own.)
+use Rattle.std.specs.Prelude.{ℕ, Bool, true, false, not, ◌&&◌, ◌||◌, ◌==◌, List, [], ◌∷◌, length, map, ℤ, pos, ◌+ℤ◌, int_le, nat_lt, nat_le}
 use Rattle.std.specs.List.{list_all, fold}
 use Rattle.hd_base.specs.declared.expression.Operand.{Operand}
 use Rattle.hd_base.specs.declared.expression.Operand.TheVariants.{Number, Fluent}
@@ -17,7 +17,7 @@ use Rattle.hd_task.specs.declared.effect.Change.{Change}
 use Rattle.hd_task.specs.declared.effect.Change.TheVariants.{Assign, ScaleUp, Sum}
 use Rattle.hd_task.specs.declared.effect.Effect.{Effect}
 use Rattle.hd_task.specs.declared.action.Action.{Action}
-use Rattle.hd_task.specs.declared.task.TheConstants.{MAX_ACTIONS, MAX_ATOMS, MAX_FLUENTS}
+use Rattle.hd_task.specs.declared.task.TheConstants.{MAX_ACTIONS, MAX_ATOMS, MAX_FLUENTS, MAX_AMOUNTS}
 use Rattle.hd_task.specs.Expressions.{Expr, value_of}
 
 -- ---- sizes
@@ -96,7 +96,7 @@ goal_fits atoms fluents c =
 
 -- ---- costs
 
--- an amount is a number
+-- an amount is a number: it is constant. Every other amount is a dependent one
 abbrev pub is_number : Expr → Bool
 is_number (leaf (Number v)) = true
 is_number (leaf (Fluent j)) = false
@@ -104,13 +104,17 @@ is_number (negate x) = false
 is_number (binary o x y) = false
 
 -- the sum of amounts that read no fluent
-abbrev pub fixed_sum : List Expr → ℤ
-fixed_sum costs = fold (λ sum e. sum +ℤ value_of [] e) (pos 0) costs
+abbrev pub constant_sum : List Expr → ℤ
+constant_sum costs = fold (λ sum e. sum +ℤ value_of [] e) (pos 0) costs
 
--- an action's amounts are numbers, whose sum is not negative; without a metric there are none
-abbrev pub cost_is_fixed : Bool → Action → Bool
-cost_is_fixed metric a =
-    ((metric || (length a.costs == 0)) && list_all is_number a.costs) && int_le (pos 0) (fixed_sum a.costs)
+-- an action's amounts read only fluents of the task, and there are not too many; without a metric there are none
+abbrev pub costs_fit : ℕ → Bool → Action → Bool
+costs_fit fluents metric a =
+    (metric || (length a.costs == 0)) && nat_le (length a.costs) MAX_AMOUNTS && list_all (reads_below fluents) a.costs
+
+-- an action whose amounts are all constant costs nothing negative
+abbrev pub constant_cost_fits : Action → Bool
+constant_cost_fits a = not (list_all is_number a.costs) || int_le (pos 0) (constant_sum a.costs)
 
 -- ---- all of it
 
@@ -124,4 +128,5 @@ parts_fit names atoms fluents initial actions goal metric =
     && list_all in_range initial.fluents
     && list_all (action_fits (length atoms) (length fluents)) actions
     && goal_fits (length atoms) (length fluents) goal
-    && list_all (cost_is_fixed metric) actions
+    && list_all (costs_fit (length fluents) metric) actions
+    && list_all constant_cost_fits actions

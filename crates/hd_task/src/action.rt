@@ -17,7 +17,8 @@ pub struct Action {
     pub adds: Sequence<u32>,
     /// At most one for a fluent, in the order of the fluents' numbers.
     pub effects: Sequence<Effect>,
-    /// What it adds to the cost of a plan. Without a metric there are none, and each action costs 1.
+    /// What it adds to the cost of a plan, each by the values before the action. Numbers are constant amounts, all others
+    /// dependent ones. Without a metric there are none, and each action costs 1.
     pub costs: Sequence<Expr>,
 }
 

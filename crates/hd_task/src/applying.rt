@@ -83,9 +83,9 @@ fn fluents_after(
     Ok(Some(Sequence::from_vec(next)))
 }
 
-/// The cost of a step, unless a subexpression of it leaves the range or it is negative.
+/// The cost of a step, by the values before it, unless a subexpression of it leaves the range or it is negative.
 #[tactic(auto, unfolding(crate::specs::Effects::step_cost))]
-fn step_cost(task: &Task, state: &State, action: &Action) -> Option<u128>
+pub(crate) fn step_cost(task: &Task, state: &State, action: &Action) -> Option<u128>
     ensures { JudgesStepCost task.now state.now action.now result }
 {
     let sum = sum_of_costs(state.fluents.as_slice(), action.costs.as_slice())?;

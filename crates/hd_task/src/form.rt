@@ -7,9 +7,9 @@ use hd_base::{Name, Sequence};
 #[derive(Debug, PartialEq, Eq, Drop)]
 pub struct GroundForm {
     /// The number of the schema, predicate or function.
-    pub symbol: u32,
+    pub symbol: usize,
     /// The numbers of the objects, in order.
-    pub objects: Sequence<u32>,
+    pub objects: Sequence<usize>,
 }
 
 /// The names that ground forms are printed with.

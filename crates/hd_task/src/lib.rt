@@ -2,7 +2,7 @@
 //! which a finished search has the last word.
 //!
 //! The definitions in `specs/` say what plans mean (PDDL 2.1, Fox and Long 2003) and what a search has to have looked
-//! at (HDA*, Kishimoto, Fukunaga and Botea 2013). [`apply`], [`step`] and [`goal`] compute them, and the functions of
+//! at (HDA*, Kishimoto, Fukunaga and Botea 2013). [`apply`], [`action_test`], [`step`] and [`goal`] compute them, and the functions of
 //! [`laws`] state what follows from them.
 #![tactic(auto)]
 
@@ -19,6 +19,7 @@ mod plan;
 mod state;
 mod stepping;
 mod task;
+mod testing;
 mod well_formed;
 
 pub use action::{Action, ActionId};
@@ -29,7 +30,8 @@ pub use effect::{Change, Effect, Term};
 pub use expression::Expr;
 pub use form::{GroundForm, Names};
 pub use hd_base::{ExprParts, Name, NoMemory, Operand, Operation, RANGE_END, Relation, Sequence};
-pub use plan::{Kid, Plan, ROOT};
+pub use plan::{Kid, Plan, ROOT_ACTION, ROOT_PARENT};
 pub use state::State;
 pub use stepping::{Reached, step};
-pub use task::{MAX_ACTIONS, MAX_ATOMS, MAX_FLUENTS, Task};
+pub use task::{MAX_ACTIONS, MAX_AMOUNTS, MAX_ATOMS, MAX_FLUENTS, Task};
+pub use testing::{ActionTest, action_test};

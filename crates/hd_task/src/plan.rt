@@ -4,15 +4,19 @@ ghost use Rattle.std.specs.Prelude.{◌≡◌, map};
 use crate::ActionId;
 use std::marker::Model;
 
-/// The parent of the root, and its action: no entry and no action has this number.
-pub const ROOT: u32 = u32::MAX;
+/// The parent of the root: no entry has this number. It fits 40 bits, as the number of each entry does.
+pub const ROOT_PARENT: u64 = (1 << 40) - 1;
 
-/// Names a plan: that of the entry `parent`, followed by `action`. [`ROOT`] twice names the empty plan.
+/// The action of the root: no action has this number.
+pub const ROOT_ACTION: u32 = u32::MAX;
+
+/// Names a plan: that of the entry `parent`, followed by `action`. The root, of [`ROOT_PARENT`] and [`ROOT_ACTION`], names the
+/// empty plan.
 #[derive(Clone, Copy, Debug, PartialEq, Eq, Hash)]
 pub struct Kid {
-    /// The number of an entry, or [`ROOT`].
-    pub parent: u32,
-    /// The number of an action, or [`ROOT`].
+    /// The number of an entry, or [`ROOT_PARENT`].
+    pub parent: u64,
+    /// The number of an action, or [`ROOT_ACTION`].
     pub action: u32,
 }
 

@@ -2,10 +2,11 @@
 ghost use Rattle.std.specs.Prelude.{◌≡◌, IsTrue, length};
 ghost use Rattle.std.specs.List.{list_all};
 ghost use Rattle.hd_base.specs.Numbers.{in_range};
-ghost use Rattle.hd_task.specs.WellFormed.{within_limits, are_named, action_fits, goal_fits, cost_is_fixed};
+ghost use Rattle.hd_task.specs.WellFormed.{within_limits, are_named, action_fits, goal_fits, costs_fit, constant_cost_fits};
 
 use crate::well_formed::{
-    are_all_in_range, are_fixed, are_named, are_within_limits, do_all_fit, goal_fits,
+    are_all_in_range, are_named, are_within_limits, do_all_fit, do_constant_costs_fit,
+    do_costs_fit, goal_fits,
 };
 use crate::{Action, Condition, GroundForm, Names, State};
 use hd_base::Sequence;
@@ -18,6 +19,9 @@ pub const MAX_ATOMS: usize = 1 << 20;
 
 /// The greatest number of fluents of a task.
 pub const MAX_FLUENTS: usize = 1 << 16;
+
+/// The greatest number of amounts that one action adds to the cost, so that the costs of a plan's steps fit 128 bits.
+pub const MAX_AMOUNTS: usize = 1 << 32;
 
 /// A planning task: a start, a goal and the actions that may lead there.
 #[derive(Debug, Drop)]
@@ -47,8 +51,10 @@ pub struct Task {
     ghost actions_fit: { IsTrue (list_all (action_fits (length atoms) (length fluents)) actions) },
     // The goal names atoms of the task and reads its fluents.
     ghost goal_fits: { IsTrue (goal_fits (length atoms) (length fluents) goal) },
-    // An action's cost doesn't depend on the state and is not negative.
-    ghost costs_fixed: { IsTrue (list_all (cost_is_fixed metric) actions) },
+    // An action's amounts read fluents of the task, and are not too many; without a metric there are none.
+    ghost costs_fit: { IsTrue (list_all (costs_fit (length fluents) metric) actions) },
+    // An action whose amounts are all constant costs nothing negative.
+    ghost constant_costs_fit: { IsTrue (list_all constant_cost_fits actions) },
 }
 
 impl Task {
@@ -57,7 +63,8 @@ impl Task {
     ghost use Rattle.hd_task.specs.Parts.{HasParts};
 
     /// The task of these parts, or `None` where they do not fit together: where a number names nothing, an effect's
-    /// fluent stands twice or out of order, the start is out of the range, a cost is negative, or a limit is passed.
+    /// fluent stands twice or out of order, the start is out of the range, a constant cost is negative, or a limit is
+    /// passed.
     pub fn new(
         names: Names,
         atoms: Sequence<GroundForm>,
@@ -82,7 +89,8 @@ impl Task {
             && are_all_in_range(initial.fluents.as_slice())
             && do_all_fit(actions.as_slice(), atoms.len(), fluents.len())
             && goal_fits(&goal, atoms.len(), fluents.len())
-            && are_fixed(actions.as_slice(), metric);
+            && do_costs_fit(actions.as_slice(), fluents.len(), metric)
+            && do_constant_costs_fit(actions.as_slice());
         if !fits {
             return None;
         }

@@ -5,11 +5,11 @@ ghost use Rattle.hd_base.specs.Numbers.{in_range};
 ghost use Rattle.hd_base.specs.Answers.{Judges};
 ghost use Rattle.hd_task.specs.Expressions.{value_of};
 ghost use Rattle.hd_task.specs.Sums.{IsNear};
-ghost use Rattle.hd_task.specs.WellFormed.{within_limits, is_named, are_named, leaf_reads_below, reads_below, comparison_reads_below, term_reads_below, change_reads_below, effect_fits, is_rising, action_fits, goal_fits, is_number, fixed_sum, cost_is_fixed};
+ghost use Rattle.hd_task.specs.WellFormed.{within_limits, is_named, are_named, leaf_reads_below, reads_below, comparison_reads_below, term_reads_below, change_reads_below, effect_fits, is_rising, action_fits, goal_fits, is_number, constant_sum, costs_fit, constant_cost_fits};
 
 use crate::{
-    Action, Change, Comparison, Condition, Effect, Expr, GroundForm, MAX_ACTIONS, MAX_ATOMS,
-    MAX_FLUENTS, Names, Term,
+    Action, Change, Comparison, Condition, Effect, Expr, GroundForm, MAX_ACTIONS, MAX_AMOUNTS,
+    MAX_ATOMS, MAX_FLUENTS, Names, Term,
 };
 use hd_base::{ExprParts, Operand, in_range};
 
@@ -33,10 +33,16 @@ fn are_below(numbers: &[u32], end: usize) -> bool
     numbers.iter().all(|number| (*number as usize) < end)
 }
 
+fn are_objects(numbers: &[usize], objects: usize) -> bool
+    ensures { result ≡ list_all (λ o. nat_lt o objects) numbers.now }
+{
+    numbers.iter().all(|number| *number < objects)
+}
+
 fn is_named(form: &GroundForm, symbols: usize, objects: usize) -> bool
     ensures { result ≡ is_named symbols objects form.now }
 {
-    (form.symbol as usize) < symbols && are_below(form.objects.as_slice(), objects)
+    form.symbol < symbols && are_objects(form.objects.as_slice(), objects)
 }
 
 fn are_forms_named(forms: &[GroundForm], symbols: usize, objects: usize) -> bool
@@ -204,8 +210,8 @@ fn plus_number(sum: i128, cost: &Expr) -> Option<i128>
 }
 
 /// The sum of the amounts, if each is a number.
-fn fixed_sum(costs: &[Expr]) -> Option<i128>
-    ensures { Judges result (list_all is_number costs.now) (fixed_sum costs.now) }
+fn constant_sum(costs: &[Expr]) -> Option<i128>
+    ensures { Judges result (list_all is_number costs.now) (constant_sum costs.now) }
 {
     let mut sum = 0;
     for cost in costs {
@@ -214,21 +220,41 @@ fn fixed_sum(costs: &[Expr]) -> Option<i128>
     Some(sum)
 }
 
-fn cost_is_fixed(action: &Action, metric: bool) -> bool
-    ensures { result ≡ cost_is_fixed metric action.now }
+fn read_below(amounts: &[Expr], fluents: usize) -> bool
+    ensures { result ≡ list_all (reads_below fluents) amounts.now }
 {
-    if !metric && !action.costs.is_empty() {
-        return false;
-    }
-    match fixed_sum(action.costs.as_slice()) {
+    amounts.iter().all(|amount| reads_below(amount, fluents))
+}
+
+fn costs_fit(action: &Action, fluents: usize, metric: bool) -> bool
+    ensures { result ≡ costs_fit fluents metric action.now }
+{
+    (metric || action.costs.is_empty())
+        && action.costs.len() <= MAX_AMOUNTS
+        && read_below(action.costs.as_slice(), fluents)
+}
+
+/// Whether the actions' amounts read fluents of the task, and there are not too many of them, without a metric none.
+pub(crate) fn do_costs_fit(actions: &[Action], fluents: usize, metric: bool) -> bool
+    ensures { result ≡ list_all (costs_fit fluents metric) actions.now }
+{
+    actions
+        .iter()
+        .all(|action| costs_fit(action, fluents, metric))
+}
+
+fn constant_cost_fits(action: &Action) -> bool
+    ensures { result ≡ constant_cost_fits action.now }
+{
+    match constant_sum(action.costs.as_slice()) {
         Some(sum) => 0 <= sum,
-        None => false,
+        None => true,
     }
 }
 
-/// Whether the actions' costs are numbers and not negative, and there are none without a metric.
-pub(crate) fn are_fixed(actions: &[Action], metric: bool) -> bool
-    ensures { result ≡ list_all (cost_is_fixed metric) actions.now }
+/// Whether no action whose amounts are all constant has a negative cost.
+pub(crate) fn do_constant_costs_fit(actions: &[Action]) -> bool
+    ensures { result ≡ list_all constant_cost_fits actions.now }
 {
-    actions.iter().all(|action| cost_is_fixed(action, metric))
+    actions.iter().all(|action| constant_cost_fits(action))
 }

@@ -11,6 +11,7 @@ mod effects;
 mod expressions;
 mod negations;
 mod tree;
+mod type_name;
 mod typed;
 
 pub use atoms::atom_of;
@@ -19,4 +20,5 @@ pub use effects::effect_at;
 pub use hd_base::{ExprParts, Operation, Relation};
 pub use negations::negated_atom_of;
 pub use tree::{Atom, Comparison, Condition, Effect, Expr, FluentChange, Leaf, Term, Typed};
+pub use type_name::TypeName;
 pub use typed::{ItemKind, is_minus, typed_of};

@@ -1,13 +1,14 @@
 //! What the parts of domains and problems say. A place is that of a first byte in the text, counted from 0.
 
+use crate::TypeName;
 use hd_base::{Relation, Sequence};
 use hd_forms::{Change, NameAt};
 
 /// A declared name, and the name of its type if one is given: without one the type is `object`.
-#[derive(Debug, PartialEq, Eq, Drop)]
+#[derive(Debug, Drop)]
 pub struct Typed {
     pub name: NameAt,
-    pub of: Option<NameAt>,
+    pub of: Option<TypeName>,
 }
 
 /// What stands for an object.

@@ -8,6 +8,7 @@ ghost use Rattle.hd_terms.specs.Reading.{item_in, is_minus, typed_after};
 ghost use Rattle.hd_terms.specs.Typed.{with_type};
 
 use crate::tree::Typed;
+use crate::type_name::TypeName;
 use hd_base::{Name, Sequence};
 use hd_forms::{Form, NameAt, ReadError, Word, first_refusal, form_refusal, placed_name};
 use hd_lex::Operator;
@@ -50,10 +51,9 @@ pub fn is_minus(word: &Word) -> bool
 
 /// Adds names that have this type, or none.
 fn add_group(
-    alloc: Global,
     found: &mut Vec<Typed>,
     names: Vec<NameAt>,
-    of: &Option<NameAt>,
+    of: &Option<TypeName>,
 ) -> Result<(), ReadError>
     ensures found { OnOk result (found.new.items
         ≡ found.old.items ++ with_type of.now names.items) }
@@ -61,7 +61,7 @@ fn add_group(
 {
     for name in names {
         let of = match of {
-            Some(of) => Some(placed_name(alloc, &of.name, of.at)?),
+            Some(of) => Some(of.share()?),
             None => None,
         };
         found.push(Typed { name, of })?;
@@ -105,13 +105,13 @@ pub fn typed_of(
                 else {
                     return Err(first_refusal(alloc, after, end));
                 };
-                let of = Some(placed_name(alloc, name, *at)?);
-                add_group(alloc, &mut found, pending, &of)?;
+                let of = Some(TypeName::of(alloc, placed_name(alloc, name, *at)?)?);
+                add_group(&mut found, pending, &of)?;
                 pending = Vec::new(alloc);
                 rest = behind;
             }
         }
     }
-    add_group(alloc, &mut found, pending, &None)?;
+    add_group(&mut found, pending, &None)?;
     Ok(Sequence::from_vec(found))
 }

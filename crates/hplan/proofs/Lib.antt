@@ -3,3 +3,4 @@ pub mod Costs
 pub mod Explaining
 pub mod Legal
 pub mod Solving
+pub mod Telling

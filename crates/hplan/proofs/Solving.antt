@@ -1,5 +1,6 @@
 -- From the answer of a search to what is written.
-use Rattle.std.proofs.Common.{◌≡◌, ℕ, true, List, [], Contains, Some, None, IfSome, subst}
+use Rattle.std.proofs.Common.{◌≡◌, ℕ, true, List, [], Contains, Some, None, Ok, Err, IfSome, subst, sym, inl, inr}
+use Rattle.std.specs.Prelude.{Result, IfOk, IfErr, ◌⊎◌}
 use Rattle.std.proofs.lemmas.List.Elements.{Contains-get_or}
 use Rattle.hd_task.specs.Expansions.{IsLegal}
 use Rattle.hd_book.specs.declared.verdict.Verdict.TheVariants.{Optimal, NoPlan, RangeLeft}
@@ -7,7 +8,11 @@ use Rattle.hplan.specs.PlanText.{goes_through}
 use Rattle.hplan.proofs.Legal.{legal_goes}
 use Rattle.hd_task.specs.declared.task.Task.{Task}
 use Rattle.hd_book.specs.declared.verdict.Verdict.{Verdict}
-use Rattle.hplan.specs.Answer.{IsAnswer, plan_in}
+use Rattle.hplan.specs.declared.fault.Fault.{Fault}
+use Rattle.hplan.specs.declared.fault.Fault.TheVariants.{NoMemory, Device}
+use Rattle.hplan.specs.declared.engine.Ending.{Ending}
+use Rattle.hplan.specs.Tasks.{Memory}
+use Rattle.hplan.specs.Answer.{IsAnswer, plan_in, IsSolved, HasNoAnswer, OfTexts, OfOutput}
 use Rattle.hd_book.specs.Answers.{IsBoundPlan}
 
 -- the plan of the bound goes through
@@ -21,3 +26,18 @@ answer_goes t (Optimal p) a = bound_plan_goes t a.expanded p a.legal a.answers.1
 answer_goes t NoPlan a = tt
 answer_goes t (RangeLeft d None) a = tt
 answer_goes t (RangeLeft d (Some p)) a = bound_plan_goes t a.expanded p a.legal a.answers.1
+
+-- what holds of an answer, or of an error, where more does
+pub ok_weaker : {A E : Type 0} {P Q : A → Type 0} (r : Result A E) → ((x : A) → P x → Q x) → IfOk r P → IfOk r Q
+ok_weaker (Ok x) f p = f x p
+ok_weaker (Err e) f p = tt
+
+pub err_weaker : {A E : Type 0} {P Q : E → Type 0} (r : Result A E) → ((e : E) → P e → Q e) → IfErr r P → IfErr r Q
+err_weaker (Ok x) f p = tt
+err_weaker (Err e) f p = f e p
+
+-- a fault of the output, where there is an answer to write
+pub output_fails : (domain problem : List ℕ) (ending : Ending) (text : List ℕ) (f : Fault)
+    → IsSolved domain problem ending text → ((f ≡ NoMemory) ⊎ (f ≡ Device)) → HasNoAnswer domain problem f
+output_fails domain problem ending text f s (inl e) = subst (HasNoAnswer domain problem) (sym e) (OfTexts NoMemory Memory)
+output_fails domain problem ending text f s (inr e) = subst (HasNoAnswer domain problem) (sym e) (OfOutput s.task s.is_task)

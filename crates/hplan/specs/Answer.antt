@@ -8,7 +8,11 @@ use Rattle.hd_book.specs.declared.verdict.Verdict.{Verdict}
 use Rattle.hd_book.specs.declared.verdict.Verdict.TheVariants.{Optimal, NoPlan, RangeLeft}
 use Rattle.hd_book.specs.Answers as book
 use Rattle.hplan.specs.declared.engine.Ending.{Ending}
-use Rattle.hplan.specs.Tasks.{IsTaskOf}
+use Rattle.hd_book.specs.declared.refusal.Refusal.{Refusal}
+use Rattle.hplan.specs.declared.fault.Fault.{Fault}
+use Rattle.hplan.specs.declared.fault.Fault.TheVariants.{Device, Refused, NoMemory}
+use Rattle.hplan.specs.Refused.{Tells}
+use Rattle.hplan.specs.Tasks.{IsTaskOf, Explains}
 use Rattle.hplan.specs.PlanText.{plan_text, departure_text}
 
 -- a verdict is the answer of a search: some legal list of expansions is covered, and this is what it answers
@@ -39,15 +43,19 @@ ending_of t (Optimal p) = Ending.Optimal
 ending_of t NoPlan = Ending.NoPlan
 ending_of t (RangeLeft d p) = Ending.RangeLeft (departure_text t d)
 
--- two texts have this answer, which ends so and is written so
-pub record IsSolved (domain problem : List ℕ) (ending : Ending) (written : List ℕ) : Type 0 where
-  pub task : Task
+-- the search of a task has this answer, which ends so and is written so
+pub record IsSolution (task : Task) (ending : Ending) (written : List ℕ) : Type 0 where
   pub verdict : Verdict
-  pub is_task : IsTaskOf domain problem task
   pub is_answer : IsAnswer task verdict
   pub is_true : book.IsTrueAnswer task verdict
   pub ends : ending ≡ ending_of task verdict
   pub text : written ≡ written_of task verdict
+
+-- two texts have this answer: that of the search of the task that they say
+pub record IsSolved (domain problem : List ℕ) (ending : Ending) (written : List ℕ) : Type 0 where
+  pub task : Task
+  pub is_task : IsTaskOf domain problem task
+  pub solution : IsSolution task ending written
 
 -- the text of the answer is written, whole
 pub record Writes (domain problem : List ℕ) (old new : Option (List ℕ)) (ending : Ending) : Type 0 where
@@ -62,3 +70,15 @@ pub record WritesFront (domain problem : List ℕ) (old new : Option (List ℕ))
   pub count : ℕ
   pub solved : IsSolved domain problem ending text
   pub bytes : Appends old new (take count text)
+
+-- why the search of a task has no answer: memory ran out, or the book refuses so
+pub data HasNoSolution (task : Task) : Fault → Type 0 where
+  OfMemory : HasNoSolution task NoMemory
+  OfBook : (r : Refusal) → Tells task r → HasNoSolution task (Refused r)
+
+-- why two texts have no answer: what is told of the texts; or they say a task, and its search has none, or the output can't take what
+-- is written
+pub data HasNoAnswer (domain problem : List ℕ) : Fault → Type 0 where
+  OfTexts : (f : Fault) → Explains domain problem f → HasNoAnswer domain problem f
+  OfSearch : (t : Task) (f : Fault) → IsTaskOf domain problem t → HasNoSolution t f → HasNoAnswer domain problem f
+  OfOutput : (t : Task) → IsTaskOf domain problem t → HasNoAnswer domain problem Device

@@ -6,4 +6,4 @@ use Rattle.hplan.specs.declared.frontier.Frontier.{Frontier}
 
 -- all of them are of a task
 abbrev pub IsOfTask : Task → Frontier → Type 0
-IsOfTask t f = (k : ℕ) → IfSome (get f.parcels k) (λ p. p.task.now ≡ t)
+IsOfTask t f = (k : ℕ) → IfSome (get f.parcels k) (λ p. p.task ≡ t)

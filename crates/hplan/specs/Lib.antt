@@ -1,7 +1,9 @@
 pub mod Answer
+pub mod Digest
 pub mod Fault
 pub mod Frontier
 pub mod Output
 pub mod Places
 pub mod PlanText
+pub mod Refused
 pub mod Tasks

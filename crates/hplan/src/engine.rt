@@ -1,6 +1,6 @@
 //! From the bytes of two texts to the bytes of a plan.
-ghost use Rattle.std.specs.Prelude.{◌≡◌, ◌⊎◌, true, IfOk, IfSome, OnErr};
-ghost use Rattle.hplan.specs.Answer.{plan_in, written_of, ending_of, IsSolved, Writes, WritesFront};
+ghost use Rattle.std.specs.Prelude.{◌≡◌, ◌⊎◌, true, IfOk, IfErr, IfSome, OnErr};
+ghost use Rattle.hplan.specs.Answer.{plan_in, written_of, ending_of, IsSolved, Writes, WritesFront, IsSolution, HasNoSolution, HasNoAnswer};
 ghost use Rattle.hplan.specs.PlanText.{plan_text, goes_through};
 
 use crate::fault::{Fault, device_fault};
@@ -56,23 +56,42 @@ fn texts_of(alloc: Global, task: &Task, verdict: &Verdict) -> Result<(Ending, Ve
     }
 }
 
-/// The answer to two texts, as it is written.
-fn answer_of(alloc: Global, domain: &[u8], problem: &[u8]) -> Result<(Ending, Vec<u8>), Fault>
-    ensures { IfOk result (λ found. IsSolved domain.now problem.now found.0 found.1.items) }
+/// What the search of a task answers, as it is written.
+fn solution_of(alloc: Global, task: &Task) -> Result<(Ending, Vec<u8>), Fault>
+    ensures found { IfOk result (λ found. IsSolution task.now found.0 found.1.items) }
+    ensures refusal { IfErr result (HasNoSolution task.now) }
 {
-    let task = task_of(alloc, domain, problem)?;
-    let verdict = match run(alloc, &task) {
+    let verdict = match run(alloc, task) {
         Ok(verdict) => verdict,
         Err(Refusal::NoMemory) => return Err(Fault::NoMemory),
         Err(refusal) => return Err(Fault::Refused(refusal)),
     };
-    Ok(texts_of(alloc, &task, &verdict)?)
+    match texts_of(alloc, task, &verdict) {
+        Ok(found) => Ok(found),
+        Err(_) => Err(Fault::NoMemory),
+    }
+}
+
+/// The answer to two texts, as it is written.
+fn answer_of(alloc: Global, domain: &[u8], problem: &[u8]) -> Result<(Ending, Vec<u8>), Fault>
+    ensures found { IfOk result (λ found. IsSolved domain.now problem.now found.0 found.1.items) }
+    ensures refusal { IfErr result (HasNoAnswer domain.now problem.now) }
+{
+    match task_of(alloc, domain, problem) {
+        Ok(task) => {
+            let answer = solution_of(alloc, &task);
+            drop(task);
+            answer
+        }
+        Err(fault) => Err(fault),
+    }
 }
 
 /// Answers the task that two texts say, and writes the text of its plan, if it has one.
 ///
 /// # Errors
-/// The first fault. After a fault of the writer a beginning of the text has been written, and else nothing.
+/// The first fault of the texts, or why the search or the writer fails. After a fault of the writer a beginning of the text has
+/// been written, and else nothing.
 pub fn solve<W: Write>(
     alloc: Global,
     domain: &[u8],
@@ -84,10 +103,16 @@ pub fn solve<W: Write>(
         (W.contents out.new)) }
     ensures front { OnErr result ((W.contents out.new ≡ W.contents out.old)
         ⊎ WritesFront domain.now problem.now (W.contents out.old) (W.contents out.new)) }
+    ensures refusal { IfErr result (HasNoAnswer domain.now problem.now) }
 {
     let (ending, text) = answer_of(alloc, domain, problem)?;
-    match put(out, &text) {
+    let written = put(out, &text);
+    drop(text);
+    match written {
         Ok(()) => Ok(ending),
-        Err(error) => Err(device_fault(error)),
+        Err(error) => {
+            drop(ending);
+            Err(device_fault(error))
+        }
     }
 }

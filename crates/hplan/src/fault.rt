@@ -1,5 +1,5 @@
 //! Why there is no answer.
-ghost use Rattle.std.specs.Prelude.{◌≡◌, Some};
+ghost use Rattle.std.specs.Prelude.{◌≡◌, ◌⊎◌, Some};
 ghost use Rattle.hplan.specs.Fault.{text_of, read_in, checked_in, not_searched};
 ghost use Rattle.hplan.specs.declared.fault.Fault.TheVariants as faults;
 
@@ -99,7 +99,9 @@ pub fn not_searched(error: PlainError) -> Fault
 }
 
 /// A fault of a file, a reader or a writer: `NoMemory` where memory ran out, else `Device`.
-pub fn device_fault(error: io::Error) -> Fault {
+pub fn device_fault(error: io::Error) -> Fault
+    ensures { (result ≡ faults.NoMemory) ⊎ (result ≡ faults.Device) }
+{
     if error.kind() == io::ErrorKind::OutOfMemory {
         Fault::NoMemory
     } else {

@@ -36,10 +36,10 @@ impl<'t> Frontier<'t> {
 
     /// One parcel more.
     pub fn push(&mut self, parcel: Parcel<'t>) -> Result<(), NoMemory>
-        ensures { (t : Task) → IsOfTask t self.old → parcel.entry.task.now ≡ t
+        ensures { (t : Task) → IsOfTask t self.old → parcel.entry.task ≡ t
             → OnOk result (IsOfTask t self.new) }
     {
-        let cost = parcel.cost;
+        let cost = parcel.cost();
         let place = self.parcels.insert(parcel)?;
         self.order.push(Reverse((cost, self.arrived, place)))?;
         self.arrived = self.arrived.wrapping_add(1);
@@ -59,7 +59,7 @@ impl<'t> Frontier<'t> {
 
     /// Takes the parcel of least cost, the earliest of equal ones.
     pub fn pop(&mut self) -> Option<Parcel<'t>>
-        ensures of_task { (t : Task) → IsOfTask t self.old → IfSome result (λ p. p.task.now ≡ t) }
+        ensures of_task { (t : Task) → IsOfTask t self.old → IfSome result (λ p. p.task ≡ t) }
         ensures rest { (t : Task) → IsOfTask t self.old → IsOfTask t self.new }
     {
         let Reverse((_, _, place)) = self.order.pop()?;

@@ -5,31 +5,34 @@ ghost use Rattle.hd_book.specs.Settling.{IsOf};
 use crate::closed::Closed;
 use hd_base::NoMemory;
 use hd_node::{Batch, By, Estimate, Expansion, Outcome, Parcel};
+use hd_task::Task;
 use std::alloc::Global;
 
 /// A parcel's outcome: a duplicate where an entry has its state at no greater cost, else bounded where its cost reaches the
 /// bound, else its expansion.
 pub fn outcome_of<'t>(
     alloc: Global,
+    task: &'t Task,
     closed: &Closed,
     key: &[u8],
     bound: Option<u64>,
     parcel: Parcel<'t>,
 ) -> Result<Outcome<'t>, NoMemory>
-    ensures { IfOk result (IsOf parcel.entry.task.now) }
+    requires { parcel.task ≡ task.now }
+    ensures { IfOk result (IsOf task.now) }
 {
     if let Some(known) = closed.find(key) {
-        if known.cost <= parcel.cost {
-            return Ok(Outcome::Duplicate(parcel.kid, By::Entry(known.entry)));
+        if known.cost <= parcel.cost() {
+            return Ok(Outcome::Duplicate(parcel.kid(), By::Entry(known.entry)));
         }
     }
     if let Some(limit) = bound {
-        if limit <= parcel.cost {
-            let estimate = Estimate::of(parcel.task, parcel.state);
-            return Ok(Outcome::Bounded(parcel.kid, estimate));
+        if limit <= parcel.cost() {
+            let (kid, state, _) = parcel.into_parts();
+            return Ok(Outcome::Bounded(kid, Estimate::of(task, state)));
         }
     }
-    match Expansion::of(alloc, parcel) {
+    match Expansion::of(alloc, task, parcel) {
         Ok(expansion) => Ok(Outcome::Expanded(expansion)),
         Err((_, error)) => Err(error),
     }

@@ -3,6 +3,7 @@
 
 mod closed;
 mod cost;
+mod digest;
 mod engine;
 mod fault;
 mod frontier;
@@ -14,6 +15,7 @@ mod searching;
 mod tasks;
 mod text;
 
+pub use digest::digest_of;
 pub use engine::{Ending, solve};
 pub use fault::{Fault, Source};
 pub use places::{Places, Shelf, SystemFiles};

@@ -1,8 +1,10 @@
 //! The search of a task, on one thread.
-ghost use Rattle.std.specs.Prelude.{◌≡◌, IfOk, OnOk};
+ghost use Rattle.std.specs.Prelude.{◌≡◌, IfOk, IfErr, OnOk};
 ghost use Rattle.hd_book.specs.Answers.{IsTrueAnswer};
 ghost use Rattle.hplan.specs.Answer.{IsAnswer};
+ghost use Rattle.hd_book.specs.Settling.{IsOf};
 ghost use Rattle.hplan.specs.Frontier.{IsOfTask};
+ghost use Rattle.hplan.specs.Refused.{IsOpen, Tells};
 
 use crate::closed::{Closed, Known, key_of};
 use crate::frontier::Frontier;
@@ -10,22 +12,41 @@ use crate::judging::{batch_of, outcome_of};
 use hd_base::NoMemory;
 use hd_book::{Book, Redeemed, Refusal, Ticket, Verdict};
 use hd_node::{Outcome, Parcel};
-use hd_task::{Kid, ROOT, Task};
+use hd_task::{Kid, ROOT_ACTION, ROOT_PARENT, Task};
 use std::alloc::Global;
+
+/// How many entries a search may make: each has a number below that of the root's parent.
+pub const MOST_ENTRIES: u64 = ROOT_PARENT - 1;
 
 /// The parcel of the root.
 fn root<'t>(alloc: Global, task: &'t Task) -> Result<Parcel<'t>, NoMemory>
-    ensures { IfOk result (λ p. p.task.now ≡ task.now) }
+    ensures { IfOk result (λ p. p.task ≡ task.now) }
 {
-    Ok(Parcel {
-        task,
-        kid: Kid {
-            parent: ROOT,
-            action: ROOT,
-        },
-        state: task.initial.copied(alloc)?,
-        cost: 0,
-    })
+    let kid = Kid {
+        parent: ROOT_PARENT,
+        action: ROOT_ACTION,
+    };
+    Parcel::of(alloc, task, kid, task.initial.copied(alloc)?, 0)
+}
+
+/// Commits an outcome alone: the number of its entry, if it is an expansion, and the ticket.
+fn commit_alone<'t>(
+    alloc: Global,
+    book: &mut Book<'t>,
+    outcome: Outcome<'t>,
+) -> Result<(u64, Ticket), Refusal>
+    requires of_task { IsOf book.old.state.task outcome }
+    requires running { IsOpen book.old }
+    ensures task { book.new.state.task ≡ book.old.state.task }
+    ensures running { IsOpen book.new }
+    ensures told { IfErr result (Tells book.old.state.task) }
+{
+    let batch = batch_of(alloc, outcome)?;
+    let entry = book.counts().entries;
+    match book.commit(batch) {
+        Ok(ticket) => Ok((entry, ticket)),
+        Err((_, refusal)) => Err(refusal),
+    }
 }
 
 /// Redeems a ticket: what its batch releases waits from now on.
@@ -34,9 +55,12 @@ fn release<'t>(
     frontier: &mut Frontier<'t>,
     ticket: Ticket,
 ) -> Result<(), Refusal>
-    requires { IsOfTask book.old.state.task frontier.old }
-    ensures task { OnOk result (book.new.state.task ≡ book.old.state.task) }
+    requires waiting { IsOfTask book.old.state.task frontier.old }
+    requires running { IsOpen book.old }
+    ensures task { book.new.state.task ≡ book.old.state.task }
+    ensures running { IsOpen book.new }
     ensures waiting { OnOk result (IsOfTask book.old.state.task frontier.new) }
+    ensures told { IfErr result (Tells book.old.state.task) }
 {
     let Redeemed::Released(receipt, parcels) = book.redeem(ticket)?;
     book.present(receipt)?;
@@ -47,26 +71,26 @@ fn release<'t>(
 /// Settles a parcel: its outcome is committed alone, and the ticket redeemed.
 fn settle<'t>(
     alloc: Global,
+    task: &'t Task,
     book: &mut Book<'t>,
     frontier: &mut Frontier<'t>,
     closed: &mut Closed,
     parcel: Parcel<'t>,
 ) -> Result<(), Refusal>
-    requires parcel { parcel.task.now ≡ book.old.state.task }
-    requires waiting { IsOfTask book.old.state.task frontier.old }
-    ensures task { OnOk result (book.new.state.task ≡ book.old.state.task) }
-    ensures waiting { OnOk result (IsOfTask book.old.state.task frontier.new) }
+    requires task { book.old.state.task ≡ task.now }
+    requires running { IsOpen book.old }
+    requires parcel { parcel.task ≡ task.now }
+    requires waiting { IsOfTask task.now frontier.old }
+    ensures task { book.new.state.task ≡ task.now }
+    ensures running { IsOpen book.new }
+    ensures waiting { OnOk result (IsOfTask task.now frontier.new) }
+    ensures told { IfErr result (Tells task.now) }
 {
-    let cost = parcel.cost;
-    let key = key_of(alloc, &parcel.state)?;
-    let outcome = outcome_of(alloc, closed, &key, book.bound(), parcel)?;
+    let cost = parcel.cost();
+    let key = key_of(alloc, parcel.state())?;
+    let outcome = outcome_of(alloc, task, closed, &key, book.bound(), parcel)?;
     let is_entry = matches!(&outcome, Outcome::Expanded(_));
-    let batch = batch_of(alloc, outcome)?;
-    let ticket = match book.commit(alloc, batch) {
-        Ok(ticket) => ticket,
-        Err((_, refusal)) => return Err(refusal),
-    };
-    let entry = ticket.range().start;
+    let (entry, ticket) = commit_alone(alloc, book, outcome)?;
     release(book, frontier, ticket)?;
     if is_entry {
         closed.close(key, Known { entry, cost })?;
@@ -80,11 +104,13 @@ fn settle<'t>(
 /// duplicate, else as bounded, else expanded.
 ///
 /// # Errors
-/// Why the book refuses, or `NoMemory`. That no refusal but `Full` comes is tested, and not proved.
+/// Why the book refuses, or `NoMemory`: `Full` only where as many plans are expanded as there may be entries, and `Halted`
+/// never. That no other refusal comes is tested, and not proved.
 pub fn searched<'t>(alloc: Global, task: &'t Task) -> Result<Book<'t>, Refusal>
-    ensures { IfOk result (λ b. b.state.task ≡ task.now) }
+    ensures task { IfOk result (λ b. b.state.task ≡ task.now) }
+    ensures told { IfErr result (Tells task.now) }
 {
-    let mut book = Book::new(alloc, task)?;
+    let mut book = Book::new(alloc, task, MOST_ENTRIES)?;
     let mut frontier = Frontier::empty(alloc);
     let mut closed = Closed::empty(alloc);
     frontier.push(root(alloc, task)?)?;
@@ -92,7 +118,7 @@ pub fn searched<'t>(alloc: Global, task: &'t Task) -> Result<Book<'t>, Refusal>
         let Some(parcel) = frontier.pop() else {
             break;
         };
-        settle(alloc, &mut book, &mut frontier, &mut closed, parcel)?;
+        settle(alloc, task, &mut book, &mut frontier, &mut closed, parcel)?;
     }
     Ok(book)
 }
@@ -100,14 +126,16 @@ pub fn searched<'t>(alloc: Global, task: &'t Task) -> Result<Book<'t>, Refusal>
 /// Searches a task to the end, and answers its verdict.
 ///
 /// # Errors
-/// Why the book refuses, or `NoMemory`. That no refusal but `Full` comes is tested, and not proved; it would be `NotOut` where
-/// the search ended before all was settled.
+/// Why the book refuses, or `NoMemory`: `Full` only where as many plans are expanded as there may be entries, and `Halted`
+/// never. That no other refusal comes is tested, and not proved; it would be `NotOut` where the search ended before all was
+/// settled.
 pub fn run(alloc: Global, task: &Task) -> Result<Verdict, Refusal>
     ensures answer { IfOk result (IsAnswer task.now) }
     ensures truth { IfOk result (IsTrueAnswer task.now) }
+    ensures told { IfErr result (Tells task.now) }
 {
     let book = searched(alloc, task)?;
-    match book.verdict(alloc)? {
+    match book.verdict()? {
         Some(verdict) => Ok(verdict),
         None => Err(Refusal::NotOut),
     }

@@ -2,7 +2,9 @@
 ghost use Rattle.std.specs.Prelude.{IfOk, IfErr};
 ghost use Rattle.hplan.specs.Tasks.{SayTrees, IsLiftedOf, IsTaskOf, Explains};
 
+use crate::digest::digest_of;
 use crate::fault::{Fault, Source, checked_in, not_searched, read_in};
+use hd_base::Seed;
 use hd_check::{Checked, check};
 use hd_pddl::{DomainAst, ProblemAst, read_domain, read_problem};
 use hd_plain::plain_task;
@@ -28,8 +30,9 @@ fn checked_of(alloc: Global, domain: &[u8], problem: &[u8]) -> Result<Checked, F
     ensures found { IfOk result (IsLiftedOf domain.now problem.now) }
     ensures refusal { IfErr result (Explains domain.now problem.now) }
 {
+    let seed = Seed::of(digest_of(domain, problem));
     let (domain, problem) = trees_of(alloc, domain, problem)?;
-    match check(alloc, domain, problem) {
+    match check(alloc, seed, domain, problem) {
         Ok(checked) => Ok(checked),
         Err(error) => Err(checked_in(error)),
     }

@@ -8,17 +8,17 @@ use hd_task::{DepartsBy, Departure, GroundForm, Plan, Task};
 use std::alloc::Global;
 
 /// The name of this number.
-fn name_at(names: &[Name], number: u32) -> &str
+fn name_at(names: &[Name], number: usize) -> &str
     ensures { result.now ≡ name_at names.now number }
 {
-    match names.get(number as usize) {
+    match names.get(number) {
         Some(name) => name.as_str(),
         None => "",
     }
 }
 
 /// An object behind a space, behind a text.
-fn push_object(text: &mut Vec<u8>, objects: &[Name], object: u32) -> Result<(), NoMemory>
+fn push_object(text: &mut Vec<u8>, objects: &[Name], object: usize) -> Result<(), NoMemory>
     ensures { OnOk result (text.new.items ≡ text.old.items ++ object_text objects.now object) }
 {
     text.push(b' ')?;
@@ -26,7 +26,7 @@ fn push_object(text: &mut Vec<u8>, objects: &[Name], object: u32) -> Result<(), 
 }
 
 /// Objects, each behind a space, behind a text.
-fn push_objects(text: &mut Vec<u8>, objects: &[Name], numbers: &[u32]) -> Result<(), NoMemory>
+fn push_objects(text: &mut Vec<u8>, objects: &[Name], numbers: &[usize]) -> Result<(), NoMemory>
     ensures { OnOk result (text.new.items ≡ text.old.items ++ objects_text objects.now numbers.now) }
 {
     for number in numbers {

@@ -4,6 +4,8 @@
 #[cfg(test)]
 mod command;
 #[cfg(test)]
+mod digests;
+#[cfg(test)]
 mod line;
 #[cfg(test)]
 mod words;

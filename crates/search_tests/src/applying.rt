@@ -1,7 +1,7 @@
 //! The worked rows of `apply`, run, and each public function of hd_task once on its happy path.
 use crate::expressions::{fluent, negated, number};
 use crate::outcomes::assert_sizes;
-use crate::tasks::{action_from, always, increase, list, names, state, task_from};
+use crate::tasks::{action_from, always, list, names, numbers, state, task_from};
 use hd_task::{
     Action, ActionId, Applied, Change, Comparison, Condition, Effect, GoalTest, Literal, Plan,
     Relation, Sequence, State, Task, Term, apply, goal,
@@ -10,300 +10,470 @@ use std::alloc::Global;
 use std::process::Abort;
 use std::test::Fail;
 
-/// An action with these effects, that may always be applied.
-fn action(
-    alloc: Global,
-    deletes: &[u32],
-    adds: &[u32],
-    effects: Vec<Effect>,
-) -> Result<Action, Fail> {
-    let effects = Sequence::from_vec(effects);
-    let deletes = list(alloc, deletes)?;
-    let adds = list(alloc, adds)?;
-    let costs = Sequence::empty(alloc);
+/// A term of a sum.
+#[derive(Clone, Copy)]
+enum Part {
+    Increase(i64),
+    Decrease(i64),
+}
+
+/// What an effect does to its fluent.
+#[derive(Clone, Copy)]
+enum Does {
+    /// It gets the value of this fluent.
+    Assign(u32),
+    ScaleUp(i64),
+    /// It is scaled up by the value of this fluent.
+    ScaleUpBy(u32),
+    Sum(&'static [Part]),
+}
+
+/// The state that a task starts in, which has two atoms and two fluents at most, and its one action, which may always be applied.
+#[derive(Clone, Copy)]
+struct Row {
+    atoms: &'static [bool],
+    fluents: &'static [i64],
+    deletes: &'static [u32],
+    adds: &'static [u32],
+    effects: &'static [(u32, Does)],
+    costs: &'static [i64],
+}
+
+/// No atoms, no fluents, and an action that does nothing.
+const IDLE: Row = Row {
+    atoms: &[],
+    fluents: &[],
+    deletes: &[],
+    adds: &[],
+    effects: &[],
+    costs: &[],
+};
+
+/// The atoms and fluents after an action; none where a number leaves the range.
+type After = Option<(&'static [bool], &'static [i64])>;
+
+const END: i64 = 1_000_000_000_000_000;
+
+// ---- a task of a row
+
+fn term_of(part: Part) -> Term {
+    match part {
+        Part::Increase(value) => Term::Increase(number(value)),
+        Part::Decrease(value) => Term::Decrease(number(value)),
+    }
+}
+
+fn sum_of(alloc: Global, parts: &[Part]) -> Result<Change, Fail> {
+    let mut terms = Vec::new(alloc);
+    for part in parts {
+        terms.push(term_of(*part))?;
+    }
+    Ok(Change::Sum(Sequence::from_vec(terms)))
+}
+
+fn change_of(alloc: Global, does: Does) -> Result<Change, Fail> {
+    match does {
+        Does::Assign(place) => Ok(Change::Assign(fluent(place))),
+        Does::ScaleUp(value) => Ok(Change::ScaleUp(number(value))),
+        Does::ScaleUpBy(place) => Ok(Change::ScaleUp(fluent(place))),
+        Does::Sum(parts) => sum_of(alloc, parts),
+    }
+}
+
+fn effects_of(alloc: Global, effects: &[(u32, Does)]) -> Result<Sequence<Effect>, Fail> {
+    let mut all = Vec::new(alloc);
+    for (fluent, does) in effects {
+        let change = change_of(alloc, *does)?;
+        all.push(Effect {
+            fluent: *fluent,
+            change,
+        })?;
+    }
+    Ok(Sequence::from_vec(all))
+}
+
+fn action_of(alloc: Global, row: Row) -> Result<Action, Fail> {
+    let deletes = list(alloc, row.deletes)?;
+    let adds = list(alloc, row.adds)?;
+    let effects = effects_of(alloc, row.effects)?;
+    let costs = numbers(alloc, row.costs)?;
     Ok(action_from(alloc, 0, always(alloc), deletes, adds, effects, costs))
 }
 
-/// The task of one action that starts in this state, which has two atoms and two fluents at most.
-fn task(
-    alloc: Global,
-    initial: State,
-    action: Action,
-    goal: Condition,
-) -> Result<Option<Task>, Fail> {
+/// The task of a row with a goal, if its parts fit together.
+fn task_of(alloc: Global, row: Row, goal: Condition) -> Result<Option<Task>, Fail> {
+    let initial = state(alloc, row.atoms, row.fluents)?;
+    let names = names(alloc, "act", "a b")?;
+    let action = action_of(alloc, row)?;
     let actions = Sequence::from_vec(vec![in alloc; action]?);
-    task_from(
-        alloc,
-        names(alloc, "act", "a b")?,
-        initial,
-        actions,
-        goal,
-        false,
-    )
+    task_from(alloc, names, initial, actions, goal, false)
 }
 
-/// What the task's one action does in a state.
-fn applied(rt: &impl Abort, alloc: Global, task: &Task, state: &State) -> Result<Applied, Fail> {
-    assert!(rt; task.actions.len() == 1);
-    assert_sizes(rt, task, state);
-    Ok(apply(alloc, task, state, ActionId(0))?)
-}
+// ---- what an action does
 
-/// What the goal says in a state.
-fn tested(rt: &impl Abort, task: &Task, state: &State) -> GoalTest {
-    assert_sizes(rt, task, state);
-    goal(task, state)
-}
-
-/// The task of one action that is sound, in the state that it starts in.
-fn first_step(
-    rt: &impl Abort,
-    alloc: Global,
-    initial: State,
-    action: Action,
-) -> Result<Applied, Fail> {
-    match task(alloc, initial, action, always(alloc))? {
-        Some(task) => applied(rt, alloc, &task, &task.initial),
-        None => Ok(Applied::No),
+/// Whether an answer is this state at a cost of 1, or that a number leaves the range.
+fn is_after(answer: &Applied, after: After) -> bool {
+    match (answer, after) {
+        (Applied::Next(state, cost), Some((atoms, fluents))) => {
+            *cost == 1 && state.atoms.as_slice() == atoms && state.fluents.as_slice() == fluents
+        }
+        (Applied::Departs, None) => true,
+        _ => false,
     }
 }
 
-fn one_effect(alloc: Global, change: Change) -> Result<Vec<Effect>, Fail> {
-    Ok(vec![in alloc; Effect { fluent: 0, change }]?)
+/// Asserts what the task's one action does at the start.
+fn assert_applied(rt: &impl Abort, alloc: Global, task: &Task, after: After) -> Result<(), Fail> {
+    assert!(rt; task.actions.len() == 1);
+    assert_sizes(rt, task, &task.initial);
+    let answer = apply(alloc, task, &task.initial, ActionId(0))?;
+    assert!(rt; is_after(&answer, after));
+    Ok(())
 }
+
+fn assert_row(rt: &impl Abort, alloc: Global, row: Row, after: After) -> Result<(), Fail> {
+    match task_of(alloc, row, always(alloc))? {
+        Some(task) => assert_applied(rt, alloc, &task, after),
+        None => {
+            assert!(rt; false);
+            Ok(())
+        }
+    }
+}
+
+fn assert_rows(rt: &impl Abort, alloc: Global, rows: &[(Row, After)]) -> Result<(), Fail> {
+    for (row, after) in rows {
+        assert_row(rt, alloc, *row, *after)?;
+    }
+    Ok(())
+}
+
+const DELETED_AND_ADDED: Row = Row {
+    atoms: &[false],
+    deletes: &[0],
+    adds: &[0],
+    ..IDLE
+};
 
 #[test]
 fn an_atom_that_is_deleted_and_added_holds(rt: HostRuntime) -> Result<(), Fail> {
-    let alloc = rt.alloc();
-    let action = action(alloc, &[0], &[0], Vec::new(alloc))?;
-    let after = first_step(&rt, alloc, state(alloc, &[false], &[])?, action)?;
-    assert_eq!(rt; after, Applied::Next(state(alloc, &[true], &[])?, 1));
-    Ok(())
+    assert_row(&rt, rt.alloc(), DELETED_AND_ADDED, Some((&[true], &[])))
 }
+
+const SWAPPED: Row = Row {
+    fluents: &[1, 2],
+    effects: &[(0, Does::Assign(1)), (1, Does::Assign(0))],
+    ..IDLE
+};
 
 #[test]
 fn effects_read_the_values_before(rt: HostRuntime) -> Result<(), Fail> {
-    let alloc = rt.alloc();
-    let effects = vec![in alloc;
-        Effect {
-            fluent: 0,
-            change: Change::Assign(fluent(1))
-        },
-        Effect {
-            fluent: 1,
-            change: Change::Assign(fluent(0))
-        },
-    ]?;
-    let after = first_step(
-        &rt,
-        alloc,
-        state(alloc, &[], &[1, 2])?,
-        action(alloc, &[], &[], effects)?,
-    )?;
-    assert_eq!(rt; after, Applied::Next(state(alloc, &[], &[2, 1])?, 1));
-    Ok(())
+    assert_row(&rt, rt.alloc(), SWAPPED, Some((&[], &[2, 1])))
 }
+
+const UP_AND_DOWN: Row = Row {
+    fluents: &[5],
+    effects: &[(0, Does::Sum(&[Part::Increase(3), Part::Decrease(1)]))],
+    ..IDLE
+};
 
 #[test]
 fn increases_and_decreases_add_up(rt: HostRuntime) -> Result<(), Fail> {
-    let alloc = rt.alloc();
-    let terms = vec![in alloc; Term::Increase(number(3)), Term::Decrease(number(1))]?;
-    let effects = one_effect(alloc, Change::Sum(Sequence::from_vec(terms)))?;
-    let after = first_step(
-        &rt,
-        alloc,
-        state(alloc, &[], &[5])?,
-        action(alloc, &[], &[], effects)?,
-    )?;
-    assert_eq!(rt; after, Applied::Next(state(alloc, &[], &[7])?, 1));
-    Ok(())
+    assert_row(&rt, rt.alloc(), UP_AND_DOWN, Some((&[], &[7])))
 }
+
+const FAR_AND_BACK: Row = Row {
+    fluents: &[END],
+    effects: &[(0, Does::Sum(&[Part::Increase(END), Part::Decrease(END)]))],
+    ..IDLE
+};
 
 #[test]
 fn only_the_new_value_of_a_sum_is_judged(rt: HostRuntime) -> Result<(), Fail> {
-    let alloc = rt.alloc();
-    let end = 1_000_000_000_000_000;
-    let terms = vec![in alloc; Term::Increase(number(end)), Term::Decrease(number(end))]?;
-    let effects = one_effect(alloc, Change::Sum(Sequence::from_vec(terms)))?;
-    let after = first_step(
-        &rt,
-        alloc,
-        state(alloc, &[], &[end])?,
-        action(alloc, &[], &[], effects)?,
-    )?;
-    assert_eq!(rt; after, Applied::Next(state(alloc, &[], &[end])?, 1));
-    Ok(())
+    assert_row(&rt, rt.alloc(), FAR_AND_BACK, Some((&[], &[END])))
 }
+
+/// Increases that lead to the ends of the range, and beyond them.
+const TO_THE_ENDS: [(Row, After); 5] = [
+    (
+        Row {
+            fluents: &[END],
+            effects: &[(0, Does::Sum(&[Part::Increase(1)]))],
+            ..IDLE
+        },
+        None,
+    ),
+    (
+        Row {
+            fluents: &[END - 1],
+            effects: &[(0, Does::Sum(&[Part::Increase(1)]))],
+            ..IDLE
+        },
+        Some((&[], &[END])),
+    ),
+    (
+        Row {
+            fluents: &[-END],
+            effects: &[(0, Does::Sum(&[Part::Increase(-1)]))],
+            ..IDLE
+        },
+        None,
+    ),
+    (
+        Row {
+            fluents: &[1 - END],
+            effects: &[(0, Does::Sum(&[Part::Increase(-1)]))],
+            ..IDLE
+        },
+        Some((&[], &[-END])),
+    ),
+    (
+        Row {
+            fluents: &[0],
+            effects: &[(0, Does::Sum(&[Part::Increase(END + 1)]))],
+            ..IDLE
+        },
+        None,
+    ),
+];
 
 #[test]
 fn the_ends_of_the_range_are_in_it(rt: HostRuntime) -> Result<(), Fail> {
-    let alloc = rt.alloc();
-    let end = 1_000_000_000_000_000;
-    for (from, by, departs) in [
-        (end, 1, true),
-        (end - 1, 1, false),
-        (-end, -1, true),
-        (1 - end, -1, false),
-        (0, end + 1, true),
-    ] {
-        let effects = one_effect(alloc, increase(alloc, by)?)?;
-        let after = first_step(
-            &rt,
-            alloc,
-            state(alloc, &[], &[from])?,
-            action(alloc, &[], &[], effects)?,
-        )?;
-        assert_eq!(rt; after == Applied::Departs, departs, "{from} and {by}");
+    assert_rows(&rt, rt.alloc(), &TO_THE_ENDS)
+}
+
+const PRODUCTS: [(Row, After); 2] = [
+    (
+        Row {
+            fluents: &[7],
+            effects: &[(0, Does::ScaleUp(-3))],
+            ..IDLE
+        },
+        Some((&[], &[-21])),
+    ),
+    (
+        Row {
+            fluents: &[1_000_000_000],
+            effects: &[(0, Does::ScaleUpBy(0))],
+            ..IDLE
+        },
+        None,
+    ),
+];
+
+#[test]
+fn a_product_is_exact_or_departs(rt: HostRuntime) -> Result<(), Fail> {
+    assert_rows(&rt, rt.alloc(), &PRODUCTS)
+}
+
+// ---- goals
+
+/// A goal: that the first atom is so, and that the first fluent, negated, compares so with a number; or one that can't hold.
+#[derive(Clone, Copy)]
+struct Goal {
+    positive: bool,
+    relation: Relation,
+    right: i64,
+    never: bool,
+    wanted: GoalTest,
+}
+
+fn condition_of(alloc: Global, goal: Goal) -> Result<Condition, Fail> {
+    let literal = Literal {
+        atom: 0,
+        positive: goal.positive,
+    };
+    let literals = list(alloc, &[literal])?;
+    let comparison = Comparison {
+        left: negated(alloc)?,
+        relation: goal.relation,
+        right: number(goal.right),
+    };
+    Ok(Condition {
+        literals,
+        comparisons: Sequence::from_vec(vec![in alloc; comparison]?),
+        never: goal.never,
+    })
+}
+
+/// The first atom is true, and the first fluent is 4.
+const AT_FOUR: Row = Row {
+    atoms: &[true],
+    fluents: &[4],
+    ..IDLE
+};
+
+fn assert_tested(rt: &impl Abort, task: &Task, wanted: GoalTest) {
+    assert_sizes(rt, task, &task.initial);
+    assert!(rt; goal(task, &task.initial) == wanted);
+}
+
+fn assert_goal(rt: &impl Abort, alloc: Global, goal: Goal) -> Result<(), Fail> {
+    let condition = condition_of(alloc, goal)?;
+    match task_of(alloc, AT_FOUR, condition)? {
+        Some(task) => assert_tested(rt, &task, goal.wanted),
+        None => assert!(rt; false),
     }
     Ok(())
 }
 
-#[test]
-fn a_product_is_exact_or_departs(rt: HostRuntime) -> Result<(), Fail> {
-    let alloc = rt.alloc();
-    let effects = one_effect(alloc, Change::ScaleUp(number(-3)))?;
-    let after = first_step(
-        &rt,
-        alloc,
-        state(alloc, &[], &[7])?,
-        action(alloc, &[], &[], effects)?,
-    )?;
-    assert_eq!(rt; after, Applied::Next(state(alloc, &[], &[-21])?, 1));
-    let effects = one_effect(alloc, Change::ScaleUp(fluent(0)))?;
-    let start = state(alloc, &[], &[1_000_000_000])?;
-    let after = first_step(&rt, alloc, start, action(alloc, &[], &[], effects)?)?;
-    assert_eq!(rt; after, Applied::Departs);
-    Ok(())
-}
+const MET: Goal = Goal {
+    positive: true,
+    relation: Relation::Equal,
+    right: -4,
+    never: false,
+    wanted: GoalTest::Yes,
+};
 
-/// The goal that the first fluent, negated, compares so with a number, beside a literal.
-fn number_goal(
-    alloc: Global,
-    positive: bool,
-    relation: Relation,
-    right: i64,
-) -> Result<Condition, Fail> {
-    let comparison = Comparison {
-        left: negated(alloc)?,
-        relation,
-        right: number(right),
-    };
-    Ok(Condition {
-        literals: Sequence::from_vec(vec![in alloc; Literal { atom: 0, positive }]?),
-        comparisons: Sequence::from_vec(vec![in alloc; comparison]?),
-        never: false,
-    })
+const UNMET: Goal = Goal {
+    wanted: GoalTest::No,
+    ..MET
+};
+
+const GOALS: [Goal; 9] = [
+    MET,
+    Goal {
+        never: true,
+        ..UNMET
+    },
+    Goal {
+        positive: false,
+        ..UNMET
+    },
+    Goal {
+        relation: Relation::Less,
+        ..UNMET
+    },
+    Goal {
+        relation: Relation::LessOrEqual,
+        ..MET
+    },
+    Goal {
+        relation: Relation::GreaterOrEqual,
+        right: -3,
+        ..UNMET
+    },
+    Goal {
+        relation: Relation::Greater,
+        right: -5,
+        ..MET
+    },
+    Goal {
+        relation: Relation::Greater,
+        right: END + 1,
+        wanted: GoalTest::Departs,
+        ..MET
+    },
+    Goal {
+        positive: false,
+        relation: Relation::Greater,
+        right: END + 1,
+        ..UNMET
+    },
+];
+
+fn assert_goals(rt: &impl Abort, alloc: Global, goals: &[Goal]) -> Result<(), Fail> {
+    for goal in goals {
+        assert_goal(rt, alloc, *goal)?;
+    }
+    Ok(())
 }
 
 #[test]
 fn a_goal_holds_fails_or_departs(rt: HostRuntime) -> Result<(), Fail> {
-    let alloc = rt.alloc();
-    let out = 1_000_000_000_000_001;
-    for (positive, relation, right, never, wanted) in [
-        (true, Relation::Equal, -4, false, GoalTest::Yes),
-        (true, Relation::Equal, -4, true, GoalTest::No),
-        (false, Relation::Equal, -4, false, GoalTest::No),
-        (true, Relation::Less, -4, false, GoalTest::No),
-        (true, Relation::LessOrEqual, -4, false, GoalTest::Yes),
-        (true, Relation::GreaterOrEqual, -3, false, GoalTest::No),
-        (true, Relation::Greater, -5, false, GoalTest::Yes),
-        (true, Relation::Greater, out, false, GoalTest::Departs),
-        (false, Relation::Greater, out, false, GoalTest::No),
-    ] {
-        let mut goal = number_goal(alloc, positive, relation, right)?;
-        goal.never = never;
-        let idle = action(alloc, &[], &[], Vec::new(alloc))?;
-        let start = state(alloc, &[true], &[4])?;
-        if let Some(task) = task(alloc, start, idle, goal)? {
-            assert_eq!(rt; tested(&rt, &task, &task.initial), wanted, "{right}");
-        } else {
-            assert!(rt; false, "the task is sound");
-        }
-    }
+    assert_goals(&rt, rt.alloc(), &GOALS)
+}
+
+// ---- parts that do not fit together
+
+/// Asserts whether the parts of a row make a task.
+fn assert_made(rt: &impl Abort, alloc: Global, row: Row, sound: bool) -> Result<(), Fail> {
+    let made = task_of(alloc, row, always(alloc))?;
+    assert!(rt; made.is_some() == sound);
     Ok(())
 }
+
+/// It adds the first atom and changes the first fluent.
+const NAMING: Row = Row {
+    atoms: &[false],
+    fluents: &[0],
+    adds: &[0],
+    effects: &[(0, Does::Sum(&[Part::Increase(1)]))],
+    ..IDLE
+};
+
+const OTHER_ATOM: Row = Row {
+    adds: &[1],
+    ..NAMING
+};
+
+const OTHER_FLUENT: Row = Row {
+    effects: &[(1, Does::Sum(&[Part::Increase(1)]))],
+    ..NAMING
+};
 
 #[test]
 fn numbers_that_name_nothing_make_no_task(rt: HostRuntime) -> Result<(), Fail> {
-    let alloc = rt.alloc();
-    for (adds, fluent, sound) in [(0, 0, true), (1, 0, false), (0, 1, false)] {
-        let effects = vec![in alloc;
-            Effect {
-                fluent,
-                change: increase(alloc, 1)?
-            },
-        ]?;
-        let start = state(alloc, &[false], &[0])?;
-        let made = task(
-            alloc,
-            start,
-            action(alloc, &[], &[adds], effects)?,
-            always(alloc),
-        )?;
-        assert_eq!(rt; made.is_some(), sound, "adds {adds}, changes {fluent}");
-    }
-    Ok(())
+    assert_made(&rt, rt.alloc(), NAMING, true)?;
+    assert_made(&rt, rt.alloc(), OTHER_ATOM, false)?;
+    assert_made(&rt, rt.alloc(), OTHER_FLUENT, false)
 }
+
+const TWICE: Row = Row {
+    fluents: &[0],
+    effects: &[
+        (0, Does::Sum(&[Part::Increase(1)])),
+        (0, Does::Sum(&[Part::Increase(1)])),
+    ],
+    ..IDLE
+};
 
 #[test]
 fn a_fluent_changed_twice_makes_no_task(rt: HostRuntime) -> Result<(), Fail> {
-    let alloc = rt.alloc();
-    let twice = vec![in alloc;
-        Effect {
-            fluent: 0,
-            change: increase(alloc, 1)?
-        },
-        Effect {
-            fluent: 0,
-            change: increase(alloc, 1)?
-        },
-    ]?;
-    let made = task(
-        alloc,
-        state(alloc, &[], &[0])?,
-        action(alloc, &[], &[], twice)?,
-        always(alloc),
-    )?;
-    assert!(rt; made.is_none());
-    Ok(())
+    assert_made(&rt, rt.alloc(), TWICE, false)
 }
+
+const FAR: Row = Row {
+    fluents: &[END + 1],
+    ..IDLE
+};
 
 #[test]
 fn a_start_out_of_the_range_makes_no_task(rt: HostRuntime) -> Result<(), Fail> {
-    let alloc = rt.alloc();
-    let far = state(alloc, &[], &[1_000_000_000_000_001])?;
-    let made = task(
-        alloc,
-        far,
-        action(alloc, &[], &[], Vec::new(alloc))?,
-        always(alloc),
-    )?;
-    assert!(rt; made.is_none());
-    Ok(())
+    assert_made(&rt, rt.alloc(), FAR, false)
 }
+
+const COSTLY: Row = Row {
+    costs: &[1],
+    ..IDLE
+};
 
 #[test]
 fn a_cost_without_a_metric_makes_no_task(rt: HostRuntime) -> Result<(), Fail> {
-    let alloc = rt.alloc();
-    let mut costly = action(alloc, &[], &[], Vec::new(alloc))?;
-    costly.costs = Sequence::from_vec(vec![in alloc; number(1)]?);
-    let made = task(alloc, state(alloc, &[], &[])?, costly, always(alloc))?;
-    assert!(rt; made.is_none());
-    Ok(())
+    assert_made(&rt, rt.alloc(), COSTLY, false)
+}
+
+// ---- plans and copies
+
+fn assert_order(rt: &impl Abort, plan: &Plan) {
+    assert!(rt; plan.as_slice() == [ActionId(2), ActionId(0)].as_slice());
 }
 
 #[test]
 fn a_plan_keeps_its_actions_in_order(rt: HostRuntime) -> Result<(), Fail> {
-    let actions = vec![in rt.alloc(); ActionId(2), ActionId(0)]?;
-    let plan = Plan::from_vec(actions);
-    assert_eq!(rt; plan.as_slice(), [ActionId(2), ActionId(0)].as_slice());
+    let plan = Plan::from_vec(vec![in rt.alloc(); ActionId(2), ActionId(0)]?);
+    assert_order(&rt, &plan);
+    Ok(())
+}
+
+fn assert_copied(rt: &impl Abort, alloc: Global, state: &State) -> Result<(), Fail> {
+    let copy = state.copied(alloc)?;
+    assert!(rt; copy == *state);
     Ok(())
 }
 
 #[test]
 fn a_copy_is_equal(rt: HostRuntime) -> Result<(), Fail> {
-    let alloc = rt.alloc();
-    let state = state(alloc, &[true, false], &[7, -7])?;
-    assert_eq!(rt; state.copied(alloc)?, state);
-    Ok(())
+    let state = state(rt.alloc(), &[true, false], &[7, -7])?;
+    assert_copied(&rt, rt.alloc(), &state)
 }

@@ -1,17 +1,17 @@
-//! What refusals print, and a book that takes the batches of two small tasks.
-ghost use Rattle.std.specs.Prelude.{◌≡◌, [], ◌∷◌, IfOk};
+//! What refusals print, and a book that takes the batches of small tasks.
+ghost use Rattle.std.specs.Prelude.{◌≡◌};
 ghost use Rattle.std.specs.List.{AllByRecursion};
 ghost use Rattle.hd_book.specs.Settling.{IsOf};
 
-use crate::outcomes::kid;
-use crate::steps::{
-    Claim, assert_bounded, assert_claimed, assert_counts, assert_one, assert_text, assert_verdict,
-    begin, begin_with, claimed, one, refusal_text, root, spend, step,
+use crate::outcomes::{Pair, ROOT, Row, batch_of};
+use crate::scripts::{
+    Comes, Line, Says, Script, assert_counts, assert_refused, assert_script, assert_spent,
+    assert_taken,
 };
-use crate::tasks::{counting, one_step, two_steps, two_ways};
-use hd_book::{Book, Redeemed, Refusal, Ticket};
-use hd_node::{Batch, By, Outcome};
-use hd_task::{Kid, ROOT, Task};
+use crate::tasks::{counting, idle_actions, one_step, two_steps, two_ways};
+use hd_book::{Book, Redeemed, Refusal};
+use hd_node::{Batch, By};
+use hd_task::{ROOT_PARENT, Task};
 use std::alloc::Global;
 use std::process::Abort;
 use std::test::Fail;
@@ -30,482 +30,530 @@ fn a_refusal_prints_its_number_and_name(rt: HostRuntime) -> Result<(), Fail> {
         (Refusal::NotOut, "38 NotOut"),
         (Refusal::NoMemory, "NoMemory"),
     ] {
-        assert_eq!(rt; format!(in rt.alloc(); "{refusal}")?.as_str(), text);
+        let printed = format!(in rt.alloc(); "{refusal}")?;
+        assert!(rt; printed.as_str() == text);
     }
     Ok(())
 }
 
-// A test's task is made by one function, its book by another that borrows the task, and a third that borrows both asserts. So
-// little is live at each `?`, which would be dear to prove.
+// ---- the tasks of the scripts
 
-/// A second batch of the root is refused.
-fn take_the_root_once<'t>(
-    rt: &impl Abort,
-    alloc: Global,
-    book: &mut Book<'t>,
-    task: &'t Task,
-) -> Result<(), Fail>
-    requires { book.old.state.task ≡ task.now }
-{
-    let again = Claim {
-        kid: kid(ROOT, ROOT),
-        atoms: &[false, false],
-        cost: 0,
-    };
-    let says = "26 SettledBefore; 1 2 1 1 1\n";
-    assert_claimed(rt, alloc, book, task, again, says)?;
-    assert_verdict(rt, alloc, book, "open")
+/// A task of the tests.
+#[derive(Clone, Copy)]
+enum Which {
+    TwoSteps,
+    OneStep,
+    /// It counts, from this number on.
+    Counting(i64),
+    TwoWays,
 }
 
-fn commit_the_root(rt: &impl Abort, alloc: Global, task: &Task) -> Result<(), Fail> {
-    let mut book = begin_with(rt, alloc, task, "0..1 (0 0) 1; 1 2 1 1 1\n")?;
-    take_the_root_once(rt, alloc, &mut book, task)
+fn task_of(rt: &impl Abort, alloc: Global, which: Which) -> Result<Task, Fail> {
+    match which {
+        Which::TwoSteps => two_steps(rt, alloc),
+        Which::OneStep => one_step(rt, alloc),
+        Which::Counting(value) => counting(rt, alloc, value),
+        Which::TwoWays => two_ways(rt, alloc),
+    }
 }
+
+/// Makes a task and follows a script: a function that owns a task is dear to prove, so there is one.
+fn assert_on(rt: &impl Abort, alloc: Global, which: Which, script: &Script) -> Result<(), Fail> {
+    let task = task_of(rt, alloc, which)?;
+    assert_script(rt, alloc, &task, script)
+}
+
+/// As many entries as there are numbers for.
+const MOST: u64 = ROOT_PARENT - 1;
+
+/// The root of the task with two steps: it has one kid, by `set-a`.
+const ROOT_TAKEN: Line = Line::Batch(
+    &[Row::Root],
+    Comes::Released(0, 1, &[((0, 0), 1)]),
+    AFTER_ROOT,
+);
+
+const AFTER_ROOT: [u64; 5] = [1, 2, 1, 1, 1];
+
+/// A row that leads to a, at a cost of 1.
+const TO_A: Row = Row::Expanded((0, 0), &[true, false], 1);
+
+const ALONE: Script = Script {
+    most: MOST,
+    lines: &[],
+    entries: &[ROOT],
+    bound: None,
+    says: Says::Open,
+};
+
+// ---- two steps
+
+const ROOT_TWICE: Script = Script {
+    lines: &[
+        ROOT_TAKEN,
+        Line::Refused(
+            &[Row::Expanded(ROOT, &[false, false], 0)],
+            Refusal::SettledBefore,
+        ),
+    ],
+    ..ALONE
+};
 
 #[test]
 fn the_root_is_committed_and_released(rt: HostRuntime) -> Result<(), Fail> {
-    on_two_steps(&rt, rt.alloc(), Case::Root)
+    assert_on(&rt, rt.alloc(), Which::TwoSteps, &ROOT_TWICE)
 }
 
-/// A claim that a kid of the first task leads to a, at a cost of 1.
-fn to_a(kid: Kid) -> Claim {
-    Claim {
-        kid,
-        atoms: &[true, false],
-        cost: 1,
-    }
-}
-
-fn refuse_no_kids<'t>(
-    rt: &impl Abort,
-    alloc: Global,
-    book: &mut Book<'t>,
-    task: &'t Task,
-) -> Result<(), Fail>
-    requires { book.old.state.task ≡ task.now }
-{
-    let unknown = "24 UnknownParent; 1 2 1 1 1\n";
-    assert_claimed(rt, alloc, book, task, to_a(kid(ROOT, 5)), unknown)?;
-    assert_claimed(rt, alloc, book, task, to_a(kid(1, 0)), unknown)?;
-    let none = "25 NotAKid; 1 2 1 1 1\n";
-    assert_claimed(rt, alloc, book, task, to_a(kid(0, 1)), none)?;
-    assert_claimed(rt, alloc, book, task, to_a(kid(0, 9)), none)
-}
-
-fn begin_and_refuse_no_kids(rt: &impl Abort, alloc: Global, task: &Task) -> Result<(), Fail> {
-    let mut book = begin(rt, alloc, task)?;
-    refuse_no_kids(rt, alloc, &mut book, task)
-}
+/// Among the kids whose parents are unknown are the one of the greatest 32-bit numbers, and one whose lower 32 bits are those of
+/// an entry's number.
+const NO_KIDS: Script = Script {
+    lines: &[
+        ROOT_TAKEN,
+        Line::Refused(
+            &[Row::Expanded((ROOT_PARENT, 5), &[true, false], 1)],
+            Refusal::UnknownParent,
+        ),
+        Line::Refused(
+            &[Row::Expanded((1, 0), &[true, false], 1)],
+            Refusal::UnknownParent,
+        ),
+        Line::Refused(
+            &[Row::Expanded((4_294_967_295, 4_294_967_295), &[true, false], 1)],
+            Refusal::UnknownParent,
+        ),
+        Line::Refused(
+            &[Row::Expanded((4_294_967_296, 0), &[true, false], 1)],
+            Refusal::UnknownParent,
+        ),
+        Line::Refused(
+            &[Row::Expanded((0, 1), &[true, false], 1)],
+            Refusal::NotAKid,
+        ),
+        Line::Refused(
+            &[Row::Expanded((0, 9), &[true, false], 1)],
+            Refusal::NotAKid,
+        ),
+    ],
+    ..ALONE
+};
 
 #[test]
 fn a_kid_that_is_none_is_refused(rt: HostRuntime) -> Result<(), Fail> {
-    on_two_steps(&rt, rt.alloc(), Case::NoKids)
+    assert_on(&rt, rt.alloc(), Which::TwoSteps, &NO_KIDS)
 }
 
-fn refuse_other_states<'t>(
-    rt: &impl Abort,
-    alloc: Global,
-    book: &mut Book<'t>,
-    task: &'t Task,
-) -> Result<(), Fail>
-    requires { book.old.state.task ≡ task.now }
-{
-    let differs = "27 StateDiffers; 1 2 1 1 1\n";
-    let state = Claim {
-        atoms: &[false, true],
-        ..to_a(kid(0, 0))
-    };
-    assert_claimed(rt, alloc, book, task, state, differs)?;
-    let cost = Claim {
-        cost: 2,
-        ..to_a(kid(0, 0))
-    };
-    assert_claimed(rt, alloc, book, task, cost, differs)?;
-    assert_bounded(rt, alloc, book, task, (kid(0, 0), &[true, true]), differs)
-}
-
-fn begin_and_refuse_other_states(rt: &impl Abort, alloc: Global, task: &Task) -> Result<(), Fail> {
-    let mut book = begin(rt, alloc, task)?;
-    refuse_other_states(rt, alloc, &mut book, task)
-}
+const OTHER_STATES: Script = Script {
+    lines: &[
+        ROOT_TAKEN,
+        Line::Refused(
+            &[Row::Expanded((0, 0), &[false, true], 1)],
+            Refusal::StateDiffers,
+        ),
+        Line::Refused(
+            &[Row::Expanded((0, 0), &[true, false], 2)],
+            Refusal::StateDiffers,
+        ),
+        Line::Refused(
+            &[Row::Bounded((0, 0), &[true, true])],
+            Refusal::StateDiffers,
+        ),
+    ],
+    ..ALONE
+};
 
 #[test]
 fn a_state_that_differs_is_refused(rt: HostRuntime) -> Result<(), Fail> {
-    on_two_steps(&rt, rt.alloc(), Case::OtherStates)
+    assert_on(&rt, rt.alloc(), Which::TwoSteps, &OTHER_STATES)
 }
 
-fn refuse_duplicates(rt: &impl Abort, alloc: Global, book: &mut Book) -> Result<(), Fail> {
-    let says = "28 NotDominated; 1 2 1 1 1\n";
-    for by in [By::Entry(0), By::Entry(1), By::Here(0)] {
-        assert_one(rt, alloc, book, Outcome::Duplicate(kid(0, 0), by), says)?;
-    }
-    Ok(())
-}
-
-fn begin_and_refuse_the_unjustified(
-    rt: &impl Abort,
-    alloc: Global,
-    task: &Task,
-) -> Result<(), Fail> {
-    let mut book = begin(rt, alloc, task)?;
-    let bound = (kid(0, 0), [true, false].as_slice());
-    let says = "29 BelowBound; 1 2 1 1 1\n";
-    assert_bounded(rt, alloc, &mut book, task, bound, says)?;
-    refuse_duplicates(rt, alloc, &mut book)
-}
+const UNJUSTIFIED: Script = Script {
+    lines: &[
+        ROOT_TAKEN,
+        Line::Refused(&[Row::Bounded((0, 0), &[true, false])], Refusal::BelowBound),
+        Line::Refused(
+            &[Row::Duplicate((0, 0), By::Entry(0))],
+            Refusal::NotDominated,
+        ),
+        Line::Refused(
+            &[Row::Duplicate((0, 0), By::Entry(1))],
+            Refusal::NotDominated,
+        ),
+        Line::Refused(
+            &[Row::Duplicate((0, 0), By::Here(0))],
+            Refusal::NotDominated,
+        ),
+    ],
+    ..ALONE
+};
 
 #[test]
 fn what_is_not_justified_is_refused(rt: HostRuntime) -> Result<(), Fail> {
-    on_two_steps(&rt, rt.alloc(), Case::Unjustified)
+    assert_on(&rt, rt.alloc(), Which::TwoSteps, &UNJUSTIFIED)
 }
 
-fn begin_and_halt(rt: &impl Abort, alloc: Global, task: &Task) -> Result<(), Fail> {
-    let mut book = begin(rt, alloc, task)?;
-    book.halt();
-    let says = "30 Halted; 1 2 1 1 1\n";
-    assert_claimed(rt, alloc, &mut book, task, to_a(kid(0, 0)), says)
-}
+const HALTED: Script = Script {
+    lines: &[
+        ROOT_TAKEN,
+        Line::Halt,
+        Line::Refused(&[TO_A], Refusal::Halted),
+    ],
+    ..ALONE
+};
 
 #[test]
 fn a_halted_book_refuses(rt: HostRuntime) -> Result<(), Fail> {
-    on_two_steps(&rt, rt.alloc(), Case::Halted)
+    assert_on(&rt, rt.alloc(), Which::TwoSteps, &HALTED)
 }
 
-/// Goes on from the root to the goal of the first task, and bounds what is left.
-fn go_to_the_goal<'t>(
-    rt: &impl Abort,
-    alloc: Global,
-    book: &mut Book<'t>,
-    task: &'t Task,
-) -> Result<(), Fail>
-    requires { book.old.state.task ≡ task.now }
-{
-    let first = to_a(kid(0, 0));
-    assert_claimed(rt, alloc, book, task, first, "1..2 (1 1) 2; 2 3 2 2 2\n")?;
-    let goal = Claim {
-        kid: kid(1, 1),
-        atoms: &[true, true],
-        cost: 2,
-    };
-    assert_claimed(rt, alloc, book, task, goal, "2..3 (2 1) 3; 3 4 3 3 3\n")?;
-    let last = (kid(2, 1), [true, true].as_slice());
-    assert_bounded(rt, alloc, book, task, last, "3..3; 3 4 4 3 4\n")
-}
-
-/// Asserts the answers of a book of the first task that is settled.
-fn assert_settled(rt: &impl Abort, alloc: Global, book: &Book) -> Result<(), Fail> {
-    assert_eq!(rt; book.bound(), Some(2));
-    assert_eq!(rt; book.entry(2), Some(kid(1, 1)));
-    assert_eq!(rt; book.entry(3), None);
-    assert_verdict(rt, alloc, book, "optimal 0 1")
-}
-
-fn begin_and_settle(rt: &impl Abort, alloc: Global, task: &Task) -> Result<(), Fail> {
-    let mut book = begin(rt, alloc, task)?;
-    assert_eq!(rt; book.bound(), None);
-    go_to_the_goal(rt, alloc, &mut book, task)?;
-    assert_settled(rt, alloc, &book)
-}
-
-#[test]
-fn a_settled_book_answers(rt: HostRuntime) -> Result<(), Fail> {
-    on_two_steps(&rt, rt.alloc(), Case::Settled)
-}
-
-/// The verdict of a book whose root has no kids.
-fn assert_root_alone(
-    rt: &impl Abort,
-    alloc: Global,
-    task: &Task,
-    verdict: &str,
-) -> Result<(), Fail> {
-    let book = begin_with(rt, alloc, task, "0..1; 1 1 1 1 1\n")?;
-    assert_verdict(rt, alloc, &book, verdict)
-}
-
-#[test]
-fn a_book_without_kids_knows_that_there_is_no_plan(rt: HostRuntime) -> Result<(), Fail> {
-    let task = one_step(&rt, rt.alloc())?;
-    assert_root_alone(&rt, rt.alloc(), &task, "no plan")
-}
-
-#[test]
-fn a_departure_is_recorded(rt: HostRuntime) -> Result<(), Fail> {
-    let task = counting(&rt, rt.alloc(), 1_000_000_000_000_000)?;
-    assert_root_alone(&rt, rt.alloc(), &task, "left at entry 0 by action 0")
-}
-
-/// The first two entries below the root of the task with two ways: m at a cost of 5, and k at a cost of 1.
-fn take_both_ways<'t>(
-    rt: &impl Abort,
-    alloc: Global,
-    book: &mut Book<'t>,
-    task: &'t Task,
-) -> Result<(), Fail>
-    requires { book.old.state.task ≡ task.now }
-    ensures { book.new.state.task ≡ book.old.state.task }
-{
-    let dear = Claim {
-        kid: kid(0, 0),
-        atoms: &[true, false, false],
-        cost: 5,
-    };
-    let says = "1..2 (1 1) 6 (1 3) 6; 2 5 2 2 2\n";
-    assert_claimed(rt, alloc, book, task, dear, says)?;
-    let near = Claim {
-        kid: kid(0, 1),
-        atoms: &[false, true, false],
-        cost: 1,
-    };
-    let says = "2..3 (2 0) 6 (2 1) 2 (2 2) 2; 3 8 3 3 3\n";
-    assert_claimed(rt, alloc, book, task, near, says)
-}
-
-fn assert_dominated(rt: &impl Abort, alloc: Global, book: &mut Book) -> Result<(), Fail> {
-    let by_dearer = Outcome::Duplicate(kid(2, 2), By::Entry(1));
-    let says = "28 NotDominated; 3 8 3 3 3\n";
-    assert_one(rt, alloc, book, by_dearer, says)?;
-    let by_cheaper = Outcome::Duplicate(kid(2, 1), By::Entry(2));
-    assert_one(rt, alloc, book, by_cheaper, "3..3; 3 8 4 3 4\n")
-}
-
-fn begin_and_dominate(rt: &impl Abort, alloc: Global, task: &Task) -> Result<(), Fail> {
-    let says = "0..1 (0 0) 5 (0 1) 1; 1 3 1 1 1\n";
-    let mut book = begin_with(rt, alloc, task, says)?;
-    take_both_ways(rt, alloc, &mut book, task)?;
-    assert_dominated(rt, alloc, &mut book)
-}
-
-#[test]
-fn a_dearer_entry_dominates_nothing(rt: HostRuntime) -> Result<(), Fail> {
-    let task = two_ways(&rt, rt.alloc())?;
-    begin_and_dominate(&rt, rt.alloc(), &task)
-}
-
-/// A list of three outcomes.
-fn three<'t>(
-    alloc: Global,
-    first: Outcome<'t>,
-    second: Outcome<'t>,
-    third: Outcome<'t>,
-) -> Result<Vec<Outcome<'t>>, Fail>
-    ensures { IfOk result (λ v. v.items ≡ first.entry ∷ second.entry ∷ third.entry ∷ []) }
-{
-    Ok(vec![in alloc; first, second, third]?)
-}
-
-/// Two expansions that lead to the same state as others, and a duplicate of the first, by a place in the batch.
-fn several<'t>(
-    rt: &impl Abort,
-    alloc: Global,
-    task: &'t Task,
-    place: usize,
-) -> Result<Vec<Outcome<'t>>, Fail>
-    ensures { IfOk result (λ v. AllByRecursion (IsOf task.now) v.items) }
-{
-    let both = Claim {
-        kid: kid(1, 1),
-        atoms: &[true, true, false],
-        cost: 6,
-    };
-    let cheap = Claim {
-        kid: kid(2, 2),
-        atoms: &[true, false, false],
-        cost: 2,
-    };
-    let first = claimed(rt, alloc, task, both)?;
-    let last = claimed(rt, alloc, task, cheap)?;
-    let duplicate = Outcome::Duplicate(kid(2, 0), By::Here(place));
-    three(alloc, first, duplicate, last)
-}
-
-/// Asserts what a batch whose duplicate is of this place says.
-fn assert_several<'t>(
-    rt: &impl Abort,
-    alloc: Global,
-    book: &mut Book<'t>,
-    task: &'t Task,
-    place: usize,
-    says: &str,
-) -> Result<(), Fail>
-    requires { book.old.state.task ≡ task.now }
-    ensures { book.new.state.task ≡ book.old.state.task }
-{
-    let outcomes = several(rt, alloc, task, place)?;
-    assert_text(rt, step(alloc, book, outcomes)?, says);
-    Ok(())
-}
-
-fn settle_in_a_batch<'t>(
-    rt: &impl Abort,
-    alloc: Global,
-    book: &mut Book<'t>,
-    task: &'t Task,
-) -> Result<(), Fail>
-    requires { book.old.state.task ≡ task.now }
-{
-    assert_several(rt, alloc, book, task, 1, "28 NotDominated")?;
-    assert_several(rt, alloc, book, task, 2, "28 NotDominated")?;
-    assert_counts(rt, alloc, book, "3 8 3 3 3")?;
-    let says = "3..5 (3 1) 7 (3 2) 7 (3 3) 7 (4 1) 3 (4 3) 3";
-    assert_several(rt, alloc, book, task, 0, says)?;
-    assert_counts(rt, alloc, book, "5 13 6 5 4")
-}
-
-fn begin_and_settle_in_a_batch(rt: &impl Abort, alloc: Global, task: &Task) -> Result<(), Fail> {
-    let mut book = begin(rt, alloc, task)?;
-    take_both_ways(rt, alloc, &mut book, task)?;
-    settle_in_a_batch(rt, alloc, &mut book, task)
-}
-
-#[test]
-fn a_batch_settles_by_its_own_outcomes(rt: HostRuntime) -> Result<(), Fail> {
-    let task = two_ways(&rt, rt.alloc())?;
-    begin_and_settle_in_a_batch(&rt, rt.alloc(), &task)
-}
-
-/// A list of two outcomes.
-fn two<'t>(alloc: Global, first: Outcome<'t>, last: Outcome<'t>) -> Result<Vec<Outcome<'t>>, Fail>
-    ensures { IfOk result (λ v. v.items ≡ first.entry ∷ last.entry ∷ []) }
-{
-    Ok(vec![in alloc; first, last]?)
-}
-
-/// One expansion, twice.
-fn twice<'t>(rt: &impl Abort, alloc: Global, task: &'t Task) -> Result<Vec<Outcome<'t>>, Fail>
-    ensures { IfOk result (λ v. AllByRecursion (IsOf task.now) v.items) }
-{
-    let first = claimed(rt, alloc, task, to_a(kid(0, 0)))?;
-    let last = claimed(rt, alloc, task, to_a(kid(0, 0)))?;
-    two(alloc, first, last)
-}
-
-fn refuse_twice<'t>(
-    rt: &impl Abort,
-    alloc: Global,
-    book: &mut Book<'t>,
-    task: &'t Task,
-) -> Result<(), Fail>
-    requires { book.old.state.task ≡ task.now }
-{
-    let outcomes = twice(rt, alloc, task)?;
-    assert_text(rt, step(alloc, book, outcomes)?, "26 SettledBefore");
-    assert_counts(rt, alloc, book, "1 2 1 1 1")
-}
-
-fn begin_and_refuse_twice(rt: &impl Abort, alloc: Global, task: &Task) -> Result<(), Fail> {
-    let mut book = begin(rt, alloc, task)?;
-    refuse_twice(rt, alloc, &mut book, task)
-}
+const TWICE: Script = Script {
+    lines: &[
+        ROOT_TAKEN,
+        Line::Refused(&[TO_A, TO_A], Refusal::SettledBefore),
+    ],
+    ..ALONE
+};
 
 #[test]
 fn a_kid_is_settled_once_in_a_batch(rt: HostRuntime) -> Result<(), Fail> {
-    on_two_steps(&rt, rt.alloc(), Case::Twice)
+    assert_on(&rt, rt.alloc(), Which::TwoSteps, &TWICE)
 }
 
-/// Commits an outcome to one book, and redeems its ticket at another.
-fn redeem_between<'t>(
+/// `set-a` goes on from the root.
+const A_TAKEN: Line = Line::Batch(
+    &[TO_A],
+    Comes::Released(1, 2, &[((1, 1), 2)]),
+    [2, 3, 2, 2, 2],
+);
+
+/// From the root to the goal, and what is left is bounded.
+const SETTLED: Script = Script {
+    lines: &[
+        ROOT_TAKEN,
+        A_TAKEN,
+        Line::Batch(
+            &[Row::Expanded((1, 1), &[true, true], 2)],
+            Comes::Released(2, 3, &[((2, 1), 3)]),
+            [3, 4, 3, 3, 3],
+        ),
+        Line::Batch(
+            &[Row::Bounded((2, 1), &[true, true])],
+            Comes::Released(3, 3, &[]),
+            [3, 4, 4, 3, 4],
+        ),
+    ],
+    entries: &[ROOT, (0, 0), (1, 1)],
+    bound: Some(2),
+    says: Says::Optimal(&[0, 1]),
+    ..ALONE
+};
+
+#[test]
+fn a_settled_book_answers(rt: HostRuntime) -> Result<(), Fail> {
+    assert_on(&rt, rt.alloc(), Which::TwoSteps, &SETTLED)
+}
+
+// ---- how many entries there may be
+
+const NONE_AT_ALL: Script = Script {
+    most: 0,
+    lines: &[Line::Refused(&[Row::Root], Refusal::Full)],
+    entries: &[],
+    ..ALONE
+};
+
+/// A full book is told before what is wrong with a batch, and after that it is halted.
+const ONE_ENTRY: Script = Script {
+    most: 1,
+    lines: &[
+        ROOT_TAKEN,
+        Line::Refused(&[TO_A], Refusal::Full),
+        Line::Refused(&[Row::Expanded((7, 0), &[true, false], 1)], Refusal::Full),
+        Line::Refused(
+            &[Row::Duplicate((0, 0), By::Entry(0))],
+            Refusal::NotDominated,
+        ),
+        Line::Halt,
+        Line::Refused(&[TO_A], Refusal::Halted),
+    ],
+    ..ALONE
+};
+
+const TWO_ENTRIES: Script = Script {
+    most: 2,
+    lines: &[
+        ROOT_TAKEN,
+        Line::Refused(&[TO_A, TO_A], Refusal::Full),
+        A_TAKEN,
+        Line::Refused(&[Row::Expanded((1, 1), &[true, true], 2)], Refusal::Full),
+    ],
+    entries: &[ROOT, (0, 0)],
+    ..ALONE
+};
+
+#[test]
+fn a_book_is_full_beyond_its_greatest_number(rt: HostRuntime) -> Result<(), Fail> {
+    assert_on(&rt, rt.alloc(), Which::TwoSteps, &NONE_AT_ALL)?;
+    assert_on(&rt, rt.alloc(), Which::TwoSteps, &ONE_ENTRY)?;
+    assert_on(&rt, rt.alloc(), Which::TwoSteps, &TWO_ENTRIES)
+}
+
+// ---- other tasks
+
+/// The root of a task in which it has no kids.
+const WITHOUT_KIDS: Line = Line::Batch(&[Row::Root], Comes::Released(0, 1, &[]), [1, 1, 1, 1, 1]);
+
+const NO_PLAN: Script = Script {
+    lines: &[WITHOUT_KIDS],
+    says: Says::NoPlan,
+    ..ALONE
+};
+
+#[test]
+fn a_book_without_kids_knows_that_there_is_no_plan(rt: HostRuntime) -> Result<(), Fail> {
+    assert_on(&rt, rt.alloc(), Which::OneStep, &NO_PLAN)
+}
+
+const LEFT: Script = Script {
+    says: Says::Left(0, 0),
+    ..NO_PLAN
+};
+
+#[test]
+fn a_departure_is_recorded(rt: HostRuntime) -> Result<(), Fail> {
+    let end = Which::Counting(1_000_000_000_000_000);
+    assert_on(&rt, rt.alloc(), end, &LEFT)
+}
+
+/// The root of the task with two ways.
+const ROOT_OF_WAYS: Line = Line::Batch(
+    &[Row::Root],
+    Comes::Released(0, 1, &[((0, 0), 5), ((0, 1), 1)]),
+    [1, 3, 1, 1, 1],
+);
+
+/// m at a cost of 5.
+const DEAR: Line = Line::Batch(
+    &[Row::Expanded((0, 0), &[true, false, false], 5)],
+    Comes::Released(1, 2, &[((1, 1), 6), ((1, 3), 6)]),
+    [2, 5, 2, 2, 2],
+);
+
+/// k at a cost of 1.
+const NEAR: Line = Line::Batch(
+    &[Row::Expanded((0, 1), &[false, true, false], 1)],
+    Comes::Released(2, 3, &[((2, 0), 6), ((2, 1), 2), ((2, 2), 2)]),
+    AFTER_NEAR,
+);
+
+const AFTER_NEAR: [u64; 5] = [3, 8, 3, 3, 3];
+
+const DOMINATED: Script = Script {
+    lines: &[
+        ROOT_OF_WAYS,
+        DEAR,
+        NEAR,
+        Line::Refused(
+            &[Row::Duplicate((2, 2), By::Entry(1))],
+            Refusal::NotDominated,
+        ),
+        Line::Batch(
+            &[Row::Duplicate((2, 1), By::Entry(2))],
+            Comes::Released(3, 3, &[]),
+            [3, 8, 4, 3, 4],
+        ),
+    ],
+    entries: &[ROOT, (0, 0), (0, 1)],
+    ..ALONE
+};
+
+#[test]
+fn a_dearer_entry_dominates_nothing(rt: HostRuntime) -> Result<(), Fail> {
+    assert_on(&rt, rt.alloc(), Which::TwoWays, &DOMINATED)
+}
+
+/// Two expansions that lead to the same state as others.
+const BOTH: Row = Row::Expanded((1, 1), &[true, true, false], 6);
+
+const CHEAP: Row = Row::Expanded((2, 2), &[true, false, false], 2);
+
+/// A duplicate of the first outcome, of itself, and of a later one: the first alone is justified.
+const SEVERAL: Script = Script {
+    lines: &[
+        ROOT_OF_WAYS,
+        DEAR,
+        NEAR,
+        Line::Refused(
+            &[BOTH, Row::Duplicate((2, 0), By::Here(1)), CHEAP],
+            Refusal::NotDominated,
+        ),
+        Line::Refused(
+            &[BOTH, Row::Duplicate((2, 0), By::Here(2)), CHEAP],
+            Refusal::NotDominated,
+        ),
+        Line::Batch(
+            &[BOTH, Row::Duplicate((2, 0), By::Here(0)), CHEAP],
+            Comes::Released(
+                3,
+                5,
+                &[
+                    ((3, 1), 7),
+                    ((3, 2), 7),
+                    ((3, 3), 7),
+                    ((4, 1), 3),
+                    ((4, 3), 3),
+                ],
+            ),
+            [5, 13, 6, 5, 4],
+        ),
+    ],
+    entries: &[ROOT, (0, 0), (0, 1), (1, 1), (2, 2)],
+    ..ALONE
+};
+
+#[test]
+fn a_batch_settles_by_its_own_outcomes(rt: HostRuntime) -> Result<(), Fail> {
+    assert_on(&rt, rt.alloc(), Which::TwoWays, &SEVERAL)
+}
+
+// ---- the largest batch
+
+/// The kids of the root of a task in which each action leads back to the start, each at a cost of 1.
+fn idle_kids(alloc: Global, count: u32) -> Result<Vec<(Pair, u64)>, Fail> {
+    let mut kids = Vec::new(alloc);
+    for action in 0..count {
+        kids.push(((0, action), 1))?;
+    }
+    Ok(kids)
+}
+
+/// As many duplicates of the root.
+fn idle_duplicates(alloc: Global, count: u32) -> Result<Vec<Row>, Fail> {
+    let mut rows = Vec::new(alloc);
+    for action in 0..count {
+        rows.push(Row::Duplicate((0, action), By::Entry(0)))?;
+    }
+    Ok(rows)
+}
+
+/// Takes the root of a task with so many idle actions.
+fn take_idle_root<'t>(
+    rt: &impl Abort,
+    alloc: Global,
+    book: &mut Book<'t>,
+    task: &'t Task,
+    count: u32,
+) -> Result<(), Fail>
+    requires { book.old.state.task ≡ task.now }
+    ensures { book.new.state.task ≡ task.now }
+{
+    let batch = batch_of(rt, alloc, task, &[Row::Root])?;
+    let kids = idle_kids(alloc, count)?;
+    let comes = Comes::Released(0, 1, kids.as_slice());
+    assert_taken(rt, book, batch, &[Row::Root], comes);
+    Ok(())
+}
+
+/// Takes duplicates of the root for all of its kids, in one batch.
+fn take_idle_kids<'t>(
+    rt: &impl Abort,
+    alloc: Global,
+    book: &mut Book<'t>,
+    task: &'t Task,
+    count: u32,
+) -> Result<(), Fail>
+    requires { book.old.state.task ≡ task.now }
+{
+    let rows = idle_duplicates(alloc, count)?;
+    let batch = batch_of(rt, alloc, task, rows.as_slice())?;
+    assert_taken(rt, book, batch, rows.as_slice(), Comes::Released(1, 1, &[]));
+    Ok(())
+}
+
+fn take_idle<'t>(
+    rt: &impl Abort,
+    alloc: Global,
+    book: &mut Book<'t>,
+    task: &'t Task,
+) -> Result<(), Fail>
+    requires { book.old.state.task ≡ task.now }
+{
+    take_idle_root(rt, alloc, book, task, 1_024)?;
+    assert_counts(rt, book, [1, 1_025, 1, 1, 1]);
+    take_idle_kids(rt, alloc, book, task, 1_024)?;
+    assert_counts(rt, book, [1, 1_025, 1_025, 1, 2]);
+    Ok(())
+}
+
+/// The book may hold one entry: it is full after the root, and takes what adds none.
+fn assert_idle(rt: &impl Abort, alloc: Global, task: &Task) -> Result<(), Fail> {
+    let mut book = Book::new(alloc, task, 1)?;
+    take_idle(rt, alloc, &mut book, task)
+}
+
+#[test]
+fn a_batch_of_1024_outcomes_is_taken(rt: HostRuntime) -> Result<(), Fail> {
+    let task = idle_actions(&rt, rt.alloc(), 1_024)?;
+    assert_idle(&rt, rt.alloc(), &task)
+}
+
+// ---- tokens
+
+/// Commits a batch to one book, and redeems its ticket at another.
+fn redeem_elsewhere<'t>(
+    rt: &impl Abort,
+    book: &mut Book<'t>,
+    other: &mut Book<'t>,
+    batch: Batch<'t>,
+)
+    requires { AllByRecursion (IsOf book.old.state.task) batch.outcomes }
+    ensures { book.new.state.task ≡ book.old.state.task }
+{
+    let not_out = Comes::Refused(Refusal::NotOut);
+    match book.commit(batch) {
+        Ok(ticket) => assert_spent(rt, other, ticket, not_out),
+        Err((_, refusal)) => assert_refused(rt, refusal, not_out),
+    }
+}
+
+/// Commits a batch to a book and redeems its ticket there, and presents the receipt at another.
+fn present_elsewhere<'t>(rt: &impl Abort, book: &mut Book<'t>, other: &Book<'t>, batch: Batch<'t>)
+    requires { AllByRecursion (IsOf book.old.state.task) batch.outcomes }
+{
+    match book.commit(batch) {
+        Ok(ticket) => match book.redeem(ticket) {
+            Ok(Redeemed::Released(receipt, _)) => {
+                assert!(rt; other.present(receipt) == Err(Refusal::NotOut));
+            }
+            Err(_) => assert!(rt; false),
+        },
+        Err(_) => assert!(rt; false),
+    }
+}
+
+fn spend_elsewhere<'t>(
+    rt: &impl Abort,
     alloc: Global,
     book: &mut Book<'t>,
     other: &mut Book<'t>,
-    outcome: Outcome<'t>,
-) -> Result<String, Fail>
-    requires { IsOf book.old.state.task outcome }
+    task: &'t Task,
+) -> Result<(), Fail>
+    requires { book.old.state.task ≡ task.now }
 {
-    let outcomes = one(alloc, outcome)?;
-    match book.commit(alloc, Batch::of(outcomes)) {
-        Ok(ticket) => spend(alloc, other, ticket),
-        Err((_, refusal)) => refusal_text(alloc, refusal),
-    }
-}
-
-fn redeem_elsewhere(rt: &impl Abort, alloc: Global, task: &Task) -> Result<String, Fail> {
-    let root = root(rt, alloc, task)?;
-    let mut book = Book::new(alloc, task)?;
-    let mut other = Book::new(alloc, task)?;
-    redeem_between(alloc, &mut book, &mut other, root)
-}
-
-/// Redeems a ticket, and presents the receipt at another book.
-fn present_at(
-    alloc: Global,
-    book: &mut Book,
-    other: &Book,
-    ticket: Ticket,
-) -> Result<String, Fail> {
-    match book.redeem(ticket) {
-        Ok(Redeemed::Released(receipt, _)) => match other.present(receipt) {
-            Ok(_) => Ok(String::from_str(alloc, "acknowledged")?),
-            Err(refusal) => refusal_text(alloc, refusal),
-        },
-        Err(refusal) => refusal_text(alloc, refusal),
-    }
-}
-
-/// Commits an outcome to one book, and presents its receipt at another.
-fn present_between<'t>(
-    alloc: Global,
-    book: &mut Book<'t>,
-    other: &Book<'t>,
-    outcome: Outcome<'t>,
-) -> Result<String, Fail>
-    requires { IsOf book.old.state.task outcome }
-{
-    let outcomes = one(alloc, outcome)?;
-    match book.commit(alloc, Batch::of(outcomes)) {
-        Ok(ticket) => present_at(alloc, book, other, ticket),
-        Err((_, refusal)) => refusal_text(alloc, refusal),
-    }
-}
-
-fn present_elsewhere(rt: &impl Abort, alloc: Global, task: &Task) -> Result<String, Fail> {
-    let root = root(rt, alloc, task)?;
-    let mut book = Book::new(alloc, task)?;
-    let other = Book::new(alloc, task)?;
-    present_between(alloc, &mut book, &other, root)
-}
-
-fn assert_not_out(rt: &impl Abort, alloc: Global, task: &Task) -> Result<(), Fail> {
-    assert_text(rt, redeem_elsewhere(rt, alloc, task)?, "38 NotOut");
-    assert_text(rt, present_elsewhere(rt, alloc, task)?, "38 NotOut");
+    let root = batch_of(rt, alloc, task, &[Row::Root])?;
+    redeem_elsewhere(rt, book, other, root);
+    let next = batch_of(rt, alloc, task, &[TO_A])?;
+    present_elsewhere(rt, book, other, next);
     Ok(())
+}
+
+fn with_two_books(rt: &impl Abort, alloc: Global, task: &Task) -> Result<(), Fail> {
+    let mut book = Book::new(alloc, task, MOST)?;
+    let mut other = Book::new(alloc, task, MOST)?;
+    spend_elsewhere(rt, alloc, &mut book, &mut other, task)
 }
 
 #[test]
 fn tokens_of_another_book_are_not_out(rt: HostRuntime) -> Result<(), Fail> {
-    on_two_steps(&rt, rt.alloc(), Case::Elsewhere)
-}
-
-// ---- the tasks of the tests
-
-/// What is done with a book of the task with two steps.
-#[derive(Clone, Copy)]
-enum Case {
-    Root,
-    NoKids,
-    OtherStates,
-    Unjustified,
-    Halted,
-    Settled,
-    Twice,
-    Elsewhere,
-}
-
-fn assert_case(rt: &impl Abort, alloc: Global, task: &Task, case: Case) -> Result<(), Fail> {
-    match case {
-        Case::Root => commit_the_root(rt, alloc, task),
-        Case::NoKids => begin_and_refuse_no_kids(rt, alloc, task),
-        Case::OtherStates => begin_and_refuse_other_states(rt, alloc, task),
-        Case::Unjustified => begin_and_refuse_the_unjustified(rt, alloc, task),
-        Case::Halted => begin_and_halt(rt, alloc, task),
-        Case::Settled => begin_and_settle(rt, alloc, task),
-        Case::Twice => begin_and_refuse_twice(rt, alloc, task),
-        Case::Elsewhere => assert_not_out(rt, alloc, task),
-    }
-}
-
-/// Makes the task with two steps for a test: a function that owns a task is dear to prove, so there is one.
-fn on_two_steps(rt: &impl Abort, alloc: Global, case: Case) -> Result<(), Fail> {
-    let task = two_steps(rt, alloc)?;
-    assert_case(rt, alloc, &task, case)
+    let task = two_steps(&rt, rt.alloc())?;
+    with_two_books(&rt, rt.alloc(), &task)
 }

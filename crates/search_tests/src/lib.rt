@@ -6,14 +6,16 @@ mod applying;
 #[cfg(test)]
 mod books;
 #[cfg(test)]
+mod costs;
+#[cfg(test)]
 mod expansions;
 #[cfg(test)]
 mod expressions;
 #[cfg(test)]
 mod outcomes;
 #[cfg(test)]
-mod stepping;
+mod scripts;
 #[cfg(test)]
-mod steps;
+mod stepping;
 #[cfg(test)]
 mod tasks;

@@ -1,15 +1,48 @@
 //! What a search finds of the tests' tasks.
 ghost use Rattle.std.specs.Prelude.{◌≡◌, IfOk};
+ghost use Rattle.std.specs.List.{AllByRecursion};
 ghost use Rattle.hd_task.specs.Plans.{IsStateOf};
+ghost use Rattle.hd_book.specs.Settling.{IsOf};
 
-use hd_node::{Estimate, Expansion, Parcel};
-use hd_task::{Kid, ROOT, State, Task};
+use crate::tasks::state;
+use hd_node::{Batch, By, Estimate, Expansion, MAX_OUTCOMES, Outcome, Parcel};
+use hd_task::{Kid, ROOT_ACTION, ROOT_PARENT, State, Task};
 use std::alloc::Global;
 use std::process::Abort;
 use std::test::Fail;
 
-pub fn kid(parent: u32, action: u32) -> Kid {
-    Kid { parent, action }
+/// A kid, as a table has it: its parent and its action.
+pub type Pair = (u64, u32);
+
+pub const ROOT: Pair = (ROOT_PARENT, ROOT_ACTION);
+
+pub fn kid(pair: Pair) -> Kid {
+    Kid {
+        parent: pair.0,
+        action: pair.1,
+    }
+}
+
+/// An outcome, as a table has it.
+#[derive(Clone, Copy)]
+pub enum Row {
+    /// The expansion of the root.
+    Root,
+    /// The expansion of a kid that is said to lead to these atoms at this cost.
+    Expanded(Pair, &'static [bool], u64),
+    Duplicate(Pair, By),
+    /// A kid bounded by the estimate of the state with these atoms.
+    Bounded(Pair, &'static [bool]),
+}
+
+/// The kid that an outcome settles.
+pub fn kid_in(row: Row) -> Pair {
+    match row {
+        Row::Root => ROOT,
+        Row::Expanded(kid, _, _) => kid,
+        Row::Duplicate(kid, _) => kid,
+        Row::Bounded(kid, _) => kid,
+    }
 }
 
 /// Asserts that a state has as many atoms and fluents as a task.
@@ -25,41 +58,68 @@ pub fn expansion<'t>(
     rt: &impl Abort,
     alloc: Global,
     task: &'t Task,
-    kid: Kid,
+    pair: Pair,
     state: State,
     cost: u64,
 ) -> Result<Expansion<'t>, Fail>
-    ensures { IfOk result (λ e. e.task.now ≡ task.now) }
+    ensures { IfOk result (λ e. e.task ≡ task.now) }
 {
     assert_sizes(rt, task, &state);
-    let parcel = Parcel {
-        task,
-        kid,
-        state,
-        cost,
-    };
-    match Expansion::of(alloc, parcel) {
+    let parcel = Parcel::of(alloc, task, kid(pair), state, cost)?;
+    match Expansion::of(alloc, task, parcel) {
         Ok(expansion) => Ok(expansion),
         Err((_, error)) => Err(Fail::from(error)),
     }
 }
 
-/// The expansion of the root.
-pub fn root_expansion<'t>(
-    rt: &impl Abort,
-    alloc: Global,
-    task: &'t Task,
-) -> Result<Expansion<'t>, Fail>
-    ensures { IfOk result (λ e. e.task.now ≡ task.now) }
-{
-    let state = task.initial.copied(alloc)?;
-    expansion(rt, alloc, task, kid(ROOT, ROOT), state, 0)
-}
-
 /// The estimate of a state.
 pub fn estimate<'t>(rt: &impl Abort, task: &'t Task, state: State) -> Estimate<'t>
-    ensures { result.task.now ≡ task.now }
+    ensures { result.task ≡ task.now }
 {
     assert_sizes(rt, task, &state);
     Estimate::of(task, state)
+}
+
+/// The outcome of a row.
+pub fn outcome_of<'t>(
+    rt: &impl Abort,
+    alloc: Global,
+    task: &'t Task,
+    row: Row,
+) -> Result<Outcome<'t>, Fail>
+    ensures { IfOk result (IsOf task.now) }
+{
+    match row {
+        Row::Root => {
+            let start = task.initial.copied(alloc)?;
+            Ok(Outcome::Expanded(expansion(rt, alloc, task, ROOT, start, 0)?))
+        }
+        Row::Expanded(pair, atoms, cost) => {
+            let state = state(alloc, atoms, &[])?;
+            Ok(Outcome::Expanded(expansion(rt, alloc, task, pair, state, cost)?))
+        }
+        Row::Duplicate(pair, by) => Ok(Outcome::Duplicate(kid(pair), by)),
+        Row::Bounded(pair, atoms) => {
+            let state = state(alloc, atoms, &[])?;
+            Ok(Outcome::Bounded(kid(pair), estimate(rt, task, state)))
+        }
+    }
+}
+
+/// The batch of these rows.
+pub fn batch_of<'t>(
+    rt: &impl Abort,
+    alloc: Global,
+    task: &'t Task,
+    rows: &[Row],
+) -> Result<Batch<'t>, Fail>
+    ensures { IfOk result (λ b. AllByRecursion (IsOf task.now) b.outcomes) }
+{
+    let mut outcomes = Vec::new(alloc);
+    for row in rows {
+        outcomes.push(outcome_of(rt, alloc, task, *row)?)?;
+    }
+    assert!(rt; !outcomes.is_empty());
+    assert!(rt; outcomes.len() <= MAX_OUTCOMES);
+    Ok(Batch::of(outcomes))
 }

@@ -1,50 +1,71 @@
 //! The step with the plan's cost.
-use crate::tasks::{state, two_steps};
-use hd_task::{ActionId, RANGE_END, Reached, State, Task, step};
+use crate::outcomes::assert_sizes;
+use crate::tasks::two_steps;
+use hd_task::{ActionId, RANGE_END, Reached, Task, step};
 use std::alloc::Global;
 use std::process::Abort;
 use std::test::Fail;
 
-/// What `set-a`, the action 0, does at the task's start, at a cost.
-fn at_start(rt: &impl Abort, alloc: Global, task: &Task, cost: u64) -> Result<Reached, Fail> {
-    assert!(rt; !task.actions.is_empty());
-    assert_eq!(rt; task.initial.atoms.len(), task.atoms.len());
-    assert_eq!(rt; task.initial.fluents.len(), task.fluents.len());
-    Ok(step(alloc, task, &task.initial, cost, ActionId(0))?)
+/// What an action does at the task's start.
+#[derive(Clone, Copy)]
+enum Says {
+    No,
+    /// It leads to these atoms, and the plan costs so much then.
+    Next(&'static [bool], u64),
+    Departs,
 }
 
-fn asserts_next(rt: &impl Abort, answer: Reached, after: State, cost: u64) {
-    assert_eq!(rt; answer, Reached::Next(after, cost));
+fn is_said(answer: &Reached, says: Says) -> bool {
+    match (answer, says) {
+        (Reached::No, Says::No) => true,
+        (Reached::Next(state, found), Says::Next(atoms, cost)) => {
+            state.atoms.as_slice() == atoms && state.fluents.is_empty() && *found == cost
+        }
+        (Reached::Departs, Says::Departs) => true,
+        _ => false,
+    }
+}
+
+/// An action, the cost of the plan before it, and what it does.
+type Row = (u32, u64, Says);
+
+fn assert_step(rt: &impl Abort, alloc: Global, task: &Task, row: Row) -> Result<(), Fail> {
+    assert!(rt; (row.0 as usize) < task.actions.len());
+    assert_sizes(rt, task, &task.initial);
+    let answer = step(alloc, task, &task.initial, row.1, ActionId(row.0))?;
+    assert!(rt; is_said(&answer, row.2));
+    Ok(())
+}
+
+fn assert_steps(rt: &impl Abort, alloc: Global, task: &Task, rows: &[Row]) -> Result<(), Fail> {
+    for row in rows {
+        assert_step(rt, alloc, task, *row)?;
+    }
+    Ok(())
+}
+
+/// Asserts what actions do at the start of the task with two steps: `set-a` is the action 0, and `set-b`, which needs a, the 1.
+fn assert_rows(rt: &impl Abort, alloc: Global, rows: &[Row]) -> Result<(), Fail> {
+    let task = two_steps(rt, alloc)?;
+    assert_steps(rt, alloc, &task, rows)
 }
 
 #[test]
 fn a_step_adds_its_cost(rt: HostRuntime) -> Result<(), Fail> {
-    let alloc = rt.alloc();
-    let task = two_steps(&rt, alloc)?;
-    let answer = at_start(&rt, alloc, &task, 6)?;
-    asserts_next(&rt, answer, state(alloc, &[true, false], &[])?, 7);
-    Ok(())
+    assert_rows(&rt, rt.alloc(), &[(0, 6, Says::Next(&[true, false], 7))])
 }
+
+const AT_THE_END: [Row; 2] = [
+    (0, RANGE_END - 1, Says::Next(&[true, false], RANGE_END)),
+    (0, RANGE_END, Says::Departs),
+];
 
 #[test]
 fn a_plan_may_cost_as_much_as_the_range_holds_and_no_more(rt: HostRuntime) -> Result<(), Fail> {
-    let alloc = rt.alloc();
-    let task = two_steps(&rt, alloc)?;
-    let last = at_start(&rt, alloc, &task, RANGE_END - 1)?;
-    asserts_next(&rt, last, state(alloc, &[true, false], &[])?, RANGE_END);
-    let beyond = at_start(&rt, alloc, &task, RANGE_END)?;
-    assert_eq!(rt; beyond, Reached::Departs);
-    Ok(())
+    assert_rows(&rt, rt.alloc(), &AT_THE_END)
 }
 
 #[test]
 fn no_step_where_the_condition_does_not_hold(rt: HostRuntime) -> Result<(), Fail> {
-    let alloc = rt.alloc();
-    let task = two_steps(&rt, alloc)?;
-    assert!(rt; task.actions.len() > 1);
-    assert_eq!(rt; task.initial.atoms.len(), task.atoms.len());
-    assert_eq!(rt; task.initial.fluents.len(), task.fluents.len());
-    let answer = step(alloc, &task, &task.initial, 0, ActionId(1))?;
-    assert_eq!(rt; answer, Reached::No);
-    Ok(())
+    assert_rows(&rt, rt.alloc(), &[(1, 0, Says::No)])
 }

@@ -18,7 +18,7 @@ pub fn list<T: Copy + Drop>(alloc: Global, items: &[T]) -> Result<Sequence<T>, F
 }
 
 /// The form of a symbol alone.
-fn form(alloc: Global, symbol: u32) -> GroundForm {
+fn form(alloc: Global, symbol: usize) -> GroundForm {
     GroundForm {
         symbol,
         objects: Sequence::empty(alloc),
@@ -28,10 +28,8 @@ fn form(alloc: Global, symbol: u32) -> GroundForm {
 /// So many forms, of the symbols 0, 1, ..
 fn forms(alloc: Global, count: usize) -> Result<Sequence<GroundForm>, Fail> {
     let mut all = Vec::new(alloc);
-    let mut symbol = 0u32;
-    for _ in 0..count {
+    for symbol in 0..count {
         all.push(form(alloc, symbol))?;
-        symbol = symbol.wrapping_add(1);
     }
     Ok(Sequence::from_vec(all))
 }
@@ -108,7 +106,7 @@ fn effects_of(alloc: Global, increases: &[i64]) -> Result<Sequence<Effect>, Fail
     Ok(Sequence::from_vec(all))
 }
 
-fn numbers(alloc: Global, values: &[i64]) -> Result<Sequence<Expr>, Fail> {
+pub fn numbers(alloc: Global, values: &[i64]) -> Result<Sequence<Expr>, Fail> {
     let mut all = Vec::new(alloc);
     for value in values {
         all.push(number(*value))?;
@@ -119,7 +117,7 @@ fn numbers(alloc: Global, values: &[i64]) -> Result<Sequence<Expr>, Fail> {
 /// The action of these parts.
 pub fn action_from(
     alloc: Global,
-    symbol: u32,
+    symbol: usize,
     condition: Condition,
     deletes: Sequence<u32>,
     adds: Sequence<u32>,
@@ -136,7 +134,7 @@ pub fn action_from(
     }
 }
 
-fn action_of(alloc: Global, symbol: u32, row: Row) -> Result<Action, Fail> {
+fn action_of(alloc: Global, symbol: usize, row: Row) -> Result<Action, Fail> {
     let condition = when(alloc, list(alloc, row.needs)?);
     let deletes = list(alloc, row.deletes)?;
     let adds = list(alloc, row.adds)?;
@@ -148,10 +146,8 @@ fn action_of(alloc: Global, symbol: u32, row: Row) -> Result<Action, Fail> {
 /// An action for each row, by the rows' numbers.
 fn actions_of(alloc: Global, rows: &[Row]) -> Result<Sequence<Action>, Fail> {
     let mut actions = Vec::new(alloc);
-    let mut symbol = 0u32;
     for row in rows {
-        actions.push(action_of(alloc, symbol, *row)?)?;
-        symbol = symbol.wrapping_add(1);
+        actions.push(action_of(alloc, actions.len(), *row)?)?;
     }
     Ok(Sequence::from_vec(actions))
 }
@@ -365,4 +361,23 @@ const COUNTING: Outline = Outline {
 /// `up` adds 1 to x, which starts at some value; the goal is b, which nothing adds.
 pub fn counting(rt: &impl Abort, alloc: Global, value: i64) -> Result<Task, Fail> {
     task_of(rt, alloc, COUNTING, &[value], &[UP])
+}
+
+/// So many actions, each of the same name, that ask for nothing and do nothing.
+fn idle_rows(alloc: Global, count: u32) -> Result<Sequence<Action>, Fail> {
+    let mut actions = Vec::new(alloc);
+    for _ in 0..count {
+        actions.push(action_of(alloc, 0, IDLE)?)?;
+    }
+    Ok(Sequence::from_vec(actions))
+}
+
+/// So many actions that do nothing, each at a cost of 1; the goal is b, which nothing adds.
+pub fn idle_actions(rt: &impl Abort, alloc: Global, count: u32) -> Result<Task, Fail> {
+    let goal = goal_of(alloc, 1)?;
+    let initial = state(alloc, &[false, false], &[])?;
+    let names = names(alloc, "idle", "a b")?;
+    let actions = idle_rows(alloc, count)?;
+    let task = task_from(alloc, names, initial, actions, goal, false)?;
+    Ok(given(rt, task))
 }

@@ -17,6 +17,7 @@ fn add_typed(text: &mut String, names: &Sequence<Typed>) -> Result<(), AllocErro
     for typed in names.as_slice() {
         write!(text, " {}@{}", typed.name.name, typed.name.at)?;
         if let Some(of) = &typed.of {
+            let of = of.get();
             write!(text, ":{}@{}", of.name, of.at)?;
         }
     }

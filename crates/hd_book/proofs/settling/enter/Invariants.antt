@@ -1,4 +1,4 @@
-use Rattle.std.proofs.Common.{◌≡◌, ◌+◌, ◌≤◌, ◌^◌, ◌++◌, map, length, vec_len, vec_capacity}
+use Rattle.std.proofs.Common.{◌≡◌, ◌+◌, ◌≤◌, ◌++◌, map, length, vec_len, vec_capacity}
 use Rattle.std.specs.List.{AllByRecursion}
 use Rattle.std.specs.Vec.Iter.{into_iter_items, into_iter_len}
 use Rattle.hd_book.specs.Settling.{IsOf}
@@ -13,7 +13,6 @@ invariant-loop-outcome l = record {
   left : into_iter_len l.outcome-iterator ≡ length (into_iter_items l.outcome-iterator);
   of_task : AllByRecursion (IsOf l.task) (into_iter_items l.outcome-iterator);
   room : vec_len l.entries + length (entered_by (into_iter_items l.outcome-iterator)) ≤ vec_capacity l.entries;
-  fits : vec_len l.entries + length (entered_by (into_iter_items l.outcome-iterator)) ≤ 2 ^ 32;
   kids : vec_len l.parcels + kids_in (into_iter_items l.outcome-iterator) ≤ vec_capacity l.parcels;
   counted : vec_len l.parcels + kids_in (into_iter_items l.outcome-iterator) ≡ vec_len l.fn.parcels + kids_in l.fn.outcomes.items;
   entries : l.entries.items ++ entered_by (into_iter_items l.outcome-iterator) ≡ l.fn.entries.items ++ entered_by l.fn.outcomes.items;

@@ -7,14 +7,15 @@ use Rattle.hd_book.proofs.settling.goal_cost.Goals as goal
 pub returns-in-Yes : goal.returns-in-Yes
 returns-in-Yes c =
     let e = c.args.expansion.now in
-    sym (goal-is e.task.now (node e.state e.cost) ∙ ap (λ g. cond (says_yes g) (Some e.cost) None) (sym c.goal.ensures.answer ∙ c.in-Yes.is))
+    ap Some c.cost.ensures
+    ∙ sym (goal-is e.task (node e.state e.cost) ∙ ap (λ g. cond (says_yes g) (Some e.cost) None) (sym e.is_goal ∙ (sym c.goal.ensures ∙ c.in-Yes.is)))
 
 pub returns-in-No : goal.returns-in-No
 returns-in-No c =
     let e = c.args.expansion.now in
-    sym (goal-is e.task.now (node e.state e.cost) ∙ ap (λ g. cond (says_yes g) (Some e.cost) None) (sym c.goal.ensures.answer ∙ c.in-No.is))
+    sym (goal-is e.task (node e.state e.cost) ∙ ap (λ g. cond (says_yes g) (Some e.cost) None) (sym e.is_goal ∙ (sym c.goal.ensures ∙ c.in-No.is)))
 
 pub returns-in-Departs : goal.returns-in-Departs
 returns-in-Departs c =
     let e = c.args.expansion.now in
-    sym (goal-is e.task.now (node e.state e.cost) ∙ ap (λ g. cond (says_yes g) (Some e.cost) None) (sym c.goal.ensures.answer ∙ c.in-Departs.is))
+    sym (goal-is e.task (node e.state e.cost) ∙ ap (λ g. cond (says_yes g) (Some e.cost) None) (sym e.is_goal ∙ (sym c.goal.ensures ∙ c.in-Departs.is)))

@@ -3,7 +3,7 @@ use Rattle.hd_metric.specs.Metric.{misused_by_actions}
 use Rattle.hd_metric.proofs.metric.misused_by_actions.Given as goal
 
 abbrev pub invariant-loop-rest : goal.invariant-loop-rest
-invariant-loop-rest l = misused_by_actions l.changed l.function l.rest ≡ misused_by_actions l.changed l.function l.actions
+invariant-loop-rest l = misused_by_actions l.function l.rest ≡ misused_by_actions l.function l.actions
 
 abbrev pub decreases-loop-rest : goal.decreases-loop-rest
 decreases-loop-rest l = length l.rest

@@ -1,8 +1,8 @@
-use Rattle.std.proofs.Common.{◌≡◌, ◌∙◌, length, sym, ap, arith, append-nil}
+use Rattle.std.proofs.Common.{◌≡◌, ◌∙◌, [], ◌∷◌, ◌++◌, length, sym, ap, arith, append-nil}
 use Rattle.hd_task.specs.Plans.{node}
 use Rattle.hd_task.specs.Departures.{goal_departs}
 use Rattle.hd_task.specs.Expansions.{departing_at}
-use Rattle.hd_node.specs.Children.{children_at}
+use Rattle.hd_node.specs.Children.{ChildView, children_at}
 use Rattle.hd_node.proofs.Finding.{children_below, found_below, found_by_step}
 use Rattle.hd_node.proofs.expansion.explore.Goals as goal
 use Rattle.hd_node.proofs.expansion.explore.Goals.{in-No, in-Departs+in_ok-push-in-Departs, in-Next+in_ok-push-in-Next}
@@ -20,7 +20,7 @@ loop-action-preserved c =
           let found = found_by_step t r n _ _ _ _ _ _ c.in_ok-step.ensures.says w.in-Departs.is c.loop-action.invariant.children c.loop-action.invariant.departures (rw w.children-is (sym (append-nil _))) (rw w.departures-is w.in_ok-push-in-Departs.ensures.items) in
           record { children = found.0; departures = found.1 }
       | in-Next+in_ok-push-in-Next w ↦
-          let found = found_by_step t r n _ _ _ _ _ _ c.in_ok-step.ensures.says w.in-Next.is c.loop-action.invariant.children c.loop-action.invariant.departures (rw w.children-is w.in_ok-push-in-Next.ensures.items) (rw w.departures-is (sym (append-nil _))) in
+          let found = found_by_step t r n _ _ _ _ _ _ c.in_ok-step.ensures.says w.in-Next.is c.loop-action.invariant.children c.loop-action.invariant.departures (rw w.children-is (w.in_ok-push-in-Next.ensures.items ∙ ap (λ (x : ChildView). c.loop-action.children.items ++ x ∷ []) w.of.ensures)) (rw w.departures-is (sym (append-nil _))) in
           record { children = found.0; departures = found.1 }
     ]
 

@@ -14,6 +14,8 @@ unfolding holds condition_departs state_after step_cost effects_stay step step_b
 returns c = record {
   range = refl;
   most = (refl, refl, refl);
+  amounts = refl;
+  root = (refl, refl);
   executes = refl;
   valid = record { end = record { state = a_and_b; cost = 2 }; executes = refl; meets_goal = refl; costs = refl };
   generates = refl;
@@ -32,4 +34,11 @@ returns c = record {
   reaches = refl;
   beyond = refl;
   up_to = refl;
+  pays = refl;
+  costs = refl;
+  adds_costs = refl;
+  no_step = refl;
+  sinks = refl;
+  is_free = refl;
+  unpaid = refl;
 }

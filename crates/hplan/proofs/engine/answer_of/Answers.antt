@@ -1,16 +1,14 @@
-use Rattle.hplan.proofs.Solving.{answer_goes}
+use Rattle.hplan.specs.Answer.{OfTexts, OfSearch}
+use Rattle.hplan.proofs.Solving.{ok_weaker, err_weaker}
 use Rattle.hplan.proofs.engine.answer_of.Goals as goal
 
-pub texts_of-requires : goal.texts_of-requires
-texts_of-requires c = answer_goes c.in_ok-task.task c.in-Ok.verdict c.in-Ok.ensures.answer
+pub returns-in-Ok-clause-found : goal.returns-in-Ok-clause-found
+returns-in-Ok-clause-found c =
+    ok_weaker c.solution_of-answer.result (λ f s. record { task = c.in-Ok.task; is_task = c.in-Ok.ensures.found; solution = s }) c.solution_of-answer.ensures.found
 
-pub returns : goal.returns
-returns c = record {
-  task = c.in_ok-task.task;
-  verdict = c.in-Ok.verdict;
-  is_task = c.in_ok-task.ensures.found;
-  is_answer = c.in-Ok.ensures.answer;
-  is_true = c.in-Ok.ensures.truth;
-  ends = c.in_ok-texts_of.ensures.ends;
-  text = c.in_ok-texts_of.ensures.text;
-}
+pub returns-in-Ok-clause-refusal : goal.returns-in-Ok-clause-refusal
+returns-in-Ok-clause-refusal c =
+    err_weaker c.solution_of-answer.result (λ f s. OfSearch c.in-Ok.task f c.in-Ok.ensures.found s) c.solution_of-answer.ensures.refusal
+
+pub returns-in-Err-clause-refusal : goal.returns-in-Err-clause-refusal
+returns-in-Err-clause-refusal c = OfTexts c.in-Err.fault c.in-Err.ensures.refusal

@@ -10,7 +10,7 @@ pub returns-in-Some-clause-answer : goal.returns-in-Some-clause-answer
 returns-in-Some-clause-answer c =
     let s = c.in_ok-book.book.state in
     let said = c.in_ok-verdict.ensures in
-    subst (λ t. IsAnswer t c.in-Some.verdict) c.in_ok-book.ensures
+    subst (λ t. IsAnswer t c.in-Some.verdict) c.in_ok-book.ensures.task
     (record {
       expanded = expansions s;
       legal = said.kept.marked.legal;

@@ -1,6 +1,4 @@
-use Rattle.std.proofs.Common.{◌∙◌, sym}
 use Rattle.hplan.proofs.searching.searched.Goals as goal
 
 pub settle-requires-clause-parcel : goal.settle-requires-clause-parcel
-settle-requires-clause-parcel c =
-    c.in-Some.ensures.of_task c.args.task.now c.loop-turn.invariant.waiting ∙ sym c.loop-turn.invariant.same
+settle-requires-clause-parcel c = c.in-Some.ensures.of_task c.args.task.now c.loop-turn.invariant.waiting

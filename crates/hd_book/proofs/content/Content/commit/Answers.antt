@@ -5,14 +5,13 @@ use Rattle.hd_book.specs.Settling.{entry_of, is_settled_by}
 use Rattle.hd_book.specs.Holding.{kid_at, has, state_by}
 use Rattle.hd_book.specs.Growing.{entered_by, best_by, departure_by, kids_in, Releases}
 use Rattle.hd_book.proofs.Adding.{entered-count}
+use Rattle.hd_book.proofs.Children.{few_kids}
 use Rattle.std.proofs.lemmas.List.{map-append}
 use Rattle.hd_book.proofs.After.{entered_kids, admitted, state_after, held_after, posted_after, same_held, same_released}
 use Rattle.hd_book.proofs.content.Content.commit.Goals as goal
 
-pub accept-number-requires-clause-fits : goal.accept-number-requires-clause-fits
-accept-number-requires-clause-fits c =
-    let a = admitted c.args.self.now c.args.batch.outcomes c.as_slice.result.now c.as_slice.ensures c.in-Ok.ensures.accepted in
-    omega (arith, a.room, c.admit.new.self.entries.ok.0, ap length c.in-Ok.ensures.entries, ap (λ os. length (entered_by os)) c.into_vec.ensures, entered-count c.args.batch.outcomes)
+pub admit-requires-clause-fits : goal.admit-requires-clause-fits
+admit-requires-clause-fits c = few_kids c.args.batch.outcomes c.as_slice.result.now c.as_slice.ensures c.args.batch.few
 
 pub accept-number-requires-clause-room_entries : goal.accept-number-requires-clause-room_entries
 accept-number-requires-clause-room_entries c =
@@ -32,7 +31,7 @@ returns-in-Ok-clause-held c =
     let released : Releases t (length s.entries.items) os s.tickets.items d.tickets.items =
     same_released c.in-Ok.ensures.task number same c.in-Ok.ensures.tickets c.accept-number.ensures.tickets
     in
-    let held = held_after t s.entries.items s.settled.keys s.posted s.best s.departure s.tickets.items h os c.requires.of_task a.nothing a.room d.settled.keys grown c.args.batch.some d.tickets.items released in
+    let held = held_after t s.entries.items s.settled.keys s.posted s.best s.departure s.tickets.items s.most h os c.requires.of_task a.nothing a.room d.settled.keys grown c.args.batch.some d.tickets.items released in
     let ks = map kid_at (s.entries.items ++ entered_by os) in
     same_held
     (sym (c.accept-number.ensures.task ∙ c.in-Ok.ensures.task))
@@ -41,6 +40,7 @@ returns-in-Ok-clause-held c =
     (λ fits. c.accept-number.ensures.posted (subst (λ os. c.admit.new.self.posted + kids_in os < 2 ^ 64) (sym same) fits) ∙ ap (λ os. c.admit.new.self.posted + kids_in os) same))
     (sym (c.accept-number.ensures.best ∙ (ap₂ (λ b n. best_by b n c.into_vec.result.items) c.in-Ok.ensures.best number ∙ ap (λ os. best_by s.best (length s.entries.items) os) same)))
     (sym (c.accept-number.ensures.departure ∙ (ap₂ (λ b n. departure_by b n c.into_vec.result.items) c.in-Ok.ensures.departure number ∙ ap (λ os. departure_by s.departure (length s.entries.items) os) same)))
+    (sym (c.accept-number.ensures.most ∙ c.in-Ok.ensures.most))
     held
 
 pub returns-in-Ok-clause-state : goal.returns-in-Ok-clause-state
@@ -55,10 +55,13 @@ returns-in-Ok-clause-state c =
     ap₂ (λ u es. state_by u (map kid_at es) d.settled.keys)
     (c.accept-number.ensures.task ∙ c.in-Ok.ensures.task)
     (c.accept-number.ensures.entries ∙ ap₂ (λ xs os. xs ++ entered_by os) c.in-Ok.ensures.entries same)
-    ∙ state_after t s.entries.items s.settled.keys s.posted s.best s.departure s.tickets.items c.requires.held os c.requires.of_task a.nothing a.room d.settled.keys grown
+    ∙ state_after t s.entries.items s.settled.keys s.posted s.best s.departure s.tickets.items s.most c.requires.held os c.requires.of_task a.nothing a.room d.settled.keys grown
 
 pub returns-in-Ok-clause-grown : goal.returns-in-Ok-clause-grown
 returns-in-Ok-clause-grown c =
     let s = c.args.self.now in
     ap (map kid_at) (c.accept-number.ensures.entries ∙ ap₂ (λ xs os. xs ++ entered_by os) c.in-Ok.ensures.entries c.into_vec.ensures)
     ∙ (map-append kid_at s.entries.items (entered_by c.args.batch.outcomes) ∙ ap (λ ks. map kid_at s.entries.items ++ ks) (entered_kids c.args.batch.outcomes))
+
+pub returns-in-Ok-clause-begins : goal.returns-in-Ok-clause-begins
+returns-in-Ok-clause-begins c = (flat_map entry_of c.args.batch.outcomes, returns-in-Ok-clause-grown c)

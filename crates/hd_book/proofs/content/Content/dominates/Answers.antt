@@ -1,4 +1,4 @@
-use Rattle.std.proofs.Common.{◌<◌, ◌≤◌, ◌∙◌, sym, ap, refl, subst, length, get_or, Some}
+use Rattle.std.proofs.Common.{◌<◌, ◌≤◌, ◌∙◌, sym, ap, ap₂, refl, subst, length, get_or, Some}
 use Rattle.std.proofs.lemmas.Bool.{ltb-true, ltb-false}
 use Rattle.std.proofs.lemmas.Option.{slice_get_past, slice_get_read}
 use Rattle.hd_task.specs.Plans.{node}
@@ -31,6 +31,7 @@ returns-in-Some-Expanded c =
     let o = c.in-Some-Expanded.field-0.now in
     let found = c.in-Some-Expanded.ensures.lookup.1 in
     c.is_no_dearer-in-Some-Expanded.ensures
+    ∙ ap₂ (λ s k. dominates (Some (node s k)) (Some (node c.args.reached.now.state c.args.reached.now.cost))) c.state.ensures c.cost.ensures
     ∙ ap (λ o. dominates o (Some (node c.args.reached.now.state c.args.reached.now.cost)))
     (sym (ap (node_by (state_of c.args.self.now) c.args.earlier.now) c.in-Here.is
     ∙ (ap expanded_node (slice_get_read c.args.earlier.now _ n o refl (ltb-true n (length c.args.earlier.now) (sym c.in-Some-Expanded.ensures.lookup.0)) found)

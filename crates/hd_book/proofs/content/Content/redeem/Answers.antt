@@ -38,7 +38,7 @@ returns-in-Some-clause-spent c =
     map-set (option_map out_of) s.tickets.items c.into_parts-number.result.0 c.take.new.self
     ∙ ap₂ (λ n x. set (map (option_map out_of) s.tickets.items) n (option_map out_of x)) c.into_parts-number.ensures.number c.take.ensures.after
     in
-    ap (λ xs. let v : BookView = record { state = state_of s; tickets = xs; halted = s.halted } in v) slots
+    ap (λ xs. let v : BookView = record { state = state_of s; most = s.most; tickets = xs; halted = s.halted } in v) slots
 
 pub returns-in-None-clause-out : goal.returns-in-None-clause-out
 returns-in-None-clause-out c =

@@ -1,5 +1,5 @@
 use Rattle.std.proofs.Common.{◌∙◌, ap, map, not, sym, refl}
-use Rattle.hd_check.proofs.FluentKeys.{any-keys, keys-insert}
+use Rattle.hd_names.proofs.NameLists.{any-keys, keys-insert}
 use Rattle.hd_check.proofs.keys.Keys.add.Goals as goal
 
 pub returns-clause-new : goal.returns-clause-new

@@ -1,0 +1,116 @@
+//! Times what is done with a domain and a problem.
+//!
+//! The arguments are their two files; the times of a plain pass over the problem's bytes, of its words, of reading both texts
+//! and of checking them are then printed, in microseconds. With a third argument, `search`, the task is searched to its end, and
+//! only the search is timed. Without arguments the texts are small, and no times are printed, only counts.
+#![tactic(auto)]
+
+use hd_base::Seed;
+use hd_check::check;
+use hd_lex::tokens;
+use hd_pddl::{DomainAst, ProblemAst, read_domain, read_problem};
+use hplan::{digest_of, searched, task_of};
+use std::alloc::Global;
+use std::time::Instant;
+use std::{env, fs};
+
+/// Two actions, one after the other.
+const DOMAIN: &[u8] = b"(define (domain l) (:predicates (a) (b))
+  (:action set-a :parameters () :precondition (not (a)) :effect (a))
+  (:action set-b :parameters () :precondition (a) :effect (b)))";
+
+const PROBLEM: &[u8] = b"(define (problem l1) (:domain l) (:init) (:goal (b)))";
+
+/// How many words a text has.
+fn words_of(alloc: Global, text: &[u8]) -> anyhow::Result<usize> {
+    Ok(tokens(alloc, text)?.len())
+}
+
+/// What two texts say.
+fn read(alloc: Global, domain: &[u8], problem: &[u8]) -> anyhow::Result<(DomainAst, ProblemAst)> {
+    let domain = read_domain(alloc, domain)?;
+    let problem = read_problem(alloc, problem)?;
+    Ok((domain, problem))
+}
+
+/// How many initial facts a problem has in which no fault stands.
+fn checked_facts(
+    alloc: Global,
+    seed: Seed,
+    domain: DomainAst,
+    problem: ProblemAst,
+) -> anyhow::Result<usize> {
+    let facts = problem.init.len();
+    check(alloc, seed, domain, problem)?;
+    Ok(facts)
+}
+
+/// How many plans the search of a task expands.
+fn entries_of(alloc: Global, domain: &[u8], problem: &[u8]) -> anyhow::Result<u64> {
+    let task = task_of(alloc, domain, problem)?;
+    let book = searched(alloc, &task)?;
+    Ok(book.counts().entries)
+}
+
+/// Prints counts of the small texts.
+fn count(rt: &HostRuntime) -> anyhow::Result<()> {
+    let words = words_of(rt.alloc(), PROBLEM)?;
+    let (domain, problem) = read(rt.alloc(), DOMAIN, PROBLEM)?;
+    let seed = Seed::of(digest_of(DOMAIN, PROBLEM));
+    let facts = checked_facts(rt.alloc(), seed, domain, problem)?;
+    let entries = entries_of(rt.alloc(), DOMAIN, PROBLEM)?;
+    println!(rt; "{words} words, {facts} facts, {entries} entries")?;
+    Ok(())
+}
+
+/// Prints how long the words of a text take, beside a plain pass over its bytes.
+fn time_words(rt: &HostRuntime, text: &[u8]) -> anyhow::Result<()> {
+    let start = Instant::now(rt)?;
+    let lines = text.iter().filter(|byte| **byte == b'\n').count();
+    let plain = start.elapsed(rt)?.as_micros();
+    let start = Instant::now(rt)?;
+    let words = words_of(rt.alloc(), text)?;
+    let lexing = start.elapsed(rt)?.as_micros();
+    println!(rt;
+        "{} bytes, {lines} lines: plain pass {plain} us",
+        text.len()
+    )?;
+    println!(rt; "{words} words: {lexing} us")?;
+    Ok(())
+}
+
+/// Prints how long two texts are read and checked.
+fn time_reading(rt: &HostRuntime, domain: &[u8], problem: &[u8]) -> anyhow::Result<()> {
+    let seed = Seed::of(digest_of(domain, problem));
+    let start = Instant::now(rt)?;
+    let (domain, problem) = read(rt.alloc(), domain, problem)?;
+    let reading = start.elapsed(rt)?.as_micros();
+    let start = Instant::now(rt)?;
+    let facts = checked_facts(rt.alloc(), seed, domain, problem)?;
+    let checking = start.elapsed(rt)?.as_micros();
+    println!(rt; "{facts} facts: reading {reading} us, checking {checking} us")?;
+    Ok(())
+}
+
+/// Prints how long a task is searched.
+fn time_search(rt: &HostRuntime, domain: &[u8], problem: &[u8]) -> anyhow::Result<()> {
+    let start = Instant::now(rt)?;
+    let entries = entries_of(rt.alloc(), domain, problem)?;
+    let taken = start.elapsed(rt)?.as_micros();
+    println!(rt; "{entries} entries, {taken} us")?;
+    Ok(())
+}
+
+fn main(rt: HostRuntime) -> anyhow::Result<()> {
+    let mut words = env::args(&rt)?.skip(1);
+    let (Some(domain), Some(problem)) = (words.next(), words.next()) else {
+        return count(&rt);
+    };
+    let domain = fs::read(&rt, domain)?;
+    let problem = fs::read(&rt, problem)?;
+    if words.next().is_some() {
+        return time_search(&rt, &domain, &problem);
+    }
+    time_words(&rt, &problem)?;
+    time_reading(&rt, &domain, &problem)
+}

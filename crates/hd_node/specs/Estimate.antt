@@ -1,0 +1,18 @@
+-- Estimates, as contracts see them. (A*, Hart, Nilsson and Raphael 1968.)
+use Rattle.std.specs.Prelude.{◌≡◌}
+use Rattle.hd_task.specs.declared.state.State.{State}
+use Rattle.hd_task.specs.declared.task.Task.{Task}
+use Rattle.hd_task.specs.Plans.{IsStateOf}
+use Rattle.hd_task.specs.Covers.{zero_estimate}
+use Rattle.hd_node.specs.declared.estimate.EstimateValue.{EstimateValue}
+use Rattle.hd_node.specs.EstimateValue.{estimated}
+
+-- an estimate: its task and state, and its value
+pub record EstimateView : Type 0 where
+  pub task : Task
+  pub state : State
+  pub value : EstimateValue
+  -- the state is one of the task
+  pub of_task : IsStateOf task state
+  -- the value is that of the state
+  pub estimates : estimated value ≡ zero_estimate state
