@@ -1,0 +1,60 @@
+-- What stands for the parts of a lifted task in a task of numbers, where the parameters stand for a list of objects. (Our own.)
+use Rattle.std.specs.Prelude.{ℕ, Bool, not, List, [], ◌∷◌, map, flat_map, Option, Some, None, option_map, unwrap_or}
+use Rattle.std.specs.List.{list_all, position}
+use Rattle.hd_base.specs.declared.expression.Operand.{Operand}
+use Rattle.hd_base.specs.declared.expression.Operand.TheVariants.{Number, Fluent}
+use Rattle.hd_base.specs.Expression.{Expression, leaf, negate, binary}
+use Rattle.hd_lifted.specs.declared.schema.Applied.{Applied}
+use Rattle.hd_lifted.specs.declared.schema.Ground.{Ground}
+use Rattle.hd_lifted.specs.declared.schema.Literal as lifted_literal
+use Rattle.hd_lifted.specs.declared.schema.Comparison as lifted_comparison
+use Rattle.hd_lifted.specs.declared.schema.Condition as lifted_condition
+use Rattle.hd_lifted.specs.States.{same, ground_form_of}
+use Rattle.hd_lifted.specs.Conditions.{equality_holds}
+use Rattle.hd_task.specs.declared.condition.Literal.{Literal}
+use Rattle.hd_task.specs.declared.condition.Comparison.{Comparison}
+use Rattle.hd_task.specs.declared.condition.Condition.{Condition}
+
+-- the number of an atom or a fluent: its place among these
+abbrev pub number_of : List Ground → Ground → Option ℕ
+number_of forms g = position (λ h. same h g) forms
+
+-- a list of one, or of none
+abbrev pub if_any : {A : Type 0} → Option A → List A
+if_any None = []
+if_any (Some x) = x ∷ []
+
+-- ---- conditions
+
+abbrev pub literal_at : Bool → ℕ → Literal
+literal_at positive i = record { atom = i; positive = positive }
+
+-- a literal by its atom's number: an atom without a number is false, and a literal of it is left out
+abbrev pub literal_of : List Ground → List ℕ → lifted_literal.Literal → List Literal
+literal_of atoms objects l = if_any (option_map (literal_at l.positive) (number_of atoms (ground_form_of objects l.atom)))
+
+-- a number, or a fluent by its number
+abbrev pub operand_of : List Ground → List ℕ → Operand Applied → Operand ℕ
+operand_of fluents objects (Number v) = Number v
+operand_of fluents objects (Fluent a) = Fluent (unwrap_or (number_of fluents (ground_form_of objects a)) 0)
+
+-- an expression, each fluent by its number
+abbrev pub expression_of : List Ground → List ℕ → Expression (Operand Applied) → Expression (Operand ℕ)
+expression_of fluents objects (leaf l) = leaf (operand_of fluents objects l)
+expression_of fluents objects (negate x) = negate (expression_of fluents objects x)
+expression_of fluents objects (binary o x y) = binary o (expression_of fluents objects x) (expression_of fluents objects y)
+
+abbrev pub comparison_of : List Ground → List ℕ → lifted_comparison.Comparison → Comparison
+comparison_of fluents objects c = record {
+  left = expression_of fluents objects c.left;
+  relation = c.relation;
+  right = expression_of fluents objects c.right;
+}
+
+-- a condition: where one of its equalities fails, it can't hold in any state
+abbrev pub condition_of : List Ground → List Ground → List ℕ → lifted_condition.Condition → Condition
+condition_of atoms fluents objects c = record {
+  literals = flat_map (literal_of atoms objects) c.literals;
+  comparisons = map (comparison_of fluents objects) c.comparisons;
+  never = not (list_all (equality_holds objects) c.equalities);
+}

@@ -1,0 +1,40 @@
+//! Laws over the definitions. Each function does nothing: its contract is the law, for every task and every plan.
+ghost use Rattle.std.specs.Prelude.{◌≡◌, false, List, All, Contains, Some};
+ghost use Rattle.hd_lifted.specs.declared.task.LiftedTask.{LiftedTask};
+ghost use Rattle.hd_lifted.specs.Steps.{Reached};
+ghost use Rattle.hd_lifted.specs.Plans.{Instance, IsInstance, exec};
+ghost use Rattle.hd_lifted.specs.declared.schema.Ground.{Ground};
+ghost use Rattle.hd_lifted.specs.States.{first_value};
+ghost use Rattle.hd_kept.specs.Kept.{IsKept, IsClosed};
+ghost use Rattle.hd_kept.specs.Numbering.{NumbersInstances, NumbersAtoms, NumbersFluents};
+ghost use Rattle.hd_kept.specs.Amounts.{is_changed};
+
+/// A plan whose steps are all defined uses kept instances alone, so that nothing is lost where the others are left out.
+pub fn plans_are_kept()
+    ensures { (t : LiftedTask) (p : List Instance) (r : Reached)
+        → All (IsInstance t) p → exec t p ≡ Some r → All (IsKept t) p }
+{}
+
+/// The kept instances are the least set of their kind: each closed list of instances has all of them.
+pub fn kept_instances_are_least()
+    ensures { (t : LiftedTask) (instances : List Instance)
+        → IsClosed t instances → (i : Instance) → IsKept t i → Contains instances i }
+{}
+
+/// There is one list of the kept instances in their order, one of the atoms, and one of the fluents: so the same texts are
+/// numbered alike each time.
+pub fn numberings_are_one()
+    ensures instances { (t : LiftedTask) (xs ys : List Instance)
+        → NumbersInstances t xs → NumbersInstances t ys → xs ≡ ys }
+    ensures atoms { (t : LiftedTask) (xs ys : List Ground)
+        → NumbersAtoms t xs → NumbersAtoms t ys → xs ≡ ys }
+    ensures fluents { (t : LiftedTask) (xs ys : List Ground)
+        → NumbersFluents t xs → NumbersFluents t ys → xs ≡ ys }
+{}
+
+/// Where no schema changes a function, its fluents keep their first values along each plan: so what is constant at first is constant.
+pub fn unchanged_functions_keep_their_values()
+    ensures { (t : LiftedTask) (p : List Instance) (r : Reached) (g : Ground)
+        → All (IsInstance t) p → exec t p ≡ Some r → is_changed t g.symbol ≡ false
+        → r.state.values g ≡ first_value t.values g }
+{}
