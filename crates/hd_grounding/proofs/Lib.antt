@@ -1,2 +1,4 @@
+pub mod Changing
 pub mod Holding
 pub mod Numbers
+pub mod Paying

@@ -1,24 +1,19 @@
 -- The numbers of ground forms.
-use Rattle.std.proofs.Common.{◌≡◌, ℕ, Bool, true, false, ◌==◌, cond, List, Contains, get_or, Some, None, slice_get, refl, sym, ap, ap₂, ◌∙◌, true≢false}
+use Rattle.std.proofs.Common.{◌≡◌, ℕ, Bool, true, false, ◌==◌, cond, List, Contains, get_or, Some, None, slice_get, refl, sym, ap, ◌∙◌, true≢false}
 use Rattle.std.specs.Prelude.{nat_eq, is_some}
 use Rattle.std.specs.List.{list_any, position_or_len}
 use Rattle.std.specs.Cmp.Lexicographic.{pointwise}
-use Rattle.std.proofs.lemmas.Bool.{and_parts, and_from, eqb-true, eq-eqb}
+use Rattle.std.proofs.lemmas.Bool.{and_from, eq-eqb}
 use Rattle.std.proofs.lemmas.Slice.Eq.{bytes_eq-Decides}
 use Rattle.std.proofs.lemmas.Option.{slice_get-get_or}
 use Rattle.std.proofs.lemmas.List.Quantifiers.{position-Some}
 use Rattle.hd_base.proofs.Tests.{list_any-from_contains, nat_lt-position_or_len}
 use Rattle.hd_lifted.specs.declared.schema.Ground.{Ground}
 use Rattle.hd_lifted.specs.States.{same}
+use Rattle.hd_kept.proofs.Sound.{same-true}
 use Rattle.hd_grounding.specs.Images.{number_of}
 
 -- ---- ground forms that are the same
-
-pub same-true : (g h : Ground) → same g h ≡ true → g ≡ h
-same-true g h e =
-    let parts = and_parts (g.symbol == h.symbol) (pointwise nat_eq g.objects h.objects) e in
-    ap₂ (λ (s : ℕ) (o : List ℕ). let x : Ground = record { symbol = s; objects = o } in x)
-    (eqb-true g.symbol h.symbol parts.0) ((bytes_eq-Decides g.objects h.objects).0 parts.1)
 
 pub same-refl : (g : Ground) → same g g ≡ true
 same-refl g =

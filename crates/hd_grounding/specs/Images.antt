@@ -1,5 +1,5 @@
 -- What stands for the parts of a lifted task in a task of numbers, where the parameters stand for a list of objects. (Our own.)
-use Rattle.std.specs.Prelude.{ℕ, Bool, not, List, [], ◌∷◌, map, flat_map, Option, Some, None, option_map, unwrap_or}
+use Rattle.std.specs.Prelude.{ℕ, Bool, not, if◌then◌else◌, List, [], ◌∷◌, map, filter, flat_map, Option, Some, None, option_map, unwrap_or, pos}
 use Rattle.std.specs.List.{list_all, position}
 use Rattle.hd_base.specs.declared.expression.Operand.{Operand}
 use Rattle.hd_base.specs.declared.expression.Operand.TheVariants.{Number, Fluent}
@@ -9,7 +9,13 @@ use Rattle.hd_lifted.specs.declared.schema.Ground.{Ground}
 use Rattle.hd_lifted.specs.declared.schema.Literal as lifted_literal
 use Rattle.hd_lifted.specs.declared.schema.Comparison as lifted_comparison
 use Rattle.hd_lifted.specs.declared.schema.Condition as lifted_condition
-use Rattle.hd_lifted.specs.States.{same, ground_form_of}
+use Rattle.hd_lifted.specs.declared.schema.NumericEffect.{NumericEffect}
+use Rattle.hd_lifted.specs.declared.schema.Schema.{Schema}
+use Rattle.hd_lifted.specs.declared.task.LiftedTask.{LiftedTask}
+use Rattle.hd_lifted.specs.Expressions.{value_of}
+use Rattle.hd_lifted.specs.Effects.{is_cost}
+use Rattle.hd_kept.specs.Amounts.{is_constant}
+use Rattle.hd_lifted.specs.States.{same, ground_form_of, first_value}
 use Rattle.hd_lifted.specs.Conditions.{equality_holds}
 use Rattle.hd_task.specs.declared.condition.Literal.{Literal}
 use Rattle.hd_task.specs.declared.condition.Comparison.{Comparison}
@@ -23,6 +29,10 @@ number_of forms g = position (λ h. same h g) forms
 abbrev pub if_any : {A : Type 0} → Option A → List A
 if_any None = []
 if_any (Some x) = x ∷ []
+
+-- the numbers of atoms: one without a number is left out
+abbrev pub numbers_of : List Ground → List ℕ → List Applied → List ℕ
+numbers_of atoms objects xs = flat_map (λ a. if_any (number_of atoms (ground_form_of objects a))) xs
 
 -- ---- conditions
 
@@ -58,3 +68,19 @@ condition_of atoms fluents objects c = record {
   comparisons = map (comparison_of fluents objects) c.comparisons;
   never = not (list_all (equality_holds objects) c.equalities);
 }
+
+-- ---- costs
+
+-- an amount: a constant one is put in as its number, every other keeps its fluents
+abbrev pub amount_of : LiftedTask → List Ground → List ℕ → Expression (Operand Applied) → Expression (Operand ℕ)
+amount_of t fluents objects e =
+    if is_constant t e then leaf (Number (unwrap_or (value_of (first_value t.values) objects e) (pos 0)))
+    else expression_of fluents objects e
+
+-- an effect is a part of the cost
+abbrev pub is_paid : NumericEffect → Bool
+is_paid e = is_cost e.change
+
+-- the amounts that a schema with objects adds to the cost, in the text's order
+abbrev pub costs_of : LiftedTask → List Ground → List ℕ → Schema → List (Expression (Operand ℕ))
+costs_of t fluents objects a = map (λ (e : NumericEffect). amount_of t fluents objects e.amount) (filter is_paid a.effects)

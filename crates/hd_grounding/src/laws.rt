@@ -1,13 +1,20 @@
 //! Laws over the definitions. Each function does nothing: its contract is the law.
-ghost use Rattle.std.specs.Prelude.{◌≡◌, ℕ, List};
+ghost use Rattle.std.specs.Prelude.{◌≡◌, ℕ, List, Some, slice_get};
 ghost use Rattle.hd_lifted.specs.declared.schema.Ground.{Ground};
 ghost use Rattle.hd_lifted.specs.declared.schema.Condition as lifted;
+ghost use Rattle.hd_lifted.specs.declared.schema.Schema.{Schema};
+ghost use Rattle.hd_lifted.specs.declared.task.LiftedTask.{LiftedTask};
+ghost use Rattle.hd_lifted.specs.Effects.{atoms_after};
 ghost use Rattle.hd_lifted.specs.States as domain;
 ghost use Rattle.hd_lifted.specs.Conditions as meaning;
 ghost use Rattle.hd_task.specs.declared.state.State.{State};
+ghost use Rattle.hd_task.specs.declared.action.Action.{Action};
+ghost use Rattle.hd_task.specs.Effects.{atom_after, sum_of_costs};
+ghost use Rattle.hd_lifted.specs.Effects as domain_costs;
+ghost use Rattle.hd_kept.specs.Numbering.{NumbersAtoms};
 ghost use Rattle.hd_task.specs.Conditions.{holds};
-ghost use Rattle.hd_grounding.specs.Images.{condition_of};
-ghost use Rattle.hd_grounding.specs.Agreement.{Agree, IsNumbered};
+ghost use Rattle.hd_grounding.specs.Images.{condition_of, costs_of};
+ghost use Rattle.hd_grounding.specs.Agreement.{Agree, IsNumbered, HasAtomsOf, KeepsFirstValues, HasNumberedEffects};
 
 /// Where a state of the domain and one of the task agree, a condition holds in the one exactly where its image does in the other, if
 /// each atom that it wants to be true has a number, and each fluent that it reads.
@@ -16,4 +23,21 @@ pub fn conditions_are_grounded()
         (s : domain.State) (n : State)
         → Agree atoms fluents s n → IsNumbered atoms fluents objects c
         → meaning.holds s objects c ≡ holds n (condition_of atoms fluents objects c) }
+{}
+
+/// Where the states agree, they agree on each atom with a number after an action, too: (s minus Del) union Add, in both.
+pub fn atoms_are_grounded()
+    ensures { (t : LiftedTask) (atoms fluents : List Ground) (objects : List ℕ) (a : Schema) (b : Action)
+        (s : domain.State) (n : State) (k : ℕ) (g : Ground)
+        → NumbersAtoms t atoms → Agree atoms fluents s n → HasAtomsOf atoms objects a b
+        → slice_get atoms k ≡ Some g → atoms_after s.atoms a objects g ≡ atom_after n b k }
+{}
+
+/// Where the states agree, the amounts of an action add up to one cost in both, by the values before it.
+pub fn costs_are_grounded()
+    ensures { (t : LiftedTask) (atoms fluents : List Ground) (objects : List ℕ) (a : Schema)
+        (s : domain.State) (n : State)
+        → Agree atoms fluents s n → KeepsFirstValues t s → HasNumberedEffects fluents objects a
+        → domain_costs.sum_of_costs s.values a objects
+        ≡ Some (sum_of_costs n.fluents (costs_of t fluents objects a)) }
 {}

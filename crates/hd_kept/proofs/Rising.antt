@@ -48,7 +48,7 @@ module _ {X : Type 0} (L : X → X → Type 0) (irreflexive : (x : X) → L x x 
       (λ z c. in_rest y x ys xs z second (sym same) c (back z (Contains-later y ys z c))))
 
 -- no list comes before itself
-before_itself : (xs : List ℕ) → ComesBefore xs xs → ⊥
+pub before_itself : (xs : List ℕ) → ComesBefore xs xs → ⊥
 before_itself xs e =
     let clash : Less ≡ Equal = sym e ∙ tied_itself nat_list_cmp_total xs in
     absurd (cc)
