@@ -2,3 +2,4 @@ pub mod Changing
 pub mod Holding
 pub mod Numbers
 pub mod Paying
+pub mod Writing

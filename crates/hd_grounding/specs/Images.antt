@@ -1,5 +1,5 @@
 -- What stands for the parts of a lifted task in a task of numbers, where the parameters stand for a list of objects. (Our own.)
-use Rattle.std.specs.Prelude.{ℕ, Bool, not, if◌then◌else◌, List, [], ◌∷◌, map, filter, flat_map, Option, Some, None, option_map, unwrap_or, pos}
+use Rattle.std.specs.Prelude.{ℕ, Bool, not, if◌then◌else◌, ◌&&◌, List, [], ◌∷◌, map, filter, flat_map, Option, Some, None, option_map, unwrap_or, ℤ, pos}
 use Rattle.std.specs.List.{list_all, position}
 use Rattle.hd_base.specs.declared.expression.Operand.{Operand}
 use Rattle.hd_base.specs.declared.expression.Operand.TheVariants.{Number, Fluent}
@@ -14,6 +14,13 @@ use Rattle.hd_lifted.specs.declared.schema.Schema.{Schema}
 use Rattle.hd_lifted.specs.declared.task.LiftedTask.{LiftedTask}
 use Rattle.hd_lifted.specs.Expressions.{value_of}
 use Rattle.hd_lifted.specs.Effects.{is_cost}
+use Rattle.hd_lifted.specs.declared.schema.Change as lifted_change
+use Rattle.hd_lifted.specs.declared.schema.Change.TheVariants as lifted_changes
+use Rattle.hd_task.specs.declared.effect.Term.{Term}
+use Rattle.hd_task.specs.declared.effect.Term.TheVariants.{Increase, Decrease}
+use Rattle.hd_task.specs.declared.effect.Change.{Change}
+use Rattle.hd_task.specs.declared.effect.Change.TheVariants.{Assign, ScaleUp, Sum}
+use Rattle.hd_task.specs.Effects.{value_by_change}
 use Rattle.hd_kept.specs.Amounts.{is_constant}
 use Rattle.hd_lifted.specs.States.{same, ground_form_of, first_value}
 use Rattle.hd_lifted.specs.Conditions.{equality_holds}
@@ -84,3 +91,39 @@ is_paid e = is_cost e.change
 -- the amounts that a schema with objects adds to the cost, in the text's order
 abbrev pub costs_of : LiftedTask → List Ground → List ℕ → Schema → List (Expression (Operand ℕ))
 costs_of t fluents objects a = map (λ (e : NumericEffect). amount_of t fluents objects e.amount) (filter is_paid a.effects)
+
+-- ---- effects
+
+-- an effect changes this fluent: a cost changes none
+abbrev pub is_on : List ℕ → Ground → NumericEffect → Bool
+is_on objects g e = not (is_cost e.change) && same (ground_form_of objects e.fluent) g
+
+-- a part of a sum
+abbrev pub term_by : lifted_change.Change → Expression (Operand ℕ) → Term
+term_by lifted_changes.Assign x = Increase x
+term_by lifted_changes.ScaleUp x = Increase x
+term_by lifted_changes.Increase x = Increase x
+term_by lifted_changes.Decrease x = Decrease x
+term_by lifted_changes.Cost x = Increase x
+
+abbrev pub term_of : List Ground → List ℕ → NumericEffect → Term
+term_of fluents objects e = term_by e.change (expression_of fluents objects e.amount)
+
+-- an assignment or a scaling stands alone; increases and decreases add up
+abbrev pub change_by : lifted_change.Change → Expression (Operand ℕ) → List Term → Change
+change_by lifted_changes.Assign x terms = Assign x
+change_by lifted_changes.ScaleUp x terms = ScaleUp x
+change_by lifted_changes.Increase x terms = Sum terms
+change_by lifted_changes.Decrease x terms = Sum terms
+change_by lifted_changes.Cost x terms = Sum terms
+
+-- the change that the effects on one fluent make, if there are any
+abbrev pub change_of : List Ground → List ℕ → List NumericEffect → Option Change
+change_of fluents objects [] = None
+change_of fluents objects (e ∷ es) =
+    Some (change_by e.change (expression_of fluents objects e.amount) (map (term_of fluents objects) (e ∷ es)))
+
+-- what a change makes of a value, where there is one
+abbrev pub changed_value : List ℤ → Option Change → ℤ → ℤ
+changed_value f None z = z
+changed_value f (Some c) z = value_by_change f c z

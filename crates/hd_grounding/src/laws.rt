@@ -1,10 +1,10 @@
 //! Laws over the definitions. Each function does nothing: its contract is the law.
-ghost use Rattle.std.specs.Prelude.{◌≡◌, ℕ, List, Some, slice_get};
+ghost use Rattle.std.specs.Prelude.{◌≡◌, ℕ, ℤ, false, List, filter, Some, slice_get};
 ghost use Rattle.hd_lifted.specs.declared.schema.Ground.{Ground};
 ghost use Rattle.hd_lifted.specs.declared.schema.Condition as lifted;
 ghost use Rattle.hd_lifted.specs.declared.schema.Schema.{Schema};
 ghost use Rattle.hd_lifted.specs.declared.task.LiftedTask.{LiftedTask};
-ghost use Rattle.hd_lifted.specs.Effects.{atoms_after};
+ghost use Rattle.hd_lifted.specs.Effects.{atoms_after, value_after, effects_clash};
 ghost use Rattle.hd_lifted.specs.States as domain;
 ghost use Rattle.hd_lifted.specs.Conditions as meaning;
 ghost use Rattle.hd_task.specs.declared.state.State.{State};
@@ -13,7 +13,7 @@ ghost use Rattle.hd_task.specs.Effects.{atom_after, sum_of_costs};
 ghost use Rattle.hd_lifted.specs.Effects as domain_costs;
 ghost use Rattle.hd_kept.specs.Numbering.{NumbersAtoms};
 ghost use Rattle.hd_task.specs.Conditions.{holds};
-ghost use Rattle.hd_grounding.specs.Images.{condition_of, costs_of};
+ghost use Rattle.hd_grounding.specs.Images.{condition_of, costs_of, is_on, change_of, changed_value};
 ghost use Rattle.hd_grounding.specs.Agreement.{Agree, IsNumbered, HasAtomsOf, KeepsFirstValues, HasNumberedEffects};
 
 /// Where a state of the domain and one of the task agree, a condition holds in the one exactly where its image does in the other, if
@@ -40,4 +40,14 @@ pub fn costs_are_grounded()
         → Agree atoms fluents s n → KeepsFirstValues t s → HasNumberedEffects fluents objects a
         → domain_costs.sum_of_costs s.values a objects
         ≡ Some (sum_of_costs n.fluents (costs_of t fluents objects a)) }
+{}
+
+/// Where the states agree, a fluent has the same value after an action in both: its effects become one change, since none clash.
+pub fn values_are_grounded()
+    ensures { (atoms fluents : List Ground) (objects : List ℕ) (a : Schema)
+        (s : domain.State) (n : State) (g : Ground) (z : ℤ)
+        → Agree atoms fluents s n → HasNumberedEffects fluents objects a
+        → effects_clash objects a.effects ≡ false → s.values g ≡ Some z
+        → value_after s.values a objects g ≡ Some (changed_value n.fluents
+        (change_of fluents objects (filter (is_on objects g) a.effects)) z) }
 {}
