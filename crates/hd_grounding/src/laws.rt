@@ -27,8 +27,8 @@ pub fn conditions_are_grounded()
 
 /// Where the states agree, they agree on each atom with a number after an action, too: (s minus Del) union Add, in both.
 pub fn atoms_are_grounded()
-    ensures { (t : LiftedTask) (atoms fluents : List Ground) (objects : List ℕ) (a : Schema) (b : Action)
-        (s : domain.State) (n : State) (k : ℕ) (g : Ground)
+    ensures { (t : LiftedTask) (atoms fluents : List Ground) (objects : List ℕ) (a : Schema)
+        (b : Action) (s : domain.State) (n : State) (k : ℕ) (g : Ground)
         → NumbersAtoms t atoms → Agree atoms fluents s n → HasAtomsOf atoms objects a b
         → slice_get atoms k ≡ Some g → atoms_after s.atoms a objects g ≡ atom_after n b k }
 {}
