@@ -22,6 +22,7 @@ use Rattle.hd_task.specs.declared.state.State.{State}
 use Rattle.hd_task.specs.Conditions.{has_atom, literal_holds, comparison_holds, literals_hold, holds}
 use Rattle.hd_task.specs.Expressions.{fluent_of, value_of}
 use Rattle.hd_kept.specs.Met.{fluents_in, met_by_comparison}
+use Rattle.hd_kept.proofs.Sound.{and-true}
 use Rattle.hd_grounding.specs.Images.{number_of, if_any, literal_at, literal_of, expression_of, comparison_of, condition_of}
 use Rattle.hd_grounding.specs.Agreement.{Agree, IsNumbered}
 use Rattle.hd_grounding.proofs.Numbers.{number_of-place, number_of-none, number_of-there}
@@ -68,10 +69,6 @@ module _ (atoms fluents : List Ground) (s : domain.State) (n : State) (agree : A
       ∙ ap (λ b. comparison_holds n.fluents (comparison_of fluents objects c) && b) rest
 
   -- ---- literals
-
-  and-true : (b : Bool) → (b && true) ≡ b
-  and-true true = refl
-  and-true false = refl
 
   literal_agrees :
       (positive : Bool) (g : Ground) (o : Option ℕ) → number_of atoms g ≡ o → (positive ≡ true → Contains atoms g)

@@ -22,14 +22,11 @@ use Rattle.hd_task.specs.Effects.{with_term, value_by_change}
 use Rattle.hd_kept.specs.Met.{fluents_in, changed_by, met_by_effect}
 use Rattle.hd_kept.proofs.Passing.{fails-from_none}
 use Rattle.hd_kept.proofs.Sound.{same-true}
+use Rattle.hd_kept.proofs.Unchanged.{either_way}
 use Rattle.hd_grounding.specs.Images.{expression_of, is_on, term_by, term_of, change_by, change_of, changed_value}
 use Rattle.hd_grounding.specs.Agreement.{Agree, HasNumberedEffects}
 use Rattle.hd_grounding.proofs.Numbers.{same-refl}
 use Rattle.hd_grounding.proofs.Holding.{value_agrees}
-
-either_way : {A : Type 0} (b : Bool) (x : A) → (if b then x else x) ≡ x
-either_way true x = refl
-either_way false x = refl
 
 skipped : (c : Change) (b : Bool) (x amount : Option ℤ) → (not (lifted.is_cost c) && b) ≡ false → (if b then lifted.value_by_change c x amount else x) ≡ x
 skipped Cost b x amount e = either_way b x

@@ -21,7 +21,7 @@ use Rattle.hd_kept.specs.Amounts.{changes_function, is_changed_by, is_changed}
 use Rattle.hd_kept.proofs.Passing.{fails-from_none, Contains-slice_get}
 use Rattle.hd_kept.proofs.Sound.{IsStep, stepped, exec_from-none}
 
-either_way : {A : Type 0} (b : Bool) (x : A) → (if b then x else x) ≡ x
+pub either_way : {A : Type 0} (b : Bool) (x : A) → (if b then x else x) ≡ x
 either_way true x = refl
 either_way false x = refl
 

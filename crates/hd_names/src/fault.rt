@@ -20,8 +20,8 @@ pub enum Fault {
     WrongType(Name, usize),
     /// A type that is its own supertype, directly or by others.
     TypeCycle(Name, usize),
-    /// A wrong use of the metric's function: it is read, changed otherwise than by a fixed increase, not 0 at first, or without
-    /// a first value.
+    /// A wrong use of the metric's function: it is read, also in an amount of its own, changed otherwise than by an increase, not 0
+    /// at first, or without a first value.
     BadMetric(usize),
     /// The problem belongs to a domain of another name.
     DomainMismatch(usize),
