@@ -1,2 +1,4 @@
 pub mod Agreement
+pub mod Faults
+pub mod Grounding
 pub mod Images

@@ -16,7 +16,8 @@ use Rattle.hd_lifted.specs.States.{Values, ground_form_of, first_value, initial_
 use Rattle.hd_lifted.specs.Effects.{value_by_change, with_effect, value_after, is_cost, state_after}
 use Rattle.hd_lifted.specs.Expressions.{value_of}
 use Rattle.hd_lifted.specs.Steps.{Reached, start}
-use Rattle.hd_lifted.specs.Plans.{Instance, IsInstance, step_by, exec_from, exec}
+use Rattle.hd_lifted.specs.declared.instance.Instance.{Instance}
+use Rattle.hd_lifted.specs.Plans.{IsInstance, step_by, exec_from, exec}
 use Rattle.hd_kept.specs.Amounts.{changes_function, is_changed_by, is_changed}
 use Rattle.hd_kept.proofs.Passing.{fails-from_none, Contains-slice_get}
 use Rattle.hd_kept.proofs.Sound.{IsStep, stepped, exec_from-none}

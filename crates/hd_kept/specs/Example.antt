@@ -4,7 +4,7 @@ use Rattle.hd_lifted.specs.declared.schema.Applied.{Applied}
 use Rattle.hd_lifted.specs.declared.schema.Ground.{Ground}
 use Rattle.hd_lifted.specs.declared.schema.Schema.{Schema}
 use Rattle.hd_lifted.specs.declared.task.LiftedTask.{LiftedTask}
-use Rattle.hd_lifted.specs.Plans.{Instance}
+use Rattle.hd_lifted.specs.declared.instance.Instance.{Instance}
 use Rattle.hd_lifted.specs.Example.{journey}
 
 -- hd_lifted's journey with fuel 9: `go` from place to place needs a road and fuel, which is also the cost

@@ -8,7 +8,8 @@ use Rattle.hd_lifted.specs.declared.schema.Ground.{Ground}
 use Rattle.hd_lifted.specs.declared.schema.Literal.{Literal}
 use Rattle.hd_lifted.specs.declared.task.LiftedTask.{LiftedTask}
 use Rattle.hd_lifted.specs.States.{ground_form_of}
-use Rattle.hd_lifted.specs.Plans.{Instance, IsInstance}
+use Rattle.hd_lifted.specs.declared.instance.Instance.{Instance}
+use Rattle.hd_lifted.specs.Plans.{IsInstance}
 use Rattle.hd_kept.specs.Kept.{IsKept, IsReachable}
 use Rattle.hd_kept.specs.Met.{met_by, met_by_goal}
 

@@ -2,7 +2,8 @@
 ghost use Rattle.std.specs.Prelude.{◌≡◌, false, List, All, Contains, Some};
 ghost use Rattle.hd_lifted.specs.declared.task.LiftedTask.{LiftedTask};
 ghost use Rattle.hd_lifted.specs.Steps.{Reached};
-ghost use Rattle.hd_lifted.specs.Plans.{Instance, IsInstance, exec};
+ghost use Rattle.hd_lifted.specs.declared.instance.Instance.{Instance};
+ghost use Rattle.hd_lifted.specs.Plans.{IsInstance, exec};
 ghost use Rattle.hd_lifted.specs.declared.schema.Ground.{Ground};
 ghost use Rattle.hd_lifted.specs.States.{first_value};
 ghost use Rattle.hd_kept.specs.Kept.{IsKept, IsClosed};

@@ -5,7 +5,8 @@ use Rattle.std.specs.Prelude.{◌≤ℤ◌}
 use Rattle.std.proofs.lemmas.Int.{ints}
 use Rattle.hd_lifted.specs.declared.task.LiftedTask.{LiftedTask}
 use Rattle.hd_lifted.specs.Steps.{Reached}
-use Rattle.hd_lifted.specs.Plans.{Instance, IsValidAt, IsOptimal}
+use Rattle.hd_lifted.specs.declared.instance.Instance.{Instance}
+use Rattle.hd_lifted.specs.Plans.{IsValidAt, IsOptimal}
 
 pub one_cost : (t : LiftedTask) (p : List Instance) (c d : ℤ) → IsValidAt t p c → IsValidAt t p d → c ≡ d
 one_cost t p c d v w =

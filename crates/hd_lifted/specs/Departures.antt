@@ -6,7 +6,7 @@ use Rattle.hd_base.specs.Numbers.{fits}
 use Rattle.hd_lifted.specs.Conditions.{holds, condition_departs}
 use Rattle.hd_lifted.specs.Effects.{effects_stay}
 use Rattle.hd_lifted.specs.Steps.{Reached, step}
-use Rattle.hd_lifted.specs.Plans.{Instance}
+use Rattle.hd_lifted.specs.declared.instance.Instance.{Instance}
 
 -- the goal departs where its conditions on atoms and objects hold and a subexpression of its comparisons is out of the range
 unfoldable pub goal_departs : LiftedTask → Reached → Bool

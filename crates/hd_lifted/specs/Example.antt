@@ -24,7 +24,8 @@ use Rattle.hd_base.specs.Expression.{Expression, leaf, binary as operation}
 use Rattle.hd_lifted.specs.States.{initial_state}
 use Rattle.hd_lifted.specs.Conditions.{comparison_holds, comparison_stays}
 use Rattle.hd_lifted.specs.Steps.{Reached, start}
-use Rattle.hd_lifted.specs.Plans.{Instance, exec}
+use Rattle.hd_lifted.specs.declared.instance.Instance.{Instance}
+use Rattle.hd_lifted.specs.Plans.{exec}
 use Rattle.hd_lifted.specs.Departures.{goal_departs, instance_departs}
 
 -- ---- parts

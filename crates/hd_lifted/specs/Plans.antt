@@ -2,16 +2,12 @@
 -- after the other; it has no times. (The profile is our own.)
 use Rattle.std.specs.Prelude.{◌≡◌, ℕ, false, IsTrue, List, [], ◌∷◌, All, Option, Some, None, slice_get, option_and_then, ℤ, ◌≤ℤ◌}
 use Rattle.hd_lifted.specs.declared.schema.Schema.{Schema}
+use Rattle.hd_lifted.specs.declared.instance.Instance.{Instance}
 use Rattle.hd_lifted.specs.declared.task.LiftedTask.{LiftedTask}
 use Rattle.hd_lifted.specs.Objects.{AreOfTypes}
 use Rattle.hd_lifted.specs.Conditions.{holds}
 use Rattle.hd_lifted.specs.Effects.{effects_clash}
 use Rattle.hd_lifted.specs.Steps.{Reached, step, start}
-
--- a schema, by its number, with the objects that its parameters stand for
-pub record Instance : Type 0 where
-  pub schema : ℕ
-  pub objects : List ℕ
 
 -- an instance of a task: there is the schema, the objects are of its parameters' types, and no two of its effects clash
 pub record IsInstance (t : LiftedTask) (i : Instance) : Type 0 where

@@ -2,7 +2,8 @@
 ghost use Rattle.std.specs.Prelude.{ℕ, List};
 ghost use Rattle.hd_lifted.specs.Types.{IsRooted, IsAcyclic};
 ghost use Rattle.hd_lifted.specs.declared.task.LiftedTask.{LiftedTask};
-ghost use Rattle.hd_lifted.specs.Plans.{Instance, HasOneCost, CostTheSame};
+ghost use Rattle.hd_lifted.specs.declared.instance.Instance.{Instance};
+ghost use Rattle.hd_lifted.specs.Plans.{HasOneCost, CostTheSame};
 
 /// A plan that is valid at a cost is valid at no other cost, and all optimal plans cost the same.
 pub fn costs_are_unique()

@@ -8,6 +8,7 @@
 mod checked;
 pub mod examples;
 mod hierarchy;
+mod instance;
 pub mod laws;
 mod schema;
 mod shortcuts;
@@ -16,6 +17,7 @@ mod task;
 pub use checked::Checked;
 pub use hd_base::{ExprParts, Name, Operand, Operation, Relation, Sequence, Tuple};
 pub use hierarchy::Hierarchy;
+pub use instance::Instance;
 pub use schema::{
     Applied, Argument, Change, Comparison, Condition, Equality, Expr, Ground, Literal,
     NumericEffect, Schema,

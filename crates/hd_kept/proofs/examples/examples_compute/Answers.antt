@@ -4,7 +4,8 @@ use Rattle.hd_base.proofs.Members.{Contains-first, Contains-later, Contains-cons
 use Rattle.hd_lifted.specs.declared.schema.Argument.TheVariants.{Parameter}
 use Rattle.hd_lifted.specs.declared.schema.Literal.{Literal}
 use Rattle.hd_lifted.specs.declared.task.LiftedTask.{LiftedTask}
-use Rattle.hd_lifted.specs.Plans.{Instance, IsInstance}
+use Rattle.hd_lifted.specs.declared.instance.Instance.{Instance}
+use Rattle.hd_lifted.specs.Plans.{IsInstance}
 use Rattle.hd_lifted.specs.Example.{go, a_to_c}
 use Rattle.hd_kept.specs.Kept.{is_static, HoldAtFirst, IsKept, keep}
 use Rattle.hd_kept.specs.Amounts.{is_changed}

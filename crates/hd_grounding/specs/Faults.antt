@@ -1,0 +1,98 @@
+-- Why a lifted task has no grounding. (Our own.)
+use Rattle.std.specs.Prelude.{◌≡◌, ◌≢◌, ℕ, ◌<◌, Bool, false, not, ◌&&◌, List, [], ◌++◌, length, filter, flat_map, Contains, Option, Some, None, slice_get, is_some, find}
+use Rattle.std.specs.List.{AllPairs, list_all}
+use Rattle.hd_lifted.specs.declared.schema.Ground.{Ground}
+use Rattle.hd_lifted.specs.declared.schema.NumericEffect.{NumericEffect}
+use Rattle.hd_lifted.specs.declared.schema.Schema.{Schema}
+use Rattle.hd_lifted.specs.declared.task.LiftedTask.{LiftedTask}
+use Rattle.hd_lifted.specs.declared.instance.Instance.{Instance}
+use Rattle.hd_lifted.specs.States.{first_value}
+use Rattle.hd_lifted.specs.Effects.{sum_of_costs, is_negative}
+use Rattle.hd_lifted.specs.Plans.{IsInstance}
+use Rattle.hd_task.specs.declared.task.TheConstants.{MAX_ACTIONS, MAX_ATOMS, MAX_FLUENTS, MAX_AMOUNTS}
+use Rattle.hd_kept.specs.Amounts.{is_constant}
+use Rattle.hd_kept.specs.Kept.{IsKept}
+use Rattle.hd_kept.specs.Met.{met_by, met_by_goal}
+use Rattle.hd_kept.specs.Numbering.{IsTaskAtom, IsTaskFluent, NumbersInstances}
+use Rattle.hd_grounding.specs.Images.{is_paid}
+
+-- ---- too many
+
+-- there are more than so many of a kind: a list of them, none twice, is longer
+pub record HasMore {X : Type 0} (Is : X → Type 0) (limit : ℕ) : Type 0 where
+  pub some : List X
+  pub all : (x : X) → Contains some x → Is x
+  pub distinct : AllPairs (λ x y. x ≢ y) some
+  pub more : limit < length some
+
+-- a kept instance adds more amounts to the cost than an action may
+pub record HasMoreAmounts (t : LiftedTask) : Type 0 where
+  pub instance : Instance
+  pub kept : IsKept t instance
+  pub schema : Schema
+  pub is_schema : slice_get t.schemas instance.schema ≡ Some schema
+  pub more : MAX_AMOUNTS < length (filter is_paid schema.effects)
+
+-- there are more kept instances, atoms, fluents or amounts than a task may have
+pub data IsTooLarge (t : LiftedTask) : Type 0 where
+  actions : HasMore (IsKept t) MAX_ACTIONS → IsTooLarge t
+  atoms : HasMore (IsTaskAtom t) MAX_ATOMS → IsTooLarge t
+  fluents : HasMore (IsTaskFluent t) MAX_FLUENTS → IsTooLarge t
+  amounts : HasMoreAmounts t → IsTooLarge t
+
+-- ---- a fluent without a first value
+
+-- the fluents that an instance meets, in the text's order
+abbrev pub met_with : Option Schema → List ℕ → List Ground
+met_with None objects = []
+met_with (Some a) objects = met_by objects a
+
+abbrev pub met_by_instance : LiftedTask → Instance → List Ground
+met_by_instance t i = met_with (slice_get t.schemas i.schema) i.objects
+
+-- those that the instances meet, in their order, and then those that the goal meets
+abbrev pub met_by_all : LiftedTask → List Instance → List Ground
+met_by_all t instances = flat_map (met_by_instance t) instances ++ met_by_goal t
+
+-- a fluent has no first value
+abbrev pub is_undefined : LiftedTask → Ground → Bool
+is_undefined t g = not (is_some (first_value t.values g))
+
+-- the first fluent that is met and has no first value, if there is one
+abbrev pub undefined_in : LiftedTask → List Instance → Option Ground
+undefined_in t instances = find (is_undefined t) (met_by_all t instances)
+
+-- ---- a negative cost
+
+-- all amounts of a schema are constant
+abbrev pub has_constant_costs : LiftedTask → Schema → Bool
+has_constant_costs t a = list_all (λ (e : NumericEffect). is_constant t e.amount) (filter is_paid a.effects)
+
+-- a schema with objects costs the same in each state, and less than 0
+abbrev pub costs_negative : LiftedTask → Option Schema → List ℕ → Bool
+costs_negative t None objects = false
+costs_negative t (Some a) objects = has_constant_costs t a && is_negative (sum_of_costs (first_value t.values) a objects)
+
+abbrev pub is_negative_instance : LiftedTask → Instance → Bool
+is_negative_instance t i = costs_negative t (slice_get t.schemas i.schema) i.objects
+
+-- the first instance that costs less than 0 in each state, if there is one
+abbrev pub negative_in : LiftedTask → List Instance → Option Instance
+negative_in t instances = find (is_negative_instance t) instances
+
+-- ---- what is told, in the order in which it is looked for
+
+-- a fluent is the first undefined one, where nothing is too large
+pub record IsUndefined (t : LiftedTask) (g : Ground) : Type 0 where
+  pub fits : IsTooLarge t → ⊥
+  pub instances : List Instance
+  pub numbers_instances : NumbersInstances t instances
+  pub is_first : undefined_in t instances ≡ Some g
+
+-- an instance is the first of a negative cost, where nothing is too large and each fluent that is met has a first value
+pub record IsNegative (t : LiftedTask) (i : Instance) : Type 0 where
+  pub fits : IsTooLarge t → ⊥
+  pub instances : List Instance
+  pub numbers_instances : NumbersInstances t instances
+  pub none_undefined : undefined_in t instances ≡ None
+  pub is_first : negative_in t instances ≡ Some i
