@@ -1,8 +1,12 @@
 //! Tuples of arguments, which are short.
 ghost use Rattle.std.specs.Prelude.{◌≡◌, ◌==◌, List, length};
-ghost use Rattle.std.specs.Cmp.Lexicographic.{pointwise, lists_equiv, lists_per};
+ghost use Rattle.std.specs.Cmp.Lexicographic.{pointwise, slice_cmp, slice_partial_cmp, lists_equiv, lists_per, lists_po, lists_total, lists_agrees, lists_ties};
+ghost use Rattle.std.specs.Hash as fed;
+ghost use Rattle.std.specs.Hash.{items_Alike};
 
 use smallvec::SmallVec;
+use std::cmp::Ordering;
+use std::hash::{Hash, Hasher};
 use std::marker::Model;
 
 /// A short list, which contracts see as the list of its items, without its capacity and its address.
@@ -61,4 +65,39 @@ impl<T: PartialEq> PartialEq for Tuple<T> {
 
 impl<T: Eq> Eq for Tuple<T> {
     ghost laws = { lists_equiv T.Eq.laws };
+}
+
+/// Tuples are ordered by the first place where they differ; one that ends before comes first.
+impl<T: PartialOrd> PartialOrd for Tuple<T> {
+    ghost partial_cmp = { λ s t. slice_partial_cmp T.partial_cmp s t };
+
+    ghost laws = { lists_po T.PartialOrd.laws };
+
+    fn partial_cmp(&self, other: &Self) -> Option<Ordering> {
+        self.as_slice().partial_cmp(&other.as_slice())
+    }
+}
+
+impl<T: Ord> Ord for Tuple<T> {
+    ghost cmp = { λ s t. slice_cmp T.cmp s t };
+
+    ghost total = { lists_total T.total };
+
+    ghost matches_partial_cmp = { λ s t. lists_agrees T.matches_partial_cmp s t };
+
+    ghost matches_eq = { λ s t. lists_ties T.cmp T.matches_eq s t };
+
+    fn cmp(&self, other: &Self) -> Ordering {
+        self.as_slice().cmp(&other.as_slice())
+    }
+}
+
+impl<T: Hash> Hash for Tuple<T> {
+    ghost hash_input = { λ t. fed.slice T.hash_input t };
+
+    ghost respects_eq = { (items_Alike (record { fed = T.respects_eq })).fed };
+
+    fn hash<H: Hasher>(&self, state: &mut H) {
+        self.as_slice().hash(state);
+    }
 }

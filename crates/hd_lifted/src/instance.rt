@@ -3,7 +3,7 @@
 use hd_base::Tuple;
 
 /// A schema with objects in the place of its parameters.
-#[derive(Debug, PartialEq, Eq, Drop)]
+#[derive(Debug, PartialEq, Eq, PartialOrd, Ord, Hash, Drop)]
 pub struct Instance {
     /// The schema's number.
     pub schema: usize,

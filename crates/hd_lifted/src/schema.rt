@@ -31,7 +31,7 @@ pub struct Applied {
 }
 
 /// A predicate or a function, by its number, with the numbers of objects: a ground atom or fluent.
-#[derive(Debug, PartialEq, Eq, Drop)]
+#[derive(Debug, PartialEq, Eq, PartialOrd, Ord, Hash, Drop)]
 pub struct Ground {
     /// The number of the predicate or function.
     pub symbol: usize,
