@@ -10,6 +10,7 @@ pub mod examples;
 mod hierarchy;
 mod instance;
 pub mod laws;
+mod reading;
 mod schema;
 mod shortcuts;
 mod task;
@@ -18,6 +19,9 @@ pub use checked::Checked;
 pub use hd_base::{ExprParts, Name, Operand, Operation, Relation, Sequence, Tuple};
 pub use hierarchy::Hierarchy;
 pub use instance::Instance;
+pub use reading::{
+    are_of_types, effects_clash, equalities_hold, ground_form_of, is_of_type, is_same, object_of,
+};
 pub use schema::{
     Applied, Argument, Change, Comparison, Condition, Equality, Expr, Ground, Literal,
     NumericEffect, Schema,
