@@ -1,6 +1,6 @@
 -- Why a lifted task has no grounding. (Our own.)
-use Rattle.std.specs.Prelude.{◌≡◌, ◌≢◌, ℕ, ◌<◌, Bool, false, not, ◌&&◌, List, [], ◌++◌, length, filter, flat_map, Contains, Option, Some, None, slice_get, is_some, find}
-use Rattle.std.specs.List.{AllPairs, list_all}
+use Rattle.std.specs.Prelude.{◌≡◌, ℕ, ◌<◌, Bool, false, not, ◌&&◌, List, [], ◌++◌, length, filter, flat_map, Option, Some, None, slice_get, is_some, find}
+use Rattle.std.specs.List.{list_all}
 use Rattle.hd_lifted.specs.declared.schema.Ground.{Ground}
 use Rattle.hd_lifted.specs.declared.schema.NumericEffect.{NumericEffect}
 use Rattle.hd_lifted.specs.declared.schema.Schema.{Schema}
@@ -13,17 +13,10 @@ use Rattle.hd_task.specs.declared.task.TheConstants.{MAX_ACTIONS, MAX_ATOMS, MAX
 use Rattle.hd_kept.specs.Amounts.{is_constant}
 use Rattle.hd_kept.specs.Kept.{IsKept}
 use Rattle.hd_kept.specs.Met.{met_by, met_by_goal}
-use Rattle.hd_kept.specs.Numbering.{IsTaskAtom, IsTaskFluent, NumbersInstances}
+use Rattle.hd_kept.specs.Numbering.{HasMore, IsTaskAtom, IsTaskFluent, NumbersInstances}
 use Rattle.hd_grounding.specs.Images.{is_paid}
 
 -- ---- too many
-
--- there are more than so many of a kind: a list of them, none twice, is longer
-pub record HasMore {X : Type 0} (Is : X → Type 0) (limit : ℕ) : Type 0 where
-  pub some : List X
-  pub all : (x : X) → Contains some x → Is x
-  pub distinct : AllPairs (λ x y. x ≢ y) some
-  pub more : limit < length some
 
 -- a kept instance adds more amounts to the cost than an action may
 pub record HasMoreAmounts (t : LiftedTask) : Type 0 where

@@ -1,5 +1,5 @@
 -- What a task of numbers has of a lifted one, and in which order it is numbered. (Our own.)
-use Rattle.std.specs.Prelude.{◌≡◌, ℕ, List, [], ◌∷◌, Contains, ◌↔◌}
+use Rattle.std.specs.Prelude.{◌≡◌, ◌≢◌, ℕ, ◌<◌, List, [], ◌∷◌, length, Contains, ◌↔◌}
 use Rattle.std.specs.List.{AllPairs}
 use Rattle.std.specs.Ordering.{nat_cmp}
 use Rattle.std.specs.Cmp.Lexicographic.{slice_cmp}
@@ -43,6 +43,17 @@ form_key g = g.symbol ∷ g.objects
 pub record HasExactly {X : Type 0} (Is : X → Type 0) (key : X → List ℕ) (xs : List X) : Type 0 where
   pub exactly : (x : X) → Is x ↔ Contains xs x
   pub rising : AllPairs (λ x y. ComesBefore (key x) (key y)) xs
+
+-- ---- how many there are
+
+-- there are more than so many of a kind: a list of them, none twice, is longer
+pub record HasMore {X : Type 0} (Is : X → Type 0) (limit : ℕ) : Type 0 where
+  pub some : List X
+  pub all : (x : X) → Contains some x → Is x
+  pub distinct : AllPairs (λ x y. x ≢ y) some
+  pub more : limit < length some
+
+-- ---- the numberings of a task
 
 -- a list numbers the kept instances, the atoms, or the fluents
 abbrev pub NumbersInstances : LiftedTask → List Instance → Type 0
