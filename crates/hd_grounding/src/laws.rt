@@ -4,6 +4,7 @@ ghost use Rattle.hd_lifted.specs.declared.schema.Ground.{Ground};
 ghost use Rattle.hd_lifted.specs.declared.schema.Condition as lifted;
 ghost use Rattle.hd_lifted.specs.declared.schema.Schema.{Schema};
 ghost use Rattle.hd_lifted.specs.declared.task.LiftedTask.{LiftedTask};
+ghost use Rattle.hd_lifted.specs.declared.instance.Instance.{Instance};
 ghost use Rattle.hd_lifted.specs.Effects.{atoms_after, value_after, effects_clash};
 ghost use Rattle.hd_lifted.specs.States as domain;
 ghost use Rattle.hd_lifted.specs.Conditions as meaning;
@@ -16,6 +17,7 @@ ghost use Rattle.hd_kept.specs.Numbering.{NumbersAtoms};
 ghost use Rattle.hd_task.specs.Conditions.{holds};
 ghost use Rattle.hd_grounding.specs.Images.{condition_of, costs_of, is_on, change_of, changed_value};
 ghost use Rattle.hd_grounding.specs.Grounding.{IsGrounding};
+ghost use Rattle.hd_grounding.specs.Faults.{IsTooLarge, IsUndefined, IsNegative};
 ghost use Rattle.hd_grounding.specs.Agreement.{Agree, IsNumbered, HasAtomsOf, KeepsFirstValues, HasNumberedEffects};
 
 /// Where a state of the domain and one of the task agree, a condition holds in the one exactly where its image does in the other, if
@@ -57,4 +59,14 @@ pub fn values_are_grounded()
 /// A lifted task has one grounding at most: whoever grounds it makes the same task, with the same numbers.
 pub fn groundings_are_one()
     ensures { (t : LiftedTask) (u v : Task) → IsGrounding t u → IsGrounding t v → u ≡ v }
+{}
+
+/// What is too large, reads a fluent without a first value, or costs less than 0 in each state has no grounding: so no fault is told
+/// of a task that could have been made.
+pub fn faults_leave_no_grounding()
+    ensures too_large { (t : LiftedTask) (u : Task) → IsGrounding t u → IsTooLarge t → ⊥ }
+    ensures undefined { (t : LiftedTask) (u : Task) (g : Ground)
+        → IsGrounding t u → IsUndefined t g → ⊥ }
+    ensures negative { (t : LiftedTask) (u : Task) (i : Instance)
+        → IsGrounding t u → IsNegative t i → ⊥ }
 {}
