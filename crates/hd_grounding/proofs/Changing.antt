@@ -22,7 +22,7 @@ use Rattle.hd_grounding.specs.Agreement.{Agree, HasAtomsOf}
 use Rattle.hd_grounding.proofs.Numbers.{same-refl, number_of-place, number_of-none}
 
 -- two tests that follow from each other are one
-each_way : (a b : Bool) → (a ≡ true → b ≡ true) → (b ≡ true → a ≡ true) → a ≡ b
+pub each_way : (a b : Bool) → (a ≡ true → b ≡ true) → (b ≡ true → a ≡ true) → a ≡ b
 each_way true b there back = sym (there refl)
 each_way false true there back = back refl
 each_way false false there back = refl
