@@ -4,7 +4,7 @@ use Rattle.std.specs.List.{list_any, AllPairs}
 use Rattle.std.proofs.lemmas.Bool.{cases_lt, eqb-true, eq-eqb, false_from_ne_true}
 use Rattle.std.proofs.lemmas.Option.{same_Some, slice_get_within, get_or_from_slice_get}
 use Rattle.std.proofs.lemmas.List.Folds.{list_any-append}
-use Rattle.hd_base.proofs.Truth.{or-false}
+use Rattle.hd_base.proofs.Truth.{or-false, each_way}
 use Rattle.hd_lifted.specs.declared.schema.Applied.{Applied}
 use Rattle.hd_lifted.specs.declared.schema.Ground.{Ground}
 use Rattle.hd_lifted.specs.declared.schema.Schema.{Schema}
@@ -20,12 +20,6 @@ use Rattle.hd_kept.proofs.Sound.{same-true}
 use Rattle.hd_grounding.specs.Images.{number_of, if_any, numbers_of}
 use Rattle.hd_grounding.specs.Agreement.{Agree, HasAtomsOf}
 use Rattle.hd_grounding.proofs.Numbers.{same-refl, number_of-place, number_of-none}
-
--- two tests that follow from each other are one
-pub each_way : (a b : Bool) → (a ≡ true → b ≡ true) → (b ≡ true → a ≡ true) → a ≡ b
-each_way true b there back = sym (there refl)
-each_way false true there back = back refl
-each_way false false there back = refl
 
 module _ (atoms : List Ground) (rising : AllPairs (λ x y. ComesBefore (form_key x) (form_key y)) atoms) where
   -- no atom stands at two places

@@ -2,12 +2,16 @@
 use Rattle.std.proofs.Common.{◌≡◌, ℕ, ◌≤◌, Bool, true, not, ◌&&◌, ◌||◌, ◌==◌, List, [], ◌∷◌, map, filter, Contains, Some, inl, inr, refl, sym, ap, ◌∙◌, subst, arith, true≢false}
 use Rattle.std.specs.Prelude.{length, is_some, unwrap_or, ℤ, pos, negsuc, ◌+ℤ◌, nat_le, int_le, flat_map, if◌then◌else◌}
 use Rattle.std.specs.List.{list_all, fold}
-use Rattle.std.proofs.lemmas.Bool.{and_parts, and_from, not-true}
+use Rattle.std.proofs.lemmas.Bool.{and_parts, and_from, not-true, leb-true}
 use Rattle.std.proofs.lemmas.Option.{same_Some}
 use Rattle.std.proofs.lemmas.List.{length-map}
 use Rattle.std.proofs.lemmas.List.Elements.{Contains-append_cases}
 use Rattle.hd_base.specs.declared.expression.Operand.TheVariants.{Number, Fluent}
 use Rattle.hd_base.specs.Expression.{leaf, negate, binary}
+use Rattle.hd_base.proofs.Distinct.{length-le_from_members}
+use Rattle.hd_base.proofs.Members.{Contains-from_flat_map}
+use Rattle.hd_base.proofs.Places.{length-all_zip}
+use Rattle.hd_base.proofs.Tests.{find-Some}
 use Rattle.hd_lifted.specs.declared.schema.Ground.{Ground}
 use Rattle.hd_lifted.specs.declared.schema.NumericEffect.{NumericEffect}
 use Rattle.hd_lifted.specs.declared.schema.Schema.{Schema}
@@ -31,18 +35,14 @@ use Rattle.hd_grounding.specs.Images.{expression_of, amount_of, is_paid, costs_o
 use Rattle.hd_grounding.specs.Grounding.{form_of, IsActionOf, IsGrounding}
 use Rattle.hd_grounding.specs.Faults.{HasMore, HasMoreAmounts, IsTooLarge, met_with, met_by_instance, met_by_all, is_undefined, has_constant_costs, costs_negative, is_negative_instance, IsUndefined, IsNegative}
 use Rattle.hd_grounding.proofs.Grounded.{instance_kept, action_kept, first_there, met_numbered, starts_agree}
-use Rattle.hd_grounding.proofs.Lists.{same_length, found_in, no_longer, source_in}
 use Rattle.hd_grounding.proofs.Paying.{costs_agree}
 
 -- ---- limits
 
-within : (n limit : ℕ) → nat_le n limit ≡ true → n ≤ limit
-within n limit e = search (arith, e)
-
 -- a list with each of a kind that is within the limit leaves no room for more
 no_more : {X : Type 0} (Is : X → Type 0) (limit : ℕ) (xs : List X) → ((x : X) → Is x → Contains xs x) → length xs ≤ limit → HasMore Is limit → ⊥
 no_more Is limit xs each fits over =
-    let longer = no_longer over.some xs over.distinct (λ x c. each x (over.all x c)) in
+    let longer = length-le_from_members over.some xs over.distinct (λ x c. each x (over.all x c)) in
     omega (arith, over.more, longer, fits)
 
 -- ---- amounts
@@ -51,7 +51,7 @@ no_more Is limit xs each fits over =
 costs_within : (n : ℕ) (metric : Bool) (b : Action) → costs_fit n metric b ≡ true → length b.costs ≤ MAX_AMOUNTS
 costs_within n metric b fits =
     let outer = and_parts ((metric || (length b.costs == 0)) && nat_le (length b.costs) MAX_AMOUNTS) (list_all (reads_below n) b.costs) fits in
-    within (length b.costs) MAX_AMOUNTS (and_parts (metric || (length b.costs == 0)) (nat_le (length b.costs) MAX_AMOUNTS) outer.0).1
+    leb-true (length b.costs) MAX_AMOUNTS (and_parts (metric || (length b.costs == 0)) (nat_le (length b.costs) MAX_AMOUNTS) outer.0).1
 
 length-costs : (t : LiftedTask) (fluents : List Ground) (objects : List ℕ) (a : Schema)
     → length (costs_of t fluents objects a) ≡ length (filter is_paid a.effects)
@@ -105,7 +105,7 @@ module _ (t : LiftedTask) (u : Task) (made : IsGrounding t u) where
       let is = act.3 in
       let same : is.schema ≡ over.schema = same_Some is.schema over.schema (sym is.is_schema ∙ over.is_schema) in
       let fits = passes-from_all (costs_fit (length u.fluents) u.metric) u.actions act.1 u.costs_fit (Contains-slice_get u.actions act.0 act.1 act.2) in
-      let count = costs_within (length u.fluents) u.metric act.1 fits in
+      let count = costs_leb-true (length u.fluents) u.metric act.1 fits in
       let long : length act.1.costs ≡ length (filter is_paid over.schema.effects) =
       ap length is.costs ∙ (length-costs t made.fluents over.instance.objects is.schema ∙ ap (λ (a : Schema). length (filter is_paid a.effects)) same) in
       omega (arith, over.more, long, count)
@@ -113,13 +113,13 @@ module _ (t : LiftedTask) (u : Task) (made : IsGrounding t u) where
   pub fits : IsTooLarge t → ⊥
   fits (IsTooLarge.actions over) =
       no_more (IsKept t) MAX_ACTIONS made.instances (λ i kept. (made.numbers_instances.exactly i).0 kept)
-      (omega (arith, same_length (IsActionOf t made.atoms made.fluents) made.instances u.actions made.actions_are, within (length u.actions) MAX_ACTIONS sizes.2)) over
+      (omega (arith, length-all_zip (IsActionOf t made.atoms made.fluents) made.instances u.actions made.actions_are, leb-true (length u.actions) MAX_ACTIONS sizes.2)) over
   fits (IsTooLarge.atoms over) =
       no_more (IsTaskAtom t) MAX_ATOMS made.atoms (λ g is. (made.numbers_atoms.exactly g).0 is)
-      (omega (arith, ap length made.atoms_are ∙ length-map made.atoms form_of, within (length u.atoms) MAX_ATOMS sizes.0)) over
+      (omega (arith, ap length made.atoms_are ∙ length-map made.atoms form_of, leb-true (length u.atoms) MAX_ATOMS sizes.0)) over
   fits (IsTooLarge.fluents over) =
       no_more (IsTaskFluent t) MAX_FLUENTS made.fluents (λ g is. (made.numbers_fluents.exactly g).0 is)
-      (omega (arith, ap length made.fluents_are ∙ length-map made.fluents form_of, within (length u.fluents) MAX_FLUENTS sizes.1)) over
+      (omega (arith, ap length made.fluents_are ∙ length-map made.fluents form_of, leb-true (length u.fluents) MAX_FLUENTS sizes.1)) over
   fits (IsTooLarge.amounts over) = few_amounts over
 
   -- ---- each fluent that is met has a first value
@@ -131,7 +131,7 @@ module _ (t : LiftedTask) (u : Task) (made : IsGrounding t u) where
   met_fluent instances numbers g c =
       elim (Contains-append_cases (flat_map (met_by_instance t) instances) (met_by_goal t) g c) [
         | inl c ↦
-            let from = source_in (met_by_instance t) instances g c in
+            let from = Contains-from_flat_map (met_by_instance t) instances g c in
             let kept : IsKept t from.0 = (numbers.exactly from.0).1 from.1 in
             let is = instance_kept t from.0 kept in
             (made.numbers_fluents.exactly g).0 (IsTaskFluent.met from.0 is kept (subst (λ gs. Contains gs g) (met_of from.0 is) from.2))
@@ -140,7 +140,7 @@ module _ (t : LiftedTask) (u : Task) (made : IsGrounding t u) where
 
   pub defined : (g : Ground) → IsUndefined t g → ⊥
   defined g fault =
-      let found = found_in (is_undefined t) (met_by_all t fault.instances) g fault.is_first in
+      let found = find-Some (is_undefined t) (met_by_all t fault.instances) g fault.is_first in
       let there = first_there t u made g (met_fluent fault.instances fault.numbers_instances g found.0) in
       true≢false (sym there ∙ not-true (is_some (first_value t.values g)) found.1)
 
@@ -168,7 +168,7 @@ module _ (t : LiftedTask) (u : Task) (made : IsGrounding t u) where
 
   pub not_negative : (i : Instance) → IsNegative t i → ⊥
   not_negative i fault =
-      let found = found_in (is_negative_instance t) fault.instances i fault.is_first in
+      let found = find-Some (is_negative_instance t) fault.instances i fault.is_first in
       let kept : IsKept t i = (fault.numbers_instances.exactly i).1 found.0 in
       let is = instance_kept t i kept in
       costs_nothing_negative i is kept (sym (ap (λ o. costs_negative t o i.objects) is.is_schema) ∙ found.1)

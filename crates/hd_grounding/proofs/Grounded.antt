@@ -4,6 +4,8 @@ use Rattle.std.specs.Prelude.{flat_map, is_some, option_map, unwrap_or, ℤ, pos
 use Rattle.std.proofs.lemmas.Bool.{false_from_ne_true}
 use Rattle.std.proofs.lemmas.List.Elements.{All-contains, Contains-append_left, Contains-append_right}
 use Rattle.std.proofs.lemmas.Option.{same_Some, slice_get-map, get_or_from_slice_get}
+use Rattle.hd_base.proofs.Options.{some-unwrap_or}
+use Rattle.hd_base.proofs.Places.{place_of, right_of, left_of}
 use Rattle.hd_lifted.specs.declared.schema.Ground.{Ground}
 use Rattle.hd_lifted.specs.declared.schema.Literal.{Literal}
 use Rattle.hd_lifted.specs.declared.schema.Schema.{Schema}
@@ -22,7 +24,6 @@ use Rattle.hd_kept.specs.Numbering.{IsTaskAtom, IsTaskFluent}
 use Rattle.hd_kept.proofs.Passing.{Contains-slice_get}
 use Rattle.hd_grounding.specs.Agreement.{Agree, IsNumbered, HasNumberedEffects}
 use Rattle.hd_grounding.specs.Grounding.{HasFirstValue, IsActionOf, IsGrounding}
-use Rattle.hd_grounding.proofs.Lists.{place_of, right_of, left_of}
 
 -- ---- kept instances
 
@@ -38,10 +39,6 @@ pub reachable_wanted :
     → Contains is.schema.condition.literals l → l.positive ≡ true → IsReachable t (ground_form_of i.objects l.atom)
 reachable_wanted t i (keep j js statics equalities reached) is l c wanted =
     reached l (subst (λ (a : Schema). Contains a.condition.literals l) (same_schema t j is js) c) wanted
-
-some-unwrap_or : (o : Option ℤ) (d : ℤ) → is_some o ≡ true → o ≡ Some (unwrap_or o d)
-some-unwrap_or None d e = absurd (cc)
-some-unwrap_or (Some z) d e = refl
 
 module _ (t : LiftedTask) (u : Task) (made : IsGrounding t u) where
   -- ---- numbers

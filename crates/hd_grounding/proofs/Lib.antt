@@ -2,7 +2,6 @@ pub mod Changing
 pub mod Faulty
 pub mod Grounded
 pub mod Holding
-pub mod Lists
 pub mod Numbers
 pub mod Paying
 pub mod Unique

@@ -11,6 +11,9 @@ use Rattle.hd_base.specs.Expression.{Expression, leaf, negate, binary}
 use Rattle.hd_base.specs.Numbers.{result_of, in_range, fits}
 use Rattle.hd_base.specs.Values.{of_both}
 use Rattle.hd_base.proofs.Members.{Contains-first, Contains-map, Contains-filter, Contains-flat_map, Contains-from_filter, passes-from_filter, Contains-nil, IsFrom-from_map}
+use Rattle.hd_base.proofs.Places.{place_of}
+use Rattle.hd_base.proofs.Tests.{list_all-from_each}
+use Rattle.hd_base.proofs.Truth.{each_way}
 use Rattle.hd_lifted.specs.declared.schema.Applied.{Applied}
 use Rattle.hd_lifted.specs.declared.schema.Ground.{Ground}
 use Rattle.hd_lifted.specs.declared.schema.Change as lifted_change
@@ -41,9 +44,7 @@ use Rattle.hd_kept.proofs.Sound.{and-true}
 use Rattle.hd_grounding.specs.Images.{expression_of, comparison_of, condition_of, amount_of, is_paid, is_on, term_by, term_of, change_by, change_of, changed_value}
 use Rattle.hd_grounding.specs.Agreement.{Agree, IsNumbered, KeepsFirstValues}
 use Rattle.hd_grounding.specs.Grounding.{IsActionOf, IsGrounding}
-use Rattle.hd_grounding.proofs.Changing.{each_way}
 use Rattle.hd_grounding.proofs.Holding.{value_agrees, atoms_hold_alike}
-use Rattle.hd_grounding.proofs.Lists.{place_of, all_from_each}
 use Rattle.hd_grounding.proofs.Numbers.{same-refl}
 use Rattle.hd_grounding.proofs.Writing.{no_cost, on_it, one_or_sums, value_after_agrees}
 use Rattle.hd_transfer.proofs.Steps.{met, compatible, change_there}
@@ -240,7 +241,7 @@ module _ (t : LiftedTask) (u : Task) (made : IsGrounding t u) (i : Instance) (b 
         let is = (of.effects.exactly e).1 c in
         let some = effect_there made.fluents n.fluents i.objects (on is.fluent) e.change is.is_change in
         let amounts : list_all amount (on is.fluent) ≡ true =
-        all_from_each amount (on is.fluent)
+        list_all-from_each amount (on is.fluent)
         (λ x k. let k = Contains-from_filter (is_on i.objects is.fluent) of.schema.effects x k in sym (amount_alike x k) ∙ (own_stays x k).0) in
         and_from (change_stays n.fluents e.change) (in_range (new_value n.fluents e))
         (changes_alike is.fluent e.change is.is_change ∙ amounts)
@@ -258,7 +259,7 @@ module _ (t : LiftedTask) (u : Task) (made : IsGrounding t u) (i : Instance) (b 
     there : (list_all (effect_stays n.fluents) b.effects && list_all (stays_in_range n.fluents) b.costs) ≡ true
     there =
         and_from (list_all (effect_stays n.fluents) b.effects) (list_all (stays_in_range n.fluents) b.costs)
-        (all_from_each (effect_stays n.fluents) b.effects effect_there_stays) (all_from_each (stays_in_range n.fluents) b.costs cost_there_stays)
+        (list_all-from_each (effect_stays n.fluents) b.effects effect_there_stays) (list_all-from_each (stays_in_range n.fluents) b.costs cost_there_stays)
 
   -- ---- and back
 
@@ -315,4 +316,4 @@ module _ (t : LiftedTask) (u : Task) (made : IsGrounding t u) (i : Instance) (b 
       each_way (list_all own of.schema.effects) (list_all (effect_stays n.fluents) b.effects && list_all (stays_in_range n.fluents) b.costs) there
       (λ stay.
       let parts = and_parts (list_all (effect_stays n.fluents) b.effects) (list_all (stays_in_range n.fluents) b.costs) stay in
-      all_from_each own of.schema.effects (own_back parts.0 parts.1))
+      list_all-from_each own of.schema.effects (own_back parts.0 parts.1))

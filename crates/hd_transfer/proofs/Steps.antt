@@ -6,6 +6,7 @@ use Rattle.std.proofs.lemmas.List.{length-map}
 use Rattle.std.proofs.lemmas.List.FromFn.{get_or-map-range_with_len}
 use Rattle.std.proofs.lemmas.Option.{same_Some, slice_get_within}
 use Rattle.hd_base.specs.Values.{of_both}
+use Rattle.hd_base.proofs.Tests.{find-Some, find-None}
 use Rattle.hd_lifted.specs.declared.schema.Applied.{Applied}
 use Rattle.hd_lifted.specs.declared.schema.Ground.{Ground}
 use Rattle.hd_lifted.specs.declared.schema.Schema.{Schema}
@@ -35,7 +36,6 @@ use Rattle.hd_grounding.specs.Grounding.{form_of, IsActionOf, IsGrounding}
 use Rattle.hd_grounding.proofs.Changing.{atom_agrees}
 use Rattle.hd_grounding.proofs.Grounded.{instance_kept, reachable_numbered, met_numbered, condition_numbered}
 use Rattle.hd_grounding.proofs.Holding.{condition_agrees}
-use Rattle.hd_grounding.proofs.Lists.{found_in, fails_unfound}
 use Rattle.hd_grounding.proofs.Paying.{costs_agree}
 use Rattle.hd_grounding.proofs.Writing.{value_after_agrees}
 
@@ -101,13 +101,13 @@ module _ (t : LiftedTask) (u : Task) (made : IsGrounding t u) (i : Instance) (b 
     unchanged : (k : ℕ) (g : Ground) (o : Option Change) → slice_get made.fluents k ≡ Some g → change_on g ≡ o → effect_on b k ≡ None → o ≡ None
     unchanged k g None at is none = refl
     unchanged k g (Some c) at is none =
-        absurd (true≢false (sym (eq-eqb k k refl) ∙ fails_unfound (λ (e : Effect). e.fluent == k) b.effects (record { fluent = k; change = c }) none (change_there k g c at is)))
+        absurd (true≢false (sym (eq-eqb k k refl) ∙ find-None (λ (e : Effect). e.fluent == k) b.effects (record { fluent = k; change = c }) none (change_there k g c at is)))
 
     value_found : (k : ℕ) (g : Ground) (o : Option Effect) → slice_get made.fluents k ≡ Some g → effect_on b k ≡ o
         → changed_value n.fluents (change_on g) (fluent_of n.fluents k) ≡ value_after n.fluents k o
     value_found k g None at none = ap (λ c. changed_value n.fluents c (fluent_of n.fluents k)) (unchanged k g (change_on g) at refl none)
     value_found k g (Some e) at some =
-        let found = found_in (λ (e : Effect). e.fluent == k) b.effects e some in
+        let found = find-Some (λ (e : Effect). e.fluent == k) b.effects e some in
         let place : e.fluent ≡ k = eqb-true e.fluent k found.1 in
         ap (λ c. changed_value n.fluents c (fluent_of n.fluents k)) (effect_is k g e at found.0 place)
         ∙ ap (λ j. value_by_change n.fluents e.change (fluent_of n.fluents j)) (sym place)
