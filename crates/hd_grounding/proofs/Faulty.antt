@@ -105,7 +105,7 @@ module _ (t : LiftedTask) (u : Task) (made : IsGrounding t u) where
       let is = act.3 in
       let same : is.schema ≡ over.schema = same_Some is.schema over.schema (sym is.is_schema ∙ over.is_schema) in
       let fits = passes-from_all (costs_fit (length u.fluents) u.metric) u.actions act.1 u.costs_fit (Contains-slice_get u.actions act.0 act.1 act.2) in
-      let count = costs_leb-true (length u.fluents) u.metric act.1 fits in
+      let count = costs_within (length u.fluents) u.metric act.1 fits in
       let long : length act.1.costs ≡ length (filter is_paid over.schema.effects) =
       ap length is.costs ∙ (length-costs t made.fluents over.instance.objects is.schema ∙ ap (λ (a : Schema). length (filter is_paid a.effects)) same) in
       omega (arith, over.more, long, count)

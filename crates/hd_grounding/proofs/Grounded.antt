@@ -1,6 +1,6 @@
 -- What follows from the parts of a grounding.
-use Rattle.std.proofs.Common.{◌≡◌, ℕ, true, false, [], map, Contains, Option, Some, None, slice_get, refl, sym, ap, ◌∙◌, subst}
-use Rattle.std.specs.Prelude.{flat_map, is_some, option_map, unwrap_or, ℤ, pos}
+use Rattle.std.proofs.Common.{◌≡◌, ℕ, true, false, [], map, Contains, Some, slice_get, refl, sym, ap, ◌∙◌, subst}
+use Rattle.std.specs.Prelude.{flat_map, option_map, unwrap_or, ℤ, pos}
 use Rattle.std.proofs.lemmas.Bool.{false_from_ne_true}
 use Rattle.std.proofs.lemmas.List.Elements.{All-contains, Contains-append_left, Contains-append_right}
 use Rattle.std.proofs.lemmas.Option.{same_Some, slice_get-map, get_or_from_slice_get}
