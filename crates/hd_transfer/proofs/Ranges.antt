@@ -292,9 +292,10 @@ module _ (t : LiftedTask) (u : Task) (made : IsGrounding t u) (i : Instance) (b 
         let change = change_made made.fluents n.fluents i.objects (on g) e among in
         let there = change_there t u made i b kept of s n agree place.0 g change.0 place.1 change.1 in
         let stays = and_parts (change_stays n.fluents change.0) (in_range (value_by_change n.fluents change.0 (fluent_of n.fluents place.0)))
-        (passes-from_all (effect_stays n.fluents) b.effects (record { fluent = place.0; change = change.0 }) effects there) in
-        (amount_alike e c ∙ passes-from_all amount (on g) e (sym (changes_alike g change.0 change.1) ∙ stays.0) among,
-        value_alike place.0 g change.0 place.1 change.1 ∙ stays.1)
+        (passes-from_all (effect_stays n.fluents) b.effects (record { fluent = place.0; change = change.0 }) effects there) in (
+          amount_alike e c ∙ passes-from_all amount (on g) e (sym (changes_alike g change.0 change.1) ∙ stays.0) among,
+          value_alike place.0 g change.0 place.1 change.1 ∙ stays.1,
+        )
 
     own_back : (e : NumericEffect) → Contains of.schema.effects e → own e ≡ true
     own_back e c =
