@@ -2,6 +2,7 @@ pub mod Changing
 pub mod Faulty
 pub mod Grounded
 pub mod Holding
+pub mod Lantern
 pub mod Numbers
 pub mod Paying
 pub mod Unique
