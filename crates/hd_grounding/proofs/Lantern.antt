@@ -1,6 +1,6 @@
 -- The lantern's task is its grounding.
-use Rattle.std.proofs.Common.{◌≡◌, ◌≢◌, ℕ, zero, suc, ◌<◌, Bool, true, false, List, [], ◌∷◌, filter, Contains, Some, None, slice_get, inl, inr, refl, sym, ap, ◌∙◌, subst, arith, true≢false}
-use Rattle.std.specs.List.{AllPairs, AllZip, list_all}
+use Rattle.std.proofs.Common.{◌≡◌, ℕ, zero, suc, true, false, List, [], ◌∷◌, filter, Contains, Some, slice_get, inl, inr, refl, sym, ap, ◌∙◌, subst, arith, true≢false}
+use Rattle.std.specs.List.{AllPairs}
 use Rattle.std.proofs.lemmas.List.Elements.{All-nil, All-cons}
 use Rattle.std.proofs.lemmas.Option.{none-some, same_Some}
 use Rattle.hd_base.proofs.Members.{Contains-first, Contains-cons_cases, Contains-nil}
@@ -9,11 +9,10 @@ use Rattle.hd_lifted.specs.declared.schema.Ground.{Ground}
 use Rattle.hd_lifted.specs.declared.schema.Literal.{Literal}
 use Rattle.hd_lifted.specs.declared.schema.Schema.{Schema}
 use Rattle.hd_lifted.specs.declared.instance.Instance.{Instance}
-use Rattle.hd_lifted.specs.Objects.{IsOfType, AreOfTypes}
+use Rattle.hd_lifted.specs.Objects.{AreOfTypes}
 use Rattle.hd_lifted.specs.States.{same, ground_form_of}
 use Rattle.hd_lifted.specs.Plans.{IsInstance}
 use Rattle.hd_task.specs.declared.effect.Effect.{Effect}
-use Rattle.hd_task.specs.declared.effect.Change.{Change}
 use Rattle.hd_kept.specs.Amounts.{is_changed}
 use Rattle.hd_kept.specs.Kept.{is_static, IsKept, keep, IsReachable, initially, added}
 use Rattle.hd_kept.specs.Met.{met_by}
@@ -22,7 +21,7 @@ use Rattle.hd_kept.proofs.Passing.{passes-from_all}
 use Rattle.hd_kept.proofs.Sound.{same-true}
 use Rattle.hd_grounding.specs.Images.{is_on, change_of}
 use Rattle.hd_grounding.specs.Grounding.{HasFirstValue, IsEffectOf, IsGrounding}
-use Rattle.hd_grounding.specs.Example.{light, lantern, the_instance, the_form, the_effect, the_action, lantern_task}
+use Rattle.hd_grounding.specs.Example.{light, lantern, the_instance, the_form, the_effect, lantern_task}
 use Rattle.hd_grounding.proofs.Grounded.{instance_kept}
 
 -- ---- a list of one
@@ -143,15 +142,18 @@ grounded = record {
   atoms_are = refl;
   fluents_are = refl;
   initial_is = refl;
-  actions_are = (record {
-    schema = light;
-    is_schema = refl;
-    form = refl;
-    condition = refl;
-    changes_atoms = record { adds = refl; deletes = refl };
-    effects = record { exactly = λ e. (effect_is e, effect_there e); rising = only_one (λ (e : Effect). e.fluent ∷ []) the_effect };
-    costs = refl;
-  }, tt);
+  actions_are = (
+    record {
+      schema = light;
+      is_schema = refl;
+      form = refl;
+      condition = refl;
+      changes_atoms = record { adds = refl; deletes = refl };
+      effects = record { exactly = λ e. (effect_is e, effect_there e); rising = only_one (λ (e : Effect). e.fluent ∷ []) the_effect };
+      costs = refl;
+    },
+    tt,
+  );
   goal_is = refl;
   metric_is = refl;
 }

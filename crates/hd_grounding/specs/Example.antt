@@ -1,5 +1,5 @@
 -- A small lifted task and the task that it is grounded to.
-use Rattle.std.specs.Prelude.{true, false, List, [], ◌∷◌, codes, refl, Some, pos}
+use Rattle.std.specs.Prelude.{true, false, [], ◌∷◌, codes, refl, Some, pos}
 use Rattle.hd_base.specs.declared.expression.Operand.TheVariants.{Number, Fluent}
 use Rattle.hd_base.specs.declared.relation.Relation.TheVariants.{GreaterOrEqual}
 use Rattle.hd_base.specs.Expression.{leaf}
