@@ -1,5 +1,5 @@
--- Lists in which no element stands twice.
-use Rattle.std.proofs.Common.{◌≡◌, ◌≢◌, ℕ, zero, suc, ◌+◌, ◌<◌, ◌≤◌, Bool, true, false, cond, List, [], ◌∷◌, ◌++◌, map, filter, length, get_or, Contains, ◌⊎◌, inl, inr, sym, subst, arith}
+-- Lists in which no element stands twice, and how long they are.
+use Rattle.std.proofs.Common.{◌≡◌, ◌≢◌, ℕ, zero, suc, ◌+◌, ◌<◌, ◌≤◌, Bool, true, false, cond, List, [], ◌∷◌, ◌++◌, map, filter, length, get_or, Contains, ◌⊎◌, inl, inr, refl, sym, ap, ◌∙◌, subst, arith}
 use Rattle.std.specs.List.{range_with_len, AllPairs}
 use Rattle.std.proofs.lemmas.List.Elements.{Contains-append_cases, Contains-get_or}
 use Rattle.hd_base.proofs.Members.{Contains-first, Contains-later, Contains-cons_cases, Contains-nil, Contains-map, IsFrom-from_map, Contains-from_filter}
@@ -51,3 +51,45 @@ apart_at (x ∷ xs) (suc i) (suc j) d dis lt h e = apart_at xs i j d dis.1 (omeg
 
 pub AllPairs-from_distinct : {X : Type 0} (xs : List X) → IsDistinct xs → AllPairs (λ x y. x ≢ y) xs
 AllPairs-from_distinct xs dis i j d lt h = apart_at xs i j d dis lt h
+
+-- ---- how long they are
+
+-- a list without one of its elements
+record IsShorter {X : Type 0} (xs : List X) (x : X) : Type 0 where
+  rest : List X
+  shorter : length xs ≡ suc (length rest)
+  others : (y : X) → x ≢ y → Contains xs y → Contains rest y
+
+without : {X : Type 0} (xs : List X) (x : X) → Contains xs x → IsShorter xs x
+without [] x c = absurd (Contains-nil x c)
+without (z ∷ xs) x c =
+    elim (Contains-cons_cases z xs x c) [
+      | inl e ↦ record {
+        rest = xs;
+        shorter = refl;
+        others = λ y other d. elim (Contains-cons_cases z xs y d) [ inl same ↦ absurd (other (sym e ∙ same)) | inr d ↦ d ];
+      }
+      | inr c ↦
+          let k = without xs x c in
+          record {
+            rest = z ∷ k.rest;
+            shorter = ap suc k.shorter;
+            others = λ y other d.
+                elim (Contains-cons_cases z xs y d) [
+                  | inl same ↦ subst (Contains (z ∷ k.rest)) same (Contains-first z k.rest)
+                  | inr d ↦ Contains-later z k.rest y (k.others y other d)
+                ];
+          }
+    ]
+
+-- a list without repetitions whose elements a list has is no longer than that
+pub length-le_from_members : {X : Type 0} (xs ys : List X) → AllPairs (λ x y. x ≢ y) xs → ((x : X) → Contains xs x → Contains ys x) → length xs ≤ length ys
+length-le_from_members [] ys distinct among = omega arith
+length-le_from_members (x ∷ xs) ys distinct among =
+    let k = without ys x (among x (Contains-first x xs)) in
+    let rest = length-le_from_members xs k.rest
+    (λ i j d lt within. distinct (suc i) (suc j) d (omega (arith, lt)) (omega (arith, within)))
+    (λ y c.
+    let apart : x ≢ y = subst (λ z. x ≢ z) c.2 (distinct 0 (suc c.0) y (omega arith) (omega (arith, c.1))) in
+    k.others y apart (among y (Contains-later x xs y c))) in
+    omega (arith, rest, k.shorter)

@@ -4,7 +4,7 @@ use Rattle.std.specs.Prelude.{flat_map}
 use Rattle.std.specs.List.{range_with_len, AllByRecursion}
 use Rattle.std.proofs.lemmas.Bool.{true≢false, false_from_ne_true}
 use Rattle.std.proofs.lemmas.List.{length-map, get_or-map}
-use Rattle.std.proofs.lemmas.List.Elements.{Contains-append_left, Contains-append_right, All-contains, All-contains_itself, All-weaker, All-map, All-filter, All-take, filter_passes}
+use Rattle.std.proofs.lemmas.List.Elements.{Contains-append_cases, Contains-append_left, Contains-append_right, All-contains, All-contains_itself, All-weaker, All-map, All-filter, All-take, filter_passes}
 use Rattle.std.proofs.lemmas.List.FromFn.{length-range_with_len, get_or-range_with_len}
 
 pub Contains-first : {X : Type 0} (x : X) (xs : List X) → Contains (x ∷ xs) x
@@ -82,3 +82,12 @@ fails-from_filter p xs x e c = false_from_ne_true (p x) (λ t. Contains-nil x (s
 pub AllByRecursion-from_contains : {X : Type 0} (P : X → Type 0) (xs : List X) → ((x : X) → Contains xs x → P x) → AllByRecursion P xs
 AllByRecursion-from_contains P [] h = tt
 AllByRecursion-from_contains P (x ∷ xs) h = (h x (Contains-first x xs), AllByRecursion-from_contains P xs (λ y k. h y (Contains-later x xs y k)))
+
+-- what stands in a `flat_map` comes from an element of the list
+pub Contains-from_flat_map : {X Y : Type 0} (f : X → List Y) (xs : List X) (y : Y) → Contains (flat_map f xs) y → (x : X) × Contains xs x × Contains (f x) y
+Contains-from_flat_map f [] y c = absurd (Contains-nil y c)
+Contains-from_flat_map f (x ∷ xs) y c =
+    elim (Contains-append_cases (f x) (flat_map f xs) y c) [
+      | inl c ↦ (x, Contains-first x xs, c)
+      | inr c ↦ let k = Contains-from_flat_map f xs y c in (k.0, Contains-later x xs k.0 k.1, k.2)
+    ]

@@ -1,6 +1,6 @@
 -- Options: what the value of a test, or of the first of two options, tells.
-use Rattle.std.proofs.Common.{◌≡◌, Bool, true, false, cond, Option, Some, None, refl, sym}
-use Rattle.std.specs.Option.{option_or, IsSomeAnd}
+use Rattle.std.proofs.Common.{◌≡◌, Bool, true, false, cond, Option, Some, None, is_some, refl, sym, true≢false}
+use Rattle.std.specs.Option.{option_or, IsSomeAnd, unwrap_or}
 use Rattle.std.proofs.lemmas.Option.{none-some}
 
 pub option_or_none : {A : Type 0} (a b : Option A) → option_or a b ≡ None → (a ≡ None) × (b ≡ None)
@@ -26,3 +26,7 @@ true-from_none false x e = absurd (none-some x (sym e))
 pub false-from_none : {A : Type 0} (b : Bool) (x : A) → cond b (Some x) None ≡ None → b ≡ false
 false-from_none true x e = absurd (none-some x (sym e))
 false-from_none false x e = refl
+
+pub some-unwrap_or : {A : Type 0} (o : Option A) (d : A) → is_some o ≡ true → o ≡ Some (unwrap_or o d)
+some-unwrap_or None d e = absurd (true≢false (sym e))
+some-unwrap_or (Some x) d e = refl

@@ -1,10 +1,12 @@
--- Tests of the elements of a list: whether some passes, where the first stands, how many do.
-use Rattle.std.proofs.Common.{◌≡◌, ℕ, suc, ◌+◌, ◌*◌, ◌<◌, nat_lt, not, ◌||◌, Bool, true, false, cond, List, [], ◌∷◌, ◌++◌, map, set, replicate, length, get_or, Contains, refl, ap, ◌∙◌, arith}
-use Rattle.std.specs.List.{list_any, list_all, prefix_len, position, position_or_len, take_while, count_by}
-use Rattle.std.proofs.lemmas.Bool.{lt-ltb, ltb-true, ne_eqb, cond-false}
+-- Tests of the elements of a list: whether some passes, which does first and where it stands, how many do.
+use Rattle.std.proofs.Common.{◌≡◌, ℕ, suc, ◌+◌, ◌*◌, ◌<◌, nat_lt, not, ◌||◌, Bool, true, false, cond, List, [], ◌∷◌, ◌++◌, map, set, replicate, length, get_or, Contains, Some, None, inl, inr, refl, sym, ap, ◌∙◌, subst, arith}
+use Rattle.std.specs.List.{list_any, list_all, prefix_len, position, position_or_len, take_while, count_by, find}
+use Rattle.std.proofs.lemmas.Bool.{and_from, lt-ltb, ltb-true, ne_eqb, cond-false}
 use Rattle.std.proofs.lemmas.List.{length-map}
 use Rattle.std.proofs.lemmas.List.Folds.{fold-map, list_any-from_Any, prefix_len-append, sum_by-replicate}
 use Rattle.std.proofs.lemmas.List.Sums.{sum_by-set, sum_by-append}
+use Rattle.std.proofs.lemmas.Option.{none-some, same_Some}
+use Rattle.hd_base.proofs.Members.{Contains-first, Contains-later, Contains-cons_cases, Contains-nil}
 use Rattle.hd_base.proofs.Numbers.{nat_lt-suc}
 
 pub list_any-map : {X Y : Type 0} (p : Y → Bool) (f : X → Y) (xs : List X) → list_any p (map f xs) ≡ list_any (λ x. p (f x)) xs
@@ -69,3 +71,30 @@ count_by-set {X} p xs i y d lt was now =
 pub count_by-replicate_none : {X : Type 0} (p : X → Bool) (n : ℕ) (x : X) → p x ≡ false → count_by p (replicate n x) ≡ 0
 count_by-replicate_none p n x e =
     sum_by-replicate (λ y. cond (p y) 1 0) n x ∙ (ap (λ (b : Bool). n * cond b 1 0) e ∙ omega arith)
+
+-- ---- look-ups, and each element
+
+-- what a look-up finds is there and passes
+pub find-Some : {X : Type 0} (p : X → Bool) (xs : List X) (x : X) → find p xs ≡ Some x → Contains xs x × (p x ≡ true)
+find-Some p [] x e = absurd (none-some x e)
+find-Some p (y ∷ xs) x e =
+    elim (p y) as (λ b. p y ≡ b → (cond b (Some y) (find p xs)) ≡ Some x → Contains (y ∷ xs) x × (p x ≡ true)) [
+      | true ↦ λ passes e.
+          let same : y ≡ x = same_Some y x e in
+          (subst (Contains (y ∷ xs)) same (Contains-first y xs), ap p (sym same) ∙ passes)
+      | false ↦ λ _ e. let k = find-Some p xs x e in (Contains-later y xs x k.0, k.1)
+    ] refl e
+
+-- where a look-up finds nothing, nothing passes
+pub find-None : {X : Type 0} (p : X → Bool) (xs : List X) (x : X) → find p xs ≡ None → Contains xs x → p x ≡ false
+find-None p [] x e c = absurd (Contains-nil x c)
+find-None p (y ∷ xs) x e c =
+    elim (p y) as (λ b. p y ≡ b → (cond b (Some y) (find p xs)) ≡ None → p x ≡ false) [
+      | true ↦ λ _ e. absurd (none-some y (sym e))
+      | false ↦ λ fails e. elim (Contains-cons_cases y xs x c) [ inl same ↦ ap p (sym same) ∙ fails | inr c ↦ find-None p xs x e c ]
+    ] refl e
+
+pub list_all-from_each : {X : Type 0} (p : X → Bool) (xs : List X) → ((x : X) → Contains xs x → p x ≡ true) → list_all p xs ≡ true
+list_all-from_each p [] each = refl
+list_all-from_each p (x ∷ xs) each =
+    and_from (p x) (list_all p xs) (each x (Contains-first x xs)) (list_all-from_each p xs (λ y c. each y (Contains-later x xs y c)))

@@ -1,10 +1,10 @@
 -- The atoms after an action, in the domain and in numbers.
-use Rattle.std.proofs.Common.{◌≡◌, ℕ, ◌<◌, Bool, true, false, not, ◌&&◌, ◌||◌, ◌==◌, List, [], ◌∷◌, Contains, Option, Some, None, slice_get, refl, sym, ap, ◌∙◌, subst, arith, get_or, inl, inr}
+use Rattle.std.proofs.Common.{◌≡◌, ℕ, ◌<◌, true, not, ◌&&◌, ◌||◌, ◌==◌, List, [], ◌∷◌, Contains, Option, Some, None, slice_get, refl, sym, ap, ◌∙◌, subst, arith, get_or, inl, inr}
 use Rattle.std.specs.List.{list_any, AllPairs}
 use Rattle.std.proofs.lemmas.Bool.{cases_lt, eqb-true, eq-eqb, false_from_ne_true}
 use Rattle.std.proofs.lemmas.Option.{same_Some, slice_get_within, get_or_from_slice_get}
 use Rattle.std.proofs.lemmas.List.Folds.{list_any-append}
-use Rattle.hd_base.proofs.Truth.{or-false}
+use Rattle.hd_base.proofs.Truth.{or-false, each_way}
 use Rattle.hd_lifted.specs.declared.schema.Applied.{Applied}
 use Rattle.hd_lifted.specs.declared.schema.Ground.{Ground}
 use Rattle.hd_lifted.specs.declared.schema.Schema.{Schema}
@@ -16,16 +16,10 @@ use Rattle.hd_task.specs.Effects.{names_atom, atom_after}
 use Rattle.hd_kept.specs.Numbering.{ComesBefore, form_key}
 use Rattle.hd_kept.proofs.Passing.{Contains-slice_get}
 use Rattle.hd_kept.proofs.Rising.{before_itself}
-use Rattle.hd_kept.proofs.Sound.{same-true}
+use Rattle.hd_kept.proofs.Sound.{same-true, same-refl}
 use Rattle.hd_grounding.specs.Images.{number_of, if_any, numbers_of}
 use Rattle.hd_grounding.specs.Agreement.{Agree, HasAtomsOf}
-use Rattle.hd_grounding.proofs.Numbers.{same-refl, number_of-place, number_of-none}
-
--- two tests that follow from each other are one
-each_way : (a b : Bool) → (a ≡ true → b ≡ true) → (b ≡ true → a ≡ true) → a ≡ b
-each_way true b there back = sym (there refl)
-each_way false true there back = back refl
-each_way false false there back = refl
+use Rattle.hd_grounding.proofs.Numbers.{number_of-place, number_of-none}
 
 module _ (atoms : List Ground) (rising : AllPairs (λ x y. ComesBefore (form_key x) (form_key y)) atoms) where
   -- no atom stands at two places

@@ -100,14 +100,17 @@ module _ (atoms fluents : List Ground) (s : domain.State) (n : State) (agree : A
   turned false true = refl
   turned false false = refl
 
+  -- the conditions on atoms and objects hold in both or in neither
+  pub atoms_hold_alike : (c : lifted_condition.Condition) → IsNumbered atoms fluents objects c → meaning.literals_hold s objects c ≡ literals_hold n (condition_of atoms fluents objects c)
+  atoms_hold_alike c numbered =
+      let equal = list_all (meaning.equality_holds objects) c.equalities in
+      ap (λ b. b && equal) (literals_agree c.literals numbered.wanted)
+      ∙ turned (list_all (literal_holds n) (flat_map (literal_of atoms objects) c.literals)) equal
+
   pub condition_agrees :
       (c : lifted_condition.Condition) → IsNumbered atoms fluents objects c
       → meaning.holds s objects c ≡ holds n (condition_of atoms fluents objects c)
   unfolding meaning.holds holds
   condition_agrees c numbered =
-      let equal = list_all (meaning.equality_holds objects) c.equalities in
-      let literals : meaning.literals_hold s objects c ≡ literals_hold n (condition_of atoms fluents objects c) =
-      ap (λ b. b && equal) (literals_agree c.literals numbered.wanted)
-      ∙ turned (list_all (literal_holds n) (flat_map (literal_of atoms objects) c.literals)) equal in
-      ap (λ b. b && meaning.comparisons_hold s objects c) literals
+      ap (λ b. b && meaning.comparisons_hold s objects c) (atoms_hold_alike c numbered)
       ∙ ap (λ b. literals_hold n (condition_of atoms fluents objects c) && b) (comparisons_agree c.comparisons numbered.read)

@@ -10,14 +10,8 @@ use Rattle.std.proofs.lemmas.List.Quantifiers.{position-Some}
 use Rattle.hd_base.proofs.Tests.{list_any-from_contains, nat_lt-position_or_len}
 use Rattle.hd_lifted.specs.declared.schema.Ground.{Ground}
 use Rattle.hd_lifted.specs.States.{same}
-use Rattle.hd_kept.proofs.Sound.{same-true}
+use Rattle.hd_kept.proofs.Sound.{same-true, same-refl}
 use Rattle.hd_grounding.specs.Images.{number_of}
-
--- ---- ground forms that are the same
-
-pub same-refl : (g : Ground) → same g g ≡ true
-same-refl g =
-    and_from (g.symbol == g.symbol) (pointwise nat_eq g.objects g.objects) (eq-eqb g.symbol g.symbol refl) ((bytes_eq-Decides g.objects g.objects).1 refl)
 
 -- ---- numbers
 

@@ -21,11 +21,10 @@ use Rattle.hd_task.specs.Expressions.{value_of}
 use Rattle.hd_task.specs.Effects.{with_term, value_by_change}
 use Rattle.hd_kept.specs.Met.{fluents_in, changed_by, met_by_effect}
 use Rattle.hd_kept.proofs.Passing.{fails-from_none}
-use Rattle.hd_kept.proofs.Sound.{same-true}
+use Rattle.hd_kept.proofs.Sound.{same-true, same-refl}
 use Rattle.hd_kept.proofs.Unchanged.{either_way}
 use Rattle.hd_grounding.specs.Images.{expression_of, is_on, term_by, term_of, change_by, change_of, changed_value}
 use Rattle.hd_grounding.specs.Agreement.{Agree, HasNumberedEffects}
-use Rattle.hd_grounding.proofs.Numbers.{same-refl}
 use Rattle.hd_grounding.proofs.Holding.{value_agrees}
 
 skipped : (c : Change) (b : Bool) (x amount : Option ℤ) → (not (lifted.is_cost c) && b) ≡ false → (if b then lifted.value_by_change c x amount else x) ≡ x
@@ -98,10 +97,10 @@ module _ (atoms fluents : List Ground) (s : domain.State) (n : State) (agree : A
             ∙ own_alone es x
       ] refl
 
-  no_cost : (e : NumericEffect) → is_on objects g e ≡ true → lifted.is_cost e.change ≡ false
+  pub no_cost : (e : NumericEffect) → is_on objects g e ≡ true → lifted.is_cost e.change ≡ false
   no_cost e on = not-true (lifted.is_cost e.change) (and_parts (not (lifted.is_cost e.change)) (domain.same (domain.ground_form_of objects e.fluent) g) on).0
 
-  on_it : (e : NumericEffect) → is_on objects g e ≡ true → domain.ground_form_of objects e.fluent ≡ g
+  pub on_it : (e : NumericEffect) → is_on objects g e ≡ true → domain.ground_form_of objects e.fluent ≡ g
   on_it e on = same-true (domain.ground_form_of objects e.fluent) g (and_parts (not (lifted.is_cost e.change)) (domain.same (domain.ground_form_of objects e.fluent) g) on).1
 
   -- two effects on the fluent that don't clash are no assignments and no scalings
@@ -113,7 +112,7 @@ module _ (atoms fluents : List Ground) (s : domain.State) (n : State) (agree : A
       or_parts (lifted.stands_alone e.change) (lifted.stands_alone f.change)
       (sym (ap (λ b. b && (lifted.stands_alone e.change || lifted.stands_alone f.change)) together) ∙ none)
 
-  amount_agrees : (a : Schema) (e : NumericEffect) → HasNumberedEffects fluents objects a → Contains a.effects e
+  pub amount_agrees : (a : Schema) (e : NumericEffect) → HasNumberedEffects fluents objects a → Contains a.effects e
       → lifted_value.value_of s.values objects e.amount ≡ Some (value_of n.fluents (expression_of fluents objects e.amount))
   amount_agrees a e read c =
       value_agrees atoms fluents s n agree objects e.amount (λ h k.
@@ -148,7 +147,7 @@ module _ (atoms fluents : List Ground) (s : domain.State) (n : State) (agree : A
       ])
 
   -- of the effects on the fluent there is one at most, or none has to stand alone
-  one_or_sums : (es : List NumericEffect) → lifted.effects_clash objects es ≡ false
+  pub one_or_sums : (es : List NumericEffect) → lifted.effects_clash objects es ≡ false
       → ((x : NumericEffect) → Contains (filter (is_on objects g) es) x → lifted.stands_alone x.change ≡ false) ⊎ (length (filter (is_on objects g) es) ≤ 1)
   one_or_sums [] none = inr (omega arith)
   one_or_sums (h ∷ es) none =

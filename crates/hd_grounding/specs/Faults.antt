@@ -8,7 +8,6 @@ use Rattle.hd_lifted.specs.declared.task.LiftedTask.{LiftedTask}
 use Rattle.hd_lifted.specs.declared.instance.Instance.{Instance}
 use Rattle.hd_lifted.specs.States.{first_value}
 use Rattle.hd_lifted.specs.Effects.{sum_of_costs, is_negative}
-use Rattle.hd_lifted.specs.Plans.{IsInstance}
 use Rattle.hd_task.specs.declared.task.TheConstants.{MAX_ACTIONS, MAX_ATOMS, MAX_FLUENTS, MAX_AMOUNTS}
 use Rattle.hd_kept.specs.Amounts.{is_constant}
 use Rattle.hd_kept.specs.Kept.{IsKept}

@@ -1,4 +1,5 @@
 pub mod Agreement
+pub mod Example
 pub mod Faults
 pub mod Grounding
 pub mod Images

@@ -4,16 +4,20 @@ ghost use Rattle.hd_lifted.specs.declared.schema.Ground.{Ground};
 ghost use Rattle.hd_lifted.specs.declared.schema.Condition as lifted;
 ghost use Rattle.hd_lifted.specs.declared.schema.Schema.{Schema};
 ghost use Rattle.hd_lifted.specs.declared.task.LiftedTask.{LiftedTask};
+ghost use Rattle.hd_lifted.specs.declared.instance.Instance.{Instance};
 ghost use Rattle.hd_lifted.specs.Effects.{atoms_after, value_after, effects_clash};
 ghost use Rattle.hd_lifted.specs.States as domain;
 ghost use Rattle.hd_lifted.specs.Conditions as meaning;
 ghost use Rattle.hd_task.specs.declared.state.State.{State};
 ghost use Rattle.hd_task.specs.declared.action.Action.{Action};
+ghost use Rattle.hd_task.specs.declared.task.Task.{Task};
 ghost use Rattle.hd_task.specs.Effects.{atom_after, sum_of_costs};
 ghost use Rattle.hd_lifted.specs.Effects as domain_costs;
 ghost use Rattle.hd_kept.specs.Numbering.{NumbersAtoms};
 ghost use Rattle.hd_task.specs.Conditions.{holds};
 ghost use Rattle.hd_grounding.specs.Images.{condition_of, costs_of, is_on, change_of, changed_value};
+ghost use Rattle.hd_grounding.specs.Grounding.{IsGrounding};
+ghost use Rattle.hd_grounding.specs.Faults.{IsTooLarge, IsUndefined, IsNegative};
 ghost use Rattle.hd_grounding.specs.Agreement.{Agree, IsNumbered, HasAtomsOf, KeepsFirstValues, HasNumberedEffects};
 
 /// Where a state of the domain and one of the task agree, a condition holds in the one exactly where its image does in the other, if
@@ -50,4 +54,19 @@ pub fn values_are_grounded()
         → effects_clash objects a.effects ≡ false → s.values g ≡ Some z
         → value_after s.values a objects g ≡ Some (changed_value n.fluents
         (change_of fluents objects (filter (is_on objects g) a.effects)) z) }
+{}
+
+/// A lifted task has one grounding at most: whoever grounds it makes the same task, with the same numbers.
+pub fn groundings_are_one()
+    ensures { (t : LiftedTask) (u v : Task) → IsGrounding t u → IsGrounding t v → u ≡ v }
+{}
+
+/// What is too large, reads a fluent without a first value, or costs less than 0 in each state has no grounding: so no fault is told
+/// of a task that could have been made.
+pub fn faults_leave_no_grounding()
+    ensures too_large { (t : LiftedTask) (u : Task) → IsGrounding t u → IsTooLarge t → ⊥ }
+    ensures undefined { (t : LiftedTask) (u : Task) (g : Ground)
+        → IsGrounding t u → IsUndefined t g → ⊥ }
+    ensures negative { (t : LiftedTask) (u : Task) (i : Instance)
+        → IsGrounding t u → IsNegative t i → ⊥ }
 {}

@@ -48,7 +48,8 @@ with_effects v objects g (e ∷ es) x none =
     left_alone e.change (e.fluent.symbol == g.symbol) (pointwise nat_eq (ground_form_of objects e.fluent).objects g.objects) x (value_of v objects e.amount) parts.0 in
     ap (λ y. fold (with_effect v objects g) y es) same ∙ with_effects v objects g es x parts.1
 
-unchanged_after : (t : LiftedTask) (k : ℕ) (a : Schema) (v : Values) (objects : List ℕ) (g : Ground)
+-- a step by a schema leaves a fluent of such a function as it is
+pub unchanged_after : (t : LiftedTask) (k : ℕ) (a : Schema) (v : Values) (objects : List ℕ) (g : Ground)
     → slice_get t.schemas k ≡ Some a → is_changed t g.symbol ≡ false → value_after v a objects g ≡ v g
 unfolding is_changed
 unchanged_after t k a v objects g at none =

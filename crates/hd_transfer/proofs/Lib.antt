@@ -1,0 +1,5 @@
+pub mod Departing
+pub mod Ranges
+pub mod Runs
+pub mod Steps
+pub mod Telling
