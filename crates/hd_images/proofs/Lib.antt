@@ -1,0 +1,2 @@
+pub mod KeyForms
+pub mod Numbering

@@ -1,0 +1,11 @@
+//! What stands for the parts of a lifted task in a task of numbers: atoms and fluents by number, and the images of conditions, effects
+//! and costs.
+//!
+//! Each function computes the definition of hd_grounding's `specs/` that has its name. Ground forms are found by hash, as keys: their
+//! symbol and then their objects.
+#![tactic(auto)]
+
+mod keys;
+mod numbers;
+
+pub use numbers::Numbers;

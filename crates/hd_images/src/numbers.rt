@@ -1,0 +1,108 @@
+//! Ground forms by number.
+ghost use Rattle.std.specs.Prelude.{◌≡◌, ◌≤◌, ◌^◌, Contains, length, map, IfOk};
+ghost use Rattle.hd_lifted.specs.declared.schema.Ground.{Ground};
+ghost use Rattle.hd_lifted.specs.States.{ground_form_of};
+ghost use Rattle.hd_kept.specs.Numbering.{form_key, HasExactly};
+ghost use Rattle.hd_grounding.specs.Images.{number_of};
+ghost use Rattle.hd_grounding.specs.Grounding.{form_of};
+ghost use Rattle.hd_images.specs.Keys.{forms_of, IsRising};
+
+use crate::keys::{Key, key_at, key_of};
+use hd_base::{NoMemory, Seed};
+use hd_lifted::Applied;
+use hd_task::{GroundForm, Sequence};
+use indexmap::IndexSet;
+use std::alloc::Global;
+use std::marker::Model;
+
+/// Ground atoms, or ground fluents, which are numbered from 0 in the order of their symbols and then of their objects. Contracts see the
+/// list of them.
+#[derive(Drop)]
+pub struct Numbers {
+    keys: IndexSet<Key, Seed>,
+}
+
+impl Model for Numbers {
+    ghost use Rattle.std.specs.Prelude.{List};
+    ghost use Rattle.hd_lifted.specs.declared.schema.Ground.{Ground};
+    ghost use Rattle.hd_images.specs.Keys.{forms_of, AreNumbered};
+
+    ghost Value = { List Ground };
+
+    ghost view = { λ n. forms_of n.keys.keys };
+
+    ghost invariant = { λ n. AreNumbered n.keys.keys };
+}
+
+impl Numbers {
+    /// These forms, each once, in a table that hashes by the seed.
+    ///
+    /// # Errors
+    /// Want of memory.
+    pub fn of(
+        alloc: Global,
+        seed: Seed,
+        forms: &[hd_lifted::Ground],
+    ) -> Result<Numbers, NoMemory>
+        requires { length forms.now ≤ 2 ^ 32 }
+        ensures { IfOk result (HasExactly (Contains forms.now) form_key) }
+    {
+        let mut keys = IndexSet::with_hasher(alloc, seed);
+        for form in forms {
+            keys.insert(key_of(alloc, form)?)?;
+        }
+        keys.sort_unstable()?;
+        Ok(Numbers { keys })
+    }
+
+    /// Each form comes before the next, so that it has one number: nothing is computed.
+    pub fn are_rising(&self)
+        ensures { IsRising self.now }
+    {
+        let _keys = self.keys.len();
+    }
+
+    /// How many there are.
+    pub fn len(&self) -> usize
+        ensures { result ≡ length self.now }
+    {
+        self.keys.len()
+    }
+
+    /// The number of the form with this key.
+    fn number_by(&self, key: &Key) -> Option<u32>
+        ensures { (g : Ground) → key.now.items ≡ form_key g → result ≡ number_of self.now g }
+    {
+        match self.keys.get_index_of(key) {
+            Some(place) => Some(place as u32),
+            None => None,
+        }
+    }
+
+    /// The number of a form, if it has one.
+    ///
+    /// # Errors
+    /// Want of memory, where the form has more than four objects.
+    pub fn number_of(&self, alloc: Global, form: &hd_lifted::Ground) -> Result<Option<u32>, NoMemory>
+        ensures { IfOk result (λ n. n ≡ number_of self.now form.now) }
+    {
+        let key = key_of(alloc, form)?;
+        Ok(self.number_by(&key))
+    }
+
+    /// The number of a form with objects in the place of its arguments, if it has one.
+    ///
+    /// # Errors
+    /// Want of memory, where the form has more than four objects.
+    pub fn number_at(
+        &self,
+        alloc: Global,
+        objects: &[usize],
+        said: &Applied,
+    ) -> Result<Option<u32>, NoMemory>
+        ensures { IfOk result (λ n. n ≡ number_of self.now (ground_form_of objects.now said.now)) }
+    {
+        let key = key_at(alloc, objects, said)?;
+        Ok(self.number_by(&key))
+    }
+}
