@@ -5,7 +5,11 @@
 //! symbol and then their objects.
 #![tactic(auto)]
 
+mod conditions;
+mod expressions;
 mod keys;
 mod numbers;
 
+pub use conditions::{condition_of, numbers_of};
+pub use expressions::expression_of;
 pub use numbers::Numbers;
