@@ -1,2 +1,3 @@
 pub mod KeyForms
 pub mod Numbering
+pub mod Putting

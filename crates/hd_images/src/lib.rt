@@ -5,10 +5,12 @@
 //! symbol and then their objects.
 #![tactic(auto)]
 
+mod changed;
 mod conditions;
 mod expressions;
 mod keys;
 mod numbers;
+mod values;
 
 pub use conditions::{condition_of, numbers_of};
 pub use expressions::expression_of;
