@@ -19,3 +19,8 @@ has_function c f = list_any (nat_eq f) c.functions.keys
 -- the value in the table at a key, if there is one
 abbrev pub value_at : FirstValues → List ℕ → Option ℤ
 value_at v key = lookup (λ (k : SmallVec ℕ). pointwise nat_eq key k.items) v.values.entries
+
+-- the tables are those of a task
+pub record AreTablesOf (t : LiftedTask) (changed : Changed) (values : FirstValues) : Type 0 where
+  pub changed_are : (f : ℕ) → has_function changed f ≡ is_changed t f
+  pub values_are : (g : Ground) → value_at values (form_key g) ≡ first_value t.values g

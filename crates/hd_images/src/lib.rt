@@ -7,11 +7,15 @@
 
 mod changed;
 mod conditions;
+mod costs;
 mod expressions;
 mod keys;
+mod lookups;
 mod numbers;
 mod values;
 
 pub use conditions::{condition_of, numbers_of};
+pub use costs::costs_of;
 pub use expressions::expression_of;
+pub use lookups::Lookups;
 pub use numbers::Numbers;

@@ -1,13 +1,13 @@
 //! First values.
 ghost use Rattle.std.specs.Prelude.{◌≡◌, ℕ, List, IfOk};
 ghost use Rattle.hd_lifted.specs.declared.schema.Ground.{Ground};
-ghost use Rattle.hd_lifted.specs.States.{first_value, ground_form_of};
+ghost use Rattle.hd_lifted.specs.States.{first_value};
 ghost use Rattle.hd_kept.specs.Numbering.{form_key};
 ghost use Rattle.hd_images.specs.Tables.{value_at};
 
-use crate::keys::{Key, key_at, key_of};
+use crate::keys::{Key, key_of};
 use hd_base::{NoMemory, Seed};
-use hd_lifted::{Applied, InitialValue};
+use hd_lifted::InitialValue;
 use indexmap::IndexMap;
 use std::alloc::Global;
 
@@ -42,18 +42,5 @@ impl FirstValues {
         ensures { result ≡ value_at self.now key.now.items }
     {
         self.values.get(key).copied()
-    }
-
-    /// The first value of a fluent with objects in the place of its arguments, if it has one.
-    pub(crate) fn at(
-        &self,
-        alloc: Global,
-        objects: &[usize],
-        said: &Applied,
-    ) -> Result<Option<i64>, NoMemory>
-        ensures { IfOk result (λ v. v ≡ value_at self.now (form_key (ground_form_of objects.now said.now))) }
-    {
-        let key = key_at(alloc, objects, said)?;
-        Ok(self.by_key(&key))
     }
 }
