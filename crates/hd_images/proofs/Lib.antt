@@ -1,3 +1,5 @@
 pub mod KeyForms
 pub mod Numbering
 pub mod Putting
+pub mod Gathered
+pub mod Exact

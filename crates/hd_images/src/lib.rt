@@ -8,6 +8,7 @@
 mod changed;
 mod conditions;
 mod costs;
+mod effects;
 mod expressions;
 mod keys;
 mod lookups;
@@ -16,6 +17,7 @@ mod values;
 
 pub use conditions::{condition_of, numbers_of};
 pub use costs::costs_of;
+pub use effects::effects_of;
 pub use expressions::expression_of;
 pub use lookups::Lookups;
 pub use numbers::Numbers;
