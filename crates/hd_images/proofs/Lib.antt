@@ -3,3 +3,4 @@ pub mod Numbering
 pub mod Putting
 pub mod Gathered
 pub mod Exact
+pub mod Starting

@@ -5,6 +5,7 @@
 //! symbol and then their objects.
 #![tactic(auto)]
 
+mod actions;
 mod changed;
 mod conditions;
 mod costs;
@@ -12,12 +13,17 @@ mod effects;
 mod expressions;
 mod keys;
 mod lookups;
+mod names;
 mod numbers;
+mod start;
 mod values;
 
+pub use actions::action_of;
 pub use conditions::{condition_of, numbers_of};
 pub use costs::costs_of;
 pub use effects::effects_of;
 pub use expressions::expression_of;
 pub use lookups::Lookups;
+pub use names::{form_of_instance, forms_of, names_in};
 pub use numbers::Numbers;
+pub use start::start_in;

@@ -1,16 +1,14 @@
 //! Ground forms by number.
-ghost use Rattle.std.specs.Prelude.{◌≡◌, ◌≤◌, ◌^◌, Contains, length, map, IfOk};
+ghost use Rattle.std.specs.Prelude.{◌≡◌, ◌≤◌, ◌^◌, All, Contains, length, IfOk};
 ghost use Rattle.hd_lifted.specs.declared.schema.Ground.{Ground};
 ghost use Rattle.hd_lifted.specs.States.{ground_form_of};
 ghost use Rattle.hd_kept.specs.Numbering.{form_key, HasExactly};
 ghost use Rattle.hd_grounding.specs.Images.{number_of};
-ghost use Rattle.hd_grounding.specs.Grounding.{form_of};
-ghost use Rattle.hd_images.specs.Keys.{forms_of, IsRising};
+ghost use Rattle.hd_images.specs.Keys.{forms_of, HasSymbol, IsRising};
 
 use crate::keys::{Key, key_at, key_of};
 use hd_base::{NoMemory, Seed};
 use hd_lifted::Applied;
-use hd_task::{GroundForm, Sequence};
 use indexmap::IndexSet;
 use std::alloc::Global;
 use std::marker::Model;
@@ -67,6 +65,14 @@ impl Numbers {
         ensures { result ≡ length self.now }
     {
         self.keys.len()
+    }
+
+    /// The keys of the forms, in their order.
+    pub(crate) fn keys(&self) -> &[Key]
+        ensures forms { forms_of result.now ≡ self.now }
+        ensures have_symbols { All HasSymbol result.now }
+    {
+        self.keys.as_slice()
     }
 
     /// The number of the form with this key.
