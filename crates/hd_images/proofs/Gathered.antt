@@ -1,41 +1,32 @@
 -- Effects that are gathered by their fluents' numbers.
-use Rattle.std.proofs.Common.{◌≡◌, ◌≢◌, ◌↔◌, ℕ, zero, suc, ◌+◌, ◌<◌, ◌≤◌, ◌==◌, ◌&&◌, not, Bool, true, false, cond, List, [], ◌∷◌, ◌++◌, map, filter, take, length, get_or, Contains, Option, Some, None, slice_get, inl, inr, refl, sym, ap, ap₂, ◌∙◌, subst, true≢false, arith}
+use Rattle.std.proofs.Common.{◌≡◌, ℕ, ◌+◌, ◌<◌, ◌&&◌, not, Bool, true, false, cond, List, [], ◌∷◌, ◌++◌, map, filter, take, length, get_or, Option, Some, None, slice_get, inl, inr, refl, sym, ap, ◌∙◌, subst, true≢false, arith}
 use Rattle.std.specs.Prelude.{nat_eq, if◌then◌else◌, option_and_then}
-use Rattle.std.specs.BTreeMap.{BTreeMap, get, keys, IsOrdered, is_at}
-use Rattle.std.specs.Map.{keys_of}
 use Rattle.std.specs.Cmp.{both_ways}
 use Rattle.std.specs.Ordering.{nat_cmp}
 use Rattle.std.specs.Cmp.Lexicographic.{slice_cmp}
 use Rattle.std.specs.declared.cmp.Ordering.TheVariants.{Less}
-use Rattle.std.proofs.lemmas.Cmp.{nat_cmp_total}
 use Rattle.std.proofs.lemmas.Bool.{eqb-true, eq-eqb, and_parts, cases_lt}
-use Rattle.std.proofs.lemmas.List.{append-nil, map-append, length-map, get_or-map}
-use Rattle.std.proofs.lemmas.List.Elements.{filter_more, Contains-get_or}
-use Rattle.std.proofs.lemmas.Map.Entries.{btree_map_get_place, place_from_lookup}
-use Rattle.std.proofs.lemmas.Map.Keys.{Less-from_sorted}
-use Rattle.std.proofs.lemmas.Option.{none-some, same_Some, slice_get-get_or, get_or_from_slice_get, slice_get_within}
-use Rattle.hd_base.proofs.Members.{Contains-map, IsFrom-from_map}
+use Rattle.std.proofs.lemmas.List.{append-nil, map-append}
+use Rattle.std.proofs.lemmas.List.Elements.{filter_more}
+use Rattle.std.proofs.lemmas.Option.{none-some, same_Some, get_or_from_slice_get, slice_get_within}
 use Rattle.hd_base.specs.declared.expression.Operand.{Operand}
 use Rattle.hd_base.specs.Expression.{Expression}
 use Rattle.hd_lifted.specs.declared.schema.Ground.{Ground}
 use Rattle.hd_lifted.specs.declared.schema.NumericEffect.{NumericEffect}
-use Rattle.hd_lifted.specs.declared.schema.Schema.{Schema}
 use Rattle.hd_lifted.specs.declared.schema.Change as lifted_change
 use Rattle.hd_lifted.specs.declared.schema.Change.TheVariants as lifted_changes
 use Rattle.hd_lifted.specs.States.{same, ground_form_of}
 use Rattle.hd_lifted.specs.Effects.{is_cost}
 use Rattle.hd_task.specs.declared.effect.Term.{Term}
 use Rattle.hd_task.specs.declared.effect.Change.{Change}
-use Rattle.hd_task.specs.declared.effect.Effect.{Effect}
-use Rattle.hd_kept.specs.Numbering.{form_key, HasExactly}
+use Rattle.hd_kept.specs.Numbering.{form_key}
 use Rattle.hd_kept.proofs.Passing.{Contains-slice_get}
 use Rattle.hd_kept.proofs.Rising.{before_itself}
 use Rattle.hd_kept.proofs.Sound.{same-true}
 use Rattle.hd_grounding.specs.Images.{number_of, expression_of, is_on, term_by, term_of, change_by, change_of}
-use Rattle.hd_grounding.specs.Grounding.{IsEffectOf, HasEffectsOf}
 use Rattle.hd_grounding.proofs.Numbers.{same-refl, number_of-place, number_of-none, number_of-there}
 use Rattle.hd_images.specs.Keys.{IsRising}
-use Rattle.hd_images.specs.Gathering.{change_with, change_on, change_at, change_in, effect_from}
+use Rattle.hd_images.specs.Gathering.{change_with, change_on, change_at, change_in}
 
 -- ---- each form has one number
 
@@ -131,8 +122,8 @@ pub change_in-more : (fluents : List Ground) (objects : List ℕ) (effects : Lis
     → change_at fluents objects e n (change_in fluents objects (take i effects) n) ≡ change_in fluents objects (take (i + 1) effects) n
 change_in-more fluents objects effects i e n lt at =
     elim (slice_get fluents n) as (λ o.
-      change_on fluents objects e (option_and_then (λ g. change_of fluents objects (filter (is_on objects g) (take i effects))) o) o
-      ≡ option_and_then (λ g. change_of fluents objects (filter (is_on objects g) (take (i + 1) effects))) o) [
+    change_on fluents objects e (option_and_then (λ g. change_of fluents objects (filter (is_on objects g) (take i effects))) o) o
+    ≡ option_and_then (λ g. change_of fluents objects (filter (is_on objects g) (take (i + 1) effects))) o) [
       | None ↦ refl
       | Some g ↦
           on-one fluents objects (filter (is_on objects g) (take i effects)) e (is_on objects g e)

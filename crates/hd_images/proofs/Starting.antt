@@ -1,7 +1,6 @@
 -- The bits of atoms of which some are listed.
-use Rattle.std.proofs.Common.{◌≡◌, ◌≢◌, ℕ, ◌+◌, ◌<◌, ◌≤◌, ◌||◌, Bool, true, false, List, [], ◌∷◌, ◌++◌, map, set, replicate, take, length, get_or, Contains, Option, Some, None, slice_get, refl, sym, ap, ap₂, ◌∙◌, subst, true≢false, arith}
+use Rattle.std.proofs.Common.{◌≡◌, ℕ, ◌+◌, ◌<◌, ◌||◌, Bool, true, false, List, [], ◌∷◌, ◌++◌, map, set, replicate, take, length, get_or, Contains, Some, None, refl, sym, ap, ◌∙◌, subst, true≢false, arith}
 use Rattle.std.specs.Prelude.{nat_eq}
-use Rattle.std.specs.List.{list_any}
 use Rattle.std.specs.Cmp.{both_ways}
 use Rattle.std.proofs.lemmas.Bool.{eqb-true, eq-eqb}
 use Rattle.std.proofs.lemmas.List.{take_more, map-append, length-map, length-set, get_or-map, ext_get_or, get_or-set_same, get_or-set_other}
@@ -60,10 +59,10 @@ bits-put forms listed i n a rising lt at is =
           ∙ (sym (true-or (old g)) ∙ (ap (λ (b : Bool). old g || b) (sym (ap (same a) one ∙ same-refl a)) ∙ sym now))
       | false ↦ λ f.
           let other : same a g ≡ false =
-              both_ways (same a g) false
-              (λ t. let e : a ≡ g = same-true a g t in
-              absurd (true≢false (sym (ap (λ (m : ℕ). nat_eq j m) (same_Some n j (sym is ∙ (ap (number_of forms) e ∙ number_of-rising forms g j rising (slice_get-get_or forms j a there)))) ∙ eq-eqb j j refl) ∙ f)))
-              (λ u. absurd (true≢false (sym u))) in
+          both_ways (same a g) false
+          (λ t. let e : a ≡ g = same-true a g t in
+          absurd (true≢false (sym (ap (λ (m : ℕ). nat_eq j m) (same_Some n j (sym is ∙ (ap (number_of forms) e ∙ number_of-rising forms g j rising (slice_get-get_or forms j a there)))) ∙ eq-eqb j j refl) ∙ f)))
+          (λ u. absurd (true≢false (sym u))) in
           get_or-set_other (map old forms) n j true false (λ e. true≢false (sym (eq-eqb j n e) ∙ f))
           ∙ (get_or-map old forms j a false there ∙ (sym (or-false (old g)) ∙ (ap (λ (b : Bool). old g || b) (sym other) ∙ sym now)))
     ] refl)
@@ -81,9 +80,9 @@ bits-none forms listed i a lt at none =
     let there : j < length forms = omega arith in
     let g = get_or forms j a in
     let other : same a g ≡ false =
-        both_ways (same a g) false
-        (λ t. absurd (number_of-none forms a none (subst (Contains forms) (sym (same-true a g t)) (Contains-get_or forms j a there))))
-        (λ u. absurd (true≢false (sym u))) in
+    both_ways (same a g) false
+    (λ t. absurd (number_of-none forms a none (subst (Contains forms) (sym (same-true a g t)) (Contains-get_or forms j a there))))
+    (λ u. absurd (true≢false (sym u))) in
     get_or-map old forms j a false there
     ∙ (sym (or-false (old g)) ∙ (ap (λ (b : Bool). old g || b) (sym other) ∙ (sym (listed-more listed i a g lt at) ∙ sym (get_or-map new forms j a false there)))))
 

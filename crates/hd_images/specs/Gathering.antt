@@ -1,5 +1,5 @@
 -- How the effects on one fluent become one change, an effect after the other. (Our own.)
-use Rattle.std.specs.Prelude.{◌≡◌, ℕ, if◌then◌else◌, List, [], ◌∷◌, ◌++◌, filter, Option, Some, None, slice_get, option_and_then}
+use Rattle.std.specs.Prelude.{ℕ, if◌then◌else◌, List, [], ◌∷◌, ◌++◌, filter, Option, Some, None, slice_get, option_and_then}
 use Rattle.hd_base.specs.declared.expression.Operand.{Operand}
 use Rattle.hd_base.specs.Expression.{Expression}
 use Rattle.hd_lifted.specs.declared.schema.Ground.{Ground}

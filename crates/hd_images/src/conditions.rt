@@ -66,7 +66,8 @@ fn equality_holds(objects: &[usize], said: Equality) -> bool
 fn equalities_hold(objects: &[usize], said: &[Equality]) -> bool
     ensures { result ≡ list_all (equality_holds objects.now) said.now }
 {
-    said.iter().all(|equality| equality_holds(objects, *equality))
+    said.iter()
+        .all(|equality| equality_holds(objects, *equality))
 }
 
 /// A comparison, each fluent by its number.

@@ -106,10 +106,7 @@ fn gather(
 }
 
 /// The effects that these changes are.
-fn effects_from(
-    alloc: Global,
-    changes: BTreeMap<u32, Change>,
-) -> Result<Sequence<Effect>, NoMemory>
+fn effects_from(alloc: Global, changes: BTreeMap<u32, Change>) -> Result<Sequence<Effect>, NoMemory>
     ensures effects { IfOk result (λ s. s ≡ map effect_from changes.entries) }
     ensures ordered { IsOrdered nat_cmp changes }
 {

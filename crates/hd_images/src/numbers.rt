@@ -37,11 +37,7 @@ impl Numbers {
     ///
     /// # Errors
     /// Want of memory.
-    pub fn of(
-        alloc: Global,
-        seed: Seed,
-        forms: &[hd_lifted::Ground],
-    ) -> Result<Numbers, NoMemory>
+    pub fn of(alloc: Global, seed: Seed, forms: &[hd_lifted::Ground]) -> Result<Numbers, NoMemory>
         requires { length forms.now ≤ 2 ^ 32 }
         ensures { IfOk result (HasExactly (Contains forms.now) form_key) }
     {
@@ -89,7 +85,11 @@ impl Numbers {
     ///
     /// # Errors
     /// Want of memory, where the form has more than four objects.
-    pub fn number_of(&self, alloc: Global, form: &hd_lifted::Ground) -> Result<Option<u32>, NoMemory>
+    pub fn number_of(
+        &self,
+        alloc: Global,
+        form: &hd_lifted::Ground,
+    ) -> Result<Option<u32>, NoMemory>
         ensures { IfOk result (λ n. n ≡ number_of self.now form.now) }
     {
         let key = key_of(alloc, form)?;

@@ -10,11 +10,7 @@ use hd_task::State;
 use std::alloc::Global;
 
 /// Which atoms are listed.
-fn bits_of(
-    alloc: Global,
-    atoms: &Numbers,
-    listed: &[Ground],
-) -> Result<Sequence<bool>, NoMemory>
+fn bits_of(alloc: Global, atoms: &Numbers, listed: &[Ground]) -> Result<Sequence<bool>, NoMemory>
     ensures { IfOk result (λ s. s ≡ map (is_listed listed.now) atoms.now) }
 {
     atoms.are_rising();

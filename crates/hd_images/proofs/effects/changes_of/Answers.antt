@@ -1,5 +1,4 @@
-use Rattle.std.proofs.Common.{◌≡◌, ◌∙◌, ℕ, Option, sym, ap, arith}
-use Rattle.hd_task.specs.declared.effect.Change.{Change}
+use Rattle.std.proofs.Common.{◌∙◌, ap, arith}
 use Rattle.hd_images.specs.Gathering.{change_at}
 use Rattle.hd_images.proofs.Gathered.{change_in-more}
 use Rattle.hd_images.proofs.effects.changes_of.Goals as goal

@@ -1,8 +1,7 @@
-use Rattle.std.proofs.Common.{◌≡◌, ◌∙◌, List, sym, ap, subst}
+use Rattle.std.proofs.Common.{◌∙◌, List, sym, ap, subst}
 use Rattle.std.proofs.lemmas.Result.{IfOk-weaker}
 use Rattle.hd_lifted.specs.declared.schema.NumericEffect.{NumericEffect}
 use Rattle.hd_images.specs.Gathering.{change_in}
-use Rattle.hd_task.specs.declared.effect.Effect.{Effect}
 use Rattle.hd_grounding.specs.Grounding.{HasEffectsOf}
 use Rattle.hd_images.proofs.Exact.{effects-exactly}
 use Rattle.hd_images.proofs.effects.effects_of.Goals as goal

@@ -1,6 +1,5 @@
-use Rattle.std.proofs.Common.{◌≡◌, ◌∙◌, ℕ, List, map, ap, sym}
+use Rattle.std.proofs.Common.{◌∙◌, map, ap, sym}
 use Rattle.std.proofs.lemmas.List.{take_all}
-use Rattle.smallvec.specs.SmallVec.{SmallVec}
 use Rattle.hd_grounding.specs.Grounding.{form_of}
 use Rattle.hd_images.specs.Keys.{form_by}
 use Rattle.hd_images.proofs.Starting.{map-map}

@@ -1,5 +1,4 @@
-use Rattle.std.proofs.Common.{◌≡◌, ℕ, map, take}
-use Rattle.smallvec.specs.SmallVec.{SmallVec}
+use Rattle.std.proofs.Common.{◌≡◌, map, take}
 use Rattle.hd_grounding.specs.Grounding.{form_of}
 use Rattle.hd_images.specs.Keys.{form_by}
 use Rattle.hd_images.proofs.names.forms_of.Given as goal

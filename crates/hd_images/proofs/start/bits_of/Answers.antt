@@ -1,5 +1,4 @@
-use Rattle.std.proofs.Common.{◌≡◌, ◌∙◌, ℕ, Bool, true, false, List, map, set, replicate, take, ap, sym, rules, arith}
-use Rattle.hd_lifted.specs.States.{is_listed}
+use Rattle.std.proofs.Common.{◌≡◌, ◌∙◌, ℕ, Bool, true, false, List, set, replicate, ap, sym, rules, arith}
 use Rattle.hd_images.proofs.Starting.{none_listed, bits-put, bits-none}
 use Rattle.hd_images.proofs.start.bits_of.Goals as goal
 use Rattle.hd_images.proofs.start.bits_of.Goals.{in-Some, in_default}

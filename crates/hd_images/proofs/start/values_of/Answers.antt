@@ -19,7 +19,7 @@ loop-key-preserved c =
     let fits : SFits w64 c.unwrap_or.result = search rules in
     let key : HasSymbol k = subst HasSymbol (sym c.key-item.is) (c.keys-key-items.ensures.have_symbols i k (omega arith)) in
     let value : c.unwrap_or.result ≡ unwrap_or (first_value values (form_by k.items)) (pos 0) =
-        c.unwrap_or.ensures ∙ ap (λ (o : Option ℤ). unwrap_or o (pos 0)) (c.value_by_key.ensures (form_by k.items) (sym (form_key-form_by k key))) in
+    c.unwrap_or.ensures ∙ ap (λ (o : Option ℤ). unwrap_or o (pos 0)) (c.value_by_key.ensures (form_by k.items) (sym (form_key-form_by k key))) in
     c.in_ok-push.ensures.items
     ∙ (ap₂ (λ (vs : List ℤ) (v : ℤ). vs ++ v ∷ []) c.loop-key.invariant (to_z-of_z w64 c.unwrap_or.result fits ∙ value)
     ∙ sym (map_more (λ (k : SmallVec ℕ). unwrap_or (first_value values (form_by k.items)) (pos 0)) keys i k (omega arith) c.key-item.is))

@@ -1,4 +1,4 @@
-use Rattle.std.proofs.Common.{◌≡◌, ℕ, map, take, pos}
+use Rattle.std.proofs.Common.{◌≡◌, map, take, pos}
 use Rattle.std.specs.Prelude.{unwrap_or}
 use Rattle.hd_lifted.specs.States.{first_value}
 use Rattle.hd_images.specs.Keys.{form_by}

@@ -1,4 +1,4 @@
-use Rattle.std.proofs.Common.{◌≡◌, ◌∙◌, sym, ap}
+use Rattle.std.proofs.Common.{◌∙◌, sym, ap}
 use Rattle.hd_grounding.specs.Images.{number_of}
 use Rattle.hd_images.proofs.KeyForms.{number_of-by_key}
 use Rattle.hd_images.proofs.numbers.Numbers.number_by.Goals as goal
