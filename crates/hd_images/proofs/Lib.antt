@@ -4,3 +4,4 @@ pub mod Putting
 pub mod Gathered
 pub mod Exact
 pub mod Starting
+pub mod MeetingForms
