@@ -1,7 +1,7 @@
 -- Keys that tables hold, and the ground forms with these keys.
-use Rattle.std.proofs.Common.{◌≡◌, ℕ, ◌+◌, Bool, not, List, [], ◌∷◌, cond, length, get_or, position, nat_lt, All, Some, None, refl, sym, ap, ap₂, ◌∙◌}
+use Rattle.std.proofs.Common.{◌≡◌, ℕ, ◌+◌, ◌||◌, Bool, not, List, [], ◌∷◌, cond, length, get_or, position, nat_lt, All, Some, None, refl, sym, ap, ap₂, ◌∙◌}
 use Rattle.std.specs.Prelude.{nat_eq}
-use Rattle.std.specs.List.{prefix_len}
+use Rattle.std.specs.List.{list_any, prefix_len}
 use Rattle.std.specs.Cmp.Lexicographic.{pointwise, nat_list_eq_equiv}
 use Rattle.std.proofs.lemmas.List.Elements.{All-head, All-tail}
 use Rattle.hd_base.proofs.Tests.{position-map}
@@ -46,3 +46,9 @@ number_of-by_key keys key g all e =
     position-agree (λ (k : SmallVec ℕ). pointwise nat_eq key k.items) (λ (k : SmallVec ℕ). same (form_by k.items) g) keys
     (λ i d lt. same-by_key key g (get_or keys i d) e (all i d lt))
     ∙ sym (position-map (λ (h : Ground). same h g) (λ (k : SmallVec ℕ). form_by k.items) keys)
+
+-- whether some element passes one of two tests that agree
+pub list_any-agree : {X : Type 0} (p q : X → Bool) (xs : List X) → All (λ x. p x ≡ q x) xs → list_any p xs ≡ list_any q xs
+list_any-agree p q [] all = refl
+list_any-agree p q (x ∷ xs) all =
+    ap₂ (λ (a b : Bool). a || b) (All-head (λ x. p x ≡ q x) x xs all) (list_any-agree p q xs (All-tail (λ x. p x ≡ q x) x xs all))

@@ -16,12 +16,12 @@ use Rattle.std.proofs.lemmas.Map.Keys.{apart_from_distinct}
 use Rattle.std.proofs.lemmas.Slice.Eq.{bytes_eq-Decides}
 use Rattle.smallvec.specs.SmallVec.{SmallVec}
 use Rattle.hd_base.proofs.Members.{Contains-map, IsFrom-from_map}
-use Rattle.hd_base.proofs.Tests.{list_any-from_contains}
+use Rattle.hd_base.proofs.Tests.{list_any-from_contains, list_any-map}
 use Rattle.hd_kept.proofs.Passing.{passing-from_any}
 use Rattle.hd_lifted.specs.declared.schema.Ground.{Ground}
 use Rattle.hd_kept.specs.Numbering.{form_key, HasExactly}
 use Rattle.hd_images.specs.Keys.{form_by, forms_of, HasSymbol, IsRising, AreNumbered}
-use Rattle.hd_images.proofs.KeyForms.{key_with, form_by-form_key, form_key-form_by}
+use Rattle.hd_images.proofs.KeyForms.{key_with, form_by-form_key, form_key-form_by, list_any-agree}
 
 abbrev key_cmp : SmallVec ℕ → SmallVec ℕ → Ordering
 key_cmp v w = slice_cmp nat_cmp v.items w.items
@@ -43,22 +43,16 @@ has_form forms q = list_any (λ (g : Ground). pointwise nat_eq q (form_key g)) f
 abbrev pub AreKeysOf : List (SmallVec ℕ) → List Ground → Type 0
 AreKeysOf keys forms = (q : List ℕ) → has_key keys q ≡ has_form forms q
 
-or-cond : (a b : Bool) → cond a true b ≡ (b || a)
-or-cond true true = refl
-or-cond true false = refl
-or-cond false true = refl
-or-cond false false = refl
+-- keys are those of their forms
+are_keys : (keys : List (SmallVec ℕ)) → All HasSymbol keys → AreKeysOf keys (forms_of keys)
+are_keys keys all q =
+    list_any-agree (λ (k : SmallVec ℕ). pointwise nat_eq q k.items) (λ (k : SmallVec ℕ). pointwise nat_eq q (form_key (form_by k.items))) keys
+    (λ i d lt. ap (pointwise nat_eq q) (sym (form_key-form_by (get_or keys i d) (all i d lt))))
+    ∙ sym (list_any-map (λ (g : Ground). pointwise nat_eq q (form_key g)) (λ (k : SmallVec ℕ). form_by k.items) keys)
 
--- the key of one more form goes in
-pub has_form-more : (forms : List Ground) (i : ℕ) (g : Ground) (key q : List ℕ) (old new : Bool)
-    → i < length forms → g ≡ get_or forms i g → key ≡ form_key g
-    → old ≡ has_form (take i forms) q → new ≡ cond (pointwise nat_eq key q) true old
-    → new ≡ has_form (take (i + 1) forms) q
-has_form-more forms i g key q old new lt at is was now =
-    now ∙ (or-cond (pointwise nat_eq key q) old
-    ∙ (ap₂ (λ (a b : Bool). a || b) was
-    (nat_list_eq_equiv.symm key q ∙ (ap (pointwise nat_eq q) is ∙ ap (λ (h : Ground). pointwise nat_eq q (form_key h)) at))
-    ∙ sym (list_any_more (λ (h : Ground). pointwise nat_eq q (form_key h)) forms i g lt)))
+-- and so are the same keys in another order
+pub are_keys_still : (old new : List (SmallVec ℕ)) → All HasSymbol old → ((q : SmallVec ℕ) → has_key new q.items ≡ has_key old q.items) → AreKeysOf new (forms_of old)
+are_keys_still old new all same q = same (key_with q) ∙ are_keys old all q
 
 same_numbers : (xs ys : List ℕ) → pointwise nat_eq xs ys ≡ true → xs ≡ ys
 same_numbers xs ys = (bytes_eq-Decides xs ys).0

@@ -27,7 +27,7 @@ pub use effects::effects_of;
 pub use expressions::expression_of;
 pub use forms::Forms;
 pub use lookups::Lookups;
-pub use met::{meet_comparisons, meet_schema};
+pub use met::met_by_all;
 pub use names::{form_of_instance, forms_of, names_in};
 pub use numbers::Numbers;
 pub use start::start_in;

@@ -6,6 +6,7 @@ ghost use Rattle.hd_kept.specs.Numbering.{form_key, HasExactly};
 ghost use Rattle.hd_grounding.specs.Images.{number_of};
 ghost use Rattle.hd_images.specs.Keys.{forms_of, HasSymbol, IsRising};
 
+use crate::Forms;
 use crate::keys::{Key, key_at, key_of};
 use hd_base::{NoMemory, Seed};
 use hd_lifted::Applied;
@@ -33,18 +34,16 @@ impl Model for Numbers {
 }
 
 impl Numbers {
-    /// These forms, each once, in a table that hashes by the seed.
+    /// These forms by number.
     ///
     /// # Errors
     /// Want of memory.
-    pub fn of(alloc: Global, seed: Seed, forms: &[hd_lifted::Ground]) -> Result<Numbers, NoMemory>
-        requires { length forms.now ≤ 2 ^ 32 }
-        ensures { IfOk result (HasExactly (Contains forms.now) form_key) }
+    pub fn of(forms: Forms) -> Result<Numbers, NoMemory>
+        requires { length forms ≤ 2 ^ 32 }
+        ensures { IfOk result (HasExactly (Contains forms) form_key) }
     {
-        let mut keys = IndexSet::with_hasher(alloc, seed);
-        for form in forms {
-            keys.insert(key_of(alloc, form)?)?;
-        }
+        let Forms { keys } = forms;
+        let mut keys = keys;
         keys.sort_unstable()?;
         Ok(Numbers { keys })
     }
