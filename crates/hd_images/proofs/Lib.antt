@@ -5,3 +5,4 @@ pub mod Gathered
 pub mod Exact
 pub mod Starting
 pub mod MeetingForms
+pub mod TaskFluents

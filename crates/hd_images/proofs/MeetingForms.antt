@@ -69,7 +69,7 @@ forms-apart keys all distinct i j d lt within e =
 
 -- ---- which forms there are
 
-listed-contains : (forms : List Ground) (g : Ground) → is_listed forms g ≡ true → Contains forms g
+pub listed-contains : (forms : List Ground) (g : Ground) → is_listed forms g ≡ true → Contains forms g
 listed-contains forms g e =
     let p = passing-from_any (λ (a : Ground). same a g) forms e in
     subst (Contains forms) (same-true p.value g p.passes) p.among

@@ -13,6 +13,7 @@ mod effects;
 mod expressions;
 mod forms;
 mod keys;
+pub mod laws;
 mod lookups;
 mod met;
 mod names;
