@@ -6,3 +6,4 @@ pub mod Exact
 pub mod Starting
 pub mod MeetingForms
 pub mod TaskFluents
+pub mod Finding

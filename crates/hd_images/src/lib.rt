@@ -19,6 +19,7 @@ mod met;
 mod names;
 mod numbers;
 mod start;
+mod undefined;
 mod values;
 
 pub use actions::action_of;
@@ -32,3 +33,4 @@ pub use met::met_by_all;
 pub use names::{form_of_instance, forms_of, names_in};
 pub use numbers::Numbers;
 pub use start::start_in;
+pub use undefined::first_undefined;
