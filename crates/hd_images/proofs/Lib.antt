@@ -7,3 +7,4 @@ pub mod Starting
 pub mod MeetingForms
 pub mod TaskFluents
 pub mod Finding
+pub mod Summing

@@ -1,5 +1,5 @@
 //! The amounts that actions add to the cost.
-ghost use Rattle.std.specs.Prelude.{◌≡◌, IfOk, option_map, unwrap_or, pos};
+ghost use Rattle.std.specs.Prelude.{◌≡◌, IfOk};
 ghost use Rattle.hd_base.specs.Expression.{leaf};
 ghost use Rattle.hd_lifted.specs.Expressions.{value_of};
 ghost use Rattle.hd_lifted.specs.States.{first_value};
@@ -13,21 +13,19 @@ use hd_lifted::{Applied, Schema};
 use hd_task::Expr;
 use std::alloc::Global;
 
-/// The value of a number or a fluent at first: 0 where it has none.
-fn first_number(
+/// The value of a number, or of a fluent at first, if it has one.
+pub(crate) fn first_value(
     alloc: Global,
     lookups: &Lookups<'_>,
     objects: &[usize],
     said: &Operand<Applied>,
-) -> Result<i64, NoMemory>
-    ensures { IfOk result (λ v. v ≡ unwrap_or (value_of (first_value lookups.now.values) objects.now (leaf said.now)) (pos 0)) }
+) -> Result<Option<i64>, NoMemory>
+    ensures { IfOk result (λ v. v
+        ≡ value_of (first_value lookups.now.values) objects.now (leaf said.now)) }
 {
     match said {
-        Operand::Number(value) => Ok(*value),
-        Operand::Fluent(fluent) => {
-            let value = lookups.first_value(alloc, objects, fluent)?;
-            Ok(value.unwrap_or(0))
-        }
+        Operand::Number(value) => Ok(Some(*value)),
+        Operand::Fluent(fluent) => lookups.first_value(alloc, objects, fluent),
     }
 }
 
@@ -43,8 +41,8 @@ fn amount_of(
 {
     match said.parts() {
         ExprParts::Leaf(leaf) if lookups.is_constant(said) => {
-            let value = first_number(alloc, lookups, objects, leaf)?;
-            Ok(Expr::leaf(Operand::Number(value)))
+            let value = first_value(alloc, lookups, objects, leaf)?;
+            Ok(Expr::leaf(Operand::Number(value.unwrap_or(0))))
         }
         _ => expression_of(alloc, fluents, objects, said),
     }
