@@ -1,10 +1,10 @@
 -- Forms that are met one after the other.
-use Rattle.std.proofs.Common.{◌≡◌, ◌≢◌, ℕ, ◌+◌, ◌<◌, ◌≤◌, ◌||◌, Bool, true, false, List, [], ◌∷◌, ◌++◌, map, take, length, get_or, All, Contains, ◌⊎◌, inl, inr, refl, sym, ap, ap₂, ◌∙◌, subst, true≢false, arith}
+use Rattle.std.proofs.Common.{◌≡◌, ◌≢◌, ℕ, ◌+◌, ◌<◌, ◌≤◌, Bool, true, false, List, [], ◌∷◌, ◌++◌, take, length, get_or, All, Contains, ◌⊎◌, inl, inr, refl, sym, ap, ◌∙◌, subst, true≢false, arith}
 use Rattle.std.specs.Prelude.{nat_eq, if◌then◌else◌, flat_map}
-use Rattle.std.specs.List.{list_any, fold, AllPairs, IsDistinct}
+use Rattle.std.specs.List.{list_any, AllPairs, IsDistinct}
 use Rattle.std.specs.Cmp.Lexicographic.{pointwise, nat_list_eq_equiv}
 use Rattle.std.proofs.lemmas.List.{map-append, take_more, length-map, get_or-map}
-use Rattle.std.proofs.lemmas.List.Elements.{All-push, All-head, All-tail, Contains-append_left, Contains-append_right, Contains-push, Contains-push_cases}
+use Rattle.std.proofs.lemmas.List.Elements.{All-push, Contains-append_left, Contains-append_right, Contains-push, Contains-push_cases}
 use Rattle.std.proofs.lemmas.List.Concat.{flat_map-append}
 use Rattle.std.proofs.lemmas.List.{append-nil}
 use Rattle.std.proofs.lemmas.Map.Keys.{apart_from_distinct}
@@ -63,8 +63,8 @@ forms-apart keys all distinct i j d lt within e =
     let first : get_or (forms_of keys) i d ≡ form_by a.items = get_or-map (λ (w : SmallVec ℕ). form_by w.items) keys i (key_with []) d (omega arith) in
     let second : get_or (forms_of keys) j d ≡ form_by b.items = get_or-map (λ (w : SmallVec ℕ). form_by w.items) keys j (key_with []) d inside in
     let same_key : a.items ≡ b.items =
-        sym (form_key-form_by a (all i (key_with []) (omega arith)))
-        ∙ (ap form_key (sym first ∙ (e ∙ second)) ∙ form_key-form_by b (all j (key_with []) inside)) in
+    sym (form_key-form_by a (all i (key_with []) (omega arith)))
+    ∙ (ap form_key (sym first ∙ (e ∙ second)) ∙ form_key-form_by b (all j (key_with []) inside)) in
     true≢false (sym (nat_list_eq_equiv.refl a.items) ∙ (ap (pointwise nat_eq a.items) same_key ∙ apart_from_distinct key_eq keys i j (key_with []) distinct lt inside))
 
 -- ---- which forms there are

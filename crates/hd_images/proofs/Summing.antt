@@ -39,13 +39,13 @@ fold-constants t objects (e ∷ es) sum =
     let v = first_value t.values in
     let value = value_of v objects e.amount in
     elim (is_paid e) as (λ p.
-      fold (constant_cost t objects) (if p then (if is_constant t e.amount then of_both (λ (x y : ℤ). x +ℤ y) sum value else None) else sum) es
-      ≡ (if list_all (λ (f : NumericEffect). is_constant t f.amount) (cond p (e ∷ filter is_paid es) (filter is_paid es))
-      then fold (with_cost v objects) (if p then of_both (λ (x y : ℤ). x +ℤ y) sum value else sum) es else None)) [
+    fold (constant_cost t objects) (if p then (if is_constant t e.amount then of_both (λ (x y : ℤ). x +ℤ y) sum value else None) else sum) es
+    ≡ (if list_all (λ (f : NumericEffect). is_constant t f.amount) (cond p (e ∷ filter is_paid es) (filter is_paid es))
+    then fold (with_cost v objects) (if p then of_both (λ (x y : ℤ). x +ℤ y) sum value else sum) es else None)) [
       | true ↦
           elim (is_constant t e.amount) as (λ b.
-            fold (constant_cost t objects) (if b then of_both (λ (x y : ℤ). x +ℤ y) sum value else None) es
-            ≡ (if b && constants t es then fold (with_cost v objects) (of_both (λ (x y : ℤ). x +ℤ y) sum value) es else None)) [
+          fold (constant_cost t objects) (if b then of_both (λ (x y : ℤ). x +ℤ y) sum value else None) es
+          ≡ (if b && constants t es then fold (with_cost v objects) (of_both (λ (x y : ℤ). x +ℤ y) sum value) es else None)) [
             | true ↦ fold-constants t objects es (of_both (λ (x y : ℤ). x +ℤ y) sum value)
             | false ↦ fold-none t objects es
           ]

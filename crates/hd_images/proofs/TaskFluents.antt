@@ -1,5 +1,5 @@
 -- The fluents that kept instances and the goal meet are those of the task.
-use Rattle.std.proofs.Common.{◌≡◌, ◌≢◌, ◌↔◌, ℕ, ◌<◌, ◌≤◌, Bool, true, false, cond, List, [], ◌∷◌, ◌++◌, length, Contains, Option, Some, None, slice_get, ◌⊎◌, inl, inr, refl, sym, ap, ◌∙◌, subst, true≢false}
+use Rattle.std.proofs.Common.{◌≡◌, ◌≢◌, ◌<◌, ◌≤◌, Bool, true, false, cond, List, [], ◌∷◌, ◌++◌, length, Contains, Option, Some, None, inl, inr, refl, sym, ap, ◌∙◌, subst}
 use Rattle.std.specs.Prelude.{flat_map, if◌then◌else◌, find}
 use Rattle.std.specs.List.{AllPairs}
 use Rattle.std.specs.Option.{option_or}
@@ -14,11 +14,11 @@ use Rattle.hd_lifted.specs.declared.task.LiftedTask.{LiftedTask}
 use Rattle.hd_lifted.specs.States.{is_listed}
 use Rattle.hd_lifted.specs.Plans.{IsInstance}
 use Rattle.hd_kept.specs.Kept.{IsKept, keep}
-use Rattle.hd_kept.specs.Met.{met_by, met_by_goal}
+use Rattle.hd_kept.specs.Met.{met_by_goal}
 use Rattle.hd_kept.specs.Numbering.{form_key, HasExactly, IsTaskFluent, met, wanted, NumbersInstances, NumbersFluents}
 use Rattle.hd_grounding.specs.Faults.{met_with, met_by_instance, met_by_all, is_undefined, undefined_in, IsTooLarge, fluents}
 use Rattle.hd_images.specs.Meeting.{with_form, with_forms, IsMet}
-use Rattle.hd_images.proofs.MeetingForms.{listed-contains, with_forms-second, with_forms-cases}
+use Rattle.hd_images.proofs.MeetingForms.{listed-contains, with_forms-second}
 
 -- what stands in a `flat_map` comes from an element of the list
 record IsPartOf {X Y : Type 0} (f : X → List Y) (xs : List X) (y : Y) : Type 0 where
@@ -61,9 +61,10 @@ pub NumbersFluents-from_met : (t : LiftedTask) (instances : List Instance) (form
     → NumbersInstances t instances → IsMet 65536 (met_by_all t instances) forms → length forms ≤ 65536 → HasExactly (Contains forms) form_key numbers
     → NumbersFluents t numbers
 NumbersFluents-from_met t instances forms numbers kept is fits numbered = record {
-  exactly = λ g.
-      (λ fluent. (numbered.exactly g).0 (subst (λ fs. Contains fs g) (sym (is.whole fits)) (with_forms-second [] (met_by_all t instances) g (is_met t instances g kept fluent))),
-      λ c. is_fluent t instances g kept (is.within g ((numbered.exactly g).1 c)));
+  exactly = λ g. (
+    λ fluent. (numbered.exactly g).0 (subst (λ fs. Contains fs g) (sym (is.whole fits)) (with_forms-second [] (met_by_all t instances) g (is_met t instances g kept fluent))),
+    λ c. is_fluent t instances g kept (is.within g ((numbered.exactly g).1 c)),
+  );
   rising = numbered.rising;
 }
 

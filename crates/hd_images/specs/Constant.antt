@@ -1,5 +1,5 @@
 -- Sums of constant amounts. (Our own.)
-use Rattle.std.specs.Prelude.{ℕ, if◌then◌else◌, List, Option, Some, None, ℤ, pos, ◌+ℤ◌}
+use Rattle.std.specs.Prelude.{ℕ, if◌then◌else◌, List, Option, None, ℤ, ◌+ℤ◌}
 use Rattle.hd_base.specs.Values.{of_both}
 use Rattle.hd_lifted.specs.declared.schema.NumericEffect.{NumericEffect}
 use Rattle.hd_lifted.specs.declared.task.LiftedTask.{LiftedTask}

@@ -93,7 +93,8 @@ fn changed(
     objects: &[usize],
     schema: &Schema,
 ) -> Result<(ChangedAtoms, ChangedNumbers), NoMemory>
-    ensures deletes { IfOk result (λ p. p.0.0 ≡ numbers_of atoms.now objects.now schema.now.deletes) }
+    ensures deletes { IfOk result (λ p. p.0.0
+        ≡ numbers_of atoms.now objects.now schema.now.deletes) }
     ensures adds { IfOk result (λ p. p.0.1 ≡ numbers_of atoms.now objects.now schema.now.adds) }
     ensures effects { IfOk result (λ p. HasEffectsOf fluents.now objects.now schema.now p.1.0) }
     ensures costs { IfOk result (λ p. p.1.1

@@ -51,7 +51,8 @@ impl Changed {
 
     /// The functions that these schemas change, in a table that hashes by the seed.
     pub(crate) fn of(alloc: Global, seed: Seed, schemas: &[Schema]) -> Result<Changed, NoMemory>
-        ensures { IfOk result (λ c. (f : ℕ) → has_function c f ≡ list_any (is_changed_by f) schemas.now) }
+        ensures { IfOk result (λ c. (f : ℕ)
+            → has_function c f ≡ list_any (is_changed_by f) schemas.now) }
     {
         let mut changed = Changed {
             functions: IndexSet::with_hasher(alloc, seed),

@@ -80,7 +80,8 @@ impl<'a> Lookups<'a> {
 
     /// The first value of the fluent with this key, if it has one.
     pub(crate) fn value_by_key(&self, key: &Key) -> Option<i64>
-        ensures { (g : Ground) → key.now.items ≡ form_key g → result ≡ first_value self.now.values g }
+        ensures { (g : Ground) → key.now.items ≡ form_key g
+            → result ≡ first_value self.now.values g }
     {
         self.values.by_key(key)
     }

@@ -37,7 +37,8 @@ fn meet_expression(
     objects: &[usize],
     said: &Expr,
 ) -> Result<(), NoMemory>
-    ensures { IfOk result (λ _. forms.new ≡ with_forms forms.old (fluents_in objects.now said.now)) }
+    ensures { IfOk result (λ _. forms.new
+        ≡ with_forms forms.old (fluents_in objects.now said.now)) }
 {
     match said.parts() {
         ExprParts::Leaf(leaf) => meet_leaf(alloc, forms, objects, leaf),
@@ -134,7 +135,12 @@ fn meet_schema(
 ) -> Result<(), NoMemory>
     ensures { IfOk result (λ _. forms.new ≡ with_forms forms.old (met_by objects.now schema.now)) }
 {
-    meet_comparisons(alloc, forms, objects, schema.condition.comparisons.as_slice())?;
+    meet_comparisons(
+        alloc,
+        forms,
+        objects,
+        schema.condition.comparisons.as_slice(),
+    )?;
     meet_effects(alloc, forms, objects, schema.effects.as_slice())
 }
 
@@ -175,7 +181,12 @@ fn meet_goal(alloc: Global, forms: &mut Forms, task: &LiftedTask) -> Result<(), 
     ensures { IfOk result (λ _. forms.new ≡ with_forms forms.old (met_by_goal task.now)) }
 {
     let none: [usize; 0] = [];
-    meet_comparisons(alloc, forms, none.as_slice(), task.goal.comparisons.as_slice())
+    meet_comparisons(
+        alloc,
+        forms,
+        none.as_slice(),
+        task.goal.comparisons.as_slice(),
+    )
 }
 
 /// The fluents that the goal meets, unless there are too many already.

@@ -24,7 +24,8 @@ impl FirstValues {
         seed: Seed,
         listed: &[InitialValue],
     ) -> Result<FirstValues, NoMemory>
-        ensures { IfOk result (λ v. (g : Ground) → value_at v (form_key g) ≡ first_value listed.now g) }
+        ensures { IfOk result (λ v. (g : Ground)
+            → value_at v (form_key g) ≡ first_value listed.now g) }
     {
         let mut values = IndexMap::with_hasher(alloc, seed);
         let mut left = listed.len();

@@ -1,4 +1,4 @@
-use Rattle.std.proofs.Common.{◌≡◌, ◌<◌, ◌≤◌, length, arith}
+use Rattle.std.proofs.Common.{◌<◌, ◌≤◌, length, arith}
 use Rattle.std.proofs.lemmas.Result.{IfOk-weaker}
 use Rattle.hd_grounding.specs.Faults.{met_by_instance}
 use Rattle.hd_images.proofs.MeetingForms.{IsMet-more, IsMet-over}

@@ -1,4 +1,4 @@
-use Rattle.std.proofs.Common.{◌≡◌, ◌∙◌, ◌+◌, ℕ, List, Some, length, get_or, sym, ap, SFits, arith, rules}
+use Rattle.std.proofs.Common.{◌∙◌, ◌+◌, List, Some, length, get_or, sym, ap, SFits, arith, rules}
 use Rattle.std.specs.Prelude.{ℤ, pos}
 use Rattle.std.specs.Int.{w128}
 use Rattle.std.specs.Int.Signed.{lt_z}
@@ -16,8 +16,8 @@ returns-in-None c =
     let e = c.effect-item.result in
     let now = c.in_ok-next.ensures.sum ∙ ap (λ (z : ℤ). constant_cost t objects (Some z) e) c.loop-effect.sum-is in
     let more = sum-more t objects c.args.schema.now.effects i e c.loop-effect.sum c.in_ok-next.field-0 (omega (arith, ap length c.as_slice-effect-items.ensures))
-        (c.effect-item.is ∙ ap (λ (es : List NumericEffect). get_or es i e) c.as_slice-effect-items.ensures)
-        (c.loop-effect.invariant.sum ∙ ap Some c.loop-effect.sum-is) now in
+    (c.effect-item.is ∙ ap (λ (es : List NumericEffect). get_or es i e) c.as_slice-effect-items.ensures)
+    (c.loop-effect.invariant.sum ∙ ap Some c.loop-effect.sum-is) now in
     sym (no_sum t c.args.schema.now objects (i + 1) (more ∙ c.in-None.is))
 
 pub loop-effect-preserved : goal.loop-effect-preserved
@@ -30,8 +30,8 @@ loop-effect-preserved c =
     let near = rw c.in-Some.is at c.in_ok-next.ensures.near in
     let now = c.in_ok-next.ensures.sum ∙ ap (λ (z : ℤ). constant_cost t objects (Some z) e) c.loop-effect.sum-is in
     let more = sum-more t objects c.args.schema.now.effects i e c.loop-effect.sum c.in_ok-next.field-0 (omega (arith, ap length c.as_slice-effect-items.ensures))
-        (c.effect-item.is ∙ ap (λ (es : List NumericEffect). get_or es i e) c.as_slice-effect-items.ensures)
-        (c.loop-effect.invariant.sum ∙ ap Some c.loop-effect.sum-is) now in
+    (c.effect-item.is ∙ ap (λ (es : List NumericEffect). get_or es i e) c.as_slice-effect-items.ensures)
+    (c.loop-effect.invariant.sum ∙ ap Some c.loop-effect.sum-is) now in
     record {
       sum = more ∙ (c.in-Some.is ∙ ap Some (sym (to_z-of_z w128 c.in-Some.next fits)));
       low = rw to_z-of_z (omega (arith, ints, near.low, c.loop-effect.sum-is));

@@ -1,4 +1,4 @@
-use Rattle.std.proofs.Common.{◌≡◌, ◌∙◌, Bool, Some, None, cond, sym, ap, arith}
+use Rattle.std.proofs.Common.{◌∙◌, Bool, Some, None, cond, sym, ap, arith}
 use Rattle.hd_grounding.specs.Faults.{is_negative_instance}
 use Rattle.hd_images.proofs.Finding.{find-next, find-found}
 use Rattle.hd_images.proofs.negative.first_negative.Goals as goal

@@ -1,4 +1,4 @@
-use Rattle.std.proofs.Common.{◌≡◌, ◌≢◌, List, subst}
+use Rattle.std.proofs.Common.{◌≢◌, List, subst}
 use Rattle.std.specs.List.{AllPairs}
 use Rattle.hd_lifted.specs.declared.schema.Ground.{Ground}
 use Rattle.hd_images.proofs.MeetingForms.{forms-apart}

@@ -1,5 +1,4 @@
-use Rattle.std.proofs.Common.{◌≡◌, ◌∙◌, ℕ, List, All, ap, sym, subst}
-use Rattle.smallvec.specs.SmallVec.{SmallVec}
+use Rattle.std.proofs.Common.{◌∙◌, List, All, ap, sym, subst}
 use Rattle.hd_lifted.specs.declared.schema.Ground.{Ground}
 use Rattle.hd_images.specs.Keys.{form_by, forms_of, HasSymbol}
 use Rattle.hd_images.specs.Meeting.{with_form}
