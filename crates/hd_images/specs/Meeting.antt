@@ -1,0 +1,18 @@
+-- Ground forms that are met, each noted once. (Our own.)
+use Rattle.std.specs.Prelude.{◌≡◌, ◌≤◌, ℕ, if◌then◌else◌, List, [], ◌∷◌, ◌++◌, length, Contains}
+use Rattle.std.specs.List.{fold}
+use Rattle.hd_lifted.specs.declared.schema.Ground.{Ground}
+use Rattle.hd_lifted.specs.States.{is_listed}
+
+-- a form goes behind the others, if it is none of them yet
+abbrev pub with_form : List Ground → Ground → List Ground
+with_form forms g = if is_listed forms g then forms else forms ++ g ∷ []
+
+-- the same of several, one after the other
+abbrev pub with_forms : List Ground → List Ground → List Ground
+with_forms forms gs = fold with_form forms gs
+
+-- forms that were met, each once: all of them, or more than the limit
+pub record IsMet (limit : ℕ) (met forms : List Ground) : Type 0 where
+  pub within : (g : Ground) → Contains forms g → Contains met g
+  pub whole : length forms ≤ limit → forms ≡ with_forms [] met

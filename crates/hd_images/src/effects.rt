@@ -1,0 +1,152 @@
+//! Effects on fluents.
+ghost use Rattle.std.specs.Prelude.{◌≡◌, ℕ, if◌then◌else◌, [], ◌∷◌, ◌++◌, map, nat_eq, Some, IfOk};
+ghost use Rattle.std.specs.BTreeMap.{get, IsOrdered};
+ghost use Rattle.std.specs.Ordering.{nat_cmp};
+ghost use Rattle.hd_grounding.specs.Images.{term_by};
+ghost use Rattle.hd_grounding.specs.Grounding.{HasEffectsOf};
+ghost use Rattle.hd_images.specs.Gathering.{change_with, change_at, change_in, effect_from};
+
+use crate::Numbers;
+use crate::changed::is_cost;
+use crate::expressions::expression_of;
+use hd_base::{NoMemory, Sequence};
+use hd_lifted::{NumericEffect, Schema};
+use hd_task::{Change, Effect, Expr, Term};
+use std::alloc::Global;
+use std::collections::BTreeMap;
+
+/// A part of a sum.
+fn term_by(change: hd_lifted::Change, amount: Expr) -> Term
+    ensures { result ≡ term_by change amount }
+{
+    match change {
+        hd_lifted::Change::Decrease => Term::Decrease(amount),
+        hd_lifted::Change::Assign
+        | hd_lifted::Change::ScaleUp
+        | hd_lifted::Change::Increase
+        | hd_lifted::Change::Cost => Term::Increase(amount),
+    }
+}
+
+/// Terms, and one more.
+fn with_term(terms: Sequence<Term>, term: Term) -> Result<Sequence<Term>, NoMemory>
+    ensures { IfOk result (λ s. s ≡ terms ++ term ∷ []) }
+{
+    let mut terms = terms.into_vec();
+    terms.push(term)?;
+    Ok(Sequence::from_vec(terms))
+}
+
+/// The change of a fluent by one effect more: an assignment or a scaling stands alone, and increases and decreases add up.
+fn change_with(
+    alloc: Global,
+    before: Option<Change>,
+    change: hd_lifted::Change,
+    amount: Expr,
+) -> Result<Change, NoMemory>
+    ensures { IfOk result (λ c. c ≡ change_with before change amount) }
+{
+    match before {
+        Some(Change::Sum(terms)) => Ok(Change::Sum(with_term(terms, term_by(change, amount))?)),
+        Some(alone) => {
+            drop(amount);
+            Ok(alone)
+        }
+        None => match change {
+            hd_lifted::Change::Assign => Ok(Change::Assign(amount)),
+            hd_lifted::Change::ScaleUp => Ok(Change::ScaleUp(amount)),
+            hd_lifted::Change::Increase | hd_lifted::Change::Decrease | hd_lifted::Change::Cost => {
+                let none = Sequence::empty(alloc);
+                Ok(Change::Sum(with_term(none, term_by(change, amount))?))
+            }
+        },
+    }
+}
+
+/// The changes by number, with an effect on the fluent of this number.
+fn put(
+    alloc: Global,
+    changes: &mut BTreeMap<u32, Change>,
+    number: u32,
+    change: hd_lifted::Change,
+    amount: Expr,
+) -> Result<(), NoMemory>
+    ensures { IfOk result (λ _. (n : ℕ) → get nat_cmp changes.new n
+        ≡ (if nat_eq number n then Some (change_with (get nat_cmp changes.old n) change amount)
+        else get nat_cmp changes.old n)) }
+{
+    let before = changes.remove(&number);
+    let after = change_with(alloc, before, change, amount)?;
+    changes.insert(number, after)?;
+    Ok(())
+}
+
+/// The changes by number, with an effect: a cost changes no fluent.
+fn gather(
+    alloc: Global,
+    changes: &mut BTreeMap<u32, Change>,
+    fluents: &Numbers,
+    objects: &[usize],
+    effect: &NumericEffect,
+) -> Result<(), NoMemory>
+    ensures { IfOk result (λ _. (n : ℕ) → get nat_cmp changes.new n
+        ≡ change_at fluents.now objects.now effect.now n (get nat_cmp changes.old n)) }
+{
+    fluents.are_rising();
+    if is_cost(effect.change) {
+        return Ok(());
+    }
+    match fluents.number_at(alloc, objects, &effect.fluent)? {
+        Some(number) => {
+            let amount = expression_of(alloc, fluents, objects, &effect.amount)?;
+            put(alloc, changes, number, effect.change, amount)
+        }
+        None => Ok(()),
+    }
+}
+
+/// The effects that these changes are.
+fn effects_from(alloc: Global, changes: BTreeMap<u32, Change>) -> Result<Sequence<Effect>, NoMemory>
+    ensures effects { IfOk result (λ s. s ≡ map effect_from changes.entries) }
+    ensures ordered { IsOrdered nat_cmp changes }
+{
+    let _count = changes.len();
+    let mut effects = Vec::new(alloc);
+    for (fluent, change) in changes {
+        effects.push(Effect { fluent, change })?;
+    }
+    Ok(Sequence::from_vec(effects))
+}
+
+/// The changes by number that these effects make.
+fn changes_of(
+    alloc: Global,
+    fluents: &Numbers,
+    objects: &[usize],
+    effects: &[NumericEffect],
+) -> Result<BTreeMap<u32, Change>, NoMemory>
+    ensures { IfOk result (λ m. (n : ℕ) → get nat_cmp m n
+        ≡ change_in fluents.now objects.now effects.now n) }
+{
+    let mut changes = BTreeMap::new(alloc);
+    for effect in effects {
+        gather(alloc, &mut changes, fluents, objects, effect)?;
+    }
+    Ok(changes)
+}
+
+/// What a schema with objects does to each fluent that has a number, in the order of the numbers.
+///
+/// # Errors
+/// Want of memory.
+pub fn effects_of(
+    alloc: Global,
+    fluents: &Numbers,
+    objects: &[usize],
+    schema: &Schema,
+) -> Result<Sequence<Effect>, NoMemory>
+    ensures { IfOk result (HasEffectsOf fluents.now objects.now schema.now) }
+{
+    let changes = changes_of(alloc, fluents, objects, schema.effects.as_slice())?;
+    effects_from(alloc, changes)
+}

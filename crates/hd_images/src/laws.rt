@@ -1,0 +1,32 @@
+//! Laws over the definitions. Each function does nothing: its contract is the law.
+ghost use Rattle.std.specs.Prelude.{◌≡◌, ◌≢◌, ◌≤◌, ◌<◌, List, length, Contains, find};
+ghost use Rattle.std.specs.List.{AllPairs};
+ghost use Rattle.hd_lifted.specs.declared.instance.Instance.{Instance};
+ghost use Rattle.hd_lifted.specs.declared.schema.Ground.{Ground};
+ghost use Rattle.hd_lifted.specs.declared.task.LiftedTask.{LiftedTask};
+ghost use Rattle.hd_task.specs.declared.task.TheConstants.{MAX_FLUENTS};
+ghost use Rattle.hd_kept.specs.Numbering.{form_key, HasExactly, NumbersInstances, NumbersFluents};
+ghost use Rattle.hd_grounding.specs.Faults.{met_by_all, is_undefined, undefined_in, IsTooLarge};
+ghost use Rattle.hd_images.specs.Meeting.{IsMet};
+
+/// Where the kept instances and the goal meet no more fluents than a task may have, those that they meet are the task's, in its order.
+pub fn met_fluents_are_numbered()
+    ensures { (t : LiftedTask) (instances : List Instance) (met numbers : List Ground)
+        → NumbersInstances t instances → IsMet MAX_FLUENTS (met_by_all t instances) met
+        → length met ≤ MAX_FLUENTS → HasExactly (Contains met) form_key numbers
+        → NumbersFluents t numbers }
+{}
+
+/// Where they meet more, the task is too large.
+pub fn many_fluents_are_too_many()
+    ensures { (t : LiftedTask) (instances : List Instance) (met : List Ground)
+        → NumbersInstances t instances → IsMet MAX_FLUENTS (met_by_all t instances) met
+        → AllPairs (λ g h. g ≢ h) met → MAX_FLUENTS < length met → IsTooLarge t }
+{}
+
+/// Where they do not, the first fluent without a first value is the first of those that are met, each once.
+pub fn first_undefined_is_found()
+    ensures { (t : LiftedTask) (instances : List Instance) (met : List Ground)
+        → IsMet MAX_FLUENTS (met_by_all t instances) met → length met ≤ MAX_FLUENTS
+        → find (is_undefined t) met ≡ undefined_in t instances }
+{}
