@@ -8,3 +8,4 @@ pub mod MeetingForms
 pub mod TaskFluents
 pub mod Finding
 pub mod Summing
+pub mod TaskAtoms

@@ -1,8 +1,10 @@
 -- Ground forms that are met, each noted once. (Our own.)
-use Rattle.std.specs.Prelude.{◌≡◌, ◌≤◌, ℕ, if◌then◌else◌, List, [], ◌∷◌, ◌++◌, length, Contains}
+use Rattle.std.specs.Prelude.{◌≡◌, ◌≤◌, ℕ, if◌then◌else◌, List, [], ◌∷◌, ◌++◌, length, map, Contains}
 use Rattle.std.specs.List.{fold}
 use Rattle.hd_lifted.specs.declared.schema.Ground.{Ground}
-use Rattle.hd_lifted.specs.States.{is_listed}
+use Rattle.hd_lifted.specs.declared.schema.Literal.{Literal}
+use Rattle.hd_lifted.specs.declared.task.LiftedTask.{LiftedTask}
+use Rattle.hd_lifted.specs.States.{is_listed, ground_form_of}
 
 -- a form goes behind the others, if it is none of them yet
 abbrev pub with_form : List Ground → Ground → List Ground
@@ -16,3 +18,13 @@ with_forms forms gs = fold with_form forms gs
 pub record IsMet (limit : ℕ) (met forms : List Ground) : Type 0 where
   pub within : (g : Ground) → Contains forms g → Contains met g
   pub whole : length forms ≤ limit → forms ≡ with_forms [] met
+
+-- ---- atoms
+
+-- the atom of a goal's literal, which has no parameters
+abbrev pub atom_of : Literal → Ground
+atom_of l = ground_form_of [] l.atom
+
+-- the atoms that the goal names, also to be false
+abbrev pub goal_atoms : LiftedTask → List Ground
+goal_atoms t = map atom_of t.goal.literals

@@ -1,13 +1,14 @@
 //! Laws over the definitions. Each function does nothing: its contract is the law.
-ghost use Rattle.std.specs.Prelude.{◌≡◌, ◌≢◌, ◌≤◌, ◌<◌, List, length, Contains, find};
+ghost use Rattle.std.specs.Prelude.{◌≡◌, ◌≢◌, ◌≤◌, ◌<◌, ◌↔◌, ◌++◌, [], List, length, Contains, find};
 ghost use Rattle.std.specs.List.{AllPairs};
 ghost use Rattle.hd_lifted.specs.declared.instance.Instance.{Instance};
 ghost use Rattle.hd_lifted.specs.declared.schema.Ground.{Ground};
 ghost use Rattle.hd_lifted.specs.declared.task.LiftedTask.{LiftedTask};
 ghost use Rattle.hd_task.specs.declared.task.TheConstants.{MAX_FLUENTS};
-ghost use Rattle.hd_kept.specs.Numbering.{form_key, HasExactly, NumbersInstances, NumbersFluents};
+ghost use Rattle.hd_kept.specs.Kept.{IsReachable};
+ghost use Rattle.hd_kept.specs.Numbering.{form_key, HasExactly, NumbersInstances, NumbersAtoms, NumbersFluents};
 ghost use Rattle.hd_grounding.specs.Faults.{met_by_all, is_undefined, undefined_in, IsTooLarge};
-ghost use Rattle.hd_images.specs.Meeting.{IsMet};
+ghost use Rattle.hd_images.specs.Meeting.{IsMet, with_forms, goal_atoms};
 
 /// Where the kept instances and the goal meet no more fluents than a task may have, those that they meet are the task's, in its order.
 pub fn met_fluents_are_numbered()
@@ -29,4 +30,12 @@ pub fn first_undefined_is_found()
     ensures { (t : LiftedTask) (instances : List Instance) (met : List Ground)
         → IsMet MAX_FLUENTS (met_by_all t instances) met → length met ≤ MAX_FLUENTS
         → find (is_undefined t) met ≡ undefined_in t instances }
+{}
+
+/// The atoms that are reached and those that the goal names, each once, are the task's, in its order.
+pub fn gathered_atoms_are_numbered()
+    ensures { (t : LiftedTask) (atoms numbers : List Ground)
+        → ((g : Ground) → IsReachable t g ↔ Contains atoms g)
+        → HasExactly (Contains (with_forms [] (atoms ++ goal_atoms t))) form_key numbers
+        → NumbersAtoms t numbers }
 {}

@@ -7,6 +7,7 @@
 #![tactic(auto)]
 
 mod actions;
+mod atoms;
 mod changed;
 mod conditions;
 mod costs;
@@ -25,6 +26,7 @@ mod undefined;
 mod values;
 
 pub use actions::action_of;
+pub use atoms::atoms_in;
 pub use conditions::{condition_of, numbers_of};
 pub use costs::costs_of;
 pub use effects::effects_of;
