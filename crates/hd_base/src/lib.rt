@@ -5,6 +5,7 @@
 //! speak of lists, options, truth values and numbers alone.
 #![tactic(auto)]
 
+mod boxed;
 mod expression;
 mod name;
 mod operation;
@@ -14,6 +15,7 @@ mod seed;
 mod sequence;
 mod tuple;
 
+pub use boxed::Boxed;
 pub use expression::{Expr, ExprParts, Operand};
 pub use name::Name;
 pub use operation::Operation;
