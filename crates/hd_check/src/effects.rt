@@ -85,7 +85,7 @@ impl Found {
                 self.deletes.push(applied_of(alloc, &context.scope.predicates, context, atom)?)?;
             }
             Effect::Change(said) => {
-                self.changes.push(effect_of(alloc, context, said)?)?;
+                self.changes.push(effect_of(alloc, context, said.get())?)?;
             }
         }
         Ok(())

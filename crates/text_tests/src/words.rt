@@ -8,7 +8,7 @@ use std::test::Fail;
 
 /// The name with this text.
 fn name(alloc: Global, text: &str) -> Result<Name, AllocError> {
-    Ok(Name::from_string(String::from_str(alloc, text)?))
+    Name::of(alloc, text)
 }
 
 /// The word with this span.
