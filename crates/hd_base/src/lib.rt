@@ -13,6 +13,7 @@ mod range;
 mod relation;
 mod seed;
 mod sequence;
+mod spare;
 mod tuple;
 
 pub use boxed::Boxed;
@@ -23,6 +24,7 @@ pub use range::{RANGE_END, if_in_range, in_range, total_cost};
 pub use relation::Relation;
 pub use seed::Seed;
 pub use sequence::Sequence;
+pub use spare::exact;
 pub use tuple::Tuple;
 
 /// Want of memory: a growth was refused, and nothing was changed.

@@ -138,7 +138,15 @@ impl Name {
     pub fn copied(&self, alloc: Global) -> Result<Name, AllocError>
         ensures { IfOk result (λ n. n ≡ self.now) }
     {
-        Name::of(alloc, self.as_str())
+        match &self.spelling {
+            Spelling::Inside { len, bytes } => Ok(Name {
+                spelling: Spelling::Inside {
+                    len: *len,
+                    bytes: *bytes,
+                },
+            }),
+            Spelling::Outside(text) => Name::of(alloc, text.as_str()),
+        }
     }
 }
 

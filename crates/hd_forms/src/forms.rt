@@ -8,6 +8,7 @@ ghost use Rattle.hd_forms.specs.declared.forms.OpenForm.{OpenForm};
 use crate::error::ReadError;
 use crate::place::Place;
 use crate::word::{Word, name_word};
+use hd_base::exact;
 use hd_lex::Token;
 use std::alloc::Global;
 use std::mem;
@@ -65,15 +66,6 @@ fn add(forms: &mut Vec<Form>, at: usize, word: Word) -> Result<(), ReadError>
     Ok(())
 }
 
-/// The same forms, with no room for more: most lists are short, and there are many.
-fn exact(forms: Vec<Form>) -> Vec<Form>
-    ensures { result.items ≡ forms.items }
-{
-    let mut forms = forms;
-    forms.shrink_to_fit();
-    forms
-}
-
 /// Adds a form in parentheses.
 fn push_list(
     forms: &mut Vec<Form>,
@@ -91,14 +83,20 @@ fn push_list(
 }
 
 /// Closes the innermost form at this place.
-fn finish(last: OpenForm, forms: &mut Vec<Form>, at: usize) -> Result<(), ReadError>
+fn finish(
+    alloc: Global,
+    last: OpenForm,
+    forms: &mut Vec<Form>,
+    at: usize,
+) -> Result<(), ReadError>
     ensures written { OnOk result ((around : List OpenForm)
         → marks_written around forms.new.items
         ≡ marks_written (around ++ last ∷ []) forms.old.items ++ closing at ∷ []) }
     ensures no_memory { IfErr result (λ e. e ≡ ReadError.NoMemory) }
 {
     let OpenForm { from, before } = last;
-    let inside = exact(mem::replace(forms, before));
+    // Most lists are short, and there are many: so none keeps room for more.
+    let inside = exact(alloc, mem::replace(forms, before))?;
     push_list(forms, from, inside, at)?;
     Ok(())
 }
@@ -128,7 +126,7 @@ pub fn take(
             begin(alloc, around, forms, at)
         }
         hd_lex::Word::CloseParenthesis => match around.pop() {
-            Some(last) => finish(last, forms, at),
+            Some(last) => finish(alloc, last, forms, at),
             None => Err(ReadError::Unbalanced(at)),
         },
         hd_lex::Word::Name(name) => add(forms, at, name_word(name)),

@@ -9,7 +9,7 @@ ghost use Rattle.hd_terms.specs.Typed.{typed_by, with_type};
 
 use crate::tree::Typed;
 use crate::type_name::TypeName;
-use hd_base::{Name, Sequence};
+use hd_base::{Name, Sequence, exact};
 use hd_forms::{Form, ReadError, Word, first_refusal, form_refusal, placed_name};
 use hd_lex::Operator;
 use std::alloc::Global;
@@ -181,10 +181,7 @@ pub fn typed_of(
 {
     let mut found = Vec::new(alloc);
     match add_typed(alloc, &mut found, kind, forms, end) {
-        Ok(()) => {
-            found.shrink_to_fit();
-            Ok(Sequence::from_vec(found))
-        }
+        Ok(()) => Ok(Sequence::from_vec(exact(alloc, found)?)),
         Err(error) => {
             drop(found);
             Err(error)
