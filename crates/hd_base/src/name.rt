@@ -17,10 +17,7 @@ const MOST_INSIDE: usize = 14;
 #[derive(Drop)]
 enum Spelling {
     /// In the name itself: the first `len` of these.
-    Inside {
-        len: u8,
-        bytes: [u8; MOST_INSIDE],
-    },
+    Inside { len: u8, bytes: [u8; MOST_INSIDE] },
     /// In memory of their own.
     Outside(Box<String>),
 }

@@ -90,12 +90,10 @@ impl Found {
                     .push(literal_of(alloc, context, false, atom)?)?;
             }
             hd_terms::Condition::Equal(left, right) => {
-                self.equalities
-                    .push(equality_of(alloc, context, true, left.get(), right.get())?)?;
+                self.equalities.push(equality_of(alloc, context, true, left.get(), right.get())?)?;
             }
             hd_terms::Condition::NotEqual(left, right) => {
-                self.equalities
-                    .push(equality_of(alloc, context, false, left.get(), right.get())?)?;
+                self.equalities.push(equality_of(alloc, context, false, left.get(), right.get())?)?;
             }
             hd_terms::Condition::Compare(comparison) => {
                 self.comparisons

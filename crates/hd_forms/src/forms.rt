@@ -83,12 +83,7 @@ fn push_list(
 }
 
 /// Closes the innermost form at this place.
-fn finish(
-    alloc: Global,
-    last: OpenForm,
-    forms: &mut Vec<Form>,
-    at: usize,
-) -> Result<(), ReadError>
+fn finish(alloc: Global, last: OpenForm, forms: &mut Vec<Form>, at: usize) -> Result<(), ReadError>
     ensures written { OnOk result ((around : List OpenForm)
         → marks_written around forms.new.items
         ≡ marks_written (around ++ last ∷ []) forms.old.items ++ closing at ∷ []) }

@@ -52,7 +52,11 @@ fn signatures_of(alloc: Global, forms: &[Form]) -> Result<Sequence<Signature>, R
     while let [first, after @ ..] = rest {
         match first {
             Form::Word { .. } => return Err(form_refusal(alloc, first)),
-            Form::List { inside, to, .. } => signatures.push(signature_of(alloc, inside, to.get())?)?,
+            Form::List { inside, to, .. } => signatures.push(signature_of(
+                alloc,
+                inside,
+                to.get(),
+            )?)?,
         }
         rest = after;
     }
