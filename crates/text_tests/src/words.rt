@@ -142,7 +142,10 @@ fn names_of_14_and_15_bytes(rt: HostRuntime) -> Result<(), Fail> {
         ("A", "a"),
         ("Truck-at-Depot", "truck-at-depot"),
         ("Truck-at-Depots", "truck-at-depots"),
-        ("A-Truck-at-a-Depot-of-A-City", "a-truck-at-a-depot-of-a-city"),
+        (
+            "A-Truck-at-a-Depot-of-A-City",
+            "a-truck-at-a-depot-of-a-city",
+        ),
     ];
     for (text, folded) in cases {
         let expected = Word::Name(name(rt.alloc(), folded)?);
@@ -154,23 +157,51 @@ fn names_of_14_and_15_bytes(rt: HostRuntime) -> Result<(), Fail> {
 }
 
 /// The front of a text whose first byte stands at 7.
-fn assert_front(
-    rt: &impl Abort,
-    alloc: Global,
-    text: &[u8],
-    expected: Result<Front, LexError>,
-) {
+fn assert_front(rt: &impl Abort, alloc: Global, text: &[u8], expected: Result<Front, LexError>) {
+    assert!(rt; !text.is_empty());
     assert_eq!(rt; front_of(alloc, text, 7), expected);
 }
 
 #[test]
 fn fronts(rt: HostRuntime) -> Result<(), Fail> {
-    assert_front(&rt, rt.alloc(), b" ab", Ok(Front { token: None, len: 1 }));
-    assert_front(&rt, rt.alloc(), b";x\n1x", Ok(Front { token: None, len: 2 }));
+    assert_front(
+        &rt,
+        rt.alloc(),
+        b" ab",
+        Ok(Front {
+            token: None,
+            len: 1,
+        }),
+    );
+    assert_front(
+        &rt,
+        rt.alloc(),
+        b";x\n1x",
+        Ok(Front {
+            token: None,
+            len: 2,
+        }),
+    );
     let open = token(7, 8, Word::OpenParenthesis);
-    assert_front(&rt, rt.alloc(), b"(a", Ok(Front { token: Some(open), len: 1 }));
+    assert_front(
+        &rt,
+        rt.alloc(),
+        b"(a",
+        Ok(Front {
+            token: Some(open),
+            len: 1,
+        }),
+    );
     let ab = token(7, 9, Word::Name(name(rt.alloc(), "ab")?));
-    assert_front(&rt, rt.alloc(), b"aB(1x", Ok(Front { token: Some(ab), len: 2 }));
+    assert_front(
+        &rt,
+        rt.alloc(),
+        b"aB(1x",
+        Ok(Front {
+            token: Some(ab),
+            len: 2,
+        }),
+    );
     assert_front(&rt, rt.alloc(), b"3.5 a", Err(LexError::BadNumber(7)));
     Ok(())
 }
