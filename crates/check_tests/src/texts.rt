@@ -7,7 +7,7 @@ use std::alloc::{AllocError, Global};
 
 /// The name with this text.
 pub fn name(alloc: Global, text: &str) -> Result<Name, AllocError> {
-    Ok(Name::from_string(String::from_str(alloc, text)?))
+    Name::of(alloc, text)
 }
 
 /// What a domain's text and a problem's say.

@@ -9,4 +9,5 @@ pub mod Code
 pub mod Node
 pub mod ExprParts
 pub mod Depth
+pub mod Spelling
 pub mod Seed

@@ -5,6 +5,7 @@
 //! speak of lists, options, truth values and numbers alone.
 #![tactic(auto)]
 
+mod boxed;
 mod expression;
 mod name;
 mod operation;
@@ -12,8 +13,10 @@ mod range;
 mod relation;
 mod seed;
 mod sequence;
+mod spare;
 mod tuple;
 
+pub use boxed::Boxed;
 pub use expression::{Expr, ExprParts, Operand};
 pub use name::Name;
 pub use operation::Operation;
@@ -21,6 +24,7 @@ pub use range::{RANGE_END, if_in_range, in_range, total_cost};
 pub use relation::Relation;
 pub use seed::Seed;
 pub use sequence::Sequence;
+pub use spare::exact;
 pub use tuple::Tuple;
 
 /// Want of memory: a growth was refused, and nothing was changed.

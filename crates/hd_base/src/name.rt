@@ -1,39 +1,131 @@
 //! Names from texts.
-ghost use Rattle.std.specs.Prelude.{◌≡◌, Some, IfOk, nat_eq, string_bytes};
+ghost use Rattle.std.specs.Prelude.{◌≡◌, ◌≤◌, Some, IfOk, length, map, nat_eq, string_bytes};
+ghost use Rattle.std.specs.Str.{IsAscii};
+ghost use Rattle.std.specs.Char.{to_ascii_lowercase};
 ghost use Rattle.std.specs.Cmp.{partial_equiv_from_equiv};
 ghost use Rattle.std.specs.Cmp.Lexicographic.{pointwise, nat_list_eq_equiv};
+ghost use Rattle.hd_base.specs.Spelling.{bytes_of, IsText};
 
 use std::alloc::{AllocError, Global};
 use std::fmt;
 use std::marker::Model;
 
+/// The most bytes of a name that lie in the name itself, so that a short name takes no memory beside it, and a name is 16 bytes.
+const MOST_INSIDE: usize = 14;
+
+/// Where the bytes of a name lie.
+#[derive(Drop)]
+enum Spelling {
+    /// In the name itself: the first `len` of these.
+    Inside { len: u8, bytes: [u8; MOST_INSIDE] },
+    /// In memory of their own.
+    Outside(Box<String>),
+}
+
 /// A name from a text, which contracts see as the list of its bytes.
-#[derive(Debug, Drop)]
+#[derive(Drop)]
 pub struct Name {
-    text: String,
+    spelling: Spelling,
 }
 
 impl Model for Name {
-    ghost use Rattle.std.specs.Prelude.{List, ℕ, string_bytes};
+    ghost use Rattle.std.specs.Prelude.{List, ℕ};
 
     ghost Value = { List ℕ };
 
-    ghost view = { λ n. string_bytes n.text };
+    ghost use Rattle.hd_base.specs.Spelling.{bytes_of, IsText};
+
+    ghost view = { λ n. bytes_of n.spelling };
+
+    ghost invariant = { λ n. IsText n.spelling };
+}
+
+/// The bytes of a text that is short enough, as the name itself holds them.
+fn inside(text: &str) -> Spelling
+    requires { length text.now ≤ MOST_INSIDE }
+    ensures bytes { bytes_of result ≡ text.now }
+    ensures text { IsText result }
+{
+    let mut bytes = [0; MOST_INSIDE];
+    bytes[..text.len()].copy_from_slice(text.as_bytes());
+    Spelling::Inside {
+        len: text.len() as u8,
+        bytes,
+    }
+}
+
+/// The same of a text of ASCII alone, with its letters folded to lower case.
+fn folded_inside(text: &str) -> Spelling
+    requires short { length text.now ≤ MOST_INSIDE }
+    requires ascii { IsAscii text.now }
+    ensures bytes { bytes_of result ≡ map to_ascii_lowercase text.now }
+    ensures text { IsText result }
+{
+    let mut bytes = [0; MOST_INSIDE];
+    let folded = &mut bytes[..text.len()];
+    folded.copy_from_slice(text.as_bytes());
+    folded.make_ascii_lowercase();
+    Spelling::Inside {
+        len: text.len() as u8,
+        bytes,
+    }
+}
+
+/// A text in memory of its own.
+fn outside(alloc: Global, text: String) -> Result<Spelling, AllocError>
+    ensures bytes { IfOk result (λ s. bytes_of s ≡ string_bytes text) }
+    ensures text { IfOk result IsText }
+{
+    Ok(Spelling::Outside(Box::new(alloc, text)?))
 }
 
 impl Name {
     /// The name that this text spells.
-    pub fn from_string(text: String) -> Name
-        ensures { result ≡ string_bytes text }
+    ///
+    /// # Errors
+    /// Want of memory.
+    pub fn of(alloc: Global, text: &str) -> Result<Name, AllocError>
+        ensures { IfOk result (λ n. n ≡ text.now) }
     {
-        Name { text }
+        let spelling = if text.len() <= MOST_INSIDE {
+            inside(text)
+        } else {
+            outside(alloc, String::from_str(alloc, text)?)?
+        };
+        Ok(Name { spelling })
+    }
+
+    /// The name that this text of ASCII alone spells once its letters are folded to lower case.
+    ///
+    /// # Errors
+    /// Want of memory.
+    pub fn folded(alloc: Global, text: &str) -> Result<Name, AllocError>
+        requires { IsAscii text.now }
+        ensures { IfOk result (λ n. n ≡ map to_ascii_lowercase text.now) }
+    {
+        let spelling = if text.len() <= MOST_INSIDE {
+            folded_inside(text)
+        } else {
+            let mut text = String::from_str(alloc, text)?;
+            text.make_ascii_lowercase();
+            outside(alloc, text)?
+        };
+        Ok(Name { spelling })
     }
 
     /// The text that spells the name.
     pub fn as_str(&self) -> &str
         ensures { result.now ≡ self.now }
     {
-        self.text.as_str()
+        match &self.spelling {
+            Spelling::Inside { len, bytes } => {
+                let Ok(text) = str::from_utf8(&bytes[..*len as usize]) else {
+                    unreachable!()
+                };
+                text
+            }
+            Spelling::Outside(text) => text.as_str(),
+        }
     }
 
     /// The same name, in memory of its own.
@@ -43,7 +135,15 @@ impl Name {
     pub fn copied(&self, alloc: Global) -> Result<Name, AllocError>
         ensures { IfOk result (λ n. n ≡ self.now) }
     {
-        Ok(Name::from_string(String::from_str(alloc, self.as_str())?))
+        match &self.spelling {
+            Spelling::Inside { len, bytes } => Ok(Name {
+                spelling: Spelling::Inside {
+                    len: *len,
+                    bytes: *bytes,
+                },
+            }),
+            Spelling::Outside(text) => Name::of(alloc, text.as_str()),
+        }
     }
 }
 
@@ -51,7 +151,13 @@ impl fmt::Display for Name {
     ghost output = { λ n. Some n };
 
     fn fmt<W: fmt::Write>(&self, f: &mut fmt::Formatter<W>) -> fmt::Result {
-        write!(f, "{}", self.text)
+        write!(f, "{}", self.as_str())
+    }
+}
+
+impl fmt::Debug for Name {
+    fn fmt<W: fmt::Write>(&self, f: &mut fmt::Formatter<W>) -> fmt::Result {
+        write!(f, "{:?}", self.as_str())
     }
 }
 

@@ -90,16 +90,14 @@ impl Found {
                     .push(literal_of(alloc, context, false, atom)?)?;
             }
             hd_terms::Condition::Equal(left, right) => {
-                self.equalities
-                    .push(equality_of(alloc, context, true, left, right)?)?;
+                self.equalities.push(equality_of(alloc, context, true, left.get(), right.get())?)?;
             }
             hd_terms::Condition::NotEqual(left, right) => {
-                self.equalities
-                    .push(equality_of(alloc, context, false, left, right)?)?;
+                self.equalities.push(equality_of(alloc, context, false, left.get(), right.get())?)?;
             }
             hd_terms::Condition::Compare(comparison) => {
                 self.comparisons
-                    .push(comparison_of(alloc, context, comparison)?)?;
+                    .push(comparison_of(alloc, context, comparison.get())?)?;
             }
         }
         Ok(())

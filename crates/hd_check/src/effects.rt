@@ -7,7 +7,7 @@ ghost use Rattle.hd_check.specs.Effects.{GathersDeletes, GathersAdds, GathersCha
 use crate::context::Context;
 use crate::expressions::expression_of;
 use crate::terms::applied_of;
-use hd_base::Sequence;
+use hd_base::{Boxed, Sequence};
 use hd_lifted::{Applied, Change, NumericEffect};
 use hd_names::Stop;
 use hd_terms::{Effect, FluentChange};
@@ -48,10 +48,11 @@ fn change_of(cost: bool, change: hd_forms::Change) -> Change
 fn effect_of(
     alloc: Global,
     context: Context<'_>,
-    said: &FluentChange,
+    said: &Boxed<FluentChange>,
 ) -> Result<NumericEffect, Stop>
     ensures { Lifts result change_fault lifted_effect context.entry said.now }
 {
+    let said = said.get();
     let fluent = applied_of(alloc, &context.scope.functions, context, &said.fluent)?;
     let cost = is_metric(context.scope.metric, fluent.symbol);
     let amount = expression_of(alloc, context, &said.amount)?;

@@ -160,7 +160,7 @@ impl Found {
                 ground_of(alloc, &scope.predicates, scope, atom)?;
             }
             Init::Value(value) => {
-                add_value(alloc, scope, &mut self.given, &mut self.values, value)?;
+                add_value(alloc, scope, &mut self.given, &mut self.values, value.get())?;
             }
         }
         Ok(())

@@ -19,7 +19,7 @@ view-word : (at : ℕ) (w : Word) → form_view (forms.Word at w) ≡ word at w 
 view-word at w = search (rules, the_lemmas)
 
 view-list : (from : ℕ) (inside : Vec Form Global) (to : ℕ)
-    → form_view (forms.List from inside to) ≡ list from (forms_view inside.items) to none
+    → form_view (forms.List to from inside) ≡ list from (forms_view inside.items) to none
 view-list from inside to = search (rules, the_lemmas)
 
 append-assoc : (a b c : Forms) → append (append a b) c ≡ append a (append b c)
@@ -59,47 +59,15 @@ marks_written-word os fs at w =
 
 -- a form closed behind what was read
 pub marks_written-finish : (os : List OpenForm) (o : OpenForm) (inside : Vec Form Global) (to : ℕ)
-    → marks_written os (o.before.items ++ forms.List o.from inside to ∷ []) ≡ marks_written (os ++ o ∷ []) inside.items ++ closing to ∷ []
+    → marks_written os (o.before.items ++ forms.List to o.from inside ∷ []) ≡ marks_written (os ++ o ∷ []) inside.items ++ closing to ∷ []
 marks_written-finish os o inside to =
     let outer = flat_map open_marks os in
     let front = marks_of (forms_view o.before.items) in
     let within = marks_of (forms_view inside.items) in
-    let last = forms.List o.from inside to in
+    let last = forms.List to o.from inside in
     let made : marks_of (forms_view (o.before.items ++ last ∷ [])) ≡ front ++ (opening o.from ∷ (within ++ closing to ∷ [])) =
-    marks-push o.before.items (forms.List o.from inside to)
+    marks-push o.before.items (forms.List to o.from inside)
     ∙ ap (λ (f : Forms). front ++ marks_of f) (view-list o.from inside to) in
     let opened : flat_map open_marks (os ++ o ∷ []) ≡ outer ++ (front ++ opening o.from ∷ []) =
     flat_map-append open_marks os (o ∷ []) ∙ ap (λ (ms : List Mark). outer ++ ms) (append-nil (open_marks o)) in
     rw (made, opened) (simp append_assoc)
-
--- ---- the loop over the tokens
-
--- where nothing is left, all is done
-pub none_left : (done left all : List Token) → done ++ left ≡ all → length left ≡ 0 → done ≡ all
-none_left done left all whole empty =
-    sym (append-nil done) ∙ ap (λ (ts : List Token). done ++ ts) (sym (nil_from_length left empty)) ∙ whole
-
--- where a token is left, its mark comes behind those that are done
-pub some_left : (done left more all : List Token) (t : Token) → done ++ left ≡ all → left ≡ t ∷ more
-    → marks_from all ≡ marks_from done ++ (mark_of t ∷ marks_from more)
-some_left done left more all t whole is =
-    ap marks_from (sym whole ∙ ap (λ (ts : List Token). done ++ ts) is) ∙ map-append mark_of done (t ∷ more)
-
-pub no_fault_at_end : (end depth : ℕ) (done all : List Token) → depth ≡ 0
-    → fault_from end depth [] ≡ parenthesis_fault end (marks_from done ++ []) → done ≡ all
-    → parenthesis_fault end (marks_from all) ≡ None
-no_fault_at_end end depth done all empty so_far same =
-    ap (λ (ts : List Token). parenthesis_fault end (marks_from ts)) (sym same)
-    ∙ ap (parenthesis_fault end) (sym (append-nil (marks_from done))) ∙ sym so_far
-    ∙ ap (λ (d : ℕ). fault_from end d []) empty
-
-open_at_end : (end depth : ℕ) → 0 < depth → fault_from end depth [] ≡ Some (errors.Unbalanced end)
-open_at_end end zero some = absurd (omega arith)
-open_at_end end (suc depth) some = refl
-
-pub fault_at_end : (end depth : ℕ) (done all : List Token) → 0 < depth
-    → fault_from end depth [] ≡ parenthesis_fault end (marks_from done ++ []) → done ≡ all
-    → parenthesis_fault end (marks_from all) ≡ Some (errors.Unbalanced end)
-fault_at_end end depth done all some so_far same =
-    ap (λ (ts : List Token). parenthesis_fault end (marks_from ts)) (sym same)
-    ∙ ap (parenthesis_fault end) (sym (append-nil (marks_from done))) ∙ sym so_far ∙ open_at_end end depth some

@@ -12,7 +12,7 @@ joined_forms (f ∷ fs) = append f (joined_forms fs)
 -- a form alone, the forms in it already seen (own)
 abbrev pub form_step : Form-F Forms → Forms
 form_step (Form-F.Word at w) = word at w none
-form_step (Form-F.List from inside to) = list from (joined_forms inside.items) to none
+form_step (Form-F.List to from inside) = list from (joined_forms inside.items) to none
 
 -- a form alone (own)
 abbrev pub form_view : Form → Forms

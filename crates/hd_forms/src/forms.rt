@@ -1,13 +1,14 @@
 //! From tokens to nested forms.
 
-ghost use Rattle.std.specs.Prelude.{◌≡◌, ℕ, ◌+◌, ◌++◌, ◌∷◌, [], List, None, IfOk, IfErr, OnOk, vec_len};
-ghost use Rattle.hd_forms.specs.Forms.{Mark, marks_of, marks_from, mark_of, opening, closing, symbol, fault_from, parenthesis_fault, Tells};
+ghost use Rattle.std.specs.Prelude.{◌≡◌, ℕ, ◌+◌, ◌++◌, ◌∷◌, [], List, IfErr, OnOk, vec_len};
+ghost use Rattle.hd_forms.specs.Forms.{Mark, mark_of, opening, closing, symbol, fault_from, Tells};
 ghost use Rattle.hd_forms.specs.Nesting.{marks_written};
-ghost use Rattle.hd_forms.specs.View.{forms_view};
 ghost use Rattle.hd_forms.specs.declared.forms.OpenForm.{OpenForm};
 
 use crate::error::ReadError;
+use crate::place::Place;
 use crate::word::{Word, name_word};
+use hd_base::exact;
 use hd_lex::Token;
 use std::alloc::Global;
 use std::mem;
@@ -23,15 +24,16 @@ pub enum Form {
         word: Word,
     },
     List {
+        /// It stands first, beside the byte that tells a word from a list, so that a form is no larger than 40 bytes.
+        to: Place,
         from: usize,
         inside: Vec<Form>,
-        to: usize,
     },
 }
 
 /// A form that is open: the place of its parenthesis, and what stands before it in the form around it.
 #[derive(Drop)]
-struct OpenForm {
+pub struct OpenForm {
     from: usize,
     before: Vec<Form>,
 }
@@ -64,25 +66,38 @@ fn add(forms: &mut Vec<Form>, at: usize, word: Word) -> Result<(), ReadError>
     Ok(())
 }
 
+/// Adds a form in parentheses.
+fn push_list(
+    forms: &mut Vec<Form>,
+    from: usize,
+    inside: Vec<Form>,
+    at: usize,
+) -> Result<(), ReadError>
+    ensures pushed { OnOk result (forms.new.items
+        ≡ forms.old.items ++ Form.List at from inside ∷ []) }
+    ensures no_memory { IfErr result (λ e. e ≡ ReadError.NoMemory) }
+{
+    let to = Place::of(at)?;
+    forms.push(Form::List { to, from, inside })?;
+    Ok(())
+}
+
 /// Closes the innermost form at this place.
-fn finish(last: OpenForm, forms: &mut Vec<Form>, at: usize) -> Result<(), ReadError>
+fn finish(alloc: Global, last: OpenForm, forms: &mut Vec<Form>, at: usize) -> Result<(), ReadError>
     ensures written { OnOk result ((around : List OpenForm)
         → marks_written around forms.new.items
         ≡ marks_written (around ++ last ∷ []) forms.old.items ++ closing at ∷ []) }
     ensures no_memory { IfErr result (λ e. e ≡ ReadError.NoMemory) }
 {
     let OpenForm { from, before } = last;
-    let inside = mem::replace(forms, before);
-    forms.push(Form::List {
-        from,
-        inside,
-        to: at,
-    })?;
+    // Most lists are short, and there are many: so none keeps room for more.
+    let inside = exact(alloc, mem::replace(forms, before))?;
+    push_list(forms, from, inside, at)?;
     Ok(())
 }
 
 /// Takes the next token.
-fn take(
+pub fn take(
     alloc: Global,
     around: &mut Vec<OpenForm>,
     forms: &mut Vec<Form>,
@@ -106,7 +121,7 @@ fn take(
             begin(alloc, around, forms, at)
         }
         hd_lex::Word::CloseParenthesis => match around.pop() {
-            Some(last) => finish(last, forms, at),
+            Some(last) => finish(alloc, last, forms, at),
             None => Err(ReadError::Unbalanced(at)),
         },
         hd_lex::Word::Name(name) => add(forms, at, name_word(name)),
@@ -115,24 +130,5 @@ fn take(
         hd_lex::Word::Number(number) => add(forms, at, Word::Number(number)),
         hd_lex::Word::SignedNumber(number) => add(forms, at, Word::Number(number)),
         hd_lex::Word::Operator(operator) => add(forms, at, Word::Operator(operator)),
-    }
-}
-
-/// The forms that these tokens write, or the first fault of their parentheses, in a text of this length in bytes.
-pub fn forms_of(alloc: Global, tokens: Vec<Token>, end: usize) -> Result<Vec<Form>, ReadError>
-    ensures written { IfOk result (λ forms.
-        marks_of (forms_view forms.items) ≡ marks_from tokens.items) }
-    ensures balanced { OnOk result (parenthesis_fault end (marks_from tokens.items) ≡ None) }
-    ensures fault { IfErr result (λ e. Tells e (parenthesis_fault end (marks_from tokens.items))) }
-{
-    let mut around = Vec::new(alloc);
-    let mut forms = Vec::new(alloc);
-    for token in tokens {
-        take(alloc, &mut around, &mut forms, token)?;
-    }
-    if around.is_empty() {
-        Ok(forms)
-    } else {
-        Err(ReadError::Unbalanced(end))
     }
 }

@@ -9,6 +9,7 @@ mod error;
 mod forms;
 mod law;
 mod names;
+mod place;
 mod refusal;
 mod text;
 mod word;
@@ -20,6 +21,7 @@ pub use names::{
     NameAt, behind_keyword, behind_name, end_at, find_keyword, group_at, name_at, number_at,
     placed_name,
 };
+pub use place::Place;
 pub use refusal::{first_refusal, form_refusal};
 pub use text::text_forms;
 pub use word::{Change, Word};

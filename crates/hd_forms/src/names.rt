@@ -78,7 +78,7 @@ pub fn group_at(
         (group_at (forms_view forms.now)) }
 {
     match forms {
-        [Form::List { inside, to, .. }, rest @ ..] => Ok((inside.as_slice(), *to, rest)),
+        [Form::List { inside, to, .. }, rest @ ..] => Ok((inside.as_slice(), to.get(), rest)),
         _ => Err(first_refusal(alloc, forms, end)),
     }
 }

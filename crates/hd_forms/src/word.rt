@@ -59,19 +59,20 @@ pub fn is_unsupported_keyword(word: &str) -> bool {
 pub fn name_word(name: Name) -> Word
     ensures { result ≡ name_word name }
 {
-    if name.as_str() == "and" {
+    let text = name.as_str();
+    if text == "and" {
         Word::And
-    } else if name.as_str() == "not" {
+    } else if text == "not" {
         Word::Not
-    } else if name.as_str() == "assign" {
+    } else if text == "assign" {
         Word::Change(Change::Assign)
-    } else if name.as_str() == "increase" {
+    } else if text == "increase" {
         Word::Change(Change::Increase)
-    } else if name.as_str() == "decrease" {
+    } else if text == "decrease" {
         Word::Change(Change::Decrease)
-    } else if name.as_str() == "scale-up" {
+    } else if text == "scale-up" {
         Word::Change(Change::ScaleUp)
-    } else if is_unsupported_name(name.as_str()) {
+    } else if is_unsupported_name(text) {
         Word::Unsupported(name)
     } else {
         Word::Name(name)

@@ -1,5 +1,6 @@
 pub mod Cutting
 pub mod Digits
+pub mod Fronts
 pub mod Reading
 pub mod Runs
 pub mod Spans

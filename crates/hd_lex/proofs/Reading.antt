@@ -1,5 +1,5 @@
 -- What a text says, read from its front.
-use Rattle.std.proofs.Common.{◌≡◌, ℕ, ◌+◌, ◌<◌, List, [], ◌∷◌, ◌++◌, length, get_or, take, drop, true, Result, Ok, Err, refl, sym, ap, ◌∙◌, append_assoc, arith}
+use Rattle.std.proofs.Common.{◌≡◌, ℕ, ◌+◌, ◌<◌, List, [], ◌∷◌, ◌++◌, length, get_or, take, drop, true, Result, Ok, Err, None, refl, sym, ap, ◌∙◌, append_assoc, arith}
 use Rattle.std.specs.List.{prefix_len}
 use Rattle.std.proofs.lemmas.List.{append-nil, drop-drop}
 use Rattle.std.proofs.lemmas.List.Folds.{length-prefix_len}
@@ -11,7 +11,7 @@ use Rattle.hd_lex.specs.declared.token.Token.{Token}
 use Rattle.hd_lex.specs.Byte.{class_of, is_word_byte, is_line_byte}
 use Rattle.hd_lex.specs.Reading.{IsFailure, token_of, tokens_of, Says, IsRefusal, with_front, IsReadTo}
 use Rattle.hd_lex.specs.Text as texts
-use Rattle.hd_lex.specs.Text.{Placed, AreWords}
+use Rattle.hd_lex.specs.Text.{Placed, AreWords, BeginsWith}
 use Rattle.hd_lex.proofs.Runs.{run_of}
 use Rattle.hd_lex.proofs.Cutting.{word-some, words_of}
 
@@ -20,17 +20,16 @@ moved : {to to' : ℕ} {rest rest' : List ℕ} {words : List Placed} → to ≡ 
     → AreWords to rest words → AreWords to' rest' words
 moved e f are = rw (← e, ← f) are
 
-with_front-nil : (said : Result (List Token) LexError) → with_front [] said ≡ said
+pub with_front-nil : (said : Result (List Token) LexError) → with_front [] said ≡ said
 with_front-nil (Ok tokens) = refl
 with_front-nil (Err error) = refl
 
 -- ---- what has no word
 
-pub read-blank : (at : ℕ) (text : List ℕ) → 0 < length text → class_of (get_or text 0 0) ≡ classes.Blank
-    → IsReadTo at text [] (at + 1) (drop 1 text)
-read-blank at [] some is words are = absurd (omega arith)
-read-blank at (x ∷ xs) some is words are =
-    record { words = words; are_words = texts.blank is are; tokens = sym (with_front-nil _) }
+pub begins-blank : (at : ℕ) (text : List ℕ) → 0 < length text → class_of (get_or text 0 0) ≡ classes.Blank
+    → BeginsWith at text None (at + 1) (drop 1 text)
+begins-blank at [] some is words are = absurd (omega arith)
+begins-blank at (x ∷ xs) some is words are = texts.blank is are
 
 -- the semicolon is part of its line
 semicolon-line : (x : ℕ) → class_of x ≡ classes.Semicolon → is_line_byte x ≡ true
@@ -40,20 +39,14 @@ comment-len : (x : ℕ) (xs : List ℕ) → class_of x ≡ classes.Semicolon
     → prefix_len is_line_byte (x ∷ xs) ≡ 1 + prefix_len is_line_byte xs
 comment-len x xs is = rw semicolon-line refl
 
-pub read-comment : (at len : ℕ) (text : List ℕ) → 0 < length text → class_of (get_or text 0 0) ≡ classes.Semicolon
-    → len ≡ prefix_len is_line_byte text → IsReadTo at text [] (at + len) (drop len text)
-read-comment at len [] some is has words are = absurd (omega arith)
-read-comment at len (x ∷ xs) some is has words are =
+pub begins-comment : (at len : ℕ) (text : List ℕ) → 0 < length text → class_of (get_or text 0 0) ≡ classes.Semicolon
+    → len ≡ prefix_len is_line_byte text → BeginsWith at text None (at + len) (drop len text)
+begins-comment at len [] some is has words are = absurd (omega arith)
+begins-comment at len (x ∷ xs) some is has words are =
     let line = prefix_len is_line_byte xs in
     let n : len ≡ 1 + line = has ∙ comment-len x xs is in
     let place : at + len ≡ at + 1 + length (take line xs) = omega (arith, length-prefix_len is_line_byte xs) in
-    let later : drop len (x ∷ xs) ≡ drop line xs = ap (λ (k : ℕ). drop k (x ∷ xs)) n ∙ sym (drop-drop line 1 (x ∷ xs)) in
-    record {
-      words = words;
-      are_words =
-          texts.comment is (run_of is_line_byte xs) (moved place (ap (λ (k : ℕ). drop k (x ∷ xs)) n ∙ sym (drop-drop line 1 (x ∷ xs))) are);
-      tokens = sym (with_front-nil _);
-    }
+    texts.comment is (run_of is_line_byte xs) (moved place (ap (λ (k : ℕ). drop k (x ∷ xs)) n ∙ sym (drop-drop line 1 (x ∷ xs))) are)
 
 -- a comment has a byte
 pub comment-some : (text : List ℕ) → 0 < length text → class_of (get_or text 0 0) ≡ classes.Semicolon
@@ -143,21 +136,6 @@ more_read at text front to rest more end last so_far next words are =
       are_words = said.are_words;
       tokens = said.tokens ∙ ap (with_front front) later.tokens ∙ with_front-append front more (tokens_of words);
     }
-
--- a blank or a comment adds nothing
-pub nothing_read : (at : ℕ) (text : List ℕ) (front : List Token) (to : ℕ) (rest : List ℕ) (end : ℕ) (last : List ℕ)
-    → IsReadTo to rest [] end last → IsReadTo at text front to rest → IsReadTo at text front end last
-nothing_read at text front to rest end last next so_far words are =
-    let said = more_read at text front to rest [] end last so_far next words are in
-    rw append-nil at said
-
--- a token more is what was read
-pub token_read : (at : ℕ) (text : List ℕ) (front : List Token) (to : ℕ) (rest : List ℕ) (token : Token) (end : ℕ) (last : List ℕ)
-    (all : List Token)
-    → all ≡ front ++ (token ∷ []) → IsReadTo to rest (token ∷ []) end last → IsReadTo at text front to rest
-    → IsReadTo at text all end last
-token_read at text front to rest token end last all same next so_far words are =
-    rw same (more_read at text front to rest (token ∷ []) end last so_far next words are)
 
 -- all is read
 pub all_read : (at : ℕ) (text : List ℕ) (front : List Token) (to : ℕ) (rest : List ℕ)

@@ -7,13 +7,13 @@ use Rattle.hd_lex.specs.declared.error.LexError.TheVariants as errors
 use Rattle.hd_lex.specs.declared.token.Token.{Token}
 use Rattle.hd_lex.specs.declared.token.Word.{Word}
 use Rattle.hd_lex.specs.Reading.{word_of, token_of, tokens_of, Says, IsRefusal}
-use Rattle.hd_lex.specs.Text.{Placed, IsTokenOf, AreTokens, IsGood, IsFirstFault, IsFault}
+use Rattle.hd_lex.specs.Text.{Placed, IsTokenOf, AreTokens, IsGood, IsFirstFault, IsFault, IsFaultFrom}
 use Rattle.hd_lex.specs.Word.{IsBad}
 use Rattle.hd_lex.proofs.Cutting.{words_of, words_unique}
 use Rattle.hd_lex.proofs.Table.{word-is, word-read, bad-is, bad-read}
 
 -- a chain that succeeds succeeded at its first step
-bind-ok : {A B : Type 0} (r : Result A LexError) (f : A → Result B LexError) (y : B) → (r >>= f) ≡ Ok y
+pub bind-ok : {A B : Type 0} (r : Result A LexError) (f : A → Result B LexError) (y : B) → (r >>= f) ≡ Ok y
     → (x : A) × (r ≡ Ok x) × (f x ≡ Ok y)
 bind-ok (Ok x) f y e = (x, refl, e)
 bind-ok (Err error) f y e = absurd cc
@@ -127,7 +127,7 @@ pub says-tokens : {text : List ℕ} {tokens : List Token} → Says 0 text (Ok to
 says-tokens {tokens =
     tokens} says = record { words = says.words; are_words = says.are_words; each = each_token says.words tokens says.tokens }
 
-pub says-fault : {text : List ℕ} {error : LexError} → Says 0 text (Err error) → IsFault text error
+pub says-fault : {at : ℕ} {text : List ℕ} {error : LexError} → Says at text (Err error) → IsFaultFrom at text error
 says-fault {error =
     error} says = record { words = says.words; are_words = says.are_words; first = first_fault says.words error says.tokens }
 
@@ -135,7 +135,7 @@ pub tokens-say : {text : List ℕ} {tokens : List Token} → AreTokens text toke
 tokens-say {tokens =
     tokens} are = record { words = are.words; are_words = are.are_words; tokens = each_read are.words tokens are.each }
 
-pub fault-says : {text : List ℕ} {error : LexError} → IsFault text error → Says 0 text (Err error)
+pub fault-says : {at : ℕ} {text : List ℕ} {error : LexError} → IsFaultFrom at text error → Says at text (Err error)
 fault-says {error =
     error} is = record { words = is.words; are_words = is.are_words; tokens = fault-told is.words error is.first }
 
@@ -145,12 +145,22 @@ pub said_unique : {at : ℕ} {text : List ℕ} {a b : Result (List Token) LexErr
 said_unique a b = sym a.tokens ∙ ap tokens_of (words_unique a.are_words b.are_words) ∙ b.tokens
 
 -- a refusal is want of memory or the fault of the text
-pub refusal-is : (text : List ℕ) (error : LexError) → IsRefusal 0 text error
-    → (error ≡ errors.NoMemory) ⊎ IsFault text error
-refusal-is text errors.NoMemory refused = inl refl
-refusal-is text (errors.BadByte place) refused = inr (says-fault refused)
-refusal-is text (errors.BadNumber place) refused = inr (says-fault refused)
-refusal-is text (errors.NameTooLong place) refused = inr (says-fault refused)
+pub refusal-is : (at : ℕ) (text : List ℕ) (error : LexError) → IsRefusal at text error
+    → (error ≡ errors.NoMemory) ⊎ IsFaultFrom at text error
+refusal-is at text errors.NoMemory refused = inl refl
+refusal-is at text (errors.BadByte place) refused = inr (says-fault refused)
+refusal-is at text (errors.BadNumber place) refused = inr (says-fault refused)
+refusal-is at text (errors.NameTooLong place) refused = inr (says-fault refused)
+
+pub is-refusal : (at : ℕ) (text : List ℕ) (error : LexError) → (error ≡ errors.NoMemory) ⊎ IsFaultFrom at text error
+    → IsRefusal at text error
+is-refusal at text errors.NoMemory told = tt
+is-refusal at text (errors.BadByte place) (inl e) = absurd cc
+is-refusal at text (errors.BadByte place) (inr is) = fault-says is
+is-refusal at text (errors.BadNumber place) (inl e) = absurd cc
+is-refusal at text (errors.BadNumber place) (inr is) = fault-says is
+is-refusal at text (errors.NameTooLong place) (inl e) = absurd cc
+is-refusal at text (errors.NameTooLong place) (inr is) = fault-says is
 
 -- a text with tokens is refused for want of memory alone
 pub good-refused : (text : List ℕ) (error : LexError) (tokens : List Token) → AreTokens text tokens

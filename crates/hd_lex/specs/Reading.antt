@@ -99,6 +99,11 @@ IsRefusal at text (BadByte place) = Says at text (Err (BadByte place))
 IsRefusal at text (BadNumber place) = Says at text (Err (BadNumber place))
 IsRefusal at text (NameTooLong place) = Says at text (Err (NameTooLong place))
 
+-- a token or none, as a list
+abbrev pub listed : Option Token → List Token
+listed None = []
+listed (Some token) = token ∷ []
+
 -- tokens that were read, and then what the rest says
 abbrev pub with_front : List Token → Result (List Token) LexError → Result (List Token) LexError
 with_front front said = said >>= λ tokens. Ok (front ++ tokens)

@@ -1,6 +1,6 @@
 -- The words of a text, where they stand, and the tokens or the fault that they give. All of it is a rule of this project ("own"), after
 -- the BNF of PDDL 2.1 (Fox and Long 2003, its appendix), which leaves open how a text is cut.
-use Rattle.std.specs.Prelude.{◌≡◌, ℕ, ◌+◌, ◌<◌, ◌≤◌, List, [], ◌∷◌, ◌++◌, length, Bool, true, false, slice_range}
+use Rattle.std.specs.Prelude.{◌≡◌, ℕ, ◌+◌, ◌<◌, ◌≤◌, List, [], ◌∷◌, ◌++◌, length, Bool, true, false, Option, Some, None, slice_range}
 use Rattle.std.specs.List.{list_all, AllByRecursion, AllZip}
 use Rattle.hd_lex.specs.Byte.{class_of, is_word_byte, is_line_byte}
 use Rattle.hd_lex.specs.Word.{IsWord, IsBad}
@@ -77,11 +77,22 @@ pub record IsFirstFault (words : List Placed) (error : LexError) : Type 0 where
   pub good : AllByRecursion IsGood before
   pub fault : IsBad bad.at bad.bytes error
 
--- the fault of a text: that of its first bad word (own)
-pub record IsFault (text : List ℕ) (error : LexError) : Type 0 where
+-- the text from this place on begins with this token, or with a blank or a comment where there is none, and this rest follows at that
+-- place: whatever words the rest has, the text has them, and before them the word of the token if there is one (own)
+abbrev pub BeginsWith : ℕ → List ℕ → Option Token → ℕ → List ℕ → Type 0
+BeginsWith at text None to rest = (words : List Placed) → AreWords to rest words → AreWords at text words
+BeginsWith at text (Some token) to rest =
+    (first : Placed) × IsTokenOf first token × ((words : List Placed) → AreWords to rest words → AreWords at text (first ∷ words))
+
+-- the fault of a text that begins at this place: that of its first bad word (own)
+pub record IsFaultFrom (at : ℕ) (text : List ℕ) (error : LexError) : Type 0 where
   pub words : List Placed
-  pub are_words : AreWords 0 text words
+  pub are_words : AreWords at text words
   pub first : IsFirstFault words error
+
+-- the fault of a whole text (own)
+abbrev pub IsFault : List ℕ → LexError → Type 0
+IsFault text error = IsFaultFrom 0 text error
 
 -- each token begins where the one before ends or later, is one byte long or more, and the last ends within the bound (own)
 abbrev pub AreInOrder : ℕ → List Token → ℕ → Type 0

@@ -16,5 +16,5 @@ pub use error::LexError;
 pub use law::{
     each_text_has_its_words, each_text_is_good_or_bad, each_word_is_good_or_bad, words_are_short,
 };
-pub use text::tokens;
-pub use token::{Operator, Token, Word};
+pub use text::{front_of, tokens};
+pub use token::{Front, Operator, Token, Word};

@@ -1,15 +1,15 @@
 //! The tokens of a whole text.
 
-ghost use Rattle.std.specs.Prelude.{◌≡◌, ◌⊎◌, ℕ, ◌+◌, ◌<◌, ◌≤◌, ◌^◌, All, List, length, take, drop, IfOk, IfErr, MatchResult};
+ghost use Rattle.std.specs.Prelude.{◌≡◌, ◌⊎◌, ◌+◌, ◌++◌, ◌<◌, ◌≤◌, ◌^◌, All, List, length, take, drop, IfOk, IfErr, OnOk, MatchResult};
 ghost use Rattle.hd_base.specs.Answers.{Means};
-ghost use Rattle.hd_lex.specs.Reading.{IsFailure, token_of, IsRefusal, IsReadTo};
-ghost use Rattle.hd_lex.specs.Text.{AreTokens, IsFault, AreInOrder, IsAtItsBytes};
+ghost use Rattle.hd_lex.specs.Reading.{IsFailure, token_of, listed};
+ghost use Rattle.hd_lex.specs.Text.{AreTokens, BeginsWith, IsFault, IsFaultFrom, AreInOrder, IsAtItsBytes};
 ghost use Rattle.hd_lex.specs.declared.error.LexError.{LexError};
 ghost use Rattle.hd_lex.specs.declared.token.Token.{Token};
 
 use crate::byte::{Class, class_of, line_len, word_len};
 use crate::error::LexError;
-use crate::token::Token;
+use crate::token::{Front, Token};
 use crate::word::word_of;
 use std::alloc::Global;
 
@@ -27,37 +27,58 @@ fn token_of(alloc: Global, text: &[u8], at: usize, len: usize) -> Result<Token, 
     })
 }
 
-/// Reads what stands at the front of a text whose first byte stands at this place, and answers how
-/// many bytes it has. A blank or a comment adds no token, and a word adds its token.
-fn read_front(
-    alloc: Global,
-    tokens: &mut Vec<Token>,
-    text: &[u8],
-    at: usize,
-) -> Result<usize, LexError>
+/// What stands at the front of a text whose first byte stands at this place: a token, or a blank or a comment.
+///
+/// Any bytes may come. So a text is read token by token, and no more of them are kept than are wanted.
+pub fn front_of(alloc: Global, text: &[u8], at: usize) -> Result<Front, LexError>
     requires some { 0 < length text.now }
     requires place { at + length text.now < 2 ^ 64 }
-    ensures read { IfOk result (λ len. (start : ℕ) (whole : List ℕ)
-        → IsReadTo start whole tokens.old.items at text.now
-        → IsReadTo start whole tokens.new.items (at + len) (drop len text.now)) }
-    ensures progress { IfOk result (λ len. (0 < len) × (len ≤ length text.now)) }
-    ensures refused { IfErr result (IsRefusal at text.now) }
+
+    // What is answered: what stands first, and how many bytes it has.
+    ensures front { IfOk result (λ front.
+        BeginsWith at text.now front.token (at + front.len) (drop front.len text.now)) }
+    ensures progress { IfOk result (λ front. (0 < front.len) × (front.len ≤ length text.now)) }
+
+    // What is told: the fault of the text's first bad word, which stands first, or want of memory.
+    ensures refusal { IfErr result (λ error.
+        (error ≡ LexError.NoMemory) ⊎ IsFaultFrom at text.now error) }
 {
     match class_of(text[0]) {
-        Class::Blank => Ok(1),
-        Class::Semicolon => Ok(line_len(text)),
+        Class::Blank => Ok(Front {
+            token: None,
+            len: 1,
+        }),
+        Class::Semicolon => Ok(Front {
+            token: None,
+            len: line_len(text),
+        }),
         Class::Parenthesis => {
             let token = token_of(alloc, text, at, 1)?;
-            tokens.push(token)?;
-            Ok(1)
+            Ok(Front {
+                token: Some(token),
+                len: 1,
+            })
         }
         Class::Word => {
             let len = word_len(text);
             let token = token_of(alloc, text, at, len)?;
-            tokens.push(token)?;
-            Ok(len)
+            Ok(Front {
+                token: Some(token),
+                len,
+            })
         }
     }
+}
+
+/// Adds a token, if there is one.
+fn push_front(tokens: &mut Vec<Token>, token: Option<Token>) -> Result<(), LexError>
+    ensures pushed { OnOk result (tokens.new.items ≡ tokens.old.items ++ listed token) }
+    ensures no_memory { IfErr result (λ error. error ≡ LexError.NoMemory) }
+{
+    if let Some(token) = token {
+        tokens.push(token)?;
+    }
+    Ok(())
 }
 
 /// The tokens of a text in order, or the fault of its first bad word.
@@ -82,7 +103,8 @@ pub fn tokens(alloc: Global, text: &[u8]) -> Result<Vec<Token>, LexError>
     let mut rest = text;
     let mut at = 0;
     while !rest.is_empty() {
-        let len = read_front(alloc, &mut tokens, rest, at)?;
+        let Front { token, len } = front_of(alloc, rest, at)?;
+        push_front(&mut tokens, token)?;
         rest = &rest[len..];
         at += len;
     }

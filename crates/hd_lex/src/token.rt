@@ -41,3 +41,10 @@ pub struct Token {
     pub to: usize,
     pub word: Word,
 }
+
+/// What stands at the front of a text: a token, or none where a blank or a comment stands there; and how many bytes it has.
+#[derive(Debug, PartialEq, Eq, Drop)]
+pub struct Front {
+    pub token: Option<Token>,
+    pub len: usize,
+}

@@ -47,9 +47,7 @@ fn lower_case(alloc: Global, text: &[u8]) -> Result<Name, LexError>
     let Ok(text) = str::from_utf8(text) else {
         unreachable!()
     };
-    let mut text = String::from_str(alloc, text)?;
-    text.make_ascii_lowercase();
-    Ok(Name::from_string(text))
+    Ok(Name::folded(alloc, text)?)
 }
 
 /// The name that these bytes of the word at this place spell.

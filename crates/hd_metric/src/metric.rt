@@ -34,10 +34,13 @@ fn read_by_part(function: &Name, part: &Condition) -> Option<usize>
     ensures { result ≡ read_by_part function.now part.now }
 {
     match part {
-        Condition::Compare(comparison) => match read_in(function, &comparison.left) {
-            Some(at) => Some(at),
-            None => read_in(function, &comparison.right),
-        },
+        Condition::Compare(comparison) => {
+            let comparison = comparison.get();
+            match read_in(function, &comparison.left) {
+                Some(at) => Some(at),
+                None => read_in(function, &comparison.right),
+            }
+        }
         Condition::Atom(_) => None,
         Condition::NotAtom(_) => None,
         Condition::Equal(_, _) => None,
@@ -79,6 +82,7 @@ fn misused_by_part(function: &Name, part: &Effect) -> Option<usize>
         Effect::Add(_) => None,
         Effect::Delete(_) => None,
         Effect::Change(change) => {
+            let change = change.get();
             if change.fluent.name.name == *function {
                 change_of_metric(function, change)
             } else {
@@ -131,7 +135,7 @@ fn is_value_of(function: &Name, said: &Init) -> bool
     ensures { result ≡ is_value_of function.now said.now }
 {
     match said {
-        Init::Value(value) => value.fluent.name.name == *function,
+        Init::Value(value) => value.get().fluent.name.name == *function,
         Init::Atom(_) => false,
         Init::NotAtom(_) => false,
     }
@@ -143,6 +147,7 @@ fn nonzero_at(function: &Name, said: &Init) -> Option<usize>
 {
     match said {
         Init::Value(value) => {
+            let value = value.get();
             if value.fluent.name.name == *function && value.value.unsigned_abs() != 0 {
                 Some(value.at)
             } else {

@@ -96,13 +96,14 @@ impl Names {
 pub fn spelled(alloc: Global, kind: ItemKind, name: &Name) -> Result<Name, AllocError>
     ensures { IfOk result (λ n. n ≡ spelled kind name.now) }
 {
-    let mut text = String::new(alloc);
     match kind {
-        ItemKind::Name => {}
-        ItemKind::Variable => text.push_str("?")?,
+        ItemKind::Name => name.copied(alloc),
+        ItemKind::Variable => {
+            let mut text = String::from_str(alloc, "?")?;
+            text.push_str(name.as_str())?;
+            Name::of(alloc, text.as_str())
+        }
     }
-    text.push_str(name.as_str())?;
-    Ok(Name::from_string(text))
 }
 
 /// Tells that a name is not declared.

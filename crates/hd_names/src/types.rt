@@ -19,7 +19,7 @@ fn object_alone(alloc: Global, seed: Seed) -> Result<Names, AllocError>
     ensures { IfOk result (λ names. names ≡ codes "object" ∷ []) }
 {
     let mut names = Names::none(alloc, seed);
-    let object = Name::from_string(String::from_str(alloc, "object")?);
+    let object = Name::of(alloc, "object")?;
     names.add(alloc, &object)?;
     Ok(names)
 }

@@ -91,7 +91,7 @@ pub fn actions_of(alloc: Global, forms: &[Form]) -> Result<Sequence<Action>, Rea
     while let [first, after @ ..] = rest {
         match first {
             Form::Word { .. } => return Err(form_refusal(alloc, first)),
-            Form::List { inside, to, .. } => actions.push(action_of(alloc, inside, *to)?)?,
+            Form::List { inside, to, .. } => actions.push(action_of(alloc, inside, to.get())?)?,
         }
         rest = after;
     }

@@ -58,7 +58,7 @@ pub fn find_section<'a>(keyword: &str, forms: &'a [Form]) -> Option<(&'a [Form],
 {
     match forms {
         [Form::List { inside, to, .. }, rest @ ..] => match find_keyword(keyword, inside) {
-            Some(inside) => Some((inside, *to, rest)),
+            Some(inside) => Some((inside, to.get(), rest)),
             None => None,
         },
         _ => None,

@@ -16,7 +16,7 @@ ghost use Rattle.hd_pddl.specs.declared.tree.ProblemAst.{ProblemAst};
 use crate::definition::{behind_requirements, head_at, section_at};
 use crate::sections::names_at;
 use crate::tree::{Init, InitialValue, ProblemAst};
-use hd_base::Sequence;
+use hd_base::{Boxed, Sequence};
 use hd_forms::{
     Form, NameAt, ReadError, Word, behind_keyword, behind_name, end_at, first_refusal,
     form_refusal, group_at, name_at, number_at, text_forms,
@@ -49,7 +49,8 @@ fn value_of(alloc: Global, rest: &[Form], to: usize) -> Result<Init, ReadError>
     let fluent = atom_of(alloc, inside, inside_to)?;
     let (value, at, rest) = number_at(alloc, rest, to)?;
     end_at(alloc, rest)?;
-    Ok(Init::Value(InitialValue { fluent, value, at }))
+    let value = Boxed::of(alloc, InitialValue { fluent, value, at })?;
+    Ok(Init::Value(value))
 }
 
 /// The initial fact that stands in a form which ends at the place `to`.
@@ -92,7 +93,7 @@ fn initial_in(alloc: Global, forms: &[Form]) -> Result<Sequence<Init>, ReadError
     while let [first, after @ ..] = rest {
         match first {
             Form::Word { .. } => return Err(form_refusal(alloc, first)),
-            Form::List { inside, to, .. } => facts.push(initial_of(alloc, inside, *to)?)?,
+            Form::List { inside, to, .. } => facts.push(initial_of(alloc, inside, to.get())?)?,
         }
         rest = after;
     }
@@ -153,7 +154,7 @@ fn metric_of(alloc: Global, forms: &[Form]) -> Result<Option<NameAt>, ReadError>
         [] => Ok(None),
         [form @ Form::Word { .. }, ..] => Err(form_refusal(alloc, form)),
         [Form::List { inside, to, .. }, rest @ ..] => {
-            let name = metric_in(alloc, inside, *to)?;
+            let name = metric_in(alloc, inside, to.get())?;
             end_at(alloc, rest)?;
             Ok(Some(name))
         }

@@ -52,7 +52,11 @@ fn signatures_of(alloc: Global, forms: &[Form]) -> Result<Sequence<Signature>, R
     while let [first, after @ ..] = rest {
         match first {
             Form::Word { .. } => return Err(form_refusal(alloc, first)),
-            Form::List { inside, to, .. } => signatures.push(signature_of(alloc, inside, *to)?)?,
+            Form::List { inside, to, .. } => signatures.push(signature_of(
+                alloc,
+                inside,
+                to.get(),
+            )?)?,
         }
         rest = after;
     }
@@ -88,7 +92,7 @@ fn functions_of(alloc: Global, forms: &[Form], end: usize) -> Result<Sequence<Si
     while let [first, after @ ..] = rest {
         match first {
             Form::List { inside, to, .. } => {
-                functions.push(signature_of(alloc, inside, *to)?)?;
+                functions.push(signature_of(alloc, inside, to.get())?)?;
                 behind = true;
                 rest = after;
             }

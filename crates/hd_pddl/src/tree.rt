@@ -1,6 +1,6 @@
 //! What texts say, each list in the text's order. A place is that of a first byte in the text, counted from 0.
 
-use hd_base::Sequence;
+use hd_base::{Boxed, Sequence};
 use hd_forms::NameAt;
 use hd_terms::{Atom, Condition, Effect, Typed};
 
@@ -46,7 +46,8 @@ pub enum Init {
     Atom(Atom),
     /// `not` and an atom.
     NotAtom(Atom),
-    Value(InitialValue),
+    /// In memory of its own: most facts are atoms, and a list is as wide as its widest item.
+    Value(Boxed<InitialValue>),
 }
 
 /// What the text of a problem says. The goal is all of its parts, as a condition is.

@@ -1,3 +1,4 @@
+pub mod Groups
 pub mod CompleteTyped
 pub mod CompleteParts
 pub mod CompleteLists

@@ -67,10 +67,39 @@ is_minus_sign (Some operators.Greater) = false
 abbrev pub is_minus : Word → Bool
 is_minus w = is_minus_sign (sign_in w)
 
+-- an item at a place before others, or none of them where it is no item
+abbrev pub items_from : Option (List ℕ) → ℕ → List NameAt → List NameAt
+items_from (Some n) at more = placed_name n at ∷ more
+items_from None at more = []
+
+-- what follows the items behind an item, or the forms themselves where they begin with none
+abbrev pub rest_from : Option (List ℕ) → Forms → Forms → Forms
+rest_from (Some n) here behind = behind
+rest_from None here behind = here
+
 -- what follows a value, or else this
 abbrev pub some_or : {A B : Type 0} → Option A → (A → Option B) → Option B → Option B
 some_or (Some x) f otherwise = f x
 some_or None f otherwise = otherwise
+
+-- the items that stand in front, each with its place
+unfoldable pub items_in : ItemKind → Forms → List NameAt
+items_in k none = []
+items_in k (word at w rest) = items_from (item_in k w) at (items_in k rest)
+items_in k (list a inside b rest) = []
+
+-- what follows them
+unfoldable pub behind_items : ItemKind → Forms → Forms
+behind_items k none = none
+behind_items k (word at w rest) = rest_from (item_in k w) (word at w rest) (behind_items k rest)
+behind_items k (list a inside b rest) = list a inside b rest
+
+-- the type of items that are followed so, if one is given, and what follows it; whether there are items is told
+unfoldable pub type_behind : Bool → Forms → Option (Option NameAt × Forms)
+type_behind some none = Some (None, none)
+type_behind some (word at w rest) =
+    if is_minus w && some then (name_at rest >>= λ n. Some (Some n.0, n.1)) else None
+type_behind some (list a inside b rest) = None
 
 unfoldable mutual
   -- a typed list: what was found so far, the items whose type is still to come, and what follows

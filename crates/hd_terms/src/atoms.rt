@@ -31,7 +31,7 @@ pub fn term_at(alloc: Global, forms: &[Form], end: usize) -> Result<(Term, &[For
 fn terms_of(alloc: Global, forms: &[Form]) -> Result<Sequence<Term>, ReadError>
     ensures { Gives Refuses (λ x. x) result (terms_after (forms_view forms.now) []) }
 {
-    let mut terms = Vec::new(alloc);
+    let mut terms = Vec::with_capacity(alloc, forms.len())?;
     let mut rest = forms;
     while let [first, after @ ..] = rest {
         let Form::Word { at, word } = first else {

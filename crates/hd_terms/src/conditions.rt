@@ -13,7 +13,7 @@ use crate::atoms::{atom_of, term_at};
 use crate::expressions::pair_of;
 use crate::negations::{begins_with_term, negation_refusal};
 use crate::tree::{Comparison, Condition, Term};
-use hd_base::{Relation, Sequence};
+use hd_base::{Boxed, Relation, Sequence};
 use hd_forms::{Form, ReadError, Word, end_at, first_refusal, form_refusal, group_at};
 use hd_lex::Operator;
 use std::alloc::Global;
@@ -54,6 +54,27 @@ fn terms_of(alloc: Global, forms: &[Form], to: usize) -> Result<(Term, Term), Re
     Ok((left, right))
 }
 
+/// The same two terms, each in memory of its own.
+fn boxed_terms_of(
+    alloc: Global,
+    rest: &[Form],
+    to: usize,
+) -> Result<(Boxed<Term>, Boxed<Term>), ReadError>
+    ensures { Gives Refuses (λ x. x) result (terms_of (forms_view rest.now)) }
+{
+    let (left, right) = terms_of(alloc, rest, to)?;
+    match Boxed::of(alloc, left) {
+        Ok(left) => {
+            let right = Boxed::of(alloc, right)?;
+            Ok((left, right))
+        }
+        Err(error) => {
+            drop(right);
+            Err(ReadError::from(error))
+        }
+    }
+}
+
 /// What the operator, the first of the forms `inside`, says of the rest of them, in a form that ends at the place `to`.
 #[tactic(auto, unfolding(crate::specs::Reading::relation_of))]
 fn relation_of(
@@ -66,18 +87,22 @@ fn relation_of(
     ensures { Gives Refuses (λ x. x) result (relation_of operator (forms_view rest.now)) }
 {
     if is_equal(operator) && begins_with_term(rest) {
-        let (left, right) = terms_of(alloc, rest, to)?;
+        let (left, right) = boxed_terms_of(alloc, rest, to)?;
         return Ok(Condition::Equal(left, right));
     }
     let Some(relation) = relation_in(operator) else {
         return Err(first_refusal(alloc, inside, to));
     };
     let (left, right) = pair_of(alloc, rest, to)?;
-    Ok(Condition::Compare(Comparison {
-        relation,
-        left,
-        right,
-    }))
+    let comparison = Boxed::of(
+        alloc,
+        Comparison {
+            relation,
+            left,
+            right,
+        },
+    )?;
+    Ok(Condition::Compare(comparison))
 }
 
 /// What is denied in a form behind the `not` at the place `not`. The form ends at `to`.
@@ -89,7 +114,7 @@ fn denial_of(alloc: Global, not: usize, inside: &[Form], to: usize) -> Result<Co
         [Form::Word { word, .. }, rest @ ..] => match word {
             Word::Operator(operator) => {
                 if is_equal(*operator) && begins_with_term(rest) {
-                    let (left, right) = terms_of(alloc, rest, to)?;
+                    let (left, right) = boxed_terms_of(alloc, rest, to)?;
                     Ok(Condition::NotEqual(left, right))
                 } else {
                     Err(negation_refusal(alloc, not))
@@ -175,7 +200,7 @@ fn part_of(alloc: Global, form: &Form) -> Result<Part<'_>, ReadError>
             },
             rest @ ..,
         ] => Ok(Part::All(rest)),
-        _ => Ok(Part::One(part_of_condition(alloc, inside, *to)?)),
+        _ => Ok(Part::One(part_of_condition(alloc, inside, to.get())?)),
     }
 }
 

@@ -14,7 +14,7 @@ use crate::atoms::atom_of;
 use crate::expressions::expression_of;
 use crate::negations::negated_atom_of;
 use crate::tree::{Effect, FluentChange};
-use hd_base::Sequence;
+use hd_base::{Boxed, Sequence};
 use hd_forms::{Change, Form, ReadError, Word, first_refusal, form_refusal, group_at};
 use std::alloc::Global;
 use std::slice;
@@ -38,12 +38,16 @@ fn change_of(alloc: Global, change: Change, rest: &[Form], to: usize) -> Result<
     let (inside, inside_to, rest) = group_at(alloc, rest, to)?;
     let fluent = atom_of(alloc, inside, inside_to)?;
     let amount = expression_of(alloc, rest, to)?;
-    Ok(Effect::Change(FluentChange {
-        change,
-        fluent,
-        amount,
-        at: place_of(rest),
-    }))
+    let change = Boxed::of(
+        alloc,
+        FluentChange {
+            change,
+            fluent,
+            amount,
+            at: place_of(rest),
+        },
+    )?;
+    Ok(Effect::Change(change))
 }
 
 /// The part of an effect that stands in a form which ends at the place `to`.
@@ -100,7 +104,7 @@ fn part_of(alloc: Global, form: &Form) -> Result<Part<'_>, ReadError>
             },
             rest @ ..,
         ] => Ok(Part::All(rest)),
-        _ => Ok(Part::One(part_of_effect(alloc, inside, *to)?)),
+        _ => Ok(Part::One(part_of_effect(alloc, inside, to.get())?)),
     }
 }
 

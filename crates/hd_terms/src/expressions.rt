@@ -81,7 +81,7 @@ fn shape_of(alloc: Global, form: &Form) -> Result<Shape<'_>, ReadError>
             Word::Number(value) => Ok(Shape::Known(Expr::leaf(Leaf::Number(*value, *at)))),
             _ => Err(form_refusal(alloc, form)),
         },
-        Form::List { inside, to, .. } => inner_shape(alloc, inside, *to),
+        Form::List { inside, to, .. } => inner_shape(alloc, inside, to.get()),
     }
 }
 

@@ -1,7 +1,10 @@
 //! What the parts of domains and problems say. A place is that of a first byte in the text, counted from 0.
+//!
+//! Most conditions and effects are atoms, and a list of them is as wide as its widest part: so what is wider than an atom has
+//! memory of its own.
 
 use crate::TypeName;
-use hd_base::{Relation, Sequence};
+use hd_base::{Boxed, Relation, Sequence};
 use hd_forms::{Change, NameAt};
 
 /// A declared name, and the name of its type if one is given: without one the type is `object`.
@@ -53,10 +56,10 @@ pub enum Condition {
     /// `not` and an atom.
     NotAtom(Atom),
     /// That both terms are the same object.
-    Equal(Term, Term),
+    Equal(Boxed<Term>, Boxed<Term>),
     /// `not` and an equality of objects.
-    NotEqual(Term, Term),
-    Compare(Comparison),
+    NotEqual(Boxed<Term>, Boxed<Term>),
+    Compare(Boxed<Comparison>),
 }
 
 /// A change of a fluent by an amount.
@@ -75,5 +78,5 @@ pub enum Effect {
     Add(Atom),
     /// `not` and an atom.
     Delete(Atom),
-    Change(FluentChange),
+    Change(Boxed<FluentChange>),
 }

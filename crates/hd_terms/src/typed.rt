@@ -1,16 +1,16 @@
 //! Lists of names, or of variables, with their types.
 
-ghost use Rattle.std.specs.Prelude.{◌≡◌, ◌++◌, Some, None, [], MatchOption, IfErr, OnOk};
-ghost use Rattle.hd_base.specs.Answers.{Gives};
+ghost use Rattle.std.specs.Prelude.{◌≡◌, ◌+◌, ◌≤◌, ◌++◌, ◌∷◌, Some, None, false, [], length, MatchOption, IfOk, IfErr, OnOk};
+ghost use Rattle.hd_base.specs.Answers.{Gives, Leaves};
 ghost use Rattle.hd_forms.specs.Reading.{Refuses, placed_name};
 ghost use Rattle.hd_forms.specs.View.{forms_view};
-ghost use Rattle.hd_terms.specs.Reading.{item_in, is_minus, typed_after};
-ghost use Rattle.hd_terms.specs.Typed.{with_type};
+ghost use Rattle.hd_terms.specs.Reading.{item_in, items_in, behind_items, is_minus, type_behind, typed_after};
+ghost use Rattle.hd_terms.specs.Typed.{typed_by, with_type};
 
 use crate::tree::Typed;
 use crate::type_name::TypeName;
-use hd_base::{Name, Sequence};
-use hd_forms::{Form, NameAt, ReadError, Word, first_refusal, form_refusal, placed_name};
+use hd_base::{Name, Sequence, exact};
+use hd_forms::{Form, ReadError, Word, first_refusal, form_refusal, placed_name};
 use hd_lex::Operator;
 use std::alloc::Global;
 
@@ -49,28 +49,128 @@ pub fn is_minus(word: &Word) -> bool
     }
 }
 
-/// Adds names that have this type, or none.
-fn add_group(
+/// What follows the items that stand in front.
+#[tactic(auto, unfolding(crate::specs::Reading::items_in, crate::specs::Reading::behind_items))]
+fn behind_items(kind: ItemKind, forms: &[Form]) -> &[Form]
+    ensures rest { forms_view result.now ≡ behind_items kind (forms_view forms.now) }
+    ensures len { length result.now + length (items_in kind (forms_view forms.now))
+        ≡ length forms.now }
+{
+    let mut rest = forms;
+    while let [Form::Word { word, .. }, after @ ..] = rest {
+        if item_in(kind, word).is_none() {
+            return rest;
+        }
+        rest = after;
+    }
+    rest
+}
+
+/// The type of the items that these forms follow, if one is given, and what follows it. The list ends, or a type is given
+/// where there are items. The place `end` is that behind the forms.
+#[tactic(auto, unfolding(crate::specs::Reading::type_behind))]
+fn type_behind(
+    alloc: Global,
+    some: bool,
+    forms: &[Form],
+    end: usize,
+) -> Result<(Option<TypeName>, &[Form]), ReadError>
+    ensures type_given { Gives Refuses (λ x. (x.0, forms_view x.1.now)) result
+        (type_behind some (forms_view forms.now)) }
+    ensures shorter { IfOk result (λ x. length x.1.now ≤ length forms.now) }
+    ensures none { IfOk result (λ _. some ≡ false → length forms.now ≡ 0) }
+{
+    let [first, after @ ..] = forms else {
+        return Ok((None, forms));
+    };
+    let Form::Word { word, .. } = first else {
+        return Err(form_refusal(alloc, first));
+    };
+    if !is_minus(word) || !some {
+        return Err(form_refusal(alloc, first));
+    }
+    let [
+        Form::Word {
+            at,
+            word: Word::Name(name),
+        },
+        behind @ ..,
+    ] = after
+    else {
+        return Err(first_refusal(alloc, after, end));
+    };
+    let of = TypeName::of(alloc, placed_name(alloc, name, *at)?)?;
+    Ok((Some(of), behind))
+}
+
+/// Adds an item that has this type, or none.
+fn add_item(
+    alloc: Global,
     found: &mut Vec<Typed>,
-    names: Vec<NameAt>,
+    name: &Name,
+    at: usize,
     of: &Option<TypeName>,
 ) -> Result<(), ReadError>
     ensures found { OnOk result (found.new.items
-        ≡ found.old.items ++ with_type of.now names.items) }
+        ≡ found.old.items ++ typed_by of.now (placed_name name.now at) ∷ []) }
     ensures no_memory { IfErr result (λ e. e ≡ ReadError.NoMemory) }
 {
-    for name in names {
-        let of = match of {
-            Some(of) => Some(of.share()?),
-            None => None,
+    let of = match of {
+        Some(of) => Some(of.share()?),
+        None => None,
+    };
+    let name = placed_name(alloc, name, at)?;
+    found.push(Typed { name, of })?;
+    Ok(())
+}
+
+/// Adds the items that stand in front, which have this type, or none.
+#[tactic(auto, unfolding(crate::specs::Reading::items_in))]
+fn add_items(
+    alloc: Global,
+    found: &mut Vec<Typed>,
+    kind: ItemKind,
+    forms: &[Form],
+    of: &Option<TypeName>,
+) -> Result<(), ReadError>
+    ensures found { OnOk result (found.new.items
+        ≡ found.old.items ++ with_type of.now (items_in kind (forms_view forms.now))) }
+    ensures no_memory { IfErr result (λ e. e ≡ ReadError.NoMemory) }
+{
+    let mut rest = forms;
+    while let [Form::Word { at, word }, after @ ..] = rest {
+        let Some(name) = item_in(kind, word) else {
+            return Ok(());
         };
-        found.push(Typed { name, of })?;
+        add_item(alloc, found, name, *at, of)?;
+        rest = after;
+    }
+    Ok(())
+}
+
+/// Adds the typed list that these forms are. The place `end` is that behind the forms.
+fn add_typed(
+    alloc: Global,
+    found: &mut Vec<Typed>,
+    kind: ItemKind,
+    forms: &[Form],
+    end: usize,
+) -> Result<(), ReadError>
+    ensures { Leaves Refuses result found.new.items
+        (typed_after kind (forms_view forms.now) found.old.items []) }
+{
+    let mut rest = forms;
+    while !rest.is_empty() {
+        let after = behind_items(kind, rest);
+        let (of, behind) = type_behind(alloc, after.len() < rest.len(), after, end)?;
+        add_items(alloc, found, kind, rest, &of)?;
+        drop(of);
+        rest = behind;
     }
     Ok(())
 }
 
 /// The typed list that these forms are. The place `end` is that behind the forms.
-#[tactic(auto, unfolding(crate::specs::Reading::typed_after))]
 pub fn typed_of(
     alloc: Global,
     kind: ItemKind,
@@ -80,38 +180,11 @@ pub fn typed_of(
     ensures { Gives Refuses (λ x. x) result (typed_after kind (forms_view forms.now) [] []) }
 {
     let mut found = Vec::new(alloc);
-    let mut pending = Vec::new(alloc);
-    let mut rest = forms;
-    while let [first, after @ ..] = rest {
-        let Form::Word { at, word } = first else {
-            return Err(form_refusal(alloc, first));
-        };
-        match item_in(kind, word) {
-            Some(name) => {
-                pending.push(placed_name(alloc, name, *at)?)?;
-                rest = after;
-            }
-            None => {
-                if !is_minus(word) || pending.is_empty() {
-                    return Err(form_refusal(alloc, first));
-                }
-                let [
-                    Form::Word {
-                        at,
-                        word: Word::Name(name),
-                    },
-                    behind @ ..,
-                ] = after
-                else {
-                    return Err(first_refusal(alloc, after, end));
-                };
-                let of = Some(TypeName::of(alloc, placed_name(alloc, name, *at)?)?);
-                add_group(&mut found, pending, &of)?;
-                pending = Vec::new(alloc);
-                rest = behind;
-            }
+    match add_typed(alloc, &mut found, kind, forms, end) {
+        Ok(()) => Ok(Sequence::from_vec(exact(alloc, found)?)),
+        Err(error) => {
+            drop(found);
+            Err(error)
         }
     }
-    add_group(&mut found, pending, &None)?;
-    Ok(Sequence::from_vec(found))
 }

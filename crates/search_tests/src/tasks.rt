@@ -38,7 +38,7 @@ fn forms(alloc: Global, count: usize) -> Result<Sequence<GroundForm>, Fail> {
 fn named(alloc: Global, text: &str) -> Result<Sequence<Name>, Fail> {
     let mut all = Vec::new(alloc);
     for name in text.split(' ') {
-        all.push(Name::from_string(String::from_str(alloc, name)?))?;
+        all.push(Name::of(alloc, name)?)?;
     }
     Ok(Sequence::from_vec(all))
 }

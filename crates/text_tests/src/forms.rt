@@ -12,6 +12,8 @@ a (b c) | 2
 ( | 4 Unbalanced(1)
 ) | 4 Unbalanced(0)
 ( 1x | 2 BadNumber(2)
+) 1x | 2 BadNumber(2)
+) x (( | 4 Unbalanced(0)
 x ! | 1 BadByte(2)";
 
 #[test]

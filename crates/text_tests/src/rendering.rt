@@ -99,9 +99,9 @@ fn add_condition(text: &mut String, condition: &Condition) -> Result<(), AllocEr
             text.push_str(" -")?;
             add_atom(text, atom)
         }
-        Condition::Equal(left, right) => add_equality(text, " =[", left, right),
-        Condition::NotEqual(left, right) => add_equality(text, " !=[", left, right),
-        Condition::Compare(comparison) => add_comparison(text, comparison),
+        Condition::Equal(left, right) => add_equality(text, " =[", left.get(), right.get()),
+        Condition::NotEqual(left, right) => add_equality(text, " !=[", left.get(), right.get()),
+        Condition::Compare(comparison) => add_comparison(text, comparison.get()),
     }
 }
 
@@ -142,7 +142,7 @@ fn add_effect(text: &mut String, effect: &Effect) -> Result<(), AllocError> {
             text.push_str(" -")?;
             add_atom(text, atom)
         }
-        Effect::Change(change) => add_change(text, change),
+        Effect::Change(change) => add_change(text, change.get()),
     }
 }
 
@@ -196,6 +196,7 @@ fn add_fact(text: &mut String, fact: &Init) -> Result<(), AllocError> {
             add_atom(text, atom)
         }
         Init::Value(value) => {
+            let value = value.get();
             text.push(' ')?;
             add_atom(text, &value.fluent)?;
             write!(text, "={}@{}", value.value, value.at)

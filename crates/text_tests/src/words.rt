@@ -1,14 +1,14 @@
 //! Small texts, with answers worked out by hand from the rules of words.
 
 use hd_base::Name;
-use hd_lex::{LexError, Operator, Token, Word, tokens};
+use hd_lex::{Front, LexError, Operator, Token, Word, front_of, tokens};
 use std::alloc::{AllocError, Global};
 use std::process::Abort;
 use std::test::Fail;
 
 /// The name with this text.
 fn name(alloc: Global, text: &str) -> Result<Name, AllocError> {
-    Ok(Name::from_string(String::from_str(alloc, text)?))
+    Name::of(alloc, text)
 }
 
 /// The word with this span.
@@ -132,6 +132,77 @@ fn mixed_text(rt: HostRuntime) -> Result<(), Fail> {
         token(26, 27, Word::CloseParenthesis),
     ];
     assert_eq!(rt; found.as_slice(), expected.as_slice());
+    Ok(())
+}
+
+/// Names that lie in the `Name` itself, and names that do not.
+#[test]
+fn names_of_14_and_15_bytes(rt: HostRuntime) -> Result<(), Fail> {
+    let cases = [
+        ("A", "a"),
+        ("Truck-at-Depot", "truck-at-depot"),
+        ("Truck-at-Depots", "truck-at-depots"),
+        (
+            "A-Truck-at-a-Depot-of-A-City",
+            "a-truck-at-a-depot-of-a-city",
+        ),
+    ];
+    for (text, folded) in cases {
+        let expected = Word::Name(name(rt.alloc(), folded)?);
+        assert_word(&rt, rt.alloc(), text.as_bytes(), expected)?;
+        let copy = name(rt.alloc(), folded)?.copied(rt.alloc())?;
+        assert_eq!(rt; copy.as_str(), folded);
+    }
+    Ok(())
+}
+
+/// The front of a text whose first byte stands at 7.
+fn assert_front(rt: &impl Abort, alloc: Global, text: &[u8], expected: Result<Front, LexError>) {
+    assert!(rt; !text.is_empty());
+    assert_eq!(rt; front_of(alloc, text, 7), expected);
+}
+
+#[test]
+fn fronts(rt: HostRuntime) -> Result<(), Fail> {
+    assert_front(
+        &rt,
+        rt.alloc(),
+        b" ab",
+        Ok(Front {
+            token: None,
+            len: 1,
+        }),
+    );
+    assert_front(
+        &rt,
+        rt.alloc(),
+        b";x\n1x",
+        Ok(Front {
+            token: None,
+            len: 2,
+        }),
+    );
+    let open = token(7, 8, Word::OpenParenthesis);
+    assert_front(
+        &rt,
+        rt.alloc(),
+        b"(a",
+        Ok(Front {
+            token: Some(open),
+            len: 1,
+        }),
+    );
+    let ab = token(7, 9, Word::Name(name(rt.alloc(), "ab")?));
+    assert_front(
+        &rt,
+        rt.alloc(),
+        b"aB(1x",
+        Ok(Front {
+            token: Some(ab),
+            len: 2,
+        }),
+    );
+    assert_front(&rt, rt.alloc(), b"3.5 a", Err(LexError::BadNumber(7)));
     Ok(())
 }
 

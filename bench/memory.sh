@@ -1,0 +1,49 @@
+#!/bin/sh
+# Prints how much memory texts of 2 MB take until they are solved or refused, as multiples of the text's size: bench/memory.sh
+# Each is a short domain and problem in which one part is said again and again. What a process takes without any text, some 2 MB, is
+# counted too. The crate `hplan_main` is built and proved as the gate does it.
+set -e
+here=$(cd "$(dirname "$0")/.." && pwd)
+"$here/hplan" --version >/dev/null
+folder=$(mktemp -d)
+trap 'rm -rf "$folder"' EXIT
+long=$(printf '%255s' '' | tr ' ' t)
+
+# Repeats $1 up to 2 MB.
+filled() {
+    awk -v part="$1" 'BEGIN { for (i = 0; i < 2000000 / length(part); i++) printf "%s", part }'
+}
+
+# The domain and the problem stand on standard input, a line each, with @ where the part named $2 is repeated; $1 is what is printed.
+row() {
+    read -r domain
+    read -r problem
+    filled "$2" >"$folder/part"
+    for text in domain problem; do
+        eval "line=\$$text"
+        printf '%s' "${line%%@*}" >"$folder/$text"
+        case $line in *@*) cat "$folder/part" >>"$folder/$text"; printf '%s' "${line#*@}" >>"$folder/$text" ;; esac
+    done
+    /usr/bin/time -f %M -o "$folder/peak" "$here/hplan" solve "$folder/domain" "$folder/problem" >"$folder/said" 2>&1 || true
+    size=$(cat "$folder/domain" "$folder/problem" | wc -c)
+    awk -v name="$1" -v kilobytes="$(tail -n 1 "$folder/peak")" -v size="$size" -v said="$(head -c 60 "$folder/said" | tr '\n' ' ')" \
+        'BEGIN { printf "| %s | %.1f | %s |\n", name, kilobytes * 1024 / size, said }'
+}
+
+plain='(define (domain l) (:predicates (a) (b)))'
+numeric='(define (domain l) (:predicates (b)) (:functions (a)))'
+simple='(define (problem p) (:domain l) (:init) (:goal (b)))'
+echo "| A text full of | Times its size | What is told |"
+echo "|---|---|---|"
+printf '%s\n' "(define (domain l) (:types @- $long))" "$simple" | row 'types of a long type' 'a '
+printf '%s\n' "$plain" "(define (problem p) (:domain l) (:objects @- $long) (:init) (:goal (b)))" | row 'objects of a long type' 'a '
+printf '%s\n' "$plain" '(define (problem p) (:domain l) (:objects @) (:init) (:goal (b)))' | row 'objects, each with a type' 'a - t '
+printf '%s\n' '(define (domain l) (:predicates @))' "$simple" | row 'predicates' '(a)'
+printf '%s\n' "$plain" '(define (problem p) (:domain l) (:init @) (:goal (c)))' | row 'initial atoms' '(a)'
+printf '%s\n' "$plain" '(define (problem p) (:domain l) (:init (a @)) (:goal (c)))' | row 'terms of an atom' 'a '
+printf '%s\n' "$numeric" '(define (problem p) (:domain l) (:init @) (:goal (c)))' | row 'first values' '(=(a)1)'
+printf '%s\n' "$plain" '(define (problem p) (:domain l) (:init) (:goal (and @ (c))))' | row 'goals that are atoms' '(a)'
+printf '%s\n' "$plain" '(define (problem p) (:domain l) (:init) (:goal (and @ (c))))' | row 'comparisons of numbers' '(< 1 1)'
+printf '%s\n' "$numeric" '(define (problem p) (:domain l) (:init) (:goal (and @ (c))))' | row 'comparisons of a fluent' '(<(a)1)'
+printf '%s\n' "(define (domain l) @)" "$simple" | row 'empty lists' '()'
+printf '%s\n' "(define (domain l) @" "$simple" | row 'lists of a name, one left open' '(a)'
