@@ -1,2 +1,4 @@
+pub mod Acting
 pub mod Limits
 pub mod Named
+pub mod Reading
