@@ -1,5 +1,5 @@
 -- When the lists that number a lifted task are within the limits of a task of numbers. (Our own.)
-use Rattle.std.specs.Prelude.{◌≡◌, ◌≤◌, ℕ, List, length, filter, Contains, Some, slice_get}
+use Rattle.std.specs.Prelude.{◌≡◌, ◌≤◌, ℕ, List, length, filter, Contains, Some, None, slice_get}
 use Rattle.hd_lifted.specs.declared.schema.Ground.{Ground}
 use Rattle.hd_lifted.specs.declared.schema.Schema.{Schema}
 use Rattle.hd_lifted.specs.declared.task.LiftedTask.{LiftedTask}
@@ -7,6 +7,7 @@ use Rattle.hd_lifted.specs.declared.instance.Instance.{Instance}
 use Rattle.hd_task.specs.declared.task.TheConstants.{MAX_ACTIONS, MAX_ATOMS, MAX_FLUENTS, MAX_AMOUNTS}
 use Rattle.hd_kept.specs.Numbering.{NumbersInstances, NumbersAtoms, NumbersFluents}
 use Rattle.hd_grounding.specs.Images.{is_paid}
+use Rattle.hd_grounding.specs.Faults.{undefined_in, negative_in}
 
 -- none of these instances adds more amounts to the cost than an action may
 abbrev pub HaveFewAmounts : LiftedTask → List Instance → Type 0
@@ -23,3 +24,8 @@ pub record AreCounted (t : LiftedTask) (instances : List Instance) (atoms fluent
   pub few_atoms : length atoms ≤ MAX_ATOMS
   pub few_fluents : length fluents ≤ MAX_FLUENTS
   pub few_amounts : HaveFewAmounts t instances
+
+-- with these instances no fluent lacks a first value, and none costs less than 0 in each state
+pub record AreFaultless (t : LiftedTask) (instances : List Instance) : Type 0 where
+  pub none_undefined : undefined_in t instances ≡ None
+  pub none_negative : negative_in t instances ≡ None
