@@ -40,7 +40,7 @@ use Rattle.hd_grounding.proofs.Paying.{costs_agree}
 -- ---- limits
 
 -- a list with each of a kind that is within the limit leaves no room for more
-no_more : {X : Type 0} (Is : X → Type 0) (limit : ℕ) (xs : List X) → ((x : X) → Is x → Contains xs x) → length xs ≤ limit → HasMore Is limit → ⊥
+pub no_more : {X : Type 0} (Is : X → Type 0) (limit : ℕ) (xs : List X) → ((x : X) → Is x → Contains xs x) → length xs ≤ limit → HasMore Is limit → ⊥
 no_more Is limit xs each fits over =
     let longer = length-le_from_members over.some xs over.distinct (λ x c. each x (over.all x c)) in
     omega (arith, over.more, longer, fits)
@@ -53,7 +53,7 @@ costs_within n metric b fits =
     let outer = and_parts ((metric || (length b.costs == 0)) && nat_le (length b.costs) MAX_AMOUNTS) (list_all (reads_below n) b.costs) fits in
     leb-true (length b.costs) MAX_AMOUNTS (and_parts (metric || (length b.costs == 0)) (nat_le (length b.costs) MAX_AMOUNTS) outer.0).1
 
-length-costs : (t : LiftedTask) (fluents : List Ground) (objects : List ℕ) (a : Schema)
+pub length-costs : (t : LiftedTask) (fluents : List Ground) (objects : List ℕ) (a : Schema)
     → length (costs_of t fluents objects a) ≡ length (filter is_paid a.effects)
 length-costs t fluents objects a = length-map (filter is_paid a.effects) (λ (e : NumericEffect). amount_of t fluents objects e.amount)
 
@@ -64,7 +64,7 @@ constant_number t fluents objects e constant =
     (if b then leaf (Number (unwrap_or (lifted_value.value_of (first_value t.values) objects e.amount) (pos 0)))
     else expression_of fluents objects e.amount)) constant
 
-constant_numbers : (t : LiftedTask) (fluents : List Ground) (objects : List ℕ) (es : List NumericEffect)
+pub constant_numbers : (t : LiftedTask) (fluents : List Ground) (objects : List ℕ) (es : List NumericEffect)
     → list_all (λ (e : NumericEffect). is_constant t e.amount) es ≡ true
     → list_all is_number (map (λ (e : NumericEffect). amount_of t fluents objects e.amount) es) ≡ true
 constant_numbers t fluents objects [] constant = refl
@@ -79,7 +79,7 @@ same_number f (leaf (Fluent j)) number = absurd (true≢false (sym number))
 same_number f (negate x) number = absurd (true≢false (sym number))
 same_number f (binary o x y) number = absurd (true≢false (sym number))
 
-same_sum : (f : List ℤ) (es : List Expr) (z : ℤ) → list_all is_number es ≡ true
+pub same_sum : (f : List ℤ) (es : List Expr) (z : ℤ) → list_all is_number es ≡ true
     → fold (λ sum e. sum +ℤ value_of f e) z es ≡ fold (λ sum e. sum +ℤ value_of [] e) z es
 same_sum f [] z numbers = refl
 same_sum f (e ∷ es) z numbers =

@@ -1,0 +1,27 @@
+//! Laws over the definitions. Each function does nothing: its contract is the law.
+ghost use Rattle.std.specs.Prelude.{◌≡◌, true, List};
+ghost use Rattle.std.specs.List.{AllZip};
+ghost use Rattle.hd_lifted.specs.declared.schema.Ground.{Ground};
+ghost use Rattle.hd_lifted.specs.declared.task.LiftedTask.{LiftedTask};
+ghost use Rattle.hd_lifted.specs.declared.instance.Instance.{Instance};
+ghost use Rattle.hd_lifted.specs.Checked.{IsChecked};
+ghost use Rattle.hd_task.specs.declared.action.Action.{Action};
+ghost use Rattle.hd_grounding.specs.Grounding.{IsActionOf};
+ghost use Rattle.hd_grounding.specs.Faults.{IsTooLarge};
+ghost use Rattle.hd_fitting.specs.Counted.{AreCounted, AreFaultless};
+ghost use Rattle.hd_fitting.specs.Fitting.{grounded_parts_fit};
+
+/// Where the lists that number a task are within the limits of one, and no instance has too many amounts, it is not too large.
+pub fn few_are_not_too_large()
+    ensures { (t : LiftedTask) (instances : List Instance) (atoms fluents : List Ground)
+        → AreCounted t instances atoms fluents → IsTooLarge t → ⊥ }
+{}
+
+/// What a checked task is grounded to fits together, where it is within the limits and has no fault: so `Task::new` answers it.
+pub fn grounded_parts_fit_together()
+    ensures { (t : LiftedTask) (instances : List Instance) (atoms fluents : List Ground)
+        (actions : List Action)
+        → IsChecked t → AreCounted t instances atoms fluents → AreFaultless t instances
+        → AllZip (IsActionOf t atoms fluents) instances actions
+        → grounded_parts_fit t atoms fluents actions ≡ true }
+{}
