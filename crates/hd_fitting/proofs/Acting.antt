@@ -1,5 +1,5 @@
 -- The actions of what is counted fit: their atoms and fluents have numbers, and their effects rise.
-use Rattle.std.proofs.Common.{◌≡◌, ℕ, zero, suc, ◌<◌, Bool, true, false, List, [], ◌∷◌, map, filter, length, Contains, Some, slice_get, refl, sym, ap, ◌∙◌, subst, arith, true≢false}
+use Rattle.std.proofs.Common.{◌≡◌, ℕ, suc, ◌<◌, true, List, [], ◌∷◌, map, filter, length, Contains, Some, slice_get, refl, sym, ap, ◌∙◌, subst, arith, true≢false}
 use Rattle.std.specs.Prelude.{nat_lt, ◌&&◌, flat_map}
 use Rattle.std.specs.List.{list_all, AllZip, AllPairs}
 use Rattle.std.specs.Ordering.{nat_cmp, is_lt, ordering_then}
@@ -13,7 +13,6 @@ use Rattle.hd_base.proofs.Members.{Contains-from_filter}
 use Rattle.hd_base.proofs.Places.{place_of, left_of}
 use Rattle.hd_base.proofs.Tests.{list_all-from_each}
 use Rattle.hd_lifted.specs.declared.schema.Ground.{Ground}
-use Rattle.hd_lifted.specs.declared.schema.NumericEffect.{NumericEffect}
 use Rattle.hd_lifted.specs.declared.schema.Schema.{Schema}
 use Rattle.hd_lifted.specs.declared.task.LiftedTask.{LiftedTask}
 use Rattle.hd_lifted.specs.declared.instance.Instance.{Instance}
@@ -25,7 +24,7 @@ use Rattle.hd_kept.specs.Kept.{IsKept}
 use Rattle.hd_kept.specs.Met.{met_by_comparison, met_by_effect, met_by}
 use Rattle.hd_kept.specs.Numbering.{ComesBefore, IsTaskFluent}
 use Rattle.hd_kept.proofs.Passing.{Contains-slice_get}
-use Rattle.hd_grounding.specs.Images.{numbers_of, is_on, change_of}
+use Rattle.hd_grounding.specs.Images.{is_on}
 use Rattle.hd_grounding.specs.Grounding.{IsEffectOf, IsActionOf}
 use Rattle.hd_grounding.proofs.Grounded.{instance_kept}
 use Rattle.hd_fitting.specs.Counted.{AreCounted}

@@ -1,5 +1,5 @@
 -- What a checked task is grounded to fits together, part by part.
-use Rattle.std.proofs.Common.{◌≡◌, ℕ, true, List, [], map, length, Contains, refl, sym, ap, ap₂, ◌∙◌, arith}
+use Rattle.std.proofs.Common.{◌≡◌, ℕ, true, List, [], map, length, Contains, sym, ap, ap₂, ◌∙◌, arith}
 use Rattle.std.specs.Prelude.{◌&&◌, ◌==◌, is_some, nat_le, nat_lt, unwrap_or, pos}
 use Rattle.std.specs.List.{list_all, AllZip}
 use Rattle.std.proofs.lemmas.Bool.{and_from, eq-eqb, le-leb}
@@ -22,7 +22,7 @@ use Rattle.hd_task.specs.declared.form.GroundForm.{GroundForm}
 use Rattle.hd_task.specs.declared.task.TheConstants.{MAX_ACTIONS, MAX_ATOMS, MAX_FLUENTS}
 use Rattle.hd_task.specs.WellFormed.{within_limits, is_named, are_named, comparison_reads_below, action_fits, goal_fits, costs_fit, constant_cost_fits}
 use Rattle.hd_kept.specs.Numbering.{IsTaskFluent}
-use Rattle.hd_grounding.specs.Images.{literal_of, comparison_of, condition_of}
+use Rattle.hd_grounding.specs.Images.{condition_of}
 use Rattle.hd_grounding.specs.Grounding.{names_in, form_of, IsActionOf, start_in}
 use Rattle.hd_grounding.proofs.Grounded.{instance_kept}
 use Rattle.hd_fitting.specs.Counted.{AreCounted, AreFaultless}

@@ -3,7 +3,7 @@ use Rattle.std.proofs.Common.{List, arith}
 use Rattle.hd_lifted.specs.declared.schema.Ground.{Ground}
 use Rattle.hd_lifted.specs.declared.task.LiftedTask.{LiftedTask}
 use Rattle.hd_lifted.specs.declared.instance.Instance.{Instance}
-use Rattle.hd_task.specs.declared.task.TheConstants.{MAX_ACTIONS, MAX_ATOMS, MAX_FLUENTS, MAX_AMOUNTS}
+use Rattle.hd_task.specs.declared.task.TheConstants.{MAX_ACTIONS, MAX_ATOMS, MAX_FLUENTS}
 use Rattle.hd_kept.specs.Kept.{IsKept}
 use Rattle.hd_kept.specs.Numbering.{IsTaskAtom, IsTaskFluent}
 use Rattle.hd_grounding.specs.Faults.{IsTooLarge}

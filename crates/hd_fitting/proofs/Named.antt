@@ -1,6 +1,6 @@
 -- What is numbered has names: its predicate or function, or its schema, and its objects are the task's.
-use Rattle.std.proofs.Common.{◌≡◌, ℕ, zero, suc, Bool, true, false, List, [], ◌∷◌, map, length, Contains, ◌⊎◌, Some, None, slice_get, inl, inr, refl, sym, ap, ◌∙◌, subst, arith}
-use Rattle.std.specs.Prelude.{nat_lt, ◌&&◌, flat_map, if◌then◌else◌}
+use Rattle.std.proofs.Common.{◌≡◌, ℕ, zero, suc, Bool, true, false, List, [], ◌∷◌, map, length, Contains, Some, slice_get, inl, inr, refl, sym, ◌∙◌, subst}
+use Rattle.std.specs.Prelude.{nat_lt, flat_map, if◌then◌else◌}
 use Rattle.std.specs.List.{list_all, AllZip, AllByRecursion}
 use Rattle.std.specs.Option.{IsSomeAnd}
 use Rattle.std.proofs.lemmas.Bool.{and_from, lt-ltb}
@@ -16,7 +16,6 @@ use Rattle.hd_lifted.specs.declared.schema.Argument.{Argument}
 use Rattle.hd_lifted.specs.declared.schema.Argument.TheVariants.{Parameter, Object}
 use Rattle.hd_lifted.specs.declared.schema.Applied.{Applied}
 use Rattle.hd_lifted.specs.declared.schema.Ground.{Ground}
-use Rattle.hd_lifted.specs.declared.schema.Literal.{Literal}
 use Rattle.hd_lifted.specs.declared.schema.Comparison.{Comparison}
 use Rattle.hd_lifted.specs.declared.schema.NumericEffect.{NumericEffect}
 use Rattle.hd_lifted.specs.declared.schema.Schema.{Schema}
@@ -25,12 +24,12 @@ use Rattle.hd_lifted.specs.declared.task.LiftedTask.{LiftedTask}
 use Rattle.hd_lifted.specs.declared.instance.Instance.{Instance}
 use Rattle.hd_lifted.specs.Types.{IsSubtype}
 use Rattle.hd_lifted.specs.Objects.{IsOfType, AreOfTypes}
-use Rattle.hd_lifted.specs.States.{same, object_of, ground_form_of, is_listed}
+use Rattle.hd_lifted.specs.States.{same, object_of, ground_form_of}
 use Rattle.hd_lifted.specs.Effects.{is_cost}
 use Rattle.hd_lifted.specs.Plans.{IsInstance}
 use Rattle.hd_lifted.specs.WellFormed.{IsArgumentOf, IsApplied, IsGround, IsExpression, IsComparison, IsEffect, IsLiteral, IsSchema, IsWellFormed}
 use Rattle.hd_task.specs.WellFormed.{is_named}
-use Rattle.hd_kept.specs.Kept.{IsKept, IsReachable, initially, added}
+use Rattle.hd_kept.specs.Kept.{IsReachable, initially, added}
 use Rattle.hd_kept.specs.Met.{fluents_in, met_by_comparison, changed_by, met_by_effect}
 use Rattle.hd_kept.specs.Numbering.{IsTaskAtom, IsTaskFluent}
 use Rattle.hd_kept.proofs.Passing.{passing-from_any}

@@ -1,6 +1,6 @@
 -- What is read and changed in numbers has a number, where what is met has one.
-use Rattle.std.proofs.Common.{◌≡◌, ℕ, zero, suc, Bool, true, List, [], ◌∷◌, map, filter, length, Contains, Option, Some, None, inl, inr, refl, sym, ap, ◌∙◌, subst}
-use Rattle.std.specs.Prelude.{nat_lt, ◌&&◌, flat_map, option_map, unwrap_or}
+use Rattle.std.proofs.Common.{◌≡◌, ℕ, Bool, true, List, [], ◌∷◌, map, length, Contains, Option, Some, None, inl, inr, refl, ap, ◌∙◌, subst}
+use Rattle.std.specs.Prelude.{nat_lt, flat_map, option_map, unwrap_or}
 use Rattle.std.specs.List.{list_all}
 use Rattle.std.proofs.lemmas.Bool.{and_from}
 use Rattle.std.proofs.lemmas.List.Folds.{list_all-map}
@@ -9,7 +9,7 @@ use Rattle.std.proofs.lemmas.Option.{none-some, same_Some}
 use Rattle.hd_base.specs.declared.expression.Operand.{Operand}
 use Rattle.hd_base.specs.declared.expression.Operand.TheVariants.{Number, Fluent}
 use Rattle.hd_base.specs.Expression.{Expression, leaf, negate, binary}
-use Rattle.hd_base.proofs.Members.{Contains-first, Contains-later, Contains-cons_cases, Contains-nil, Contains-flat_map, Contains-from_flat_map}
+use Rattle.hd_base.proofs.Members.{Contains-first, Contains-cons_cases, Contains-nil, Contains-flat_map, Contains-from_flat_map}
 use Rattle.hd_base.proofs.Tests.{list_all-from_each}
 use Rattle.hd_lifted.specs.declared.schema.Applied.{Applied}
 use Rattle.hd_lifted.specs.declared.schema.Ground.{Ground}

@@ -1,6 +1,6 @@
 -- The state at first of what is counted: each fluent has a first value, which is in the range, and it agrees with the domain's.
-use Rattle.std.proofs.Common.{◌≡◌, ℕ, true, false, List, [], map, Contains, ◌⊎◌, Option, Some, None, slice_get, inl, inr, refl, sym, ap, ◌∙◌, subst}
-use Rattle.std.specs.Prelude.{is_some, find, flat_map, option_map, unwrap_or, ℤ, pos, not}
+use Rattle.std.proofs.Common.{◌≡◌, true, false, List, map, Contains, Option, Some, None, refl, sym, ap, ◌∙◌, subst}
+use Rattle.std.specs.Prelude.{is_some, find, flat_map, option_map, unwrap_or, ℤ, pos}
 use Rattle.std.specs.List.{list_all}
 use Rattle.std.proofs.lemmas.Bool.{not-false, false_from_ne_true}
 use Rattle.std.proofs.lemmas.List.Folds.{list_all-map}

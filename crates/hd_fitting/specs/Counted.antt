@@ -1,5 +1,5 @@
 -- When the lists that number a lifted task are within the limits of a task of numbers. (Our own.)
-use Rattle.std.specs.Prelude.{◌≡◌, ◌≤◌, ℕ, List, length, filter, Contains, Some, None, slice_get}
+use Rattle.std.specs.Prelude.{◌≡◌, ◌≤◌, List, length, filter, Contains, Some, None, slice_get}
 use Rattle.hd_lifted.specs.declared.schema.Ground.{Ground}
 use Rattle.hd_lifted.specs.declared.schema.Schema.{Schema}
 use Rattle.hd_lifted.specs.declared.task.LiftedTask.{LiftedTask}
