@@ -23,7 +23,7 @@ pub fn plans_are_transferred()
 {}
 
 /// Where a plan of the task and its instances lead, the same actions leave the range as instances, and the goal does in both or in
-/// neither: so a search that saw no departure has seen none of the domain.
+/// neither. Of instances that are no action nothing is said.
 pub fn departures_are_transferred()
     ensures actions { (t : LiftedTask) (u : Task) (p : List ℕ) (m : Node) (r : Reached)
         (k : ℕ) (a : Action)
