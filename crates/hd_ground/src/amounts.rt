@@ -1,5 +1,5 @@
 //! Amounts of the cost, where there are more than an action may have.
-ghost use Rattle.std.specs.Prelude.{◌≡◌, ◌<?◌, ◌<◌, true, false, length, filter, IsTrue};
+ghost use Rattle.std.specs.Prelude.{◌≡◌, nat_lt, true, false, length, filter};
 ghost use Rattle.hd_task.specs.declared.task.TheConstants.{MAX_AMOUNTS};
 ghost use Rattle.hd_grounding.specs.Images.{is_paid};
 ghost use Rattle.hd_fitting.specs.Counted.{HaveFewAmounts};
@@ -23,7 +23,7 @@ fn count_paid(effects: &[NumericEffect]) -> usize
 
 /// Whether a schema adds more amounts to the cost than an action may.
 fn has_more_amounts(schema: &Schema) -> bool
-    ensures { result ≡ (MAX_AMOUNTS <? amounts_of schema.now) }
+    ensures { result ≡ nat_lt MAX_AMOUNTS (amounts_of schema.now) }
 {
     let effects = schema.effects.as_slice();
     // Few effects need no count, so that of an instance nothing is counted.
