@@ -1,4 +1,5 @@
 pub mod Departing
+pub mod Once
 pub mod Others
 pub mod Ranges
 pub mod Runs

@@ -37,7 +37,7 @@ module _ (t : LiftedTask) (u : Task) (made : IsGrounding t u) where
   pub instance_is : (i : Instance) (b : Action) → IsActionOf t made.atoms made.fluents i b → instance_of b ≡ i
   instance_is i b of = ap (λ (f : GroundForm). let x : Instance = record { schema = f.symbol; objects = f.objects } in x) of.form
 
-  plan_of-named : (n : ℕ) (b : Action) (p : List ℕ) → slice_get u.actions n ≡ Some b → plan_of u (n ∷ p) ≡ instance_of b ∷ plan_of u p
+  pub plan_of-named : (n : ℕ) (b : Action) (p : List ℕ) → slice_get u.actions n ≡ Some b → plan_of u (n ∷ p) ≡ instance_of b ∷ plan_of u p
   plan_of-named n b p at = ap (λ o. cons_option (option_map instance_of o) (plan_of u p)) at
 
   -- ---- at first

@@ -26,13 +26,17 @@ pub fn plans_are_transferred()
 {}
 
 /// Plans go over, whether they are valid or not: where a plan is executed in the task, its instances are executed in the domain, and
-/// each list of instances that is executed in the domain is that of such a plan. Both lead to states that agree, at the same cost.
+/// each list of instances that is executed in the domain is that of such a plan, of one alone. Both lead to states that agree, at the
+/// same cost.
 pub fn runs_are_transferred()
     ensures there { (t : LiftedTask) (u : Task) (made : IsGrounding t u) (p : List ℕ) (m : Node)
         → exec u p ≡ Some m → LeadsThere made p m }
     ensures back { (t : LiftedTask) (u : Task) (made : IsGrounding t u)
         (q : List Instance) (r : Reached)
         → All (IsInstance t) q → domain.exec t q ≡ Some r → IsOfPlan made q r }
+    ensures one { (t : LiftedTask) (u : Task) (p q : List ℕ) (m n : Node)
+        → IsGrounding t u → exec u p ≡ Some m → exec u q ≡ Some n
+        → plan_of u p ≡ plan_of u q → p ≡ q }
 {}
 
 /// Where a plan of the task leads and where its instances do, an action leaves the range exactly where its instance does, and so does
