@@ -1,6 +1,6 @@
 -- Faults of ovens, each of which has one instance at most.
 use Rattle.std.proofs.Common.{◌≡◌, ℕ, zero, suc, ◌≤◌, ◌<◌, true, false, ◌||◌, List, [], ◌∷◌, ◌++◌, filter, Contains, Some, slice_get, refl, sym, ap, ◌∙◌, subst, arith, true≢false}
-use Rattle.std.specs.Prelude.{length, replicate, pos, negsuc}
+use Rattle.std.specs.Prelude.{length, flat_map, replicate, pos, negsuc}
 use Rattle.std.specs.List.{list_any, list_all}
 use Rattle.std.proofs.lemmas.List.{length-replicate}
 use Rattle.std.proofs.lemmas.List.Elements.{Contains-append_left, Contains-append_right}
@@ -25,7 +25,7 @@ use Rattle.hd_lifted.specs.Plans.{IsInstance}
 use Rattle.hd_task.specs.declared.task.TheConstants.{MAX_ACTIONS, MAX_ATOMS, MAX_FLUENTS, MAX_AMOUNTS}
 use Rattle.hd_kept.specs.Amounts.{is_changed}
 use Rattle.hd_kept.specs.Kept.{is_static, HoldAtFirst, IsKept, keep, IsReachable, initially, added}
-use Rattle.hd_kept.specs.Met.{met_by, met_by_goal}
+use Rattle.hd_kept.specs.Met.{met_by_effect, met_by, met_by_goal}
 use Rattle.hd_kept.specs.Numbering.{IsTaskAtom, IsTaskFluent, instance_key, NumbersInstances}
 use Rattle.hd_kept.proofs.Small.{only_one, among_one, no_objects, statics_of}
 use Rattle.hd_grounding.specs.Images.{is_paid}
@@ -197,6 +197,13 @@ compatible : (n : ℕ) → effects_clash [] (replicate n nothing) ≡ false
 compatible zero = refl
 compatible (suc n) = ap (λ b. b || effects_clash [] (replicate n nothing)) (none_clash n) ∙ compatible n
 
+paid : (n : ℕ) → length (filter is_paid (replicate n nothing)) ≡ n
+paid n = ap length (all_paid n) ∙ length-replicate n nothing
+
+none_met : (n : ℕ) → flat_map (met_by_effect []) (replicate n nothing) ≡ []
+none_met zero = refl
+none_met (suc n) = none_met n
+
 pub too_large : (n : ℕ) → MAX_AMOUNTS < n → IsTooLarge (paying_often n)
 too_large n more =
     let effects = replicate n nothing in
@@ -205,11 +212,14 @@ too_large n more =
       kept = kept always effects [] always refl refl (compatible n);
       schema = heat always effects;
       is_schema = refl;
-      more = subst (λ k. MAX_AMOUNTS < k) (sym (ap length (all_paid n) ∙ length-replicate n nothing)) more;
+      more = subst (λ k. MAX_AMOUNTS < k) (sym (paid n)) more;
     })
 
-pub large : IsTooLarge (paying_often 3) → ⊥
-large = fits always (replicate 3 nothing) [] always refl (omega arith) (omega arith)
+pub within : (n : ℕ) → n ≤ MAX_AMOUNTS → IsTooLarge (paying_often n) → ⊥
+within n few =
+    let none : length (fluents always (replicate n nothing) [] always) ≡ 0 =
+    ap (λ (gs : List Ground). length (gs ++ [])) (none_met n) in
+    fits always (replicate n nothing) [] always refl (omega (arith, none)) (omega (arith, paid n, few))
 
 -- ---- the goal's atoms
 

@@ -38,7 +38,7 @@ if_any None = []
 if_any (Some x) = x ∷ []
 
 -- the numbers of atoms that an action adds or deletes: one without a number is left out. A kept instance adds none of these, and to
--- delete one changes nothing, since it is false in each state
+-- delete one changes nothing, since it is false wherever a plan leads
 abbrev pub numbers_of : List Ground → List ℕ → List Applied → List ℕ
 numbers_of atoms objects xs = flat_map (λ a. if_any (number_of atoms (ground_form_of objects a))) xs
 
@@ -48,8 +48,8 @@ abbrev pub literal_at : Bool → ℕ → Literal
 literal_at positive i = record { atom = i; positive = positive }
 
 -- a literal by its atom's number. Where the atom has none the literal is left out: of a negative one that is right, since such an
--- atom is false in each state. A positive literal always has a number where this is used, in kept instances and the goal: `IsNumbered`
--- asks it
+-- atom is false wherever a plan leads. The atom of a positive literal always has a number where this is used, in kept instances and the
+-- goal: `IsNumbered` asks it
 abbrev pub literal_of : List Ground → List ℕ → lifted_literal.Literal → List Literal
 literal_of atoms objects l = if_any (option_map (literal_at l.positive) (number_of atoms (ground_form_of objects l.atom)))
 

@@ -1,5 +1,5 @@
 //! Worked examples of the definitions, each a checked fact. The functions do nothing.
-ghost use Rattle.std.specs.Prelude.{◌≡◌, ℕ, ◌<◌, true, false};
+ghost use Rattle.std.specs.Prelude.{◌≡◌, ℕ, ◌<◌, ◌≤◌, true, false};
 ghost use Rattle.hd_lifted.specs.declared.instance.Instance.{Instance};
 ghost use Rattle.hd_task.specs.declared.task.TheConstants.{MAX_AMOUNTS};
 ghost use Rattle.hd_kept.specs.Kept.{IsReachable};
@@ -31,7 +31,7 @@ pub fn faults_compute()
 
     // More amounts than an action may have are too large, and no fewer.
     ensures too_large { (n : ℕ) → MAX_AMOUNTS < n → IsTooLarge (paying_often n) }
-    ensures large { IsTooLarge (paying_often 3) → ⊥ }
+    ensures within { (n : ℕ) → n ≤ MAX_AMOUNTS → IsTooLarge (paying_often n) → ⊥ }
 {}
 
 /// What the goal names is an atom of the task, also where it is to be false and no action could make it true.

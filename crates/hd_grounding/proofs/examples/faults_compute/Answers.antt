@@ -1,5 +1,5 @@
 use Rattle.std.proofs.Common.{refl}
-use Rattle.hd_grounding.proofs.Ovens.{undefined, negative, negative_fluent, dependent, not_kept, too_large, large}
+use Rattle.hd_grounding.proofs.Ovens.{undefined, negative, negative_fluent, dependent, not_kept, too_large, within}
 use Rattle.hd_grounding.proofs.examples.faults_compute.Goals as goal
 
 pub returns : goal.returns
@@ -11,5 +11,5 @@ returns c = record {
   costs_less = refl;
   not_kept = not_kept;
   too_large = too_large;
-  large = large;
+  within = within;
 }
