@@ -105,16 +105,30 @@ fn checked_of(
     Ok(check(alloc, seed, domain, problem)?)
 }
 
-/// Prints how long a checked task is grounded.
+/// How many actions, atoms and fluents the task of a checked one has.
+fn sizes_of(alloc: Global, seed: Seed, checked: &Checked) -> anyhow::Result<(usize, usize, usize)> {
+    let task = ground(alloc, seed, checked)?;
+    let sizes = (task.actions.len(), task.atoms.len(), task.fluents.len());
+    drop(task);
+    Ok(sizes)
+}
+
+/// Prints how long a checked task is grounded, and let go.
+fn time_task(rt: &HostRuntime, seed: Seed, checked: &Checked) -> anyhow::Result<()> {
+    let start = Instant::now(rt)?;
+    let (actions, atoms, fluents) = sizes_of(rt.alloc(), seed, checked)?;
+    let taken = start.elapsed(rt)?.as_micros();
+    println!(rt; "{actions} actions, {atoms} atoms, {fluents} fluents: {taken} us")?;
+    Ok(())
+}
+
+/// Prints how long the checked task of two texts is grounded.
 fn time_grounding(rt: &HostRuntime, domain: &[u8], problem: &[u8]) -> anyhow::Result<()> {
     let seed = Seed::of(digest_of(domain, problem));
     let checked = checked_of(rt.alloc(), seed, domain, problem)?;
-    let start = Instant::now(rt)?;
-    let task = ground(rt.alloc(), seed, &checked)?;
-    let taken = start.elapsed(rt)?.as_micros();
-    let (actions, atoms, fluents) = (task.actions.len(), task.atoms.len(), task.fluents.len());
-    println!(rt; "{actions} actions, {atoms} atoms, {fluents} fluents: {taken} us")?;
-    Ok(())
+    let told = time_task(rt, seed, &checked);
+    drop(checked);
+    told
 }
 
 /// Prints how long a task is searched.

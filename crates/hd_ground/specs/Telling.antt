@@ -16,7 +16,7 @@ fluent_text t g = form_text (names_in t).functions (names_in t).objects (form_of
 abbrev pub action_text : LiftedTask → Instance → List ℕ
 action_text t i = form_text (names_in t).schemas (names_in t).objects (form_of_instance i)
 
--- a text is that of the first fluent that has no first value
+-- a text is that of the first fluent, of those that are met, that has no first value
 pub record NamesUndefined (t : LiftedTask) (text : List ℕ) : Type 0 where
   pub fluent : Ground
   pub undefined : IsUndefined t fluent

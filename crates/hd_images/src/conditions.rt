@@ -21,7 +21,7 @@ pub fn numbers_of(
 ) -> Result<Sequence<u32>, NoMemory>
     ensures { IfOk result (λ s. s ≡ numbers_of atoms.now objects.now said.now) }
 {
-    let mut numbers = Vec::new(alloc);
+    let mut numbers = Vec::with_capacity(alloc, said.len())?;
     for atom in said {
         if let Some(number) = atoms.number_at(alloc, objects, atom)? {
             numbers.push(number)?;
@@ -39,7 +39,7 @@ fn literals_of(
 ) -> Result<Sequence<Literal>, NoMemory>
     ensures { IfOk result (λ s. s ≡ flat_map (literal_of atoms.now objects.now) said.now) }
 {
-    let mut literals = Vec::new(alloc);
+    let mut literals = Vec::with_capacity(alloc, said.len())?;
     for literal in said {
         if let Some(atom) = atoms.number_at(alloc, objects, &literal.atom)? {
             literals.push(Literal {
@@ -83,7 +83,7 @@ fn comparisons_of(
 ) -> Result<Sequence<Comparison>, NoMemory>
     ensures { IfOk result (λ s. s ≡ map (comparison_of fluents.now objects.now) said.now) }
 {
-    let mut comparisons = Vec::new(alloc);
+    let mut comparisons = Vec::with_capacity(alloc, said.len())?;
     for comparison in said {
         comparisons.push(comparison_of(alloc, fluents, objects, comparison)?)?;
     }

@@ -1,15 +1,15 @@
 //! The amounts that actions add to the cost.
-ghost use Rattle.std.specs.Prelude.{◌≡◌, IfOk};
+ghost use Rattle.std.specs.Prelude.{◌≡◌, length, filter, IfOk};
 ghost use Rattle.hd_base.specs.Expression.{leaf};
 ghost use Rattle.hd_lifted.specs.Expressions.{value_of};
 ghost use Rattle.hd_lifted.specs.States.{first_value};
-ghost use Rattle.hd_grounding.specs.Images.{amount_of, costs_of};
+ghost use Rattle.hd_grounding.specs.Images.{is_paid, amount_of, costs_of};
 
 use crate::changed::is_cost;
 use crate::expressions::expression_of;
 use crate::{Lookups, Numbers};
 use hd_base::{ExprParts, NoMemory, Operand, Sequence};
-use hd_lifted::{Applied, Schema};
+use hd_lifted::{Applied, NumericEffect, Schema};
 use hd_task::Expr;
 use std::alloc::Global;
 
@@ -48,6 +48,19 @@ fn amount_of(
     }
 }
 
+/// How many of these effects are parts of the cost.
+pub fn count_costs(effects: &[NumericEffect]) -> usize
+    ensures { result ≡ length (filter is_paid effects.now) }
+{
+    let mut count = 0;
+    for effect in effects {
+        if is_cost(effect.change) {
+            count += 1;
+        }
+    }
+    count
+}
+
 /// The amounts that a schema with objects adds to the cost, in the text's order: those that are the same in each state as numbers.
 ///
 /// # Errors
@@ -61,8 +74,9 @@ pub fn costs_of(
 ) -> Result<Sequence<Expr>, NoMemory>
     ensures { IfOk result (λ s. s ≡ costs_of lookups.now fluents.now objects.now schema.now) }
 {
-    let mut costs = Vec::new(alloc);
-    for effect in schema.effects.as_slice() {
+    let effects = schema.effects.as_slice();
+    let mut costs = Vec::with_capacity(alloc, count_costs(effects))?;
+    for effect in effects {
         if is_cost(effect.change) {
             costs.push(amount_of(alloc, lookups, fluents, objects, &effect.amount)?)?;
         }

@@ -56,7 +56,7 @@ fn change_with(
             hd_lifted::Change::Assign => Ok(Change::Assign(amount)),
             hd_lifted::Change::ScaleUp => Ok(Change::ScaleUp(amount)),
             hd_lifted::Change::Increase | hd_lifted::Change::Decrease | hd_lifted::Change::Cost => {
-                let none = Sequence::empty(alloc);
+                let none = Sequence::from_vec(Vec::with_capacity(alloc, 1)?);
                 Ok(Change::Sum(with_term(none, term_by(change, amount))?))
             }
         },
@@ -110,8 +110,7 @@ fn effects_from(alloc: Global, changes: BTreeMap<u32, Change>) -> Result<Sequenc
     ensures effects { IfOk result (λ s. s ≡ map effect_from changes.entries) }
     ensures ordered { IsOrdered nat_cmp changes }
 {
-    let _count = changes.len();
-    let mut effects = Vec::new(alloc);
+    let mut effects = Vec::with_capacity(alloc, changes.len())?;
     for (fluent, change) in changes {
         effects.push(Effect { fluent, change })?;
     }

@@ -28,7 +28,7 @@ mod values;
 pub use actions::action_of;
 pub use atoms::atoms_in;
 pub use conditions::{condition_of, numbers_of};
-pub use costs::costs_of;
+pub use costs::{costs_of, count_costs};
 pub use effects::effects_of;
 pub use expressions::expression_of;
 pub use forms::Forms;

@@ -38,7 +38,7 @@ fn push_objects(text: &mut String, objects: &[Name], numbers: &[usize]) -> Resul
 /// Puts a ground form behind a text: the name of its symbol among `symbols`, and those of its arguments among `objects`.
 ///
 /// # Errors
-/// Want of memory.
+/// Want of memory: a beginning of the form may then stand behind the text.
 pub fn push_form(
     text: &mut String,
     symbols: &[Name],
@@ -47,7 +47,8 @@ pub fn push_form(
     arguments: &[usize],
 ) -> Result<(), NoMemory>
     ensures { OnOk result (string_bytes text.new ≡ string_bytes text.old
-        ++ form_text symbols.now objects.now (record { symbol = symbol; objects = arguments.now })) }
+        ++ form_text symbols.now objects.now
+        (record { symbol = symbol; objects = arguments.now })) }
 {
     text.push_str("(")?;
     text.push_str(name_at(symbols, symbol))?;
