@@ -52,7 +52,7 @@ module _ (t : LiftedTask) (instances : List Instance) (atoms fluents : List Grou
       Contains-append_left (flat_map (met_by_instance t) instances) (met_by_goal t) g
       (Contains-flat_map (met_by_instance t) instances i g ((counted.numbers_instances.exactly i).0 kept) met)
 
-  first_there : (g : Ground) → Contains fluents g → HasFirstValue t g
+  pub first_there : (g : Ground) → Contains fluents g → HasFirstValue t g
   first_there g c =
       not-false (is_some (first_value t.values g))
       (find-None (is_undefined t) (met_by_all t instances) g faultless.none_undefined (met_fluent g ((counted.numbers_fluents.exactly g).1 c)))

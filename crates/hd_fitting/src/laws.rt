@@ -6,10 +6,11 @@ ghost use Rattle.hd_lifted.specs.declared.task.LiftedTask.{LiftedTask};
 ghost use Rattle.hd_lifted.specs.declared.instance.Instance.{Instance};
 ghost use Rattle.hd_lifted.specs.Checked.{IsChecked};
 ghost use Rattle.hd_task.specs.declared.action.Action.{Action};
-ghost use Rattle.hd_grounding.specs.Grounding.{IsActionOf};
+ghost use Rattle.hd_task.specs.declared.task.Task.{Task};
+ghost use Rattle.hd_grounding.specs.Grounding.{IsActionOf, IsGrounding};
 ghost use Rattle.hd_grounding.specs.Faults.{IsTooLarge};
 ghost use Rattle.hd_fitting.specs.Counted.{AreCounted, AreFaultless};
-ghost use Rattle.hd_fitting.specs.Fitting.{grounded_parts_fit};
+ghost use Rattle.hd_fitting.specs.Fitting.{grounded_parts_fit, HasGroundedParts};
 
 /// Where the lists that number a task are within the limits of one, and no instance has too many amounts, it is not too large.
 pub fn few_are_not_too_large()
@@ -24,4 +25,13 @@ pub fn grounded_parts_fit_together()
         → IsChecked t → AreCounted t instances atoms fluents → AreFaultless t instances
         → AllZip (IsActionOf t atoms fluents) instances actions
         → grounded_parts_fit t atoms fluents actions ≡ true }
+{}
+
+/// A task of the parts that are made of what is counted and has no fault is the grounding of the lifted task.
+pub fn grounded_parts_are_a_grounding()
+    ensures { (t : LiftedTask) (instances : List Instance) (atoms fluents : List Ground)
+        (actions : List Action) (u : Task)
+        → AreCounted t instances atoms fluents → AreFaultless t instances
+        → AllZip (IsActionOf t atoms fluents) instances actions
+        → HasGroundedParts t atoms fluents actions u → IsGrounding t u }
 {}

@@ -1,11 +1,13 @@
 -- The atoms that are reached and those that the goal names are the task's.
-use Rattle.std.proofs.Common.{◌≡◌, ◌↔◌, List, [], ◌++◌, map, Contains, inl, inr, sym, ap, subst}
+use Rattle.std.proofs.Common.{◌≡◌, ◌≢◌, ◌<◌, ◌↔◌, List, [], ◌++◌, map, length, Contains, inl, inr, sym, ap, subst}
+use Rattle.std.specs.List.{AllPairs}
 use Rattle.std.proofs.lemmas.List.Elements.{Contains-append_left, Contains-append_right, Contains-append_cases}
 use Rattle.hd_base.proofs.Members.{Contains-nil, Contains-map, IsFrom-from_map}
 use Rattle.hd_lifted.specs.declared.schema.Ground.{Ground}
 use Rattle.hd_lifted.specs.declared.task.LiftedTask.{LiftedTask}
 use Rattle.hd_kept.specs.Kept.{IsReachable}
 use Rattle.hd_kept.specs.Numbering.{form_key, HasExactly, IsTaskAtom, reached, wanted, NumbersAtoms}
+use Rattle.hd_grounding.specs.Faults.{IsTooLarge}
 use Rattle.hd_images.specs.Meeting.{with_forms, atom_of, goal_atoms}
 use Rattle.hd_images.proofs.MeetingForms.{with_forms-second, with_forms-cases}
 
@@ -36,3 +38,9 @@ NumbersAtoms-from_gathered t atoms numbers are numbered = record {
   exactly = λ g. (λ a. (numbered.exactly g).0 (gathered t atoms are g a), λ c. is_atom t atoms are g ((numbered.exactly g).1 c));
   rising = numbered.rising;
 }
+
+pub IsTooLarge-from_gathered : (t : LiftedTask) (reached : List Ground) → ((g : Ground) → IsReachable t g ↔ Contains reached g)
+    → AllPairs (λ (g h : Ground). g ≢ h) (with_forms [] (reached ++ goal_atoms t)) → 1048576 < length (with_forms [] (reached ++ goal_atoms t))
+    → IsTooLarge t
+IsTooLarge-from_gathered t found are apart over =
+    IsTooLarge.atoms (record { some = with_forms [] (found ++ goal_atoms t); all = is_atom t found are; distinct = apart; more = over })

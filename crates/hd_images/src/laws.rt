@@ -4,7 +4,7 @@ ghost use Rattle.std.specs.List.{AllPairs};
 ghost use Rattle.hd_lifted.specs.declared.instance.Instance.{Instance};
 ghost use Rattle.hd_lifted.specs.declared.schema.Ground.{Ground};
 ghost use Rattle.hd_lifted.specs.declared.task.LiftedTask.{LiftedTask};
-ghost use Rattle.hd_task.specs.declared.task.TheConstants.{MAX_FLUENTS};
+ghost use Rattle.hd_task.specs.declared.task.TheConstants.{MAX_ATOMS, MAX_FLUENTS};
 ghost use Rattle.hd_kept.specs.Kept.{IsReachable};
 ghost use Rattle.hd_kept.specs.Numbering.{form_key, HasExactly, NumbersInstances, NumbersAtoms, NumbersFluents};
 ghost use Rattle.hd_grounding.specs.Faults.{met_by_all, is_undefined, undefined_in, IsTooLarge};
@@ -38,4 +38,12 @@ pub fn gathered_atoms_are_numbered()
         → ((g : Ground) → IsReachable t g ↔ Contains atoms g)
         → HasExactly (Contains (with_forms [] (atoms ++ goal_atoms t))) form_key numbers
         → NumbersAtoms t numbers }
+{}
+
+/// Where there are more of them than a task may have, the task is too large.
+pub fn many_atoms_are_too_many()
+    ensures { (t : LiftedTask) (atoms : List Ground)
+        → ((g : Ground) → IsReachable t g ↔ Contains atoms g)
+        → AllPairs (λ g h. g ≢ h) (with_forms [] (atoms ++ goal_atoms t))
+        → MAX_ATOMS < length (with_forms [] (atoms ++ goal_atoms t)) → IsTooLarge t }
 {}

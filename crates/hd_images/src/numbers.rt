@@ -40,7 +40,8 @@ impl Numbers {
     /// Want of memory.
     pub fn of(forms: Forms) -> Result<Numbers, NoMemory>
         requires { length forms ≤ 2 ^ 32 }
-        ensures { IfOk result (HasExactly (Contains forms) form_key) }
+        ensures exactly { IfOk result (HasExactly (Contains forms) form_key) }
+        ensures as_many { IfOk result (λ n. length n ≡ length forms) }
     {
         let Forms { keys } = forms;
         let mut keys = keys;

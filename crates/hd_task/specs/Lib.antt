@@ -8,6 +8,7 @@ pub mod Entries
 pub mod Examples
 pub mod Expansions
 pub mod Expressions
+pub mod FormText
 pub mod Judging
 pub mod Parts
 pub mod Plans

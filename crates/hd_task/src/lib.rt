@@ -20,6 +20,7 @@ mod state;
 mod stepping;
 mod task;
 mod testing;
+mod texts;
 mod well_formed;
 
 pub use action::{Action, ActionId};
@@ -35,3 +36,4 @@ pub use state::State;
 pub use stepping::{Reached, step};
 pub use task::{MAX_ACTIONS, MAX_AMOUNTS, MAX_ATOMS, MAX_FLUENTS, Task};
 pub use testing::{ActionTest, action_test};
+pub use texts::{form_text, push_form};

@@ -15,10 +15,17 @@ invariant_of-result c =
     AreNumbered-from_sorted new (forms_of old) (are_keys_still old new c.forms.invariant c.sort_unstable.ensures.reordered.2)
     c.in_ok-sort_unstable.ensures.sorted c.sort_unstable.ensures.unique (omega (arith, c.sort_unstable.ensures.reordered.1))
 
-pub returns : goal.returns
-returns c =
+pub returns-clause-exactly : goal.returns-clause-exactly
+returns-clause-exactly c =
     let old = c.forms.inside.keys.keys in
     let new = c.sort_unstable.new.self.keys in
     subst (λ (fs : List Ground). HasExactly (Contains fs) form_key (forms_of new)) c.forms.view_is
     (exactly-from_sorted new (forms_of old) (are_keys_still old new c.forms.invariant c.sort_unstable.ensures.reordered.2)
     c.in_ok-sort_unstable.ensures.sorted c.sort_unstable.ensures.unique)
+
+pub returns-clause-as_many : goal.returns-clause-as_many
+returns-clause-as_many c =
+    let new = c.sort_unstable.new.self.keys in
+    let old = c.forms.inside.keys.keys in
+    length-map new (λ (k : SmallVec ℕ). form_by k.items)
+    ∙ (c.sort_unstable.ensures.reordered.1 ∙ (sym (length-map old (λ (k : SmallVec ℕ). form_by k.items)) ∙ ap length c.forms.view_is))

@@ -1,0 +1,46 @@
+//! Amounts of the cost, where there are more than an action may have.
+ghost use Rattle.std.specs.Prelude.{◌≡◌, nat_lt, true, false, length, filter};
+ghost use Rattle.hd_task.specs.declared.task.TheConstants.{MAX_AMOUNTS};
+ghost use Rattle.hd_grounding.specs.Images.{is_paid};
+ghost use Rattle.hd_fitting.specs.Counted.{HaveFewAmounts};
+ghost use Rattle.hd_ground.specs.Amounts.{amounts_of, HasMoreAmountsIn};
+
+use hd_lifted::{Change, Instance, LiftedTask, NumericEffect, Schema};
+use hd_task::MAX_AMOUNTS;
+
+/// How many of these effects are parts of the cost.
+fn count_paid(effects: &[NumericEffect]) -> usize
+    ensures { result ≡ length (filter is_paid effects.now) }
+{
+    let mut count = 0;
+    for effect in effects {
+        if matches!(effect.change, Change::Cost) {
+            count += 1;
+        }
+    }
+    count
+}
+
+/// Whether a schema adds more amounts to the cost than an action may.
+fn has_more_amounts(schema: &Schema) -> bool
+    ensures { result ≡ nat_lt MAX_AMOUNTS (amounts_of schema.now) }
+{
+    let effects = schema.effects.as_slice();
+    // Few effects need no count, so that of an instance nothing is counted.
+    effects.len() > MAX_AMOUNTS && count_paid(effects) > MAX_AMOUNTS
+}
+
+/// Whether one of these instances adds more amounts to the cost than an action may.
+pub fn have_more_amounts(task: &LiftedTask, instances: &[Instance]) -> bool
+    ensures more { result ≡ true → HasMoreAmountsIn task.now instances.now }
+    ensures few { result ≡ false → HaveFewAmounts task.now instances.now }
+{
+    for instance in instances {
+        if let Some(schema) = task.schemas.as_slice().get(instance.schema) {
+            if has_more_amounts(schema) {
+                return true;
+            }
+        }
+    }
+    false
+}
