@@ -90,40 +90,45 @@ fn compare_next(
     counts
 }
 
-/// Compares the answers to 2,500 random tasks, each outcome among them often enough to mean something.
+/// Compares the answers to 2,000 random tasks, each outcome among them often enough to mean something.
 fn compare_all(rt: &impl Abort, alloc: Global, seed: u64) -> Result<(), Fail> {
     let mut dice = Dice::of(seed);
     let mut counts = NONE;
-    for _ in 0..2_500 {
+    for _ in 0..2_000 {
         counts = compare_next(rt, alloc, &mut dice, counts)?;
     }
-    assert!(rt; counts.actions > 500);
-    assert!(rt; counts.no_action > 200);
-    assert!(rt; counts.undefined > 200);
-    assert!(rt; counts.negative > 100);
-    assert!(rt; counts.clashes > 200);
-    assert!(rt; counts.unequal > 200);
-    assert!(rt; counts.unmet > 500);
-    assert!(rt; counts.two_rounds > 100);
+    assert!(rt; counts.actions > 600);
+    assert!(rt; counts.no_action > 400);
+    assert!(rt; counts.undefined > 100);
+    assert!(rt; counts.negative > 60);
+    assert!(rt; counts.clashes > 90);
+    assert!(rt; counts.unequal > 250);
+    assert!(rt; counts.unmet > 400);
+    assert!(rt; counts.two_rounds > 80);
     Ok(())
 }
 
 #[test]
-fn random_tasks_first(rt: HostRuntime) -> Result<(), Fail> {
+fn two_thousand_random_tasks(rt: HostRuntime) -> Result<(), Fail> {
     compare_all(&rt, rt.alloc(), 1)
 }
 
 #[test]
-fn random_tasks_second(rt: HostRuntime) -> Result<(), Fail> {
+fn two_thousand_more(rt: HostRuntime) -> Result<(), Fail> {
     compare_all(&rt, rt.alloc(), 2)
 }
 
 #[test]
-fn random_tasks_third(rt: HostRuntime) -> Result<(), Fail> {
+fn a_third_two_thousand(rt: HostRuntime) -> Result<(), Fail> {
     compare_all(&rt, rt.alloc(), 3)
 }
 
 #[test]
-fn random_tasks_fourth(rt: HostRuntime) -> Result<(), Fail> {
+fn a_fourth_two_thousand(rt: HostRuntime) -> Result<(), Fail> {
     compare_all(&rt, rt.alloc(), 4)
+}
+
+#[test]
+fn a_fifth_two_thousand(rt: HostRuntime) -> Result<(), Fail> {
+    compare_all(&rt, rt.alloc(), 5)
 }

@@ -30,9 +30,8 @@ struct Scope {
 
 // ---- names
 
-/// At most so many parameters.
-fn any_parameters(dice: &mut Dice, types: usize, most: usize) -> Parameters {
-    let count = dice.below(most.wrapping_add(1));
+/// So many parameters.
+fn any_parameters(dice: &mut Dice, types: usize, count: usize) -> Parameters {
     let mut parameters = NONE;
     for place in parameters.iter_mut().take(count) {
         let plain = dice.once_in(3);
@@ -52,7 +51,7 @@ fn fill_types(dice: &mut Dice, names: &mut Names) -> Result<(), AllocError> {
 fn fill_objects(dice: &mut Dice, names: &mut Names) -> Result<(), AllocError> {
     let types = names.parents.len();
     let constants = dice.below(3);
-    let others = dice.below(4);
+    let others = dice.below(3);
     names.constants = constants;
     for _ in 0..constants.wrapping_add(others) {
         names.objects.push(dice.below(types.wrapping_add(1)))?;
@@ -64,11 +63,13 @@ fn fill_objects(dice: &mut Dice, names: &mut Names) -> Result<(), AllocError> {
 fn fill_symbols(dice: &mut Dice, names: &mut Names) -> Result<(), AllocError> {
     let types = names.parents.len();
     for _ in 0..4 {
-        names.predicates.push(any_parameters(dice, types, 2))?;
+        let count = dice.one_of(&[0, 1, 1, 2], 1);
+        names.predicates.push(any_parameters(dice, types, count))?;
     }
     names.functions.push(NONE)?;
     for _ in 0..3 {
-        names.functions.push(any_parameters(dice, types, 2))?;
+        let count = dice.one_of(&[0, 1, 1, 2], 1);
+        names.functions.push(any_parameters(dice, types, count))?;
     }
     Ok(())
 }
@@ -258,12 +259,24 @@ fn fill_condition(
     Ok(())
 }
 
-/// An increase of the cost, now and then by a number that may be negative.
+/// A number, or a fluent that no effect changes.
+fn constant_amount(dice: &mut Dice, names: &Names, scope: Scope) -> Expression {
+    let number = Leaf::Number(any_number(dice, scope.least));
+    if dice.once_in(2) {
+        return Expression::Leaf(number);
+    }
+    match applied(dice, names, scope, names.functions.as_slice(), 2) {
+        Some(fluent) => Expression::Leaf(Leaf::Fluent(fluent)),
+        None => Expression::Leaf(number),
+    }
+}
+
+/// An increase of the cost.
 fn cost_effect(dice: &mut Dice, names: &Names, scope: Scope) -> Effect {
     let amount = if dice.once_in(3) {
-        Expression::Leaf(Leaf::Number(any_number(dice, scope.least)))
-    } else {
         any_expression(dice, names, scope)
+    } else {
+        constant_amount(dice, names, scope)
     };
     Effect {
         change: Change::Increase,
@@ -276,10 +289,10 @@ fn cost_effect(dice: &mut Dice, names: &Names, scope: Scope) -> Effect {
 }
 
 fn any_change(dice: &mut Dice) -> Change {
-    match dice.below(8) {
+    match dice.below(6) {
         0 => Change::Assign,
         1 => Change::ScaleUp,
-        2 | 3 => Change::Decrease,
+        2 => Change::Decrease,
         _ => Change::Increase,
     }
 }
@@ -336,12 +349,13 @@ fn fill_schema(dice: &mut Dice, names: &Names, least: i64, schema: &mut Schema) 
     };
     fill_condition(dice, names, scope, &mut schema.condition)?;
     fill_atoms(dice, names, scope, 1, &mut schema.deletes)?;
-    fill_atoms(dice, names, scope, 2, &mut schema.adds)?;
+    fill_atoms(dice, names, scope, 3, &mut schema.adds)?;
     fill_effects(dice, names, scope, &mut schema.effects)
 }
 
 fn any_schema(alloc: Global, dice: &mut Dice, names: &Names, least: i64) -> Result<Schema, AllocError> {
-    let parameters = any_parameters(dice, names.parents.len(), 3);
+    let count = dice.below(4);
+    let parameters = any_parameters(dice, names.parents.len(), count);
     let mut schema = Schema::idle(alloc, parameters);
     match fill_schema(dice, names, least, &mut schema) {
         Ok(()) => Ok(schema),
@@ -359,7 +373,7 @@ fn fill_schemas(
     least: i64,
     schemas: &mut Vec<Schema>,
 ) -> Result<(), AllocError> {
-    for _ in 0..dice.below(4) {
+    for _ in 0..dice.below(3).wrapping_add(1) {
         schemas.push(any_schema(alloc, dice, names, least)?)?;
     }
     Ok(())
@@ -367,7 +381,7 @@ fn fill_schemas(
 
 // ---- the start and the goal
 
-/// Makes some atoms of a predicate true, and denies some, also true ones.
+/// Makes some atoms of a predicate true, fewer of one that changes, and denies some, also true ones.
 fn fill_atoms_of(
     alloc: Global,
     dice: &mut Dice,
@@ -381,7 +395,8 @@ fn fill_atoms_of(
             symbol,
             objects: *objects,
         };
-        if dice.once_in(2) {
+        let part = if symbol % 2 == 0 { 2 } else { 5 };
+        if dice.once_in(part) {
             task.atoms.push(atom)?;
         }
         if dice.once_in(8) {
@@ -475,7 +490,7 @@ fn empty_task(alloc: Global, metric: bool, backwards: bool) -> Lifted {
 pub fn any_task(alloc: Global, dice: &mut Dice) -> Result<Lifted, AllocError> {
     let mood = Mood {
         missing: dice.once_in(3),
-        least: if dice.once_in(2) { -2 } else { 0 },
+        least: if dice.once_in(2) { -3 } else { 0 },
     };
     let metric = !dice.once_in(4);
     let backwards = dice.once_in(2);
