@@ -1,6 +1,5 @@
 -- What is told of a lifted task that has no task to search. (Our own.)
 use Rattle.std.specs.Prelude.{◌≡◌, ℕ, List, string_bytes}
-
 use Rattle.hd_lifted.specs.declared.instance.Instance.{Instance}
 use Rattle.hd_lifted.specs.declared.schema.Ground.{Ground}
 use Rattle.hd_lifted.specs.declared.task.LiftedTask.{LiftedTask}

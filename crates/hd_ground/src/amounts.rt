@@ -22,6 +22,7 @@ fn count_paid(effects: &[NumericEffect]) -> usize
 }
 
 /// Whether a schema adds more amounts to the cost than an action may.
+#[tactic(auto, using(crate::proofs::Limits::few_effects))]
 fn has_more_amounts(schema: &Schema) -> bool
     ensures { result ≡ nat_lt MAX_AMOUNTS (amounts_of schema.now) }
 {
@@ -31,6 +32,7 @@ fn has_more_amounts(schema: &Schema) -> bool
 }
 
 /// Whether one of these instances adds more amounts to the cost than an action may.
+#[tactic(auto, using(crate::proofs::Limits::few_none, crate::proofs::Limits::few_more, crate::proofs::Limits::few_without, crate::proofs::Limits::more_found))]
 pub fn have_more_amounts(task: &LiftedTask, instances: &[Instance]) -> bool
     ensures more { result ≡ true → HasMoreAmountsIn task.now instances.now }
     ensures few { result ≡ false → HaveFewAmounts task.now instances.now }

@@ -6,7 +6,9 @@ ghost use Rattle.hd_kept.specs.Kept.{IsReachable};
 ghost use Rattle.hd_kept.specs.Numbering.{NumbersInstances, NumbersAtoms, NumbersFluents};
 ghost use Rattle.hd_grounding.specs.Faults.{undefined_in};
 ghost use Rattle.hd_fitting.specs.Counted.{HaveFewAmounts, AreCounted, AreFaultless};
-ghost use Rattle.hd_reach.specs.Reaching.{HasReached};
+ghost use Rattle.hd_lifted.specs.declared.task.LiftedTask.{LiftedTask};
+ghost use Rattle.hd_reach.specs.declared.reading.Limits.{Limits};
+ghost use Rattle.hd_reach.specs.Reaching.{HasReached, StopsReaching};
 ghost use Rattle.hd_ground.specs.Telling.{Tells};
 
 use crate::GroundError;
@@ -29,8 +31,12 @@ pub struct Counted {
     pub undefined: Option<Ground>,
 }
 
-/// Why a search for instances stops.
-fn stopped(stop: Stop) -> GroundError {
+/// Why a search for instances stops, within the limits of a task.
+#[tactic(auto, using(crate::proofs::Limits::too_many))]
+fn stopped(stop: Stop) -> GroundError
+    ensures { (t : LiftedTask) (limits : Limits) → limits.actions ≡ MAX_ACTIONS
+        → limits.atoms ≡ MAX_ATOMS → StopsReaching t limits stop → Tells t result }
+{
     match stop {
         Stop::TooMany => GroundError::TooMany,
         Stop::NoMemory => GroundError::NoMemory,
@@ -60,6 +66,7 @@ fn kept_of(alloc: Global, seed: Seed, task: &LiftedTask) -> Result<Reached, Grou
 }
 
 /// The task's atoms by number, where they are not too many.
+#[tactic(auto, using(crate::proofs::Limits::too_many_atoms, crate::proofs::Limits::numbers_atoms))]
 fn atoms_of(
     alloc: Global,
     seed: Seed,
@@ -80,6 +87,7 @@ fn atoms_of(
 }
 
 /// The task's fluents by number, where they are not too many, and the first one that is met and has no first value.
+#[tactic(auto, using(crate::proofs::Limits::too_many_fluents, crate::proofs::Limits::numbers_fluents, crate::proofs::Limits::first_undefined))]
 fn fluents_of(
     alloc: Global,
     seed: Seed,
@@ -143,6 +151,7 @@ pub fn counted_of(alloc: Global, seed: Seed, lookups: &Lookups<'_>) -> Result<Co
 }
 
 /// Looks for a fluent that is met and has no first value, and then for an instance of a negative cost.
+#[tactic(auto, using(crate::proofs::Limits::names_undefined, crate::proofs::Limits::names_negative))]
 pub fn look_for_faults(
     alloc: Global,
     lookups: &Lookups<'_>,

@@ -1,8 +1,8 @@
 -- The atoms after an action, in the domain and in numbers.
-use Rattle.std.proofs.Common.{◌≡◌, ℕ, ◌<◌, true, not, ◌&&◌, ◌||◌, ◌==◌, List, [], ◌∷◌, Contains, Option, Some, None, slice_get, refl, sym, ap, ◌∙◌, subst, arith, get_or, inl, inr}
+use Rattle.std.proofs.Common.{◌≡◌, ℕ, true, not, ◌&&◌, ◌||◌, ◌==◌, List, [], ◌∷◌, Contains, Option, Some, None, slice_get, refl, sym, ap, ◌∙◌, subst}
 use Rattle.std.specs.List.{list_any, AllPairs}
-use Rattle.std.proofs.lemmas.Bool.{cases_lt, eqb-true, eq-eqb, false_from_ne_true}
-use Rattle.std.proofs.lemmas.Option.{same_Some, slice_get_within, get_or_from_slice_get}
+use Rattle.std.proofs.lemmas.Bool.{eqb-true, eq-eqb, false_from_ne_true}
+use Rattle.std.proofs.lemmas.Option.{same_Some}
 use Rattle.std.proofs.lemmas.List.Folds.{list_any-append}
 use Rattle.hd_base.proofs.Truth.{or-false, each_way}
 use Rattle.hd_lifted.specs.declared.schema.Applied.{Applied}
@@ -15,30 +15,13 @@ use Rattle.hd_task.specs.declared.action.Action.{Action}
 use Rattle.hd_task.specs.Effects.{names_atom, atom_after}
 use Rattle.hd_kept.specs.Numbering.{ComesBefore, form_key}
 use Rattle.hd_kept.proofs.Passing.{Contains-slice_get}
-use Rattle.hd_kept.proofs.Rising.{before_itself}
+use Rattle.hd_kept.proofs.Rising.{one_place}
 use Rattle.hd_kept.proofs.Sound.{same-true, same-refl}
 use Rattle.hd_grounding.specs.Images.{number_of, if_any, numbers_of}
 use Rattle.hd_grounding.specs.Agreement.{Agree, HasAtomsOf}
 use Rattle.hd_grounding.proofs.Numbers.{number_of-place, number_of-none}
 
 module _ (atoms : List Ground) (rising : AllPairs (λ x y. ComesBefore (form_key x) (form_key y)) atoms) where
-  -- no atom stands at two places
-  not_both : (j k : ℕ) (g : Ground) → j < k → slice_get atoms j ≡ Some g → slice_get atoms k ≡ Some g → ⊥
-  not_both j k g lt first second =
-      let before = rising j k g lt (slice_get_within atoms k g second) in
-      let left = subst (λ x. ComesBefore (form_key x) (form_key (get_or atoms k g))) (get_or_from_slice_get atoms j g g first) before in
-      before_itself (form_key g) (subst (λ y. ComesBefore (form_key g) (form_key y)) (get_or_from_slice_get atoms k g g second) left)
-
-  one_place : (j k : ℕ) (g : Ground) → slice_get atoms j ≡ Some g → slice_get atoms k ≡ Some g → j ≡ k
-  one_place j k g first second =
-      elim (cases_lt j k) [
-        | inl lt ↦ absurd (not_both j k g lt first second)
-        | inr le ↦ elim (cases_lt k j) [
-          | inl lt ↦ absurd (not_both k j g lt second first)
-          | inr ge ↦ omega (arith, le, ge)
-        ]
-      ]
-
   -- a form is the one at a place exactly where its number is that place
   one_name : (h g : Ground) (k : ℕ) (o : Option ℕ) → number_of atoms h ≡ o → slice_get atoms k ≡ Some g
       → domain.same h g ≡ list_any (λ j. j == k) (if_any o)
@@ -48,7 +31,7 @@ module _ (atoms : List Ground) (rising : AllPairs (λ x y. ComesBefore (form_key
   one_name h g k (Some j) some at =
       let place = number_of-place atoms h j some in
       each_way (domain.same h g) (j == k)
-      (λ e. eq-eqb j k (one_place j k g (place ∙ ap Some (same-true h g e)) at))
+      (λ e. eq-eqb j k (one_place form_key atoms rising j k g (place ∙ ap Some (same-true h g e)) at))
       (λ e.
       let is : h ≡ g = same_Some h g (sym place ∙ (ap (slice_get atoms) (eqb-true j k e) ∙ at)) in
       subst (λ x. domain.same h x ≡ true) is (same-refl h))

@@ -1,9 +1,8 @@
 -- The lantern's task is its grounding.
-use Rattle.std.proofs.Common.{◌≡◌, ℕ, zero, suc, true, false, List, [], ◌∷◌, filter, Contains, Some, slice_get, inl, inr, refl, sym, ap, ◌∙◌, subst, arith, true≢false}
-use Rattle.std.specs.List.{AllPairs}
+use Rattle.std.proofs.Common.{◌≡◌, ℕ, zero, suc, true, false, List, [], ◌∷◌, filter, Contains, Some, slice_get, refl, sym, ap, ◌∙◌, subst, true≢false}
 use Rattle.std.proofs.lemmas.List.Elements.{All-nil, All-cons}
 use Rattle.std.proofs.lemmas.Option.{none-some, same_Some}
-use Rattle.hd_base.proofs.Members.{Contains-first, Contains-cons_cases, Contains-nil}
+use Rattle.hd_base.proofs.Members.{Contains-first, Contains-nil}
 use Rattle.hd_lifted.specs.declared.schema.Applied.{Applied}
 use Rattle.hd_lifted.specs.declared.schema.Ground.{Ground}
 use Rattle.hd_lifted.specs.declared.schema.Literal.{Literal}
@@ -16,21 +15,14 @@ use Rattle.hd_task.specs.declared.effect.Effect.{Effect}
 use Rattle.hd_kept.specs.Amounts.{is_changed}
 use Rattle.hd_kept.specs.Kept.{is_static, IsKept, keep, IsReachable, initially, added}
 use Rattle.hd_kept.specs.Met.{met_by}
-use Rattle.hd_kept.specs.Numbering.{IsTaskAtom, IsTaskFluent, ComesBefore, instance_key, form_key}
+use Rattle.hd_kept.specs.Numbering.{IsTaskAtom, IsTaskFluent, instance_key, form_key}
 use Rattle.hd_kept.proofs.Passing.{passes-from_all}
+use Rattle.hd_kept.proofs.Small.{only_one, among_one, no_objects}
 use Rattle.hd_kept.proofs.Sound.{same-true}
 use Rattle.hd_grounding.specs.Images.{is_on, change_of}
 use Rattle.hd_grounding.specs.Grounding.{HasFirstValue, IsEffectOf, IsGrounding}
 use Rattle.hd_grounding.specs.Example.{light, lantern, the_instance, the_form, the_effect, lantern_task}
 use Rattle.hd_grounding.proofs.Grounded.{instance_kept}
-
--- ---- a list of one
-
-only_one : {X : Type 0} (key : X → List ℕ) (x : X) → AllPairs (λ x y. ComesBefore (key x) (key y)) (x ∷ [])
-only_one key x i j d lt within = absurd (omega (arith, lt, within))
-
-among_one : {X : Type 0} (x y : X) → Contains (x ∷ []) y → x ≡ y
-among_one x y c = elim (Contains-cons_cases x [] y c) [ inl e ↦ e | inr c ↦ absurd (Contains-nil y c) ]
 
 -- ---- its instance
 
@@ -38,16 +30,11 @@ the_schema : (k : ℕ) (a : Schema) → slice_get lantern.schemas k ≡ Some a �
 the_schema zero a e = (refl, same_Some light a e)
 the_schema (suc k) a e = absurd (none-some a e)
 
-no_objects : (objects : List ℕ) → AreOfTypes lantern objects [] → objects ≡ []
-no_objects [] typed = refl
-no_objects (o ∷ objects) typed = absurd typed
-
 one_instance : (i : Instance) → IsInstance lantern i → the_instance ≡ i
 one_instance i is =
     let at = the_schema i.schema is.schema is.is_schema in
-    let none : i.objects ≡ [] = no_objects i.objects (subst (λ (a : Schema). AreOfTypes lantern i.objects a.parameters) (sym at.1) is.typed) in
+    let objects : [] ≡ i.objects = no_objects lantern i.objects (subst (λ (a : Schema). AreOfTypes lantern i.objects a.parameters) (sym at.1) is.typed) in
     let schema : 0 ≡ i.schema = sym at.0 in
-    let objects : [] ≡ i.objects = sym none in
     λ k. record { schema = schema k; objects = objects k }
 
 abbrev the_light : IsInstance lantern the_instance

@@ -1,12 +1,18 @@
--- A small lifted task and the task that it is grounded to.
-use Rattle.std.specs.Prelude.{true, false, [], ◌∷◌, codes, refl, Some, pos}
+-- A small lifted task and the task that it is grounded to, and small tasks with a fault, or with what looks like one.
+use Rattle.std.specs.Prelude.{ℕ, Bool, true, false, List, [], ◌∷◌, codes, refl, Some, ℤ, pos, negsuc, replicate}
+use Rattle.hd_base.specs.declared.expression.Operand.{Operand}
 use Rattle.hd_base.specs.declared.expression.Operand.TheVariants.{Number, Fluent}
+use Rattle.hd_base.specs.declared.operation.Operation.TheVariants.{Subtract}
 use Rattle.hd_base.specs.declared.relation.Relation.TheVariants.{GreaterOrEqual}
-use Rattle.hd_base.specs.Expression.{leaf}
+use Rattle.hd_base.specs.Expression.{Expression, leaf, binary}
 use Rattle.hd_lifted.specs.declared.schema.Applied.{Applied}
 use Rattle.hd_lifted.specs.declared.schema.Ground.{Ground}
+use Rattle.hd_lifted.specs.declared.schema.Literal.{Literal}
+use Rattle.hd_lifted.specs.declared.schema.Condition.{Condition}
 use Rattle.hd_lifted.specs.declared.schema.Change.TheVariants as lifted_change
+use Rattle.hd_lifted.specs.declared.schema.NumericEffect.{NumericEffect}
 use Rattle.hd_lifted.specs.declared.schema.Schema.{Schema}
+use Rattle.hd_lifted.specs.declared.task.InitialValue.{InitialValue}
 use Rattle.hd_lifted.specs.declared.task.LiftedTask.{LiftedTask}
 use Rattle.hd_lifted.specs.declared.instance.Instance.{Instance}
 use Rattle.hd_task.specs.declared.effect.Term.TheVariants.{Decrease}
@@ -103,3 +109,96 @@ lantern_task = record {
   costs_fit = refl;
   constant_costs_fit = refl;
 }
+
+-- ---- tasks with a fault: an oven has one action, `heat`, which has no parameters and adds nothing. There are an atom, that heating
+-- is permitted, which is false at first, the fuel, and the metric's function, the price
+
+-- the schema, by what it asks for and its effects
+abbrev pub heat : Condition → List NumericEffect → Schema
+heat condition effects = record {
+  name = codes "heat";
+  parameters = [];
+  condition = condition;
+  deletes = [];
+  adds = [];
+  effects = effects;
+}
+
+abbrev pub oven : Condition → List NumericEffect → List InitialValue → Condition → LiftedTask
+oven condition effects values goal = record {
+  hierarchy = [];
+  objects = [];
+  predicates = record { name = codes "permitted"; parameters = [] } ∷ [];
+  functions = record { name = codes "fuel"; parameters = [] } ∷ record { name = codes "price"; parameters = [] } ∷ [];
+  schemas = heat condition effects ∷ [];
+  atoms = [];
+  values = values;
+  goal = goal;
+  metric = Some 1;
+}
+
+abbrev pub fuel : Applied
+fuel = record { symbol = 0; arguments = [] }
+
+abbrev pub permitted : Applied
+permitted = record { symbol = 0; arguments = [] }
+
+-- the ground forms of the fuel and of the atom
+abbrev pub the_fuel : Ground
+the_fuel = record { symbol = 0; objects = [] }
+
+abbrev pub the_permission : Ground
+the_permission = record { symbol = 0; objects = [] }
+
+-- a condition that asks for nothing, and one that asks that heating is permitted, or that it is not
+abbrev pub always : Condition
+always = record { literals = []; equalities = []; comparisons = [] }
+
+abbrev pub permission : Bool → Literal
+permission positive = record { atom = permitted; positive = positive }
+
+abbrev pub where_permitted : Bool → Condition
+where_permitted positive = record { literals = permission positive ∷ []; equalities = []; comparisons = [] }
+
+-- a part of the cost
+abbrev pub costing : Expression (Operand Applied) → NumericEffect
+costing amount = record { change = lifted_change.Cost; fluent = price; amount = amount }
+
+abbrev pub with_fuel : ℤ → List InitialValue
+with_fuel value = record { fluent = the_fuel; value = value } ∷ []
+
+-- `heat` asks for 2 of the fuel, which has no value
+abbrev pub without_fuel : LiftedTask
+without_fuel =
+    oven
+    (record {
+      literals = [];
+      equalities = [];
+      comparisons = record { relation = GreaterOrEqual; left = leaf (Fluent fuel); right = leaf (Number (pos 2)) } ∷ [];
+    })
+    [] [] always
+
+-- `heat` costs -1
+abbrev pub paying_back : LiftedTask
+paying_back = oven always (costing (leaf (Number (negsuc 0))) ∷ []) [] always
+
+-- `heat` costs as much as the fuel, which no action changes and which is -5
+abbrev pub paying_by_fuel : LiftedTask
+paying_by_fuel = oven always (costing (leaf (Fluent fuel)) ∷ []) (with_fuel (negsuc 4)) always
+
+-- `heat` costs the fuel less 10, and there is 5 of it: -5, but not by a number or a fluent alone
+abbrev pub cheap_at_first : LiftedTask
+cheap_at_first =
+    oven always (costing (binary Subtract (leaf (Fluent fuel)) (leaf (Number (pos 10)))) ∷ []) (with_fuel (pos 5)) always
+
+-- `heat` costs -1, and is never permitted
+abbrev pub never_paying_back : LiftedTask
+never_paying_back = oven (where_permitted true) (costing (leaf (Number (negsuc 0))) ∷ []) [] always
+
+-- the goal asks that heating is not permitted, and nothing else names that atom
+abbrev pub forbidding : LiftedTask
+forbidding = oven always [] [] (where_permitted false)
+
+-- `heat` adds 0 to the cost so many times
+abbrev pub paying_often : ℕ → LiftedTask
+paying_often times = oven always (replicate times (costing (leaf (Number (pos 0))))) [] always

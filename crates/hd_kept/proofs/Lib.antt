@@ -1,5 +1,9 @@
+pub mod Gate
+pub mod Hearth
 pub mod Least
+pub mod Marking
 pub mod Passing
 pub mod Rising
+pub mod Small
 pub mod Sound
 pub mod Unchanged

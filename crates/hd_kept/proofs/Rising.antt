@@ -1,7 +1,9 @@
--- Lists in a strict order: two of them with the same members are one.
-use Rattle.std.proofs.Common.{◌≡◌, ℕ, suc, List, [], ◌∷◌, Contains, refl, sym, ap₂, ◌∙◌, subst, inl, inr, arith}
+-- Lists in a strict order: two of them with the same members are one, and nothing stands twice in one.
+use Rattle.std.proofs.Common.{◌≡◌, ℕ, suc, ◌<◌, List, [], ◌∷◌, Contains, Some, slice_get, get_or, refl, sym, ap₂, ◌∙◌, subst, inl, inr, arith}
 use Rattle.std.specs.List.{AllPairs}
 use Rattle.std.specs.declared.cmp.Ordering.TheVariants.{Less, Equal}
+use Rattle.std.proofs.lemmas.Bool.{cases_lt}
+use Rattle.std.proofs.lemmas.Option.{slice_get_within, get_or_from_slice_get}
 use Rattle.std.proofs.lemmas.Cmp.{nat_list_cmp_total, tied_itself}
 use Rattle.hd_base.proofs.Members.{Contains-first, Contains-later, Contains-cons_cases, Contains-nil}
 use Rattle.hd_kept.specs.Numbering.{ComesBefore, HasExactly}
@@ -60,3 +62,23 @@ lists_are_one Is key xs ys first second =
     (λ x y z. nat_list_cmp_total.trans (key x) (key y) (key z)) xs ys first.rising second.rising
     (λ x c. (second.exactly x).0 ((first.exactly x).1 c))
     (λ x c. (first.exactly x).0 ((second.exactly x).1 c))
+
+-- ---- places
+
+module _ {X : Type 0} (key : X → List ℕ) (xs : List X) (rising : AllPairs (λ x y. ComesBefore (key x) (key y)) xs) where
+  -- nothing stands at two places
+  not_both : (j k : ℕ) (x : X) → j < k → slice_get xs j ≡ Some x → slice_get xs k ≡ Some x → ⊥
+  not_both j k x lt first second =
+      let before = rising j k x lt (slice_get_within xs k x second) in
+      let left = subst (λ y. ComesBefore (key y) (key (get_or xs k x))) (get_or_from_slice_get xs j x x first) before in
+      before_itself (key x) (subst (λ y. ComesBefore (key x) (key y)) (get_or_from_slice_get xs k x x second) left)
+
+  pub one_place : (j k : ℕ) (x : X) → slice_get xs j ≡ Some x → slice_get xs k ≡ Some x → j ≡ k
+  one_place j k x first second =
+      elim (cases_lt j k) [
+        | inl lt ↦ absurd (not_both j k x lt first second)
+        | inr le ↦ elim (cases_lt k j) [
+          | inl lt ↦ absurd (not_both k j x lt second first)
+          | inr ge ↦ omega (arith, le, ge)
+        ]
+      ]

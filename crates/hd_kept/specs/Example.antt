@@ -1,7 +1,14 @@
 -- A small task on which the definitions are computed, beside those of hd_lifted.
-use Rattle.std.specs.Prelude.{false, [], ◌∷◌, codes, None, pos}
+use Rattle.std.specs.Prelude.{ℕ, true, false, List, [], ◌∷◌, codes, None, pos}
+use Rattle.hd_base.specs.declared.expression.Operand.TheVariants.{Number}
+use Rattle.hd_base.specs.Expression.{leaf}
+use Rattle.hd_lifted.specs.declared.schema.Argument.TheVariants.{Parameter}
 use Rattle.hd_lifted.specs.declared.schema.Applied.{Applied}
 use Rattle.hd_lifted.specs.declared.schema.Ground.{Ground}
+use Rattle.hd_lifted.specs.declared.schema.Change.TheVariants.{Assign}
+use Rattle.hd_lifted.specs.declared.schema.Condition.{Condition}
+use Rattle.hd_lifted.specs.declared.schema.Literal.{Literal}
+use Rattle.hd_lifted.specs.declared.schema.NumericEffect.{NumericEffect}
 use Rattle.hd_lifted.specs.declared.schema.Schema.{Schema}
 use Rattle.hd_lifted.specs.declared.task.LiftedTask.{LiftedTask}
 use Rattle.hd_lifted.specs.declared.instance.Instance.{Instance}
@@ -45,3 +52,129 @@ lamp = record {
 
 abbrev pub the_one : Instance
 the_one = record { schema = 0; objects = [] }
+
+-- ---- parts of the tasks below
+
+-- a condition on atoms alone
+abbrev when : List Literal → Condition
+when literals = record { literals = literals; equalities = []; comparisons = [] }
+
+-- an atom without arguments, by its predicate's number, and its ground form
+abbrev atom : ℕ → Applied
+atom symbol = record { symbol = symbol; arguments = [] }
+
+abbrev ground_form : ℕ → Ground
+ground_form symbol = record { symbol = symbol; objects = [] }
+
+-- ---- marks: `mark` assigns 1 to the mark of its first object and 2 to that of its second. There are two objects
+
+abbrev assign_mark : ℕ → ℕ → NumericEffect
+assign_mark k value = record {
+  change = Assign;
+  fluent = record { symbol = 0; arguments = Parameter k ∷ [] };
+  amount = leaf (Number (pos value));
+}
+
+abbrev pub mark : Schema
+mark = record {
+  name = codes "mark";
+  parameters = 0 ∷ 0 ∷ [];
+  condition = when [];
+  deletes = [];
+  adds = [];
+  effects = assign_mark 0 1 ∷ assign_mark 1 2 ∷ [];
+}
+
+abbrev pub marks : LiftedTask
+marks = record {
+  hierarchy = [];
+  objects = record { name = codes "p"; of = 0 } ∷ record { name = codes "q"; of = 0 } ∷ [];
+  predicates = [];
+  functions = record { name = codes "mark"; parameters = 0 ∷ [] } ∷ [];
+  schemas = mark ∷ [];
+  atoms = [];
+  values = [];
+  goal = when [];
+  metric = None;
+}
+
+-- the objects p and q are 0 and 1
+abbrev pub marking : ℕ → ℕ → Instance
+marking first second = record { schema = 0; objects = first ∷ second ∷ [] }
+
+-- ---- a gate: `pass` asks that it is not locked. No action locks or unlocks it
+
+abbrev pub locked : Ground
+locked = ground_form 0
+
+-- `pass` adds that one is through
+abbrev pub pass : Schema
+pass = record {
+  name = codes "pass";
+  parameters = [];
+  condition = when (record { atom = atom 0; positive = false } ∷ []);
+  deletes = [];
+  adds = atom 1 ∷ [];
+  effects = [];
+}
+
+-- these atoms are true at first
+abbrev pub gate : List Ground → LiftedTask
+gate atoms = record {
+  hierarchy = [];
+  objects = [];
+  predicates = record { name = codes "locked"; parameters = [] } ∷ record { name = codes "through"; parameters = [] } ∷ [];
+  functions = [];
+  schemas = pass ∷ [];
+  atoms = atoms;
+  values = [];
+  goal = when [];
+  metric = None;
+}
+
+-- ---- a hearth: `kindle` makes the fire burn if the match burns, and `strike` makes the match burn. At first neither does
+
+abbrev pub the_match : Ground
+the_match = ground_form 0
+
+abbrev pub the_fire : Ground
+the_fire = ground_form 1
+
+abbrev pub kindle : Schema
+kindle = record {
+  name = codes "kindle";
+  parameters = [];
+  condition = when (record { atom = atom 0; positive = true } ∷ []);
+  deletes = [];
+  adds = atom 1 ∷ [];
+  effects = [];
+}
+
+abbrev pub strike : Schema
+strike = record {
+  name = codes "strike";
+  parameters = [];
+  condition = when [];
+  deletes = [];
+  adds = atom 0 ∷ [];
+  effects = [];
+}
+
+abbrev pub hearth : LiftedTask
+hearth = record {
+  hierarchy = [];
+  objects = [];
+  predicates = record { name = codes "match"; parameters = [] } ∷ record { name = codes "fire"; parameters = [] } ∷ [];
+  functions = [];
+  schemas = kindle ∷ strike ∷ [];
+  atoms = [];
+  values = [];
+  goal = when [];
+  metric = None;
+}
+
+abbrev pub kindling : Instance
+kindling = record { schema = 0; objects = [] }
+
+abbrev pub striking : Instance
+striking = record { schema = 1; objects = [] }

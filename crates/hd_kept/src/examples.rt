@@ -1,10 +1,12 @@
-//! Worked examples of the definitions, each a checked fact. The function does nothing.
+//! Worked examples of the definitions, each a checked fact. The functions do nothing.
 ghost use Rattle.std.specs.Prelude.{◌≡◌, [], ◌∷◌, true, false};
 ghost use Rattle.hd_lifted.specs.Example.{go, a_to_b, a_to_c, the_fuel};
-ghost use Rattle.hd_kept.specs.Kept.{is_static, IsKept};
+ghost use Rattle.hd_lifted.specs.Plans.{IsInstance};
+ghost use Rattle.hd_kept.specs.Kept.{is_static, IsKept, IsReachable, IsSupported};
+ghost use Rattle.hd_kept.specs.Numbering.{NumbersInstances};
 ghost use Rattle.hd_kept.specs.Met.{met_by, met_by_goal};
 ghost use Rattle.hd_kept.specs.Amounts.{is_changed};
-ghost use Rattle.hd_kept.specs.Example.{with_fuel, need, lamp, the_one};
+ghost use Rattle.hd_kept.specs.Example.{with_fuel, need, lamp, the_one, marks, marking, gate, locked, hearth, kindling, striking, the_match, the_fire};
 
 /// The definitions on small tasks: of hd_lifted's journey the predicates are `at` and `road`, and the functions the fuel, what a road
 /// needs, and the cost.
@@ -28,4 +30,24 @@ pub fn examples_compute()
 
     // What only a negative condition makes useful is kept.
     ensures lights { IsKept lamp the_one }
+{}
+
+/// What is kept and what is not: where effects clash, where an atom has to be false, and where one action needs another.
+pub fn kept_instances_compute()
+    // Two assignments to one fluent clash: `mark` with one object twice is no instance. The two others are kept.
+    ensures p_twice { IsInstance marks (marking 0 0) → ⊥ }
+    ensures q_twice { IsInstance marks (marking 1 1) → ⊥ }
+    ensures two_objects { NumbersInstances marks (marking 0 1 ∷ marking 1 0 ∷ []) }
+
+    // What no action changes and is true at first is never false: a gate that is locked lets none through, and another does.
+    ensures locked_out { IsKept (gate (locked ∷ [])) the_one → ⊥ }
+    ensures let_in { IsKept (gate []) the_one }
+
+    // `kindle` needs what only `strike` adds, and is kept.
+    ensures needs_match { IsSupported hearth [] the_match → ⊥ }
+    ensures is_kept { IsKept hearth kindling }
+
+    // What `strike` adds makes no fire: it takes a second round.
+    ensures first_round { IsSupported hearth (striking ∷ []) the_fire → ⊥ }
+    ensures second_round { IsReachable hearth the_fire }
 {}

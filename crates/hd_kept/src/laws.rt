@@ -1,11 +1,12 @@
 //! Laws over the definitions. Each function does nothing: its contract is the law, for every task and every plan.
-ghost use Rattle.std.specs.Prelude.{◌≡◌, false, List, All, Contains, Some};
+ghost use Rattle.std.specs.Prelude.{◌≡◌, true, false, List, All, Contains, Some};
 ghost use Rattle.hd_lifted.specs.declared.task.LiftedTask.{LiftedTask};
 ghost use Rattle.hd_lifted.specs.Steps.{Reached};
 ghost use Rattle.hd_lifted.specs.declared.instance.Instance.{Instance};
 ghost use Rattle.hd_lifted.specs.Plans.{IsInstance, exec};
 ghost use Rattle.hd_lifted.specs.declared.schema.Ground.{Ground};
 ghost use Rattle.hd_lifted.specs.States.{first_value};
+ghost use Rattle.hd_lifted.specs.Conditions.{literals_hold};
 ghost use Rattle.hd_kept.specs.Kept.{IsKept, IsClosed};
 ghost use Rattle.hd_kept.specs.Numbering.{NumbersInstances, NumbersAtoms, NumbersFluents};
 ghost use Rattle.hd_kept.specs.Amounts.{is_changed};
@@ -14,6 +15,15 @@ ghost use Rattle.hd_kept.specs.Amounts.{is_changed};
 pub fn plans_are_kept()
     ensures { (t : LiftedTask) (p : List Instance) (r : Reached)
         → All (IsInstance t) p → exec t p ≡ Some r → All (IsKept t) p }
+{}
+
+/// An instance whose conditions on atoms and objects hold where a plan leads is kept, whatever its comparisons say: so one that is
+/// left out can neither be used there nor leave the range.
+pub fn instances_that_hold_are_kept()
+    ensures { (t : LiftedTask) (p : List Instance) (r : Reached)
+        (i : Instance) (is : IsInstance t i)
+        → All (IsInstance t) p → exec t p ≡ Some r
+        → literals_hold r.state i.objects is.schema.condition ≡ true → IsKept t i }
 {}
 
 /// The kept instances are the least set of their kind: each closed list of instances has all of them.

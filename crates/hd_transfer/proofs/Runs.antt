@@ -24,6 +24,7 @@ use Rattle.hd_grounding.specs.Grounding.{IsActionOf, IsGrounding}
 use Rattle.hd_grounding.proofs.Grounded.{instance_kept, action_kept, kept_action, starts_agree, goal_numbered}
 use Rattle.hd_grounding.proofs.Holding.{condition_agrees}
 use Rattle.hd_transfer.specs.Instances.{instance_of, plan_of, IsOfValidPlan}
+use Rattle.hd_transfer.specs.Runs.{Correspond, LeadsThere, IsOfPlan}
 use Rattle.hd_transfer.proofs.Steps.{IsAlong, AreAlike, step_alike}
 
 -- a number names an action of the task
@@ -36,7 +37,7 @@ module _ (t : LiftedTask) (u : Task) (made : IsGrounding t u) where
   pub instance_is : (i : Instance) (b : Action) → IsActionOf t made.atoms made.fluents i b → instance_of b ≡ i
   instance_is i b of = ap (λ (f : GroundForm). let x : Instance = record { schema = f.symbol; objects = f.objects } in x) of.form
 
-  plan_of-named : (n : ℕ) (b : Action) (p : List ℕ) → slice_get u.actions n ≡ Some b → plan_of u (n ∷ p) ≡ instance_of b ∷ plan_of u p
+  pub plan_of-named : (n : ℕ) (b : Action) (p : List ℕ) → slice_get u.actions n ≡ Some b → plan_of u (n ∷ p) ≡ instance_of b ∷ plan_of u p
   plan_of-named n b p at = ap (λ o. cons_option (option_map instance_of o) (plan_of u p)) at
 
   -- ---- at first
@@ -109,9 +110,12 @@ module _ (t : LiftedTask) (u : Task) (made : IsGrounding t u) where
       other_end (lifted.exec t (plan_of u p)) m
       (subst (AreAlike t u made (lifted.exec t (plan_of u p))) e (runs_alike p (all_named p (Some (start u)) m e)))
 
-  goals_alike : (r : Reached) (m : Node) → IsAlong t u made r m → meaning.holds r.state [] t.goal ≡ holds m.state u.goal
-  goals_alike r m along =
-      condition_agrees made.atoms made.fluents r.state m.state along.agree [] t.goal (goal_numbered t u made) ∙ ap (holds m.state) (sym made.goal_is)
+  goals_alike : (r : Reached) (m : Node) → Correspond made r m → meaning.holds r.state [] t.goal ≡ holds m.state u.goal
+  goals_alike r m same =
+      condition_agrees made.atoms made.fluents r.state m.state same.states [] t.goal (goal_numbered t u made) ∙ ap (holds m.state) (sym made.goal_is)
+
+  correspond : (r : Reached) (m : Node) → IsAlong t u made r m → Correspond made r m
+  correspond r m along = record { states = along.agree; costs = along.cost }
 
   -- ---- there
 
@@ -124,17 +128,22 @@ module _ (t : LiftedTask) (u : Task) (made : IsGrounding t u) where
       (All-cons (IsInstance t) (instance_of b) (plan_of u p)
       (subst (IsInstance t) (sym (instance_is from.0 b from.2)) (instance_kept t from.0 from.1)) (instances p named.1))
 
+  pub run_there : (p : List ℕ) (m : Node) → exec u p ≡ Some m → LeadsThere made p m
+  run_there p m e =
+      let k = end_along p m e in
+      record { instances = instances p (all_named p (Some (start u)) m e); end = k.0; executes = k.1; correspond = correspond k.0 m k.2 }
+
   pub valid_there : (p : List ℕ) (c : ℕ) → IsValidAt u p c → lifted.IsValidAt t (plan_of u p) (pos c)
   valid_there p c v =
-      let k = end_along p v.end v.executes in
+      let k = run_there p v.end v.executes in
       record {
         valid = record {
-          instances = instances p (all_named p (Some (start u)) v.end v.executes);
-          end = k.0;
-          executes = k.1;
-          meets_goal = goals_alike k.0 v.end k.2 ∙ v.meets_goal;
+          instances = k.instances;
+          end = k.end;
+          executes = k.executes;
+          meets_goal = goals_alike k.end v.end k.correspond ∙ v.meets_goal;
         };
-        costs = k.2.cost ∙ ap (λ n. Some (pos n)) v.costs;
+        costs = k.correspond.costs ∙ ap (λ n. Some (pos n)) v.costs;
       }
 
   -- ---- back
@@ -156,14 +165,19 @@ module _ (t : LiftedTask) (u : Task) (made : IsGrounding t u) where
         named = ((act.1, act.2), rest.named);
       }
 
+  pub run_back : (q : List Instance) (r : Reached) → All (IsInstance t) q → lifted.exec t q ≡ Some r → IsOfPlan made q r
+  run_back q r all e =
+      let k = numbers q (exec-kept t q r all e) in
+      let alike = subst (λ o. AreAlike t u made o (exec u k.plan)) (ap (lifted.exec t) k.is ∙ e) (runs_alike k.plan k.named) in
+      let to = own_end r (exec u k.plan) alike in
+      record { plan = k.plan; is = k.is; end = to.0; executes = to.1; correspond = correspond r to.0 to.2 }
+
   pub valid_back : (q : List Instance) → lifted.IsValid t q → IsOfValidPlan u q
   valid_back q v =
-      let k = numbers q (exec-kept t q v.end v.instances v.executes) in
-      let alike = subst (λ o. AreAlike t u made o (exec u k.plan)) (ap (lifted.exec t) k.is ∙ v.executes) (runs_alike k.plan k.named) in
-      let to = own_end v.end (exec u k.plan) alike in
+      let k = run_back q v.end v.instances v.executes in
       record {
         plan = k.plan;
         is = k.is;
-        cost = to.0.cost;
-        valid = record { end = to.0; executes = to.1; meets_goal = sym (goals_alike v.end to.0 to.2) ∙ v.meets_goal; costs = refl };
+        cost = k.end.cost;
+        valid = record { end = k.end; executes = k.executes; meets_goal = sym (goals_alike v.end k.end k.correspond) ∙ v.meets_goal; costs = refl };
       }

@@ -1,5 +1,5 @@
 -- The plans of a domain that the plans of its task stand for. (Our own.)
-use Rattle.std.specs.Prelude.{◌≡◌, ℕ, List, Option, option_map, slice_get}
+use Rattle.std.specs.Prelude.{◌≡◌, ℕ, List, Option, Some, option_map, slice_get}
 use Rattle.std.specs.List.{filter_map}
 use Rattle.hd_lifted.specs.declared.instance.Instance.{Instance}
 use Rattle.hd_task.specs.declared.action.Action.{Action}
@@ -24,3 +24,8 @@ pub record IsOfValidPlan (u : Task) (q : List Instance) : Type 0 where
   pub is : plan_of u plan ≡ q
   pub cost : ℕ
   pub valid : IsValidAt u plan cost
+
+-- an instance is that of an action of the task
+pub record HasAction (u : Task) (i : Instance) : Type 0 where
+  pub number : ℕ
+  pub is : instance_at u number ≡ Some i

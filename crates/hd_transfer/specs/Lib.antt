@@ -1,1 +1,3 @@
+pub mod Departures
 pub mod Instances
+pub mod Runs

@@ -1,9 +1,10 @@
 //! Laws over the definitions. Each function does nothing: its contract is the law.
-ghost use Rattle.std.specs.Prelude.{◌≡◌, ℕ, List, Some, slice_get, pos};
+ghost use Rattle.std.specs.Prelude.{◌≡◌, ℕ, true, List, All, Some, slice_get, pos, ◌↔◌};
 ghost use Rattle.hd_lifted.specs.declared.instance.Instance.{Instance};
 ghost use Rattle.hd_lifted.specs.declared.task.LiftedTask.{LiftedTask};
 ghost use Rattle.hd_lifted.specs.Departures as ranges;
 ghost use Rattle.hd_lifted.specs.Plans as domain;
+ghost use Rattle.hd_lifted.specs.Plans.{IsInstance};
 ghost use Rattle.hd_lifted.specs.Steps.{Reached};
 ghost use Rattle.hd_task.specs.declared.action.Action.{Action};
 ghost use Rattle.hd_task.specs.declared.task.Task.{Task};
@@ -11,7 +12,9 @@ ghost use Rattle.hd_task.specs.Departures.{action_departs, goal_departs};
 ghost use Rattle.hd_task.specs.Plans.{Node, exec, IsValidAt};
 ghost use Rattle.hd_task.specs.Verdicts.{IsOptimal, HasNoPlan};
 ghost use Rattle.hd_grounding.specs.Grounding.{IsGrounding};
-ghost use Rattle.hd_transfer.specs.Instances.{instance_of, plan_of, IsOfValidPlan};
+ghost use Rattle.hd_transfer.specs.Departures.{NoActionDeparts, NoInstanceDeparts};
+ghost use Rattle.hd_transfer.specs.Instances.{instance_of, plan_of, IsOfValidPlan, HasAction};
+ghost use Rattle.hd_transfer.specs.Runs.{LeadsThere, IsOfPlan};
 
 /// The valid plans of a task are those of its domain, at the same costs: none is made up and none is lost, and the cost of each valid
 /// plan of the domain is an integer that is not negative.
@@ -22,8 +25,22 @@ pub fn plans_are_transferred()
         → IsGrounding t u → domain.IsValid t q → IsOfValidPlan u q }
 {}
 
-/// Where a plan of the task and its instances lead, the same actions leave the range as instances, and the goal does in both or in
-/// neither. Of instances that are no action nothing is said.
+/// Plans go over, whether they are valid or not: where a plan is executed in the task, its instances are executed in the domain, and
+/// each list of instances that is executed in the domain is that of such a plan, of one alone. Both lead to states that agree, at the
+/// same cost.
+pub fn runs_are_transferred()
+    ensures there { (t : LiftedTask) (u : Task) (made : IsGrounding t u) (p : List ℕ) (m : Node)
+        → exec u p ≡ Some m → LeadsThere made p m }
+    ensures back { (t : LiftedTask) (u : Task) (made : IsGrounding t u)
+        (q : List Instance) (r : Reached)
+        → All (IsInstance t) q → domain.exec t q ≡ Some r → IsOfPlan made q r }
+    ensures one { (t : LiftedTask) (u : Task) (p q : List ℕ) (m n : Node)
+        → IsGrounding t u → exec u p ≡ Some m → exec u q ≡ Some n
+        → plan_of u p ≡ plan_of u q → p ≡ q }
+{}
+
+/// Where a plan of the task leads and where its instances do, an action leaves the range exactly where its instance does, and so does
+/// the goal. That the instances lead anywhere, `runs_are_transferred` says.
 pub fn departures_are_transferred()
     ensures actions { (t : LiftedTask) (u : Task) (p : List ℕ) (m : Node) (r : Reached)
         (k : ℕ) (a : Action)
@@ -33,6 +50,21 @@ pub fn departures_are_transferred()
     ensures goal { (t : LiftedTask) (u : Task) (p : List ℕ) (m : Node) (r : Reached)
         → IsGrounding t u → exec u p ≡ Some m → domain.exec t (plan_of u p) ≡ Some r
         → goal_departs u m ≡ ranges.goal_departs t r }
+{}
+
+/// An instance that leaves the range where a plan of the task leads is that of an action: those that are left out depart nowhere.
+pub fn departing_instances_have_actions()
+    ensures { (t : LiftedTask) (u : Task) (p : List ℕ) (m : Node) (r : Reached) (i : Instance)
+        → IsGrounding t u → exec u p ≡ Some m → domain.exec t (plan_of u p) ≡ Some r
+        → IsInstance t i → ranges.instance_departs t r i ≡ true → HasAction u i }
+{}
+
+/// Nothing departs unseen: where no action of the task departs, and not its goal, no instance of the domain departs, and not its goal;
+/// and the other way round.
+pub fn nothing_departs_unseen()
+    ensures { (t : LiftedTask) (u : Task) (p : List ℕ) (m : Node) (r : Reached)
+        → IsGrounding t u → exec u p ≡ Some m → domain.exec t (plan_of u p) ≡ Some r
+        → NoActionDeparts u m ↔ NoInstanceDeparts t r }
 {}
 
 /// A true verdict of a task is one of its domain: the instances of an optimal plan are an optimal plan of the domain, and where the

@@ -1,6 +1,6 @@
-use Rattle.std.proofs.Common.{◌≡◌, length, filter, take}
+use Rattle.std.proofs.Common.{◌≡◌, ◌≤◌, length, filter, take}
 use Rattle.hd_grounding.specs.Images.{is_paid}
 use Rattle.hd_ground.proofs.amounts.count_paid.Given as goal
 
 abbrev pub invariant-loop-effect : goal.invariant-loop-effect
-invariant-loop-effect l = l.count ≡ length (filter is_paid (take l.effect-index l.effects))
+invariant-loop-effect l = (l.count ≤ l.effect-index) × (l.count ≡ length (filter is_paid (take l.effect-index l.effects)))

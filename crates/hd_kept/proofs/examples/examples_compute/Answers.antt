@@ -3,19 +3,15 @@ use Rattle.std.proofs.lemmas.Option.{same_Some}
 use Rattle.hd_base.proofs.Members.{Contains-first, Contains-later, Contains-cons_cases, Contains-nil}
 use Rattle.hd_lifted.specs.declared.schema.Argument.TheVariants.{Parameter}
 use Rattle.hd_lifted.specs.declared.schema.Literal.{Literal}
-use Rattle.hd_lifted.specs.declared.task.LiftedTask.{LiftedTask}
-use Rattle.hd_lifted.specs.declared.instance.Instance.{Instance}
 use Rattle.hd_lifted.specs.Plans.{IsInstance}
 use Rattle.hd_lifted.specs.Example.{go, a_to_c}
 use Rattle.hd_kept.specs.Kept.{is_static, HoldAtFirst, IsKept, keep}
 use Rattle.hd_kept.specs.Amounts.{is_changed}
 use Rattle.hd_kept.specs.Example.{burning, light, with_fuel, lamp, the_one}
+use Rattle.hd_kept.proofs.Small.{statics_of}
 use Rattle.hd_kept.proofs.examples.examples_compute.Goals as goal
 
 -- ---- no road from a to c
-
-statics_of : (t : LiftedTask) (i : Instance) → IsKept t i → (is : IsInstance t i) × HoldAtFirst t i.objects is.schema
-statics_of t i (keep j is statics equalities reached) = (is, statics)
 
 -- where `go` wants a road from its first place to its second
 abbrev at_place : Literal
