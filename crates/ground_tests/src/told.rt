@@ -1,8 +1,6 @@
 //! What is told of tasks, for the tests.
 
-use crate::rendering::{
-    add_actions, add_atoms, add_costs, add_counts, add_fluents, add_goal,
-};
+use crate::rendering::{add_actions, add_atoms, add_costs, add_counts, add_fluents, add_goal};
 use crate::texts::{answer_to, edited, joined, with_objects};
 use hd_ground::GroundError;
 use hd_task::Task;

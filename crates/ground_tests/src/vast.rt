@@ -7,7 +7,13 @@ fn a_chain_of_equalities_leaves_an_action_for_each_object(rt: HostRuntime) -> Re
     let frame = "(define (domain d)
       (:action go :parameters (?a ?b ?c ?d ?e) :precondition (and (= ?a ?b) (= ?b ?c) (= ?c ?d) (= ?d ?e))))|
       (define (problem p) (:domain d) (:objects #) (:init %) (:goal ()))";
-    assert_with_objects(&rt, rt.alloc(), frame, (1_000, ""), "actions 1000\natoms 0\nfluents 0")
+    assert_with_objects(
+        &rt,
+        rt.alloc(),
+        frame,
+        (1_000, ""),
+        "actions 1000\natoms 0\nfluents 0",
+    )
 }
 
 #[test]
@@ -15,7 +21,13 @@ fn a_static_atom_that_all_objects_have_leaves_no_action(rt: HostRuntime) -> Resu
     let frame = "(define (domain d) (:predicates (s ?x))
       (:action go :parameters (?a ?b ?c ?d ?e ?f) :precondition (not (s ?f))))|
       (define (problem p) (:domain d) (:objects #) (:init %) (:goal ()))";
-    assert_with_objects(&rt, rt.alloc(), frame, (1_000, "(s @)"), "actions 0\natoms 1000\nfluents 0")
+    assert_with_objects(
+        &rt,
+        rt.alloc(),
+        frame,
+        (1_000, "(s @)"),
+        "actions 0\natoms 1000\nfluents 0",
+    )
 }
 
 #[test]
@@ -23,7 +35,13 @@ fn a_last_parameter_without_objects_leaves_no_action(rt: HostRuntime) -> Result<
     let frame = "(define (domain d) (:types t)
       (:action go :parameters (?a ?b ?c ?d ?e - object ?f - t)))|
       (define (problem p) (:domain d) (:objects #) (:init %) (:goal ()))";
-    assert_with_objects(&rt, rt.alloc(), frame, (1_000, ""), "actions 0\natoms 0\nfluents 0")
+    assert_with_objects(
+        &rt,
+        rt.alloc(),
+        frame,
+        (1_000, ""),
+        "actions 0\natoms 0\nfluents 0",
+    )
 }
 
 #[test]
@@ -31,5 +49,11 @@ fn as_many_actions_as_there_may_be(rt: HostRuntime) -> Result<(), Fail> {
     // 16^5 is 2^20.
     let frame = "(define (domain d) (:action go :parameters (?a ?b ?c ?d ?e)))|
       (define (problem p) (:domain d) (:objects #) (:init %) (:goal ()))";
-    assert_with_objects(&rt, rt.alloc(), frame, (16, ""), "actions 1048576\natoms 0\nfluents 0")
+    assert_with_objects(
+        &rt,
+        rt.alloc(),
+        frame,
+        (16, ""),
+        "actions 1048576\natoms 0\nfluents 0",
+    )
 }

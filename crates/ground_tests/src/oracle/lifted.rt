@@ -59,9 +59,9 @@ pub enum Expression {
     Negated(Leaf),
     Binary(char, Leaf, Leaf),
     /// The second operation stands in the first one's left side.
-    Left(char, char, [Leaf; 3]),
+    Left(char, char, Leaf, Leaf, Leaf),
     /// The second operation stands in the first one's right side.
-    Right(char, char, [Leaf; 3]),
+    Right(char, char, Leaf, Leaf, Leaf),
 }
 
 /// A comparison, by its word.

@@ -10,7 +10,9 @@ use std::fmt::Write;
 
 /// The letters of the names of predicates, functions and schemas.
 const PREDICATE: char = 'p';
+
 const FUNCTION: char = 'f';
+
 const SCHEMA: char = 's';
 
 /// What a task turned out to be.
@@ -47,10 +49,18 @@ fn add_atoms_of(
     reached: &[Ground],
     symbol: usize,
 ) -> Result<(), AllocError> {
-    let parameters = task.names.predicates.get(symbol).copied().unwrap_or([None, None, None]);
+    let parameters = task
+        .names
+        .predicates
+        .get(symbol)
+        .copied()
+        .unwrap_or([None, None, None]);
     let tuples = tuples(alloc, &task.names, parameters)?;
     for objects in tuples.as_slice() {
-        let atom = Ground { symbol, objects: *objects };
+        let atom = Ground {
+            symbol,
+            objects: *objects,
+        };
         if reached.contains(&atom) || is_in_goal(task.goal.literals.as_slice(), atom) {
             all.push(atom)?;
         }
@@ -74,10 +84,18 @@ fn add_fluents_of(
     mentioned: &[Ground],
     symbol: usize,
 ) -> Result<(), AllocError> {
-    let parameters = task.names.functions.get(symbol).copied().unwrap_or([None, None, None]);
+    let parameters = task
+        .names
+        .functions
+        .get(symbol)
+        .copied()
+        .unwrap_or([None, None, None]);
     let tuples = tuples(alloc, &task.names, parameters)?;
     for objects in tuples.as_slice() {
-        let fluent = Ground { symbol, objects: *objects };
+        let fluent = Ground {
+            symbol,
+            objects: *objects,
+        };
         if mentioned.contains(&fluent) {
             all.push(fluent)?;
         }
@@ -86,7 +104,11 @@ fn add_fluents_of(
 }
 
 /// The fluents of the task, in the order of functions, then of tuples.
-fn fluents_of(alloc: Global, task: &Lifted, mentioned: &[Ground]) -> Result<Vec<Ground>, AllocError> {
+fn fluents_of(
+    alloc: Global,
+    task: &Lifted,
+    mentioned: &[Ground],
+) -> Result<Vec<Ground>, AllocError> {
     let mut all = Vec::new(alloc);
     for symbol in 0..task.names.functions.len() {
         add_fluents_of(alloc, &mut all, task, mentioned, symbol)?;
@@ -95,7 +117,11 @@ fn fluents_of(alloc: Global, task: &Lifted, mentioned: &[Ground]) -> Result<Vec<
 }
 
 /// The kept instances, in the order of all instances.
-fn actions_of(alloc: Global, instances: &Instances, kept: &Kept) -> Result<Vec<Ground>, AllocError> {
+fn actions_of(
+    alloc: Global,
+    instances: &Instances,
+    kept: &Kept,
+) -> Result<Vec<Ground>, AllocError> {
     let mut all = Vec::new(alloc);
     for instance in instances.left.as_slice() {
         if kept.instances.as_slice().contains(instance) {
@@ -107,7 +133,11 @@ fn actions_of(alloc: Global, instances: &Instances, kept: &Kept) -> Result<Vec<G
 
 // ---- lines
 
-fn add_action_lines(text: &mut String, task: &Lifted, actions: &[Ground]) -> Result<(), AllocError> {
+fn add_action_lines(
+    text: &mut String,
+    task: &Lifted,
+    actions: &[Ground],
+) -> Result<(), AllocError> {
     for (number, action) in actions.iter().enumerate() {
         write!(text, "\n{number} ")?;
         add_ground(text, SCHEMA, &task.names, *action)?;
@@ -148,7 +178,11 @@ fn add_lines(
     fluents: &[Ground],
 ) -> Result<(), AllocError> {
     let counts = (actions.len(), atoms.len(), fluents.len());
-    write!(text, "actions {}\natoms {}\nfluents {}", counts.0, counts.1, counts.2)?;
+    write!(
+        text,
+        "actions {}\natoms {}\nfluents {}",
+        counts.0, counts.1, counts.2
+    )?;
     add_action_lines(text, task, actions)?;
     add_atom_line(text, task, atoms)?;
     add_fluent_line(text, task, fluents)
@@ -216,7 +250,13 @@ fn expected_by(
 ) -> Result<Expected, AllocError> {
     let actions = actions_of(alloc, instances, kept)?;
     let mut lines = String::new(alloc);
-    let outcome = add_answer(alloc, &mut lines, task, actions.as_slice(), kept.atoms.as_slice())?;
+    let outcome = add_answer(
+        alloc,
+        &mut lines,
+        task,
+        actions.as_slice(),
+        kept.atoms.as_slice(),
+    )?;
     Ok(Expected {
         lines,
         outcome,
@@ -227,7 +267,11 @@ fn expected_by(
     })
 }
 
-fn expected_of_instances(alloc: Global, task: &Lifted, instances: &Instances) -> Result<Expected, AllocError> {
+fn expected_of_instances(
+    alloc: Global,
+    task: &Lifted,
+    instances: &Instances,
+) -> Result<Expected, AllocError> {
     let kept = kept_of(alloc, task, instances.left.as_slice())?;
     let expected = expected_by(alloc, task, instances, &kept);
     drop(kept);

@@ -192,8 +192,8 @@ fn any_expression(dice: &mut Dice, names: &Names, scope: Scope) -> Expression {
     match dice.below(8) {
         0 => Expression::Negated(first),
         1 => Expression::Binary(sign, first, second),
-        2 => Expression::Left(sign, any_sign(dice), [first, second, third]),
-        3 => Expression::Right(sign, any_sign(dice), [first, second, third]),
+        2 => Expression::Left(sign, any_sign(dice), first, second, third),
+        3 => Expression::Right(sign, any_sign(dice), first, second, third),
         _ => Expression::Leaf(first),
     }
 }
@@ -341,7 +341,12 @@ fn fill_effects(
     Ok(())
 }
 
-fn fill_schema(dice: &mut Dice, names: &Names, least: i64, schema: &mut Schema) -> Result<(), AllocError> {
+fn fill_schema(
+    dice: &mut Dice,
+    names: &Names,
+    least: i64,
+    schema: &mut Schema,
+) -> Result<(), AllocError> {
     let scope = Scope {
         parameters: schema.parameters,
         known: names.constants,
@@ -353,7 +358,12 @@ fn fill_schema(dice: &mut Dice, names: &Names, least: i64, schema: &mut Schema) 
     fill_effects(dice, names, scope, &mut schema.effects)
 }
 
-fn any_schema(alloc: Global, dice: &mut Dice, names: &Names, least: i64) -> Result<Schema, AllocError> {
+fn any_schema(
+    alloc: Global,
+    dice: &mut Dice,
+    names: &Names,
+    least: i64,
+) -> Result<Schema, AllocError> {
     let count = dice.below(4);
     let parameters = any_parameters(dice, names.parents.len(), count);
     let mut schema = Schema::idle(alloc, parameters);
@@ -428,7 +438,12 @@ fn fill_values_of(
     Ok(())
 }
 
-fn fill_start(alloc: Global, dice: &mut Dice, mood: Mood, task: &mut Lifted) -> Result<(), AllocError> {
+fn fill_start(
+    alloc: Global,
+    dice: &mut Dice,
+    mood: Mood,
+    task: &mut Lifted,
+) -> Result<(), AllocError> {
     for symbol in 0..4 {
         let parameters = task.names.predicates.get(symbol).copied().unwrap_or(NONE);
         fill_atoms_of(alloc, dice, task, symbol, parameters)?;

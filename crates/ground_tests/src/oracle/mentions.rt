@@ -63,7 +63,11 @@ fn add_effects(
 }
 
 /// Adds what the actions mention, by number.
-fn add_actions(mentioned: &mut Mentioned, task: &Lifted, actions: &[Ground]) -> Result<(), AllocError> {
+fn add_actions(
+    mentioned: &mut Mentioned,
+    task: &Lifted,
+    actions: &[Ground],
+) -> Result<(), AllocError> {
     for action in actions {
         if let Some(schema) = task.schemas.get(action.symbol) {
             let comparisons = schema.condition.comparisons.as_slice();
@@ -78,7 +82,11 @@ fn add_goal(mentioned: &mut Mentioned, goal: &Condition) -> Result<(), AllocErro
     add_comparisons(mentioned, [None, None, None], goal.comparisons.as_slice())
 }
 
-fn add_task(fluents: &mut Vec<Ground>, task: &Lifted, actions: &[Ground]) -> Result<(), AllocError> {
+fn add_task(
+    fluents: &mut Vec<Ground>,
+    task: &Lifted,
+    actions: &[Ground],
+) -> Result<(), AllocError> {
     let mut mentioned = Mentioned {
         metric: task.metric,
         fluents,
@@ -88,7 +96,11 @@ fn add_task(fluents: &mut Vec<Ground>, task: &Lifted, actions: &[Ground]) -> Res
 }
 
 /// The fluents that the actions mention, by number and as written, then those of the goal.
-pub fn mentions(alloc: Global, task: &Lifted, actions: &[Ground]) -> Result<Vec<Ground>, AllocError> {
+pub fn mentions(
+    alloc: Global,
+    task: &Lifted,
+    actions: &[Ground],
+) -> Result<Vec<Ground>, AllocError> {
     let mut fluents = Vec::new(alloc);
     match add_task(&mut fluents, task, actions) {
         Ok(()) => Ok(fluents),
@@ -122,7 +134,11 @@ pub fn undefined(task: &Lifted, fluents: &[Ground]) -> Option<Ground> {
 /// Whether an effect of a schema changes a function.
 fn is_changed(task: &Lifted, function: usize) -> bool {
     task.schemas.as_slice().iter().any(|schema| {
-        schema.effects.as_slice().iter().any(|effect| effect.fluent.symbol == function)
+        schema
+            .effects
+            .as_slice()
+            .iter()
+            .any(|effect| effect.fluent.symbol == function)
     })
 }
 

@@ -47,7 +47,8 @@ fn stands_alone(change: Change) -> bool {
 
 /// Whether an effect has to stand alone, and the other is on its fluent.
 fn clash(objects: Objects, first: Effect, second: Effect) -> bool {
-    stands_alone(first.change) && ground_of(objects, first.fluent) == ground_of(objects, second.fluent)
+    stands_alone(first.change)
+        && ground_of(objects, first.fluent) == ground_of(objects, second.fluent)
 }
 
 /// Whether an `assign` or a `scale-up` stands beside another effect on its fluent.
@@ -68,7 +69,7 @@ pub fn leaves_of(expression: Expression) -> [Option<Leaf>; 3] {
         Expression::Leaf(leaf) => [Some(leaf), None, None],
         Expression::Negated(leaf) => [Some(leaf), None, None],
         Expression::Binary(_, left, right) => [Some(left), Some(right), None],
-        Expression::Left(_, _, [first, second, third]) => [Some(first), Some(second), Some(third)],
-        Expression::Right(_, _, [first, second, third]) => [Some(first), Some(second), Some(third)],
+        Expression::Left(_, _, first, second, third) => [Some(first), Some(second), Some(third)],
+        Expression::Right(_, _, first, second, third) => [Some(first), Some(second), Some(third)],
     }
 }

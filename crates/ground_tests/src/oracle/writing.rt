@@ -26,7 +26,12 @@ fn add_object(text: &mut String, names: &Names, object: usize) -> Result<(), All
 }
 
 /// A ground form, whose name is a letter and a number.
-pub fn add_ground(text: &mut String, letter: char, names: &Names, form: Ground) -> Result<(), AllocError> {
+pub fn add_ground(
+    text: &mut String,
+    letter: char,
+    names: &Names,
+    form: Ground,
+) -> Result<(), AllocError> {
     let symbol = form.symbol;
     write!(text, "({letter}{symbol}")?;
     for object in form.objects {
@@ -69,7 +74,12 @@ fn add_argument(text: &mut String, names: &Names, argument: Argument) -> Result<
     }
 }
 
-fn add_applied(text: &mut String, letter: char, names: &Names, applied: Applied) -> Result<(), AllocError> {
+fn add_applied(
+    text: &mut String,
+    letter: char,
+    names: &Names,
+    applied: Applied,
+) -> Result<(), AllocError> {
     let symbol = applied.symbol;
     write!(text, "({letter}{symbol}")?;
     for argument in applied.arguments {
@@ -108,14 +118,24 @@ fn add_leaf(text: &mut String, names: &Names, leaf: Leaf) -> Result<(), AllocErr
     }
 }
 
-fn add_binary(text: &mut String, names: &Names, sign: char, left: Leaf, right: Leaf) -> Result<(), AllocError> {
+fn add_binary(
+    text: &mut String,
+    names: &Names,
+    sign: char,
+    left: Leaf,
+    right: Leaf,
+) -> Result<(), AllocError> {
     write!(text, " ({sign}")?;
     add_leaf(text, names, left)?;
     add_leaf(text, names, right)?;
     text.push(')')
 }
 
-fn add_expression(text: &mut String, names: &Names, expression: Expression) -> Result<(), AllocError> {
+fn add_expression(
+    text: &mut String,
+    names: &Names,
+    expression: Expression,
+) -> Result<(), AllocError> {
     match expression {
         Expression::Leaf(leaf) => add_leaf(text, names, leaf),
         Expression::Negated(leaf) => {
@@ -124,13 +144,13 @@ fn add_expression(text: &mut String, names: &Names, expression: Expression) -> R
             text.push(')')
         }
         Expression::Binary(sign, left, right) => add_binary(text, names, sign, left, right),
-        Expression::Left(sign, inner, [first, second, third]) => {
+        Expression::Left(sign, inner, first, second, third) => {
             write!(text, " ({sign}")?;
             add_binary(text, names, inner, first, second)?;
             add_leaf(text, names, third)?;
             text.push(')')
         }
-        Expression::Right(sign, inner, [first, second, third]) => {
+        Expression::Right(sign, inner, first, second, third) => {
             write!(text, " ({sign}")?;
             add_leaf(text, names, first)?;
             add_binary(text, names, inner, second, third)?;
@@ -139,7 +159,11 @@ fn add_expression(text: &mut String, names: &Names, expression: Expression) -> R
     }
 }
 
-fn add_comparison(text: &mut String, names: &Names, comparison: Comparison) -> Result<(), AllocError> {
+fn add_comparison(
+    text: &mut String,
+    names: &Names,
+    comparison: Comparison,
+) -> Result<(), AllocError> {
     text.push_str(" (")?;
     text.push_str(comparison.word)?;
     add_expression(text, names, comparison.left)?;
@@ -148,7 +172,11 @@ fn add_comparison(text: &mut String, names: &Names, comparison: Comparison) -> R
 }
 
 /// A conjunction: a comparison first, if there is one, and the others last.
-fn add_condition(text: &mut String, names: &Names, condition: &Condition) -> Result<(), AllocError> {
+fn add_condition(
+    text: &mut String,
+    names: &Names,
+    condition: &Condition,
+) -> Result<(), AllocError> {
     text.push_str("(and")?;
     for literal in condition.literals.as_slice() {
         add_literal(text, names, *literal)?;
@@ -195,7 +223,12 @@ fn add_effects(text: &mut String, names: &Names, schema: &Schema) -> Result<(), 
     text.push(')')
 }
 
-fn add_schema(text: &mut String, names: &Names, number: usize, schema: &Schema) -> Result<(), AllocError> {
+fn add_schema(
+    text: &mut String,
+    names: &Names,
+    number: usize,
+    schema: &Schema,
+) -> Result<(), AllocError> {
     write!(text, "\n (:action s{number} :parameters (")?;
     add_parameters(text, schema.parameters)?;
     text.push_str(") :precondition ")?;
@@ -211,7 +244,11 @@ fn add_schema(text: &mut String, names: &Names, number: usize, schema: &Schema) 
 fn add_types(text: &mut String, parents: &[usize], backwards: bool) -> Result<(), AllocError> {
     text.push_str(" (:types")?;
     for place in 0..parents.len() {
-        let before = if backwards { parents.len() - place - 1 } else { place };
+        let before = if backwards {
+            parents.len() - place - 1
+        } else {
+            place
+        };
         let of = before.wrapping_add(1);
         write!(text, " t{of} - ")?;
         add_type(text, parents.get(before).copied().unwrap_or(0))?;

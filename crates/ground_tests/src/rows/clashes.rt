@@ -33,9 +33,17 @@ fn an_assignment_and_a_scaling_stand_alone(rt: HostRuntime) -> Result<(), Fail> 
             ("assign (v ?x) 1", "increase (v ?x) 1", ALL),
             ("assign (v ?x) 1", "decrease (v ?x) 2", ALL),
             // The other order.
-            ("(assign (v ?x) 1) (increase (v ?y) 1)", "(decrease (v ?y) 1) (scale-up (v ?x) 1)", OF_TWO),
+            (
+                "(assign (v ?x) 1) (increase (v ?y) 1)",
+                "(decrease (v ?y) 1) (scale-up (v ?x) 1)",
+                OF_TWO,
+            ),
             // Behind one more effect.
-            ("(assign (v ?x) 1)", "(increase (v ?x) 0) (assign (v ?x) 1)", "actions 0\natoms 0\nfluents 1"),
+            (
+                "(assign (v ?x) 1)",
+                "(increase (v ?x) 0) (assign (v ?x) 1)",
+                "actions 0\natoms 0\nfluents 1",
+            ),
         ],
     )
 }
@@ -48,8 +56,16 @@ fn the_same_assignment_twice_is_no_action(rt: HostRuntime) -> Result<(), Fail> {
         Telling::Actions,
         (MIX, MIX_PROBLEM),
         &[
-            ("(increase (v ?y) 1)", "(assign (v ?x) 1)", "actions 0\natoms 0\nfluents 1"),
-            ("(assign (v ?x) 1) (increase (v ?y) 1)", "(scale-up (v ?y) 2) (scale-up (v ?y) 2)", "actions 0\natoms 0\nfluents 1"),
+            (
+                "(increase (v ?y) 1)",
+                "(assign (v ?x) 1)",
+                "actions 0\natoms 0\nfluents 1",
+            ),
+            (
+                "(assign (v ?x) 1) (increase (v ?y) 1)",
+                "(scale-up (v ?y) 2) (scale-up (v ?y) 2)",
+                "actions 0\natoms 0\nfluents 1",
+            ),
         ],
     )
 }
@@ -105,13 +121,11 @@ fn the_metric_may_be_increased_twice(rt: HostRuntime) -> Result<(), Fail> {
         &rt,
         rt.alloc(),
         Telling::Actions,
-        &[
-            (
-                "(define (domain d) (:functions (c) (f))
+        &[(
+            "(define (domain d) (:functions (c) (f))
                    (:action go :parameters () :effect (and (increase (c) 1) (assign (f) 1) (increase (c) 1))))|
                  (define (problem p) (:domain d) (:init (= (c) 0) (= (f) 0)) (:goal ()) (:metric minimize (c)))",
-                "actions 1\natoms 0\nfluents 1\n0 (go)",
-            ),
-        ],
+            "actions 1\natoms 0\nfluents 1\n0 (go)",
+        )],
     )
 }

@@ -19,16 +19,52 @@ fn constant_amounts_are_numbers(rt: HostRuntime) -> Result<(), Fail> {
             (AMOUNT, AMOUNT, "costs 4 5"),
             (AMOUNT, "(increase (total-cost) 7)", "costs 7 7"),
             (AMOUNT, "", "costs 0 0"),
-            (AMOUNT, "(increase (total-cost) -3) (increase (total-cost) 3)", "costs 0 0"),
-            (AMOUNT, "(increase (total-cost) (need ?q ?q)) (increase (total-cost) -2)", "15 Undefined((need b b))"),
-            (AMOUNT, "(increase (total-cost) (need ?p ?q)) (increase (total-cost) -2)", "costs 2 3"),
+            (
+                AMOUNT,
+                "(increase (total-cost) -3) (increase (total-cost) 3)",
+                "costs 0 0",
+            ),
+            (
+                AMOUNT,
+                "(increase (total-cost) (need ?q ?q)) (increase (total-cost) -2)",
+                "15 Undefined((need b b))",
+            ),
+            (
+                AMOUNT,
+                "(increase (total-cost) (need ?p ?q)) (increase (total-cost) -2)",
+                "costs 2 3",
+            ),
             // Amounts that depend on the state, as they are written.
-            (AMOUNT, "(increase (total-cost) (fuel))", "costs depends depends"),
-            (AMOUNT, "(increase (total-cost) (- (fuel) 10))", "costs depends depends"),
-            (AMOUNT, "(increase (total-cost) (+ 1 2))", "costs depends depends"),
-            (AMOUNT, "(increase (total-cost) (- 5))", "costs depends depends"),
-            (AMOUNT, "(increase (total-cost) (+ (need ?p ?q) 0))", "costs depends depends"),
-            (AMOUNT, "(increase (total-cost) (fuel)) (increase (total-cost) -3)", "costs depends depends"),
+            (
+                AMOUNT,
+                "(increase (total-cost) (fuel))",
+                "costs depends depends",
+            ),
+            (
+                AMOUNT,
+                "(increase (total-cost) (- (fuel) 10))",
+                "costs depends depends",
+            ),
+            (
+                AMOUNT,
+                "(increase (total-cost) (+ 1 2))",
+                "costs depends depends",
+            ),
+            (
+                AMOUNT,
+                "(increase (total-cost) (- 5))",
+                "costs depends depends",
+            ),
+            (
+                AMOUNT,
+                "(increase (total-cost) (+ (need ?p ?q) 0))",
+                "costs depends depends",
+            ),
+            (
+                AMOUNT,
+                "(increase (total-cost) (fuel)) (increase (total-cost) -3)",
+                "costs depends depends",
+            ),
             ("(:metric minimize (total-cost))", "", "no costs 0 0"),
         ],
     )
@@ -45,15 +81,31 @@ fn a_negative_constant_cost_is_refused(rt: HostRuntime) -> Result<(), Fail> {
         Telling::Actions,
         V,
         &[
-            (AMOUNT, "(increase (total-cost) -5)", "16 NegativeCost((go a b))"),
-            (AMOUNT, "(increase (total-cost) -3) (increase (total-cost) 2)", "16 NegativeCost((go a b))"),
-            (AMOUNT, "(increase (total-cost) -5) (increase (total-cost) (need ?p ?q))", "16 NegativeCost((go a b))"),
+            (
+                AMOUNT,
+                "(increase (total-cost) -5)",
+                "16 NegativeCost((go a b))",
+            ),
+            (
+                AMOUNT,
+                "(increase (total-cost) -3) (increase (total-cost) 2)",
+                "16 NegativeCost((go a b))",
+            ),
+            (
+                AMOUNT,
+                "(increase (total-cost) -5) (increase (total-cost) (need ?p ?q))",
+                "16 NegativeCost((go a b))",
+            ),
             // A cost that depends on the state is judged when it is met.
             (AMOUNT, "(increase (total-cost) (fuel))", DRIVES),
             (AMOUNT, "(increase (total-cost) (- (fuel) 10))", DRIVES),
             (AMOUNT, "(increase (total-cost) (- 5))", DRIVES),
             (AMOUNT, "(increase (total-cost) (+ 1 -9))", DRIVES),
-            (AMOUNT, "(increase (total-cost) (fuel)) (increase (total-cost) -30)", DRIVES),
+            (
+                AMOUNT,
+                "(increase (total-cost) (fuel)) (increase (total-cost) -30)",
+                DRIVES,
+            ),
         ],
     )
 }
@@ -66,9 +118,21 @@ fn without_a_metric_no_cost_is_refused(rt: HostRuntime) -> Result<(), Fail> {
         Telling::Actions,
         (samples::N, samples::N_PROBLEM),
         &[
-            ("total-cost) 0))", "total-cost) 0))", "actions 4\natoms 3\nfluents 0\n0 (dear)\n1 (near)\n2 (join)\n3 (fin)"),
-            ("(total-cost) 5)", "(total-cost) -5)", "16 NegativeCost((dear))"),
-            ("(:metric minimize (total-cost))", "", "actions 4\natoms 3\nfluents 1\n0 (dear)\n1 (near)\n2 (join)\n3 (fin)"),
+            (
+                "total-cost) 0))",
+                "total-cost) 0))",
+                "actions 4\natoms 3\nfluents 0\n0 (dear)\n1 (near)\n2 (join)\n3 (fin)",
+            ),
+            (
+                "(total-cost) 5)",
+                "(total-cost) -5)",
+                "16 NegativeCost((dear))",
+            ),
+            (
+                "(:metric minimize (total-cost))",
+                "",
+                "actions 4\natoms 3\nfluents 1\n0 (dear)\n1 (near)\n2 (join)\n3 (fin)",
+            ),
         ],
     )?;
     assert_rows(

@@ -24,8 +24,16 @@ fn equalities_of_the_goal(rt: HostRuntime) -> Result<(), Fail> {
             ("(:goal (p a))", "(:goal (= a b))", "never, no"),
             ("(:goal (p a))", "(:goal (and (p a) (= k b)))", "never, no"),
             ("(:goal (p a))", "(:goal (not (= a a)))", "never, no"),
-            ("(:goal (p a))", "(:goal (and (= a a) (not (= a b)) (not (= k a)) (p a)))", "yes"),
-            ("(:goal (p a))", "(:goal (and (= a a) (= a b)))", "never, no"),
+            (
+                "(:goal (p a))",
+                "(:goal (and (= a a) (not (= a b)) (not (= k a)) (p a)))",
+                "yes",
+            ),
+            (
+                "(:goal (p a))",
+                "(:goal (and (= a a) (= a b)))",
+                "never, no",
+            ),
             ("(:goal (p a))", "(:goal (= (f) 2))", "yes"),
             ("(:goal (p a))", "(:goal (= (f) 3))", "no"),
         ],
@@ -40,10 +48,26 @@ fn a_goal_that_never_holds_does_not_depart(rt: HostRuntime) -> Result<(), Fail> 
         Telling::Goal,
         (DOMAIN, PROBLEM),
         &[
-            ("(:goal (p a))", "(:goal (< (f) (* 1000000000000000 1000000000000000)))", "departs"),
-            ("(:goal (p a))", "(:goal (and (= a a) (< (f) (* 1000000000000000 1000000000000000))))", "departs"),
-            ("(:goal (p a))", "(:goal (and (p b) (< (f) (* 1000000000000000 1000000000000000))))", "no"),
-            ("(:goal (p a))", "(:goal (and (= a b) (< (f) (* 1000000000000000 1000000000000000))))", "never, no"),
+            (
+                "(:goal (p a))",
+                "(:goal (< (f) (* 1000000000000000 1000000000000000)))",
+                "departs",
+            ),
+            (
+                "(:goal (p a))",
+                "(:goal (and (= a a) (< (f) (* 1000000000000000 1000000000000000))))",
+                "departs",
+            ),
+            (
+                "(:goal (p a))",
+                "(:goal (and (p b) (< (f) (* 1000000000000000 1000000000000000))))",
+                "no",
+            ),
+            (
+                "(:goal (p a))",
+                "(:goal (and (= a b) (< (f) (* 1000000000000000 1000000000000000))))",
+                "never, no",
+            ),
         ],
     )
 }

@@ -1,5 +1,5 @@
 //! Tasks at the limits, and beyond them.
-use crate::told::{Telling, assert_with_objects};
+use crate::told::assert_with_objects;
 use std::test::Fail;
 
 /// Five parameters without types, an atom for each place and no value for anything.
@@ -22,5 +22,23 @@ const FOUR: &str = "(define (domain d) (:functions (f ?a ?b ?c ?d))
 fn fluents_without_a_value_are_counted(rt: HostRuntime) -> Result<(), Fail> {
     // 17^4 is 83,521, and 16^4 is 2^16, the most that there may be.
     assert_with_objects(&rt, rt.alloc(), FOUR, (17, ""), "17 TooMany")?;
-    assert_with_objects(&rt, rt.alloc(), FOUR, (16, ""), "15 Undefined((f o0 o0 o0 o0))")
+    assert_with_objects(
+        &rt,
+        rt.alloc(),
+        FOUR,
+        (16, ""),
+        "15 Undefined((f o0 o0 o0 o0))",
+    )
+}
+
+/// Four parameters, and an atom of them and each constant.
+const ATOMS: &str = "(define (domain d) (:constants #) (:predicates (p ?a ?b ?c ?d ?e))
+  (:action go :parameters (?a ?b ?c ?d) :effect (and %)))|
+  (define (problem p) (:domain d) (:init) (:goal ()))";
+
+#[test]
+fn more_than_so_many_atoms(rt: HostRuntime) -> Result<(), Fail> {
+    // 17^5 atoms by 17^4 actions, which alone are not too many.
+    let atom = "(p ?a ?b ?c ?d @)";
+    assert_with_objects(&rt, rt.alloc(), ATOMS, (17, atom), "17 TooMany")
 }

@@ -39,7 +39,10 @@ fn constants_come_before_objects_and_the_first_parameter_is_slowest(
                  (define (problem p) (:domain d) (:objects a - t) (:init) (:goal ()))",
                 "actions 1\natoms 0\nfluents 0\n0 (come a)",
             ),
-            ("(define (domain d))|(define (problem p) (:domain d) (:init) (:goal ()))", "actions 0\natoms 0\nfluents 0"),
+            (
+                "(define (domain d))|(define (problem p) (:domain d) (:init) (:goal ()))",
+                "actions 0\natoms 0\nfluents 0",
+            ),
         ],
     )
 }

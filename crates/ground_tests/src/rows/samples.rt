@@ -1,6 +1,6 @@
 //! The small tasks of the samples, and what becomes of them with a part left out or changed.
-use crate::told::{Telling, assert_edits, assert_told};
 use crate::texts::joined;
+use crate::told::{Telling, assert_edits, assert_told};
 use std::test::Fail;
 use text_tests::samples;
 
@@ -18,7 +18,11 @@ fn one_atom_after_the_other(rt: HostRuntime) -> Result<(), Fail> {
                 "(:init)",
                 "actions 2\natoms 2\nfluents 0\n0 (set-a)\n1 (set-b)\natoms (a) (b)\nfluents",
             ),
-            (set_a, "", "actions 0\natoms 1\nfluents 0\natoms (b)\nfluents"),
+            (
+                set_a,
+                "",
+                "actions 0\natoms 1\nfluents 0\natoms (b)\nfluents",
+            ),
         ],
     )
 }
@@ -52,13 +56,33 @@ fn a_drive_with_a_part_changed(rt: HostRuntime) -> Result<(), Fail> {
         &[
             ("(= (need b c) 5)", "", "15 Undefined((need b c))"),
             ("(= (fuel) 9)", "", "15 Undefined((fuel))"),
-            ("(= (need a b) 4)", "(= (need a b) -1)", "16 NegativeCost((go a b))"),
-            ("(= (need b c) 5)", "(= (need b c) -1)", "16 NegativeCost((go b c))"),
-            ("(= (need a b) 4)\n         (= (need b c) 5)", "(= (need a b) -1)", "15 Undefined((need b c))"),
+            (
+                "(= (need a b) 4)",
+                "(= (need a b) -1)",
+                "16 NegativeCost((go a b))",
+            ),
+            (
+                "(= (need b c) 5)",
+                "(= (need b c) -1)",
+                "16 NegativeCost((go b c))",
+            ),
+            (
+                "(= (need a b) 4)\n         (= (need b c) 5)",
+                "(= (need a b) -1)",
+                "15 Undefined((need b c))",
+            ),
             // How much fuel there is is not asked.
-            ("(= (fuel) 9)", "(= (fuel) 0)", "actions 2\natoms 5\nfluents 3\n0 (go a b)\n1 (go b c)"),
+            (
+                "(= (fuel) 9)",
+                "(= (fuel) 0)",
+                "actions 2\natoms 5\nfluents 3\n0 (go a b)\n1 (go b c)",
+            ),
             // A value that nothing mentions is none of the task.
-            ("(= (fuel) 9)", "(= (need c a) -1) (= (fuel) 9)", "actions 2\natoms 5\nfluents 3\n0 (go a b)\n1 (go b c)"),
+            (
+                "(= (fuel) 9)",
+                "(= (need c a) -1) (= (fuel) 9)",
+                "actions 2\natoms 5\nfluents 3\n0 (go a b)\n1 (go b c)",
+            ),
             // No drive starts at a place that is never reached, so neither its cost nor its need is asked.
             (
                 "c - place)\n  (:init",
