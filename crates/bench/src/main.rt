@@ -1,12 +1,14 @@
 //! Times what is done with a domain and a problem.
 //!
 //! The arguments are their two files; the times of a plain pass over the problem's bytes, of its words, of reading both texts
-//! and of checking them are then printed, in microseconds. With a third argument, `search`, the task is searched to its end, and
-//! only the search is timed. Without arguments the texts are small, and no times are printed, only counts.
+//! and of checking them are then printed, in microseconds. With a third argument, `ground`, only the grounding of the checked task is
+//! timed, and with `search` all that it takes to search the task to its end. Without arguments the texts are small, and no times are printed,
+//! only counts.
 #![tactic(auto)]
 
 use hd_base::Seed;
-use hd_check::check;
+use hd_check::{Checked, check};
+use hd_ground::ground;
 use hd_lex::tokens;
 use hd_pddl::{DomainAst, ProblemAst, read_domain, read_problem};
 use hplan::{digest_of, searched, task_of};
@@ -92,6 +94,29 @@ fn time_reading(rt: &HostRuntime, domain: &[u8], problem: &[u8]) -> anyhow::Resu
     Ok(())
 }
 
+/// The lifted task that two texts say.
+fn checked_of(
+    alloc: Global,
+    seed: Seed,
+    domain: &[u8],
+    problem: &[u8],
+) -> anyhow::Result<Checked> {
+    let (domain, problem) = read(alloc, domain, problem)?;
+    Ok(check(alloc, seed, domain, problem)?)
+}
+
+/// Prints how long a checked task is grounded.
+fn time_grounding(rt: &HostRuntime, domain: &[u8], problem: &[u8]) -> anyhow::Result<()> {
+    let seed = Seed::of(digest_of(domain, problem));
+    let checked = checked_of(rt.alloc(), seed, domain, problem)?;
+    let start = Instant::now(rt)?;
+    let task = ground(rt.alloc(), seed, &checked)?;
+    let taken = start.elapsed(rt)?.as_micros();
+    let (actions, atoms, fluents) = (task.actions.len(), task.atoms.len(), task.fluents.len());
+    println!(rt; "{actions} actions, {atoms} atoms, {fluents} fluents: {taken} us")?;
+    Ok(())
+}
+
 /// Prints how long a task is searched.
 fn time_search(rt: &HostRuntime, domain: &[u8], problem: &[u8]) -> anyhow::Result<()> {
     let start = Instant::now(rt)?;
@@ -108,9 +133,12 @@ fn main(rt: HostRuntime) -> anyhow::Result<()> {
     };
     let domain = fs::read(&rt, domain)?;
     let problem = fs::read(&rt, problem)?;
-    if words.next().is_some() {
-        return time_search(&rt, &domain, &problem);
+    match words.next() {
+        Some(word) if word == "ground" => time_grounding(&rt, &domain, &problem),
+        Some(_) => time_search(&rt, &domain, &problem),
+        None => {
+            time_words(&rt, &problem)?;
+            time_reading(&rt, &domain, &problem)
+        }
     }
-    time_words(&rt, &problem)?;
-    time_reading(&rt, &domain, &problem)
 }
