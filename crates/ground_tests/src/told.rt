@@ -20,10 +20,19 @@ pub enum Telling {
     Names,
     /// All of these.
     Whole,
+    /// These, what each action costs, and whether the goal can never hold.
+    Everything,
     /// Whether its goal can never hold, and what it is at first.
     Goal,
     /// What each action costs.
     Costs,
+}
+
+fn add_whole(text: &mut String, task: &Task) -> Result<(), AllocError> {
+    add_counts(text, task)?;
+    add_actions(text, task)?;
+    add_atoms(text, task)?;
+    add_fluents(text, task)
 }
 
 fn add_task(text: &mut String, telling: Telling, task: &Task) -> Result<(), AllocError> {
@@ -37,11 +46,12 @@ fn add_task(text: &mut String, telling: Telling, task: &Task) -> Result<(), Allo
             add_atoms(text, task)?;
             add_fluents(text, task)
         }
-        Telling::Whole => {
-            add_counts(text, task)?;
-            add_actions(text, task)?;
-            add_atoms(text, task)?;
-            add_fluents(text, task)
+        Telling::Whole => add_whole(text, task),
+        Telling::Everything => {
+            add_whole(text, task)?;
+            text.push('\n')?;
+            add_costs(text, task)?;
+            text.push_str(if task.goal.never { "\nnever" } else { "" })
         }
         Telling::Goal => add_goal(text, task),
         Telling::Costs => add_costs(text, task),

@@ -62,7 +62,7 @@ fn assert_answer(
     expected: &Expected,
 ) -> Result<(), Fail> {
     let text = text_of(alloc, task)?;
-    let told = told(alloc, Telling::Whole, &text)?;
+    let told = told(alloc, Telling::Everything, &text)?;
     assert_eq!(rt; told.as_str(), expected.lines.as_str(), "{text}");
     Ok(())
 }

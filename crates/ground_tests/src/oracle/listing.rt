@@ -2,8 +2,8 @@
 
 use crate::oracle::instances::{Instances, Kept, instances_of, kept_of, tuples};
 use crate::oracle::lifted::{Ground, Lifted, Literal};
-use crate::oracle::mentions::{mentions, negative, undefined, value_of};
-use crate::oracle::parts::ground_of;
+use crate::oracle::mentions::{cost_of, mentions, negative, undefined, value_of};
+use crate::oracle::parts::{equality_holds, ground_of};
 use crate::oracle::writing::add_ground;
 use std::alloc::{AllocError, Global};
 use std::fmt::Write;
@@ -169,6 +169,30 @@ fn add_fluent_line(text: &mut String, task: &Lifted, fluents: &[Ground]) -> Resu
     Ok(())
 }
 
+fn add_cost_line(text: &mut String, task: &Lifted, actions: &[Ground]) -> Result<(), AllocError> {
+    text.push_str(if task.metric { "\ncosts" } else { "\nno costs" })?;
+    for action in actions {
+        match cost_of(task, *action) {
+            Some(cost) => write!(text, " {cost}")?,
+            None => text.push_str(" depends")?,
+        }
+    }
+    Ok(())
+}
+
+/// A line for a goal with an equality that fails.
+fn add_goal_line(text: &mut String, task: &Lifted) -> Result<(), AllocError> {
+    let equalities = task.goal.equalities.as_slice();
+    if equalities
+        .iter()
+        .all(|equality| equality_holds([None, None, None], *equality))
+    {
+        Ok(())
+    } else {
+        text.push_str("\nnever")
+    }
+}
+
 /// The lines of a task with these actions, atoms and fluents.
 fn add_lines(
     text: &mut String,
@@ -185,7 +209,9 @@ fn add_lines(
     )?;
     add_action_lines(text, task, actions)?;
     add_atom_line(text, task, atoms)?;
-    add_fluent_line(text, task, fluents)
+    add_fluent_line(text, task, fluents)?;
+    add_cost_line(text, task, actions)?;
+    add_goal_line(text, task)
 }
 
 /// The line of a fault.

@@ -168,20 +168,20 @@ fn constant_cost(task: &Lifted, objects: Objects, effects: &[Effect]) -> Option<
     Some(sum)
 }
 
-fn is_negative(task: &Lifted, action: Ground) -> bool {
+/// What an action costs, unless that depends on the state. Without a metric it has no cost of its own.
+pub fn cost_of(task: &Lifted, action: Ground) -> Option<i64> {
     match task.schemas.get(action.symbol) {
-        Some(schema) => match constant_cost(task, action.objects, schema.effects.as_slice()) {
-            Some(cost) => cost < 0,
-            None => false,
-        },
-        None => false,
+        Some(schema) if task.metric => {
+            constant_cost(task, action.objects, schema.effects.as_slice())
+        }
+        _ => Some(0),
     }
 }
 
-/// The first of the actions whose amounts are all constant and whose cost is negative, where there is a metric.
+/// The first of the actions whose amounts are all constant and whose cost is negative.
 pub fn negative(task: &Lifted, actions: &[Ground]) -> Option<Ground> {
     for action in actions {
-        if task.metric && is_negative(task, *action) {
+        if cost_of(task, *action).unwrap_or(0) < 0 {
             return Some(*action);
         }
     }
