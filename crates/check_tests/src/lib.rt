@@ -1,4 +1,4 @@
-//! Tests of the libraries that check texts: hd_base, hd_lifted, hd_names, hd_metric, hd_check and hd_plain.
+//! Tests of the libraries that check texts: hd_base, hd_lifted, hd_names, hd_metric and hd_check.
 #![tactic(auto)]
 
 #[cfg(test)]
@@ -15,8 +15,6 @@ mod metric;
 mod names;
 #[cfg(test)]
 mod numbers;
-#[cfg(test)]
-mod plain;
 #[cfg(test)]
 mod rendering;
 #[cfg(test)]

@@ -12,8 +12,12 @@ use Rattle.hplan.specs.declared.fault.Fault.{Fault}
 use Rattle.hplan.specs.declared.fault.Fault.TheVariants.{NoMemory, Device}
 use Rattle.hplan.specs.declared.engine.Ending.{Ending}
 use Rattle.hplan.specs.Tasks.{Memory}
-use Rattle.hplan.specs.Answer.{IsAnswer, plan_in, IsSolved, HasNoAnswer, OfTexts, OfOutput}
-use Rattle.hd_book.specs.Answers.{IsBoundPlan}
+use Rattle.hplan.specs.Answer.{IsAnswer, plan_in, IsTrueOfDomain, IsSolved, HasNoAnswer, OfTexts, OfOutput}
+use Rattle.hd_book.specs.Answers.{IsBoundPlan, IsTrueAnswer}
+use Rattle.hd_lifted.specs.declared.task.LiftedTask.{LiftedTask}
+use Rattle.hd_grounding.specs.Grounding.{IsGrounding}
+use Rattle.hd_transfer.proofs.Runs.{valid_there}
+use Rattle.hd_transfer.proofs.Telling.{optimal_there, none_there}
 
 -- the plan of the bound goes through
 bound_plan_goes : (t : Task) (expanded : List (List ℕ)) (p : List ℕ) → IsLegal t expanded → IsBoundPlan t expanded p → goes_through t p ≡ true
@@ -26,6 +30,13 @@ answer_goes t (Optimal p) a = bound_plan_goes t a.expanded p a.legal a.answers.1
 answer_goes t NoPlan a = tt
 answer_goes t (RangeLeft d None) a = tt
 answer_goes t (RangeLeft d (Some p)) a = bound_plan_goes t a.expanded p a.legal a.answers.1
+
+-- a true answer of the grounding is true of the domain
+pub true_of_domain : (l : LiftedTask) (t : Task) (v : Verdict) → IsGrounding l t → IsTrueAnswer t v → IsTrueOfDomain l t v
+true_of_domain l t (Optimal p) made truth = optimal_there l t made p truth
+true_of_domain l t NoPlan made truth = none_there l t made truth
+true_of_domain l t (RangeLeft d None) made truth = tt
+true_of_domain l t (RangeLeft d (Some p)) made truth = (truth.0, valid_there l t made p truth.0 truth.1)
 
 -- what holds of an answer, or of an error, where more does
 pub ok_weaker : {A E : Type 0} {P Q : A → Type 0} (r : Result A E) → ((x : A) → P x → Q x) → IfOk r P → IfOk r Q

@@ -1,6 +1,9 @@
 -- What an answer of a search is, and what is written of it. (Our own.)
-use Rattle.std.specs.Prelude.{◌≡◌, ℕ, List, [], Option, Some, None, take}
+use Rattle.std.specs.Prelude.{◌≡◌, ℕ, List, [], Option, Some, None, take, pos}
 use Rattle.std.specs.Io.KnownBytes.{Appends}
+use Rattle.hd_lifted.specs.declared.task.LiftedTask.{LiftedTask}
+use Rattle.hd_lifted.specs.Plans as plans
+use Rattle.hd_transfer.specs.Instances.{plan_of}
 use Rattle.hd_task.specs.declared.task.Task.{Task}
 use Rattle.hd_task.specs.Expansions.{IsLegal}
 use Rattle.hd_task.specs.Covers.{IsCovered, zero_estimate}
@@ -21,6 +24,18 @@ pub record IsAnswer (t : Task) (v : Verdict) : Type 0 where
   pub legal : IsLegal t expanded
   pub covered : IsCovered t zero_estimate expanded
   pub answers : book.IsAnswer t expanded v
+
+-- the instances of a plan are a valid plan of the domain, if there is a plan
+abbrev pub IsValidInDomain : LiftedTask → Task → Option (List ℕ) → Type 0
+IsValidInDomain l t None = Unit {0}
+IsValidInDomain l t (Some p) = (cost : ℕ) × plans.IsValidAt l (plan_of t p) (pos cost)
+
+-- what an answer says is true of all plans of the domain, which its task is the grounding of: the instances of an optimal plan are
+-- an optimal plan of the domain, where there is no plan the domain has none, and the plan beside a departure is valid in the domain
+abbrev pub IsTrueOfDomain : LiftedTask → Task → Verdict → Type 0
+IsTrueOfDomain l t (Optimal p) = plans.IsOptimal l (plan_of t p)
+IsTrueOfDomain l t NoPlan = plans.HasNoPlan l
+IsTrueOfDomain l t (RangeLeft d p) = IsValidInDomain l t p
 
 -- the plan of a verdict, if it has one
 abbrev pub plan_in : Verdict → Option (List ℕ)
@@ -51,11 +66,12 @@ pub record IsSolution (task : Task) (ending : Ending) (written : List ℕ) : Typ
   pub ends : ending ≡ ending_of task verdict
   pub text : written ≡ written_of task verdict
 
--- two texts have this answer: that of the search of the task that they say
+-- two texts have this answer: that of the search of the task that they say, and it is true of the lifted task that they say
 pub record IsSolved (domain problem : List ℕ) (ending : Ending) (written : List ℕ) : Type 0 where
   pub task : Task
   pub is_task : IsTaskOf domain problem task
   pub solution : IsSolution task ending written
+  pub is_true_of_domain : IsTrueOfDomain is_task.lifted task solution.verdict
 
 -- the text of the answer is written, whole
 pub record Writes (domain problem : List ℕ) (old new : Option (List ℕ)) (ending : Ending) : Type 0 where

@@ -8,18 +8,18 @@ use Rattle.hd_check.specs.declared.fault.CheckError.{CheckError}
 use Rattle.hd_check.specs.declared.fault.CheckError.TheVariants as checking
 use Rattle.hd_check.specs.Fault as checker
 use Rattle.hd_names.specs.Fault as names
-use Rattle.hd_plain.specs.declared.error.PlainError.{PlainError}
-use Rattle.hd_plain.specs.declared.error.PlainError.TheVariants as plain
+use Rattle.hd_ground.specs.declared.error.GroundError.{GroundError}
+use Rattle.hd_ground.specs.declared.error.GroundError.TheVariants as grounding
+use Rattle.hd_ground.specs.Error as grounder
 use Rattle.hd_book.specs.Refusal as book
 use Rattle.hplan.specs.declared.fault.Fault.{Fault}
-use Rattle.hplan.specs.declared.fault.Fault.TheVariants.{Read, Check, NotYet, TooMany, Device, Refused, NoMemory}
+use Rattle.hplan.specs.declared.fault.Fault.TheVariants.{Read, Check, Ground, Device, Refused, NoMemory}
 
 -- the printed form: which text, where it is of one, then the fault's own form
 abbrev pub text_of : Fault → List ℕ
 text_of (Read source error) = checker.source_text source ++ reader.text_of error
 text_of (Check source fault) = checker.source_text source ++ names.text_of fault
-text_of NotYet = codes "NotYet"
-text_of TooMany = codes "17 TooMany"
+text_of (Ground error) = grounder.text_of error
 text_of Device = codes "35 Device"
 text_of (Refused refusal) = book.text_of refusal
 text_of NoMemory = codes "NoMemory"
@@ -38,8 +38,9 @@ abbrev pub checked_in : CheckError → Fault
 checked_in (checking.In source fault) = Check source fault
 checked_in checking.NoMemory = NoMemory
 
--- why a lifted task is not searched
-abbrev pub not_searched : PlainError → Fault
-not_searched plain.NotYet = NotYet
-not_searched plain.TooLarge = TooMany
-not_searched plain.NoMemory = NoMemory
+-- why a lifted task has no task to search; want of memory is no fault of it
+abbrev pub grounded_in : GroundError → Fault
+grounded_in grounding.TooMany = Ground grounding.TooMany
+grounded_in (grounding.Undefined fluent) = Ground (grounding.Undefined fluent)
+grounded_in (grounding.NegativeCost action) = Ground (grounding.NegativeCost action)
+grounded_in grounding.NoMemory = NoMemory

@@ -1,33 +1,17 @@
 -- The text of a plan: each action on a line in its ground form, then the cost. (Our own.)
-use Rattle.std.specs.Prelude.{ℕ, Bool, true, ◌&&◌, List, [], ◌∷◌, ◌++◌, Option, Some, None, codes, decimal, slice_get, unwrap_or, flat_map, option_and_then}
-use Rattle.hd_task.specs.declared.form.GroundForm.{GroundForm}
+use Rattle.std.specs.Prelude.{ℕ, Bool, true, ◌&&◌, List, [], ◌∷◌, ◌++◌, Option, Some, None, codes, decimal, slice_get, flat_map, option_and_then}
 use Rattle.hd_task.specs.declared.action.Action.{Action}
 use Rattle.hd_task.specs.declared.task.Task.{Task}
 use Rattle.hd_task.specs.declared.departure.DepartsBy.{DepartsBy}
 use Rattle.hd_task.specs.declared.departure.DepartsBy.TheVariants as departs
 use Rattle.hd_task.specs.declared.departure.Departure.{Departure}
+use Rattle.hd_task.specs.FormText.{form_text}
 use Rattle.hd_task.specs.Plans.{Node, start, step_by, exec}
 use Rattle.hd_task.specs.Expansions.{is_applicable}
-
--- the name of a number; every number of a task has one
-abbrev pub name_at : List (List ℕ) → ℕ → List ℕ
-name_at names i = unwrap_or (slice_get names i) []
 
 -- the end of a line
 abbrev pub line_end : List ℕ
 line_end = 10 ∷ []
-
--- an object behind a space
-abbrev pub object_text : List (List ℕ) → ℕ → List ℕ
-object_text objects o = codes " " ++ name_at objects o
-
--- objects, each behind a space
-abbrev pub objects_text : List (List ℕ) → List ℕ → List ℕ
-objects_text objects numbers = flat_map (object_text objects) numbers
-
--- a ground form: its name and its objects in parentheses, with single spaces
-abbrev pub form_text : List (List ℕ) → List (List ℕ) → GroundForm → List ℕ
-form_text symbols objects g = codes "(" ++ name_at symbols g.symbol ++ objects_text objects g.objects ++ codes ")"
 
 -- the ground form of an action that may not be there
 abbrev pub action_of : Task → Option Action → List ℕ

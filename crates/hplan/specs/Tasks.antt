@@ -1,5 +1,5 @@
--- The task that two texts say. (Our own, until schemas are grounded.)
-use Rattle.std.specs.Prelude.{◌≡◌, ℕ, true, false, List}
+-- The task that two texts say. (Our own.)
+use Rattle.std.specs.Prelude.{◌≡◌, ℕ, List}
 use Rattle.hd_task.specs.declared.task.Task.{Task}
 use Rattle.hd_forms.specs.declared.error.ReadError.{ReadError}
 use Rattle.hd_forms.specs.Text as reader
@@ -14,11 +14,12 @@ use Rattle.hd_names.specs.declared.fault.Fault as checker
 use Rattle.hd_check.specs.declared.fault.CheckError.TheVariants.{In}
 use Rattle.hd_check.specs.Whole.{IsFaultless, lifted_task, Stands}
 use Rattle.hd_lifted.specs.declared.task.LiftedTask.{LiftedTask}
-use Rattle.hd_plain.specs.Plain.{is_plain}
-use Rattle.hd_plain.specs.Answers.{IsPlainTaskOf, plain_parts_fit}
+use Rattle.hd_grounding.specs.Grounding.{IsGrounding}
+use Rattle.hd_ground.specs.declared.error.GroundError.{GroundError}
+use Rattle.hd_ground.specs.Telling.{Tells}
 use Rattle.hplan.specs.declared.fault.Fault.{Fault}
-use Rattle.hplan.specs.declared.fault.Fault.TheVariants.{Check, NotYet, TooMany, NoMemory}
-use Rattle.hplan.specs.Fault.{read_in}
+use Rattle.hplan.specs.declared.fault.Fault.TheVariants.{Check, NoMemory}
+use Rattle.hplan.specs.Fault.{read_in, grounded_in}
 
 -- two texts say these trees
 pub record SayTrees (domain problem : List ℕ) (d : DomainAst) (p : ProblemAst) : Type 0 where
@@ -33,12 +34,11 @@ pub record IsLiftedOf (domain problem : List ℕ) (l : LiftedTask) : Type 0 wher
   pub faultless : IsFaultless domain_tree problem_tree
   pub stands : l ≡ lifted_task domain_tree problem_tree
 
--- a task is what two texts say, which have no objects, types, parameters and numbers
+-- a task is what two texts say: the grounding of the lifted task that they say
 pub record IsTaskOf (domain problem : List ℕ) (t : Task) : Type 0 where
   pub lifted : LiftedTask
   pub says : IsLiftedOf domain problem lifted
-  pub plain : is_plain lifted ≡ true
-  pub parts : IsPlainTaskOf lifted t
+  pub made : IsGrounding lifted t
 
 -- what a fault tells of two texts: want of memory tells nothing
 pub data Explains (domain problem : List ℕ) : Fault → Type 0 where
@@ -51,7 +51,6 @@ pub data Explains (domain problem : List ℕ) : Fault → Type 0 where
   -- both are read, and this fault of names, types or the metric stands in them
   AtFault : (d : DomainAst) (p : ProblemAst) (source : Source) (fault : checker.Fault)
       → SayTrees domain problem d p → Stands d p (In source fault) → Explains domain problem (Check source fault)
-  -- no fault stands in them, and they have objects, types, parameters or numbers
-  Beyond : (l : LiftedTask) → IsLiftedOf domain problem l → is_plain l ≡ false → Explains domain problem NotYet
-  -- they have none of these, and the parts of the task do not fit together
-  TooLarge : (l : LiftedTask) → IsLiftedOf domain problem l → is_plain l ≡ true → plain_parts_fit l ≡ false → Explains domain problem TooMany
+  -- no fault stands in them, and the grounder tells so of the lifted task
+  Ungrounded : (l : LiftedTask) (error : GroundError)
+      → IsLiftedOf domain problem l → Tells l error → Explains domain problem (grounded_in error)

@@ -1,13 +1,13 @@
 //! Why there is no answer.
 ghost use Rattle.std.specs.Prelude.{◌≡◌, ◌⊎◌, Some};
-ghost use Rattle.hplan.specs.Fault.{text_of, read_in, checked_in, not_searched};
+ghost use Rattle.hplan.specs.Fault.{text_of, read_in, checked_in, grounded_in};
 ghost use Rattle.hplan.specs.declared.fault.Fault.TheVariants as faults;
 
 use hd_book::Refusal;
 use hd_check::CheckError;
 pub use hd_check::Source;
 use hd_forms::ReadError;
-use hd_plain::PlainError;
+use hd_ground::GroundError;
 use std::alloc::{AllocError, AllocFailed};
 use std::{fmt, io};
 use thiserror::Error;
@@ -19,10 +19,8 @@ pub enum Fault {
     Read(Source, ReadError),
     /// A text was read, and a name, a type or the metric is at fault in it.
     Check(Source, hd_check::Fault),
-    /// The texts have objects, types, parameters or numbers, which can't be searched yet.
-    NotYet,
-    /// The parts of the task do not fit together: there would be too many actions or atoms.
-    TooMany,
+    /// No fault stands in the texts, and what they say has no task to search.
+    Ground(GroundError),
     /// A file could not be opened, read or written.
     Device,
     /// The book of the search refuses.
@@ -38,8 +36,7 @@ impl fmt::Display for Fault {
         match self {
             Fault::Read(source, error) => write!(f, "{source}{error}"),
             Fault::Check(source, fault) => write!(f, "{source}{fault}"),
-            Fault::NotYet => write!(f, "NotYet"),
-            Fault::TooMany => write!(f, "17 TooMany"),
+            Fault::Ground(error) => write!(f, "{error}"),
             Fault::Device => write!(f, "35 Device"),
             Fault::Refused(refusal) => write!(f, "{refusal}"),
             Fault::NoMemory => write!(f, "NoMemory"),
@@ -87,14 +84,15 @@ pub fn checked_in(error: CheckError) -> Fault
     }
 }
 
-/// Why a lifted task is not searched.
-pub fn not_searched(error: PlainError) -> Fault
-    ensures { result ≡ not_searched error }
+/// Why a lifted task has no task to search.
+pub fn grounded_in(error: GroundError) -> Fault
+    ensures { result ≡ grounded_in error }
 {
     match error {
-        PlainError::NotYet => Fault::NotYet,
-        PlainError::TooLarge => Fault::TooMany,
-        PlainError::NoMemory => Fault::NoMemory,
+        GroundError::NoMemory => Fault::NoMemory,
+        GroundError::TooMany | GroundError::Undefined(_) | GroundError::NegativeCost(_) => {
+            Fault::Ground(error)
+        }
     }
 }
 

@@ -3,11 +3,11 @@ ghost use Rattle.std.specs.Prelude.{IfOk, IfErr};
 ghost use Rattle.hplan.specs.Tasks.{SayTrees, IsLiftedOf, IsTaskOf, Explains};
 
 use crate::digest::digest_of;
-use crate::fault::{Fault, Source, checked_in, not_searched, read_in};
+use crate::fault::{Fault, Source, checked_in, grounded_in, read_in};
 use hd_base::Seed;
 use hd_check::{Checked, check};
+use hd_ground::ground;
 use hd_pddl::{DomainAst, ProblemAst, read_domain, read_problem};
-use hd_plain::plain_task;
 use hd_task::Task;
 use std::alloc::Global;
 
@@ -26,11 +26,10 @@ fn trees_of(alloc: Global, domain: &[u8], problem: &[u8]) -> Result<(DomainAst, 
 }
 
 /// The lifted task that two texts say.
-fn checked_of(alloc: Global, domain: &[u8], problem: &[u8]) -> Result<Checked, Fault>
+fn checked_of(alloc: Global, seed: Seed, domain: &[u8], problem: &[u8]) -> Result<Checked, Fault>
     ensures found { IfOk result (IsLiftedOf domain.now problem.now) }
     ensures refusal { IfErr result (Explains domain.now problem.now) }
 {
-    let seed = Seed::of(digest_of(domain, problem));
     let (domain, problem) = trees_of(alloc, domain, problem)?;
     match check(alloc, seed, domain, problem) {
         Ok(checked) => Ok(checked),
@@ -38,18 +37,19 @@ fn checked_of(alloc: Global, domain: &[u8], problem: &[u8]) -> Result<Checked, F
     }
 }
 
-/// The task that two texts say.
+/// The task that two texts say: the grounding of the lifted task that they say.
 ///
 /// # Errors
-/// The first fault: of the domain's text, of the problem's, of their names, types and metric; that they have objects, types,
-/// parameters or numbers; or that the task would be too large.
+/// The first fault: of the domain's text, of the problem's, of their names, types and metric, or of the grounding: that the task
+/// would be too large, that a fluent has no first value, or that an action costs less than 0.
 pub fn task_of(alloc: Global, domain: &[u8], problem: &[u8]) -> Result<Task, Fault>
     ensures found { IfOk result (IsTaskOf domain.now problem.now) }
     ensures refusal { IfErr result (Explains domain.now problem.now) }
 {
-    let checked = checked_of(alloc, domain, problem)?;
-    match plain_task(alloc, checked.task()) {
+    let seed = Seed::of(digest_of(domain, problem));
+    let checked = checked_of(alloc, seed, domain, problem)?;
+    match ground(alloc, seed, &checked) {
         Ok(task) => Ok(task),
-        Err(error) => Err(not_searched(error)),
+        Err(error) => Err(grounded_in(error)),
     }
 }

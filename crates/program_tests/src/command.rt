@@ -5,7 +5,7 @@ use hplan::{Shelf, command};
 use std::alloc::{AllocError, Global};
 use std::io::{self, Write};
 use std::test::Fail;
-use text_tests::samples::{G, G_PROBLEM, L, L_PROBLEM};
+use text_tests::samples::{G, G_PROBLEM, L, L_PROBLEM, U};
 
 /// A run as bytes.
 fn shown(alloc: Global, status: u8, out: &[u8], err: &[u8]) -> Result<Vec<u8>, AllocError> {
@@ -41,7 +41,7 @@ fn run(
 }
 
 /// The run of `solve` on two texts.
-fn solved(alloc: Global, domain: &str, problem: &str) -> Result<Vec<u8>, AllocError> {
+pub fn solved(alloc: Global, domain: &str, problem: &str) -> Result<Vec<u8>, AllocError> {
     run(
         alloc,
         &["solve", "d", "p", "--workers", "2"],
@@ -205,52 +205,14 @@ fn faults_of_the_problem_are_told(rt: HostRuntime) -> Result<(), Fail> {
     Ok(())
 }
 
-/// A checked task that can't be searched yet is told as one.
-#[test]
-fn what_is_not_searched_yet_is_told(rt: HostRuntime) -> Result<(), Fail> {
-    let alloc = rt.alloc();
-    let not_yet = "1||hplan: NotYet\n";
-    for (domain, want) in [
-        ("(define (domain l) (:predicates (a ?x) (b)))", not_yet),
-        (
-            "(define (domain l) (:predicates (b)) (:functions (x)))",
-            not_yet,
-        ),
-        (
-            "(define (domain l) (:predicates (b)) (:action s :parameters (?x) :effect (b)))",
-            not_yet,
-        ),
-        ("(define (domain l) (:types t) (:predicates (b)))", not_yet),
-        (
-            "(define (domain l) (:constants k) (:predicates (b)))",
-            not_yet,
-        ),
-    ] {
-        assert_eq!(rt;
-            solved(alloc, domain, L_PROBLEM)?.as_slice(),
-            want.as_bytes()
-        );
-    }
-    Ok(())
-}
-
 #[test]
 fn first_values_are_checked_before_the_search(rt: HostRuntime) -> Result<(), Fail> {
-    let alloc = rt.alloc();
-    let domain = "(define (domain u) (:predicates (b)) (:functions (x))
-  (:action up :parameters () :precondition (not (b)) :effect (and (b) (increase (x) 1))))";
-    for (problem, want) in [
-        (
-            "(define (problem u1) (:domain u) (:init (= (x) 1000000000000001)) (:goal (b)))",
-            "1||hplan: problem: 18 InitOutOfRange(47)\n",
-        ),
-        (
-            "(define (problem u1) (:domain u) (:init (= (x) 1000000000000000)) (:goal (b)))",
-            "1||hplan: NotYet\n",
-        ),
-    ] {
-        assert_eq!(rt; solved(alloc, domain, problem)?.as_slice(), want.as_bytes());
-    }
+    let problem = "(define (problem u1) (:domain u) (:init (= (x) 1000000000000001)) (:goal (b)))";
+    let run = solved(rt.alloc(), U, problem)?;
+    assert_eq!(rt;
+        run.as_slice(),
+        b"1||hplan: problem: 18 InitOutOfRange(47)\n".as_slice()
+    );
     Ok(())
 }
 

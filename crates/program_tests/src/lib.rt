@@ -8,4 +8,6 @@ mod digests;
 #[cfg(test)]
 mod line;
 #[cfg(test)]
+mod numeric;
+#[cfg(test)]
 mod words;

@@ -1,10 +1,15 @@
 use Rattle.hplan.specs.Answer.{OfTexts, OfSearch}
-use Rattle.hplan.proofs.Solving.{ok_weaker, err_weaker}
+use Rattle.hplan.proofs.Solving.{true_of_domain, ok_weaker, err_weaker}
 use Rattle.hplan.proofs.engine.answer_of.Goals as goal
 
 pub returns-in-Ok-clause-found : goal.returns-in-Ok-clause-found
 returns-in-Ok-clause-found c =
-    ok_weaker c.solution_of-answer.result (λ f s. record { task = c.in-Ok.task; is_task = c.in-Ok.ensures.found; solution = s }) c.solution_of-answer.ensures.found
+    ok_weaker c.solution_of-answer.result (λ f s. record {
+      task = c.in-Ok.task;
+      is_task = c.in-Ok.ensures.found;
+      solution = s;
+      is_true_of_domain = true_of_domain c.in-Ok.ensures.found.lifted c.in-Ok.task s.verdict c.in-Ok.ensures.found.made s.is_true;
+    }) c.solution_of-answer.ensures.found
 
 pub returns-in-Ok-clause-refusal : goal.returns-in-Ok-clause-refusal
 returns-in-Ok-clause-refusal c =

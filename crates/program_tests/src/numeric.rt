@@ -1,0 +1,134 @@
+//! What `solve` prints of tasks with types, objects and numbers. The answers were worked out by hand.
+use crate::command::solved;
+use std::alloc::{AllocError, Global};
+use std::test::Fail;
+use text_tests::samples::{N, N_PROBLEM, U, U_PROBLEM, V, V_PROBLEM};
+
+/// The run on V, with the second text of each pair in place of the first: of a pair in the domain, and of one in the problem.
+fn changed(
+    alloc: Global,
+    domain: (&str, &str),
+    problem: (&str, &str),
+) -> Result<Vec<u8>, AllocError> {
+    let domain = V.replace(alloc, domain.0, domain.1)?;
+    let problem = V_PROBLEM.replace(alloc, problem.0, problem.1)?;
+    solved(alloc, domain.as_str(), problem.as_str())
+}
+
+/// What is in each text once, and stays.
+const SAME: (&str, &str) = ("(define", "(define");
+
+#[test]
+fn a_drive_takes_fuel(rt: HostRuntime) -> Result<(), Fail> {
+    let alloc = rt.alloc();
+    for (problem, want) in [
+        (SAME, "0|(go a b)\n(go b c)\n; cost = 9\n|"),
+        (("(fuel) 9", "(fuel) 8"), "10||no plan\n"),
+        (
+            ("(= (need b c) 5)", ""),
+            "1||hplan: 15 Undefined((need b c))\n",
+        ),
+        (
+            ("(need a b) 4", "(need a b) -1"),
+            "1||hplan: 16 NegativeCost((go a b))\n",
+        ),
+    ] {
+        let run = changed(alloc, SAME, problem)?;
+        assert_eq!(rt; run.as_slice(), want.as_bytes());
+    }
+    Ok(())
+}
+
+/// An amount that is read where the action is: 9 for the first drive and 5 for the second, or less than nothing.
+#[test]
+fn a_cost_may_depend_on_the_state(rt: HostRuntime) -> Result<(), Fail> {
+    let alloc = rt.alloc();
+    let paid = "(total-cost) (need ?p ?q)";
+    for (amount, want) in [
+        (
+            "(total-cost) (fuel)",
+            "0|(go a b)\n(go b c)\n; cost = 14\n|",
+        ),
+        (
+            "(total-cost) (- (fuel) 10)",
+            "11||range left: entry 0, (go a b)\n",
+        ),
+    ] {
+        let run = changed(alloc, (paid, amount), SAME)?;
+        assert_eq!(rt; run.as_slice(), want.as_bytes());
+    }
+    Ok(())
+}
+
+#[test]
+fn the_cheapest_way_is_not_the_shortest(rt: HostRuntime) -> Result<(), Fail> {
+    let run = solved(rt.alloc(), N, N_PROBLEM)?;
+    assert_eq!(rt;
+        run.as_slice(),
+        b"0|(near)\n(join)\n(fin)\n; cost = 3\n|".as_slice()
+    );
+    Ok(())
+}
+
+/// The greatest number there may be, and one step below it.
+#[test]
+fn a_number_that_leaves_the_range_is_told(rt: HostRuntime) -> Result<(), Fail> {
+    let alloc = rt.alloc();
+    for (value, goal, want) in [
+        ("1000000000000000", "(b)", "11||range left: entry 0, (up)\n"),
+        (
+            "999999999999999",
+            "(= (x) 1000000000000000)",
+            "0|(up)\n; cost = 1\n|",
+        ),
+    ] {
+        let problem = U_PROBLEM.replace(alloc, "-999999999999999", value)?;
+        let problem = problem.as_str().replace(alloc, "(b)", goal)?;
+        let run = solved(alloc, U, problem.as_str())?;
+        assert_eq!(rt; run.as_slice(), want.as_bytes());
+    }
+    Ok(())
+}
+
+/// 17 to the fifth power is 1419857, more than 2 to the twentieth.
+#[test]
+fn too_many_actions_are_told(rt: HostRuntime) -> Result<(), Fail> {
+    let domain = "(define (domain m) (:action pick :parameters (?a ?b ?c ?d ?e)))";
+    let problem = "(define (problem m1) (:domain m)
+  (:objects a b c d e f g h i j k l m n o p q) (:init) (:goal (and)))";
+    let run = solved(rt.alloc(), domain, problem)?;
+    assert_eq!(rt; run.as_slice(), b"1||hplan: 17 TooMany\n".as_slice());
+    Ok(())
+}
+
+/// Objects, types and numbers that nothing uses.
+#[test]
+fn what_is_not_used_changes_no_answer(rt: HostRuntime) -> Result<(), Fail> {
+    let alloc = rt.alloc();
+    let problem = "(define (problem l1) (:domain l) (:init) (:goal (b)))";
+    for (domain, want) in [
+        (
+            "(define (domain l) (:predicates (a ?x) (b)))",
+            "10||no plan\n",
+        ),
+        (
+            "(define (domain l) (:predicates (b)) (:functions (x)))",
+            "10||no plan\n",
+        ),
+        (
+            "(define (domain l) (:predicates (b)) (:action s :parameters (?x) :effect (b)))",
+            "10||no plan\n",
+        ),
+        (
+            "(define (domain l) (:types t) (:predicates (b)) (:action s :parameters () :effect (b)))",
+            "0|(s)\n; cost = 1\n|",
+        ),
+        (
+            "(define (domain l) (:constants k) (:predicates (b)) (:action s :parameters (?x) :effect (b)))",
+            "0|(s k)\n; cost = 1\n|",
+        ),
+    ] {
+        assert_eq!(rt; solved(alloc, domain, problem)?.as_slice(), want.as_bytes());
+    }
+    Ok(())
+}

@@ -1,0 +1,13 @@
+; Numbers: a drive takes as much fuel as the road is long, and costs as much; filling the tank costs 1.
+(define (domain van)
+  (:requirements :typing :numeric-fluents :action-costs)
+  (:types place)
+  (:predicates (at ?p - place) (road ?p ?q - place) (pump ?p - place))
+  (:functions (fuel) (tank) (length ?p ?q - place) (total-cost) - number)
+  (:action drive :parameters (?p ?q - place)
+    :precondition (and (at ?p) (road ?p ?q) (>= (fuel) (length ?p ?q)))
+    :effect (and (not (at ?p)) (at ?q) (decrease (fuel) (length ?p ?q))
+                 (increase (total-cost) (length ?p ?q))))
+  (:action fill :parameters (?p - place)
+    :precondition (and (at ?p) (pump ?p))
+    :effect (and (assign (fuel) (tank)) (increase (total-cost) 1))))
