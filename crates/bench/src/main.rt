@@ -95,12 +95,7 @@ fn time_reading(rt: &HostRuntime, domain: &[u8], problem: &[u8]) -> anyhow::Resu
 }
 
 /// The lifted task that two texts say.
-fn checked_of(
-    alloc: Global,
-    seed: Seed,
-    domain: &[u8],
-    problem: &[u8],
-) -> anyhow::Result<Checked> {
+fn checked_of(alloc: Global, seed: Seed, domain: &[u8], problem: &[u8]) -> anyhow::Result<Checked> {
     let (domain, problem) = read(alloc, domain, problem)?;
     Ok(check(alloc, seed, domain, problem)?)
 }
