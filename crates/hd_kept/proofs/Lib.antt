@@ -1,7 +1,9 @@
+pub mod Cold
 pub mod Gate
 pub mod Hearth
 pub mod Least
 pub mod Marking
+pub mod Pairing
 pub mod Passing
 pub mod Rising
 pub mod Small

@@ -1,5 +1,5 @@
--- A small task on which the definitions are computed, beside those of hd_lifted.
-use Rattle.std.specs.Prelude.{ℕ, true, false, List, [], ◌∷◌, codes, None, pos}
+-- Small tasks on which the definitions are computed, beside those of hd_lifted.
+use Rattle.std.specs.Prelude.{ℕ, Bool, true, false, List, [], ◌∷◌, codes, None, pos}
 use Rattle.hd_base.specs.declared.expression.Operand.TheVariants.{Number}
 use Rattle.hd_base.specs.Expression.{leaf}
 use Rattle.hd_lifted.specs.declared.schema.Argument.TheVariants.{Parameter}
@@ -178,3 +178,93 @@ kindling = record { schema = 0; objects = [] }
 
 abbrev pub striking : Instance
 striking = record { schema = 1; objects = [] }
+
+-- ---- a cold hearth: nothing makes the match burn, and `snuff` puts it out
+
+abbrev pub snuff : Schema
+snuff = record {
+  name = codes "snuff";
+  parameters = [];
+  condition = when [];
+  deletes = atom 0 ∷ [];
+  adds = [];
+  effects = [];
+}
+
+abbrev pub cold_hearth : LiftedTask
+cold_hearth = record {
+  hierarchy = [];
+  objects = [];
+  predicates = record { name = codes "match"; parameters = [] } ∷ record { name = codes "fire"; parameters = [] } ∷ [];
+  functions = [];
+  schemas = kindle ∷ snuff ∷ [];
+  atoms = [];
+  values = [];
+  goal = when [];
+  metric = None;
+}
+
+-- ---- a circle: `kindle` lights the fire from the match, and `relight` the match from the fire. At first neither burns
+
+abbrev pub relight : Schema
+relight = record {
+  name = codes "relight";
+  parameters = [];
+  condition = when (record { atom = atom 1; positive = true } ∷ []);
+  deletes = [];
+  adds = atom 0 ∷ [];
+  effects = [];
+}
+
+abbrev pub circle : LiftedTask
+circle = record {
+  hierarchy = [];
+  objects = [];
+  predicates = record { name = codes "match"; parameters = [] } ∷ record { name = codes "fire"; parameters = [] } ∷ [];
+  functions = [];
+  schemas = kindle ∷ relight ∷ [];
+  atoms = [];
+  values = [];
+  goal = when [];
+  metric = None;
+}
+
+-- ---- pairs: `pair` asks that its two objects are the same, or that they are not. There are two objects
+
+abbrev pub pair : Bool → Schema
+pair alike = record {
+  name = codes "pair";
+  parameters = 0 ∷ 0 ∷ [];
+  condition = record {
+    literals = [];
+    equalities = record { left = Parameter 0; right = Parameter 1; positive = alike } ∷ [];
+    comparisons = [];
+  };
+  deletes = [];
+  adds = [];
+  effects = [];
+}
+
+abbrev pub pairs : Bool → LiftedTask
+pairs alike = record {
+  hierarchy = [];
+  objects = record { name = codes "p"; of = 0 } ∷ record { name = codes "q"; of = 0 } ∷ [];
+  predicates = [];
+  functions = [];
+  schemas = pair alike ∷ [];
+  atoms = [];
+  values = [];
+  goal = when [];
+  metric = None;
+}
+
+abbrev pub pairing : ℕ → ℕ → Instance
+pairing first second = record { schema = 0; objects = first ∷ second ∷ [] }
+
+-- ---- an order: instances of the first schema and of the second, and forms of the first symbol and of the second, with one object
+
+abbrev pub numbered_instance : ℕ → ℕ → Instance
+numbered_instance number object = record { schema = number; objects = object ∷ [] }
+
+abbrev pub numbered_form : ℕ → ℕ → Ground
+numbered_form number object = record { symbol = number; objects = object ∷ [] }

@@ -1,12 +1,13 @@
 //! Worked examples of the definitions, each a checked fact. The functions do nothing.
 ghost use Rattle.std.specs.Prelude.{◌≡◌, [], ◌∷◌, true, false};
+ghost use Rattle.hd_lifted.specs.declared.instance.Instance.{Instance};
 ghost use Rattle.hd_lifted.specs.Example.{go, a_to_b, a_to_c, the_fuel};
 ghost use Rattle.hd_lifted.specs.Plans.{IsInstance};
 ghost use Rattle.hd_kept.specs.Kept.{is_static, IsKept, IsReachable, IsSupported};
-ghost use Rattle.hd_kept.specs.Numbering.{NumbersInstances};
+ghost use Rattle.hd_kept.specs.Numbering.{ComesBefore, instance_key, form_key, NumbersInstances};
 ghost use Rattle.hd_kept.specs.Met.{met_by, met_by_goal};
 ghost use Rattle.hd_kept.specs.Amounts.{is_changed};
-ghost use Rattle.hd_kept.specs.Example.{with_fuel, need, lamp, the_one, marks, marking, gate, locked, hearth, kindling, striking, the_match, the_fire};
+ghost use Rattle.hd_kept.specs.Example.{with_fuel, need, lamp, the_one, marks, marking, gate, locked, hearth, kindling, striking, the_match, the_fire, cold_hearth, circle, pairs, pairing, numbered_instance, numbered_form};
 
 /// The definitions on small tasks: of hd_lifted's journey the predicates are `at` and `road`, and the functions the fuel, what a road
 /// needs, and the cost.
@@ -43,11 +44,35 @@ pub fn kept_instances_compute()
     ensures locked_out { IsKept (gate (locked ∷ [])) the_one → ⊥ }
     ensures let_in { IsKept (gate []) the_one }
 
-    // `kindle` needs what only `strike` adds, and is kept.
+    // `kindle` needs the match, which is not lit at first and which `kindle` does not light; it is kept, since `strike` lights it.
     ensures needs_match { IsSupported hearth [] the_match → ⊥ }
+    ensures no_spark { IsSupported hearth (kindling ∷ []) the_match → ⊥ }
     ensures is_kept { IsKept hearth kindling }
 
     // What `strike` adds makes no fire: it takes a second round.
     ensures first_round { IsSupported hearth (striking ∷ []) the_fire → ⊥ }
     ensures second_round { IsReachable hearth the_fire }
+{}
+
+/// What needs another action that is not there is not kept, and of actions that only feed one another none is.
+pub fn unfed_instances_compute()
+    // What an action deletes changes, though nothing adds it: so it is no static condition that leaves `kindle` out.
+    ensures snuffed { is_static cold_hearth 0 ≡ false }
+    ensures stays_cold { IsKept cold_hearth kindling → ⊥ }
+
+    // `kindle` needs what `relight` adds, and `relight` needs what `kindle` adds.
+    ensures neither { (i : Instance) → IsKept circle i → ⊥ }
+{}
+
+/// Equalities leave instances out, and instances and forms are sorted by what they are of before their objects.
+pub fn equalities_compute()
+    // Of the four pairs of two objects those of one object twice are kept where both are to be the same, and the others else.
+    ensures two_alike { NumbersInstances (pairs true) (pairing 0 0 ∷ pairing 1 1 ∷ []) }
+    ensures two_of_four { NumbersInstances (pairs false) (pairing 0 1 ∷ pairing 1 0 ∷ []) }
+
+    // The second object with the first schema comes before the first object with the second.
+    ensures schema_first { ComesBefore (instance_key (numbered_instance 0 1))
+        (instance_key (numbered_instance 1 0)) }
+    ensures symbol_first { ComesBefore (form_key (numbered_form 0 1))
+        (form_key (numbered_form 1 0)) }
 {}

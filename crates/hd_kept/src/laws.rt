@@ -1,11 +1,11 @@
 //! Laws over the definitions. Each function does nothing: its contract is the law, for every task and every plan.
-ghost use Rattle.std.specs.Prelude.{◌≡◌, true, false, List, All, Contains, Some};
+ghost use Rattle.std.specs.Prelude.{◌≡◌, true, false, List, All, Contains, Some, ◌↔◌};
 ghost use Rattle.hd_lifted.specs.declared.task.LiftedTask.{LiftedTask};
 ghost use Rattle.hd_lifted.specs.Steps.{Reached};
 ghost use Rattle.hd_lifted.specs.declared.instance.Instance.{Instance};
 ghost use Rattle.hd_lifted.specs.Plans.{IsInstance, exec};
 ghost use Rattle.hd_lifted.specs.declared.schema.Ground.{Ground};
-ghost use Rattle.hd_lifted.specs.States.{first_value};
+ghost use Rattle.hd_lifted.specs.States.{same, first_value};
 ghost use Rattle.hd_lifted.specs.Conditions.{literals_hold};
 ghost use Rattle.hd_kept.specs.Kept.{IsKept, IsClosed};
 ghost use Rattle.hd_kept.specs.Numbering.{NumbersInstances, NumbersAtoms, NumbersFluents};
@@ -48,4 +48,9 @@ pub fn unchanged_functions_keep_their_values()
     ensures { (t : LiftedTask) (p : List Instance) (r : Reached) (g : Ground)
         → All (IsInstance t) p → exec t p ≡ Some r → is_changed t g.symbol ≡ false
         → r.state.values g ≡ first_value t.values g }
+{}
+
+/// `same`, by which ground forms are compared, is equality.
+pub fn same_is_equality()
+    ensures { (g h : Ground) → same g h ≡ true ↔ g ≡ h }
 {}
