@@ -1,5 +1,6 @@
 #!/bin/sh
-# Times the grounding of a logistics-like problem, and of texts that a product of all objects would never end on: bench/ground.sh
+# Times the grounding of a logistics-like problem, of texts that a product of all objects would never end on, and of the tasks in each
+# FOLDER, which has domain.pddl and problem.pddl: bench/ground.sh [FOLDER..]
 # The first has 200 packages, 10 trucks and 50 places with a road map that never changes; each of its packages can be loaded and
 # unloaded everywhere, so that it has some 200,000 actions. Of the others each is a schema over 1000 objects whose conditions bind
 # its parameters; one has no instance at all. The greatest size of the process is printed beside each, in kilobytes.
@@ -60,9 +61,17 @@ objects '' >"$folder/empty-problem"
 schema '?a ?b' '(r ?a ?b) (r ?b ?a)' >"$folder/mutual-domain"
 objects '(r @ o0) (r o0 @)' >"$folder/mutual-problem"
 
-cd "$(dirname "$0")/../crates/bench"
-rt run >/dev/null
+# Grounds the task of two files, and prints it under a name.
+row() {
+    /usr/bin/time -f %M -o "$folder/peak" "$program" "$2" "$3" ground >"$folder/said"
+    echo "$1: $(cat "$folder/said"), $(tail -n 1 "$folder/peak") KB"
+}
+here=$(cd "$(dirname "$0")/.." && pwd)
+program=$here/crates/bench/out/bench
+(cd "$here/crates/bench" && rt run) >/dev/null
 for name in logistics equal static empty mutual; do
-    /usr/bin/time -f %M -o "$folder/peak" out/bench "$folder/$name-domain" "$folder/$name-problem" ground >"$folder/said"
-    echo "$name: $(cat "$folder/said"), $(tail -n 1 "$folder/peak") KB"
+    row "$name" "$folder/$name-domain" "$folder/$name-problem"
+done
+for task in "$@"; do
+    row "$(basename "$task")" "$task/domain.pddl" "$task/problem.pddl"
 done
