@@ -6,5 +6,6 @@ pub mod Lantern
 pub mod Numbers
 pub mod Ovens
 pub mod Paying
+pub mod Told
 pub mod Unique
 pub mod Writing
