@@ -4,6 +4,7 @@ pub mod Grounded
 pub mod Holding
 pub mod Lantern
 pub mod Numbers
+pub mod Orders
 pub mod Ovens
 pub mod Paying
 pub mod Told
