@@ -126,7 +126,7 @@ c_reachable : IsReachable with_fuel at_c
 c_reachable = added b_to_c go at_next at_c second_kept refl (Contains-first at_next []) refl
 
 kept_there : (i : Instance) → Contains way i → IsKept with_fuel i
-kept_there i c = elim (Contains-cons_cases a_to_b (b_to_c ∷ []) i c) [ | inl e ↦ subst (IsKept with_fuel) e (first_kept) | inr cn ↦ subst (IsKept with_fuel) (among_one b_to_c i cn) (second_kept) ]
+kept_there i c = elim (Contains-cons_cases a_to_b (b_to_c ∷ []) i c) [ inl e ↦ subst (IsKept with_fuel) e (first_kept) | inr cn ↦ subst (IsKept with_fuel) (among_one b_to_c i cn) (second_kept) ]
 
 abbrev InOrder : Instance → Instance → Type 0
 InOrder x y = ComesBefore (instance_key x) (instance_key y)
@@ -143,11 +143,11 @@ abbrev atoms : List Ground
 atoms = at_a ∷ at_b ∷ at_c ∷ road_ab ∷ road_bc ∷ []
 
 initial_is : (g : Ground) → Contains with_fuel.atoms g → Contains atoms g
-initial_is g c = elim (Contains-cons_cases at_a (road_ab ∷ road_bc ∷ []) g c) [ | inl e ↦ subst (Contains atoms) e (Contains-first at_a (at_b ∷ at_c ∷ road_ab ∷ road_bc ∷ [])) | inr cn ↦ elim (Contains-cons_cases road_ab (road_bc ∷ []) g cn) [ | inl e ↦ subst (Contains atoms) e (Contains-later at_a (at_b ∷ at_c ∷ road_ab ∷ road_bc ∷ []) road_ab (Contains-later at_b (at_c ∷ road_ab ∷ road_bc ∷ []) road_ab (Contains-later at_c (road_ab ∷ road_bc ∷ []) road_ab (Contains-first road_ab (road_bc ∷ []))))) | inr cnn ↦ subst (Contains atoms) (among_one road_bc g cnn) (Contains-later at_a (at_b ∷ at_c ∷ road_ab ∷ road_bc ∷ []) road_bc (Contains-later at_b (at_c ∷ road_ab ∷ road_bc ∷ []) road_bc (Contains-later at_c (road_ab ∷ road_bc ∷ []) road_bc (Contains-later road_ab (road_bc ∷ []) road_bc (Contains-first road_bc ([])))))) ] ]
+initial_is g c = elim (Contains-cons_cases at_a (road_ab ∷ road_bc ∷ []) g c) [ inl e ↦ subst (Contains atoms) e (Contains-first at_a (at_b ∷ at_c ∷ road_ab ∷ road_bc ∷ [])) | inr cn ↦ elim (Contains-cons_cases road_ab (road_bc ∷ []) g cn) [ inl e ↦ subst (Contains atoms) e (Contains-later at_a (at_b ∷ at_c ∷ road_ab ∷ road_bc ∷ []) road_ab (Contains-later at_b (at_c ∷ road_ab ∷ road_bc ∷ []) road_ab (Contains-later at_c (road_ab ∷ road_bc ∷ []) road_ab (Contains-first road_ab (road_bc ∷ []))))) | inr cnn ↦ subst (Contains atoms) (among_one road_bc g cnn) (Contains-later at_a (at_b ∷ at_c ∷ road_ab ∷ road_bc ∷ []) road_bc (Contains-later at_b (at_c ∷ road_ab ∷ road_bc ∷ []) road_bc (Contains-later at_c (road_ab ∷ road_bc ∷ []) road_bc (Contains-later road_ab (road_bc ∷ []) road_bc (Contains-first road_bc ([])))))) ] ]
 
 -- what an instance of the way adds
 next_is : (i : Instance) → Contains way i → Contains atoms (ground_form_of i.objects at_next)
-next_is i c = elim (Contains-cons_cases a_to_b (b_to_c ∷ []) i c) [ | inl e ↦ subst (λ (i : Instance). Contains atoms (ground_form_of i.objects at_next)) e (Contains-later at_a (at_b ∷ at_c ∷ road_ab ∷ road_bc ∷ []) at_b (Contains-first at_b (at_c ∷ road_ab ∷ road_bc ∷ []))) | inr cn ↦ subst (λ (i : Instance). Contains atoms (ground_form_of i.objects at_next)) (among_one b_to_c i cn) (Contains-later at_a (at_b ∷ at_c ∷ road_ab ∷ road_bc ∷ []) at_c (Contains-later at_b (at_c ∷ road_ab ∷ road_bc ∷ []) at_c (Contains-first at_c (road_ab ∷ road_bc ∷ [])))) ]
+next_is i c = elim (Contains-cons_cases a_to_b (b_to_c ∷ []) i c) [ inl e ↦ subst (λ (i : Instance). Contains atoms (ground_form_of i.objects at_next)) e (Contains-later at_a (at_b ∷ at_c ∷ road_ab ∷ road_bc ∷ []) at_b (Contains-first at_b (at_c ∷ road_ab ∷ road_bc ∷ []))) | inr cn ↦ subst (λ (i : Instance). Contains atoms (ground_form_of i.objects at_next)) (among_one b_to_c i cn) (Contains-later at_a (at_b ∷ at_c ∷ road_ab ∷ road_bc ∷ []) at_c (Contains-later at_b (at_c ∷ road_ab ∷ road_bc ∷ []) at_c (Contains-first at_c (road_ab ∷ road_bc ∷ [])))) ]
 
 reachable_is : (g : Ground) → IsReachable with_fuel g → Contains atoms g
 reachable_is g (initially h listed) =
@@ -169,7 +169,7 @@ atom_is g (IsTaskAtom.wanted l c e) =
     subst (Contains atoms) form (Contains-later at_a (at_b ∷ at_c ∷ road_ab ∷ road_bc ∷ []) at_c (Contains-later at_b (at_c ∷ road_ab ∷ road_bc ∷ []) at_c (Contains-first at_c (road_ab ∷ road_bc ∷ []))))
 
 all_reachable : (g : Ground) → Contains atoms g → IsReachable with_fuel g
-all_reachable g c = elim (Contains-cons_cases at_a (at_b ∷ at_c ∷ road_ab ∷ road_bc ∷ []) g c) [ | inl e ↦ subst (IsReachable with_fuel) e (initially at_a refl) | inr cn ↦ elim (Contains-cons_cases at_b (at_c ∷ road_ab ∷ road_bc ∷ []) g cn) [ | inl e ↦ subst (IsReachable with_fuel) e (b_reachable) | inr cnn ↦ elim (Contains-cons_cases at_c (road_ab ∷ road_bc ∷ []) g cnn) [ | inl e ↦ subst (IsReachable with_fuel) e (c_reachable) | inr cnnn ↦ elim (Contains-cons_cases road_ab (road_bc ∷ []) g cnnn) [ | inl e ↦ subst (IsReachable with_fuel) e (initially road_ab refl) | inr cnnnn ↦ subst (IsReachable with_fuel) (among_one road_bc g cnnnn) (initially road_bc refl) ] ] ] ]
+all_reachable g c = elim (Contains-cons_cases at_a (at_b ∷ at_c ∷ road_ab ∷ road_bc ∷ []) g c) [ inl e ↦ subst (IsReachable with_fuel) e (initially at_a refl) | inr cn ↦ elim (Contains-cons_cases at_b (at_c ∷ road_ab ∷ road_bc ∷ []) g cn) [ inl e ↦ subst (IsReachable with_fuel) e (b_reachable) | inr cnn ↦ elim (Contains-cons_cases at_c (road_ab ∷ road_bc ∷ []) g cnn) [ inl e ↦ subst (IsReachable with_fuel) e (c_reachable) | inr cnnn ↦ elim (Contains-cons_cases road_ab (road_bc ∷ []) g cnnn) [ inl e ↦ subst (IsReachable with_fuel) e (initially road_ab refl) | inr cnnnn ↦ subst (IsReachable with_fuel) (among_one road_bc g cnnnn) (initially road_bc refl) ] ] ] ]
 
 abbrev Before : Ground → Ground → Type 0
 Before x y = ComesBefore (form_key x) (form_key y)
@@ -186,7 +186,7 @@ abbrev fluents : List Ground
 fluents = the_fuel ∷ need ∷ need_bc ∷ []
 
 met_is : (i : Instance) → Contains way i → (g : Ground) → Contains (met_by i.objects go) g → Contains fluents g
-met_is i c = elim (Contains-cons_cases a_to_b (b_to_c ∷ []) i c) [ | inl e ↦ subst (λ (i : Instance). (g : Ground) → Contains (met_by i.objects go) g → Contains fluents g) e ((λ g m. elim (Contains-cons_cases the_fuel (need ∷ the_fuel ∷ need ∷ need ∷ []) g m) [ | inl e ↦ subst (Contains fluents) e (Contains-first the_fuel (need ∷ need_bc ∷ [])) | inr mn ↦ elim (Contains-cons_cases need (the_fuel ∷ need ∷ need ∷ []) g mn) [ | inl e ↦ subst (Contains fluents) e (Contains-later the_fuel (need ∷ need_bc ∷ []) need (Contains-first need (need_bc ∷ []))) | inr mnn ↦ elim (Contains-cons_cases the_fuel (need ∷ need ∷ []) g mnn) [ | inl e ↦ subst (Contains fluents) e (Contains-first the_fuel (need ∷ need_bc ∷ [])) | inr mnnn ↦ elim (Contains-cons_cases need (need ∷ []) g mnnn) [ | inl e ↦ subst (Contains fluents) e (Contains-later the_fuel (need ∷ need_bc ∷ []) need (Contains-first need (need_bc ∷ []))) | inr mnnnn ↦ subst (Contains fluents) (among_one need g mnnnn) (Contains-later the_fuel (need ∷ need_bc ∷ []) need (Contains-first need (need_bc ∷ []))) ] ] ] ])) | inr cn ↦ subst (λ (i : Instance). (g : Ground) → Contains (met_by i.objects go) g → Contains fluents g) (among_one b_to_c i cn) ((λ g m. elim (Contains-cons_cases the_fuel (need_bc ∷ the_fuel ∷ need_bc ∷ need_bc ∷ []) g m) [ | inl e ↦ subst (Contains fluents) e (Contains-first the_fuel (need ∷ need_bc ∷ [])) | inr mn ↦ elim (Contains-cons_cases need_bc (the_fuel ∷ need_bc ∷ need_bc ∷ []) g mn) [ | inl e ↦ subst (Contains fluents) e (Contains-later the_fuel (need ∷ need_bc ∷ []) need_bc (Contains-later need (need_bc ∷ []) need_bc (Contains-first need_bc ([])))) | inr mnn ↦ elim (Contains-cons_cases the_fuel (need_bc ∷ need_bc ∷ []) g mnn) [ | inl e ↦ subst (Contains fluents) e (Contains-first the_fuel (need ∷ need_bc ∷ [])) | inr mnnn ↦ elim (Contains-cons_cases need_bc (need_bc ∷ []) g mnnn) [ | inl e ↦ subst (Contains fluents) e (Contains-later the_fuel (need ∷ need_bc ∷ []) need_bc (Contains-later need (need_bc ∷ []) need_bc (Contains-first need_bc ([])))) | inr mnnnn ↦ subst (Contains fluents) (among_one need_bc g mnnnn) (Contains-later the_fuel (need ∷ need_bc ∷ []) need_bc (Contains-later need (need_bc ∷ []) need_bc (Contains-first need_bc ([])))) ] ] ] ])) ]
+met_is i c = elim (Contains-cons_cases a_to_b (b_to_c ∷ []) i c) [ inl e ↦ subst (λ (i : Instance). (g : Ground) → Contains (met_by i.objects go) g → Contains fluents g) e ((λ g m. elim (Contains-cons_cases the_fuel (need ∷ the_fuel ∷ need ∷ need ∷ []) g m) [ inl e ↦ subst (Contains fluents) e (Contains-first the_fuel (need ∷ need_bc ∷ [])) | inr mn ↦ elim (Contains-cons_cases need (the_fuel ∷ need ∷ need ∷ []) g mn) [ inl e ↦ subst (Contains fluents) e (Contains-later the_fuel (need ∷ need_bc ∷ []) need (Contains-first need (need_bc ∷ []))) | inr mnn ↦ elim (Contains-cons_cases the_fuel (need ∷ need ∷ []) g mnn) [ inl e ↦ subst (Contains fluents) e (Contains-first the_fuel (need ∷ need_bc ∷ [])) | inr mnnn ↦ elim (Contains-cons_cases need (need ∷ []) g mnnn) [ inl e ↦ subst (Contains fluents) e (Contains-later the_fuel (need ∷ need_bc ∷ []) need (Contains-first need (need_bc ∷ []))) | inr mnnnn ↦ subst (Contains fluents) (among_one need g mnnnn) (Contains-later the_fuel (need ∷ need_bc ∷ []) need (Contains-first need (need_bc ∷ []))) ] ] ] ])) | inr cn ↦ subst (λ (i : Instance). (g : Ground) → Contains (met_by i.objects go) g → Contains fluents g) (among_one b_to_c i cn) ((λ g m. elim (Contains-cons_cases the_fuel (need_bc ∷ the_fuel ∷ need_bc ∷ need_bc ∷ []) g m) [ inl e ↦ subst (Contains fluents) e (Contains-first the_fuel (need ∷ need_bc ∷ [])) | inr mn ↦ elim (Contains-cons_cases need_bc (the_fuel ∷ need_bc ∷ need_bc ∷ []) g mn) [ inl e ↦ subst (Contains fluents) e (Contains-later the_fuel (need ∷ need_bc ∷ []) need_bc (Contains-later need (need_bc ∷ []) need_bc (Contains-first need_bc ([])))) | inr mnn ↦ elim (Contains-cons_cases the_fuel (need_bc ∷ need_bc ∷ []) g mnn) [ inl e ↦ subst (Contains fluents) e (Contains-first the_fuel (need ∷ need_bc ∷ [])) | inr mnnn ↦ elim (Contains-cons_cases need_bc (need_bc ∷ []) g mnnn) [ inl e ↦ subst (Contains fluents) e (Contains-later the_fuel (need ∷ need_bc ∷ []) need_bc (Contains-later need (need_bc ∷ []) need_bc (Contains-first need_bc ([])))) | inr mnnnn ↦ subst (Contains fluents) (among_one need_bc g mnnnn) (Contains-later the_fuel (need ∷ need_bc ∷ []) need_bc (Contains-later need (need_bc ∷ []) need_bc (Contains-first need_bc ([])))) ] ] ] ])) ]
 
 fluent_is : (g : Ground) → IsTaskFluent with_fuel g → Contains fluents g
 fluent_is g (IsTaskFluent.wanted c) = absurd (Contains-nil g c)
@@ -200,7 +200,7 @@ abbrev second_is : IsInstance with_fuel b_to_c
 second_is = record { schema = go; is_schema = refl; typed = (b_is, (c_is, tt)); compatible = refl }
 
 fluent_there : (g : Ground) → Contains fluents g → IsTaskFluent with_fuel g
-fluent_there g c = elim (Contains-cons_cases the_fuel (need ∷ need_bc ∷ []) g c) [ | inl e ↦ subst (IsTaskFluent with_fuel) e (IsTaskFluent.met a_to_b first_is first_kept (Contains-first the_fuel (need ∷ the_fuel ∷ need ∷ need ∷ []))) | inr cn ↦ elim (Contains-cons_cases need (need_bc ∷ []) g cn) [ | inl e ↦ subst (IsTaskFluent with_fuel) e (IsTaskFluent.met a_to_b first_is first_kept (Contains-later the_fuel (need ∷ the_fuel ∷ need ∷ need ∷ []) need (Contains-first need (the_fuel ∷ need ∷ need ∷ [])))) | inr cnn ↦ subst (IsTaskFluent with_fuel) (among_one need_bc g cnn) (IsTaskFluent.met b_to_c second_is second_kept (Contains-later the_fuel (need_bc ∷ the_fuel ∷ need_bc ∷ need_bc ∷ []) need_bc (Contains-first need_bc (the_fuel ∷ need_bc ∷ need_bc ∷ [])))) ] ]
+fluent_there g c = elim (Contains-cons_cases the_fuel (need ∷ need_bc ∷ []) g c) [ inl e ↦ subst (IsTaskFluent with_fuel) e (IsTaskFluent.met a_to_b first_is first_kept (Contains-first the_fuel (need ∷ the_fuel ∷ need ∷ need ∷ []))) | inr cn ↦ elim (Contains-cons_cases need (need_bc ∷ []) g cn) [ inl e ↦ subst (IsTaskFluent with_fuel) e (IsTaskFluent.met a_to_b first_is first_kept (Contains-later the_fuel (need ∷ the_fuel ∷ need ∷ need ∷ []) need (Contains-first need (the_fuel ∷ need ∷ need ∷ [])))) | inr cnn ↦ subst (IsTaskFluent with_fuel) (among_one need_bc g cnn) (IsTaskFluent.met b_to_c second_is second_kept (Contains-later the_fuel (need_bc ∷ the_fuel ∷ need_bc ∷ need_bc ∷ []) need_bc (Contains-first need_bc (the_fuel ∷ need_bc ∷ need_bc ∷ [])))) ] ]
 
 fluents_rise : AllPairs Before fluents
 fluents_rise = AllPairs-cons Before the_fuel (need ∷ need_bc ∷ []) (All-cons (Before the_fuel) need (need_bc ∷ []) refl (All-cons (Before the_fuel) need_bc ([]) refl (All-nil (Before the_fuel)))) (AllPairs-cons Before need (need_bc ∷ []) (All-cons (Before need) need_bc ([]) refl (All-nil (Before need))) (only_one form_key need_bc))
