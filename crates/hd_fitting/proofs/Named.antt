@@ -16,6 +16,7 @@ use Rattle.hd_lifted.specs.declared.schema.Argument.{Argument}
 use Rattle.hd_lifted.specs.declared.schema.Argument.TheVariants.{Parameter, Object}
 use Rattle.hd_lifted.specs.declared.schema.Applied.{Applied}
 use Rattle.hd_lifted.specs.declared.schema.Ground.{Ground}
+use Rattle.hd_lifted.specs.declared.schema.Literal.{Literal}
 use Rattle.hd_lifted.specs.declared.schema.Comparison.{Comparison}
 use Rattle.hd_lifted.specs.declared.schema.NumericEffect.{NumericEffect}
 use Rattle.hd_lifted.specs.declared.schema.Schema.{Schema}
@@ -30,7 +31,7 @@ use Rattle.hd_lifted.specs.Plans.{IsInstance}
 use Rattle.hd_lifted.specs.WellFormed.{IsArgumentOf, IsApplied, IsGround, IsExpression, IsComparison, IsEffect, IsLiteral, IsSchema, IsWellFormed}
 use Rattle.hd_task.specs.WellFormed.{is_named}
 use Rattle.hd_kept.specs.Kept.{IsReachable, initially, added}
-use Rattle.hd_kept.specs.Met.{fluents_in, met_by_comparison, changed_by, met_by_effect}
+use Rattle.hd_kept.specs.Met.{fluents_in, met_by_comparison, changed_by, met_by_effect, met_by}
 use Rattle.hd_kept.specs.Numbering.{IsTaskAtom, IsTaskFluent}
 use Rattle.hd_kept.proofs.Passing.{passing-from_any}
 use Rattle.hd_kept.proofs.Sound.{same-true}
@@ -176,12 +177,33 @@ module _ (t : LiftedTask) where
         subst (IsGround t t.predicates) is
         (applied_ground [] [] tt t.predicates l.atom (each-from_all (IsLiteral t []) t.goal.literals l well.goal.literals among))
 
-    pub fluent_ground : (g : Ground) → IsTaskFluent t g → IsGround t t.functions g
-    fluent_ground g (IsTaskFluent.wanted c) = comparisons_ground [] [] tt t.goal.comparisons well.goal.comparisons g c
-    fluent_ground g (IsTaskFluent.met i is kept c) =
+    pub met_ground : (i : Instance) (is : IsInstance t i) (g : Ground) → Contains (met_by i.objects is.schema) g → IsGround t t.functions g
+    met_ground i is g c =
         let a = is.schema in
         let own = schema_is i.schema a is.is_schema in
         elim (Contains-append_cases (flat_map (met_by_comparison i.objects) a.condition.comparisons) (flat_map (met_by_effect i.objects) a.effects) g c) [
           | inl c ↦ comparisons_ground i.objects a.parameters is.typed a.condition.comparisons own.condition.comparisons g c
           | inr c ↦ effects_ground i.objects a.parameters is.typed a.effects own.effects g c
         ]
+
+    pub fluent_ground : (g : Ground) → IsTaskFluent t g → IsGround t t.functions g
+    fluent_ground g (IsTaskFluent.wanted c) = comparisons_ground [] [] tt t.goal.comparisons well.goal.comparisons g c
+    fluent_ground g (IsTaskFluent.met i is kept c) = met_ground i is g c
+
+    -- ---- what an instance applies to its objects
+
+    applied_of : (i : Instance) (is : IsInstance t i) (a : Applied) → IsApplied t t.predicates is.schema.parameters a → IsGround t t.predicates (ground_form_of i.objects a)
+    applied_of i is a asked = applied_ground i.objects is.schema.parameters is.typed t.predicates a asked
+
+    pub adds_ground : (i : Instance) (is : IsInstance t i) (a : Applied) → Contains is.schema.adds a → IsGround t t.predicates (ground_form_of i.objects a)
+    adds_ground i is a c =
+        applied_of i is a (each-from_all (IsApplied t t.predicates is.schema.parameters) is.schema.adds a (schema_is i.schema is.schema is.is_schema).adds c)
+
+    pub deletes_ground : (i : Instance) (is : IsInstance t i) (a : Applied) → Contains is.schema.deletes a → IsGround t t.predicates (ground_form_of i.objects a)
+    deletes_ground i is a c =
+        applied_of i is a (each-from_all (IsApplied t t.predicates is.schema.parameters) is.schema.deletes a (schema_is i.schema is.schema is.is_schema).deletes c)
+
+    pub literals_ground : (i : Instance) (is : IsInstance t i) (l : Literal) → Contains is.schema.condition.literals l → IsGround t t.predicates (ground_form_of i.objects l.atom)
+    literals_ground i is l c =
+        applied_of i is l.atom
+        (each-from_all (IsLiteral t is.schema.parameters) is.schema.condition.literals l (schema_is i.schema is.schema is.is_schema).condition.literals c)

@@ -1,10 +1,16 @@
 //! Laws over the definitions. Each function does nothing: its contract is the law.
-ghost use Rattle.std.specs.Prelude.{◌≡◌, true, List};
+ghost use Rattle.std.specs.Prelude.{◌≡◌, true, List, Contains};
 ghost use Rattle.std.specs.List.{AllZip};
+ghost use Rattle.hd_lifted.specs.declared.schema.Applied.{Applied};
 ghost use Rattle.hd_lifted.specs.declared.schema.Ground.{Ground};
+ghost use Rattle.hd_lifted.specs.declared.schema.Literal.{Literal};
 ghost use Rattle.hd_lifted.specs.declared.task.LiftedTask.{LiftedTask};
 ghost use Rattle.hd_lifted.specs.declared.instance.Instance.{Instance};
 ghost use Rattle.hd_lifted.specs.Checked.{IsChecked};
+ghost use Rattle.hd_lifted.specs.Plans.{IsInstance};
+ghost use Rattle.hd_lifted.specs.States.{ground_form_of};
+ghost use Rattle.hd_lifted.specs.WellFormed.{IsGround, IsWellFormed};
+ghost use Rattle.hd_kept.specs.Met.{met_by};
 ghost use Rattle.hd_task.specs.declared.action.Action.{Action};
 ghost use Rattle.hd_task.specs.declared.task.Task.{Task};
 ghost use Rattle.hd_grounding.specs.Grounding.{IsActionOf, IsGrounding};
@@ -34,4 +40,21 @@ pub fn grounded_parts_are_a_grounding()
         → AreCounted t instances atoms fluents → AreFaultless t instances
         → AllZip (IsActionOf t atoms fluents) instances actions
         → HasGroundedParts t atoms fluents actions u → IsGrounding t u }
+{}
+
+/// What an instance of a well formed task applies to its objects is of the declared types: the atoms that it asks for, adds and
+/// deletes, and the fluents that it meets.
+pub fn instances_are_typed()
+    ensures adds { (t : LiftedTask) (i : Instance) (is : IsInstance t i) (a : Applied)
+        → IsWellFormed t → Contains is.schema.adds a
+        → IsGround t t.predicates (ground_form_of i.objects a) }
+    ensures deletes { (t : LiftedTask) (i : Instance) (is : IsInstance t i) (a : Applied)
+        → IsWellFormed t → Contains is.schema.deletes a
+        → IsGround t t.predicates (ground_form_of i.objects a) }
+    ensures literals { (t : LiftedTask) (i : Instance) (is : IsInstance t i) (l : Literal)
+        → IsWellFormed t → Contains is.schema.condition.literals l
+        → IsGround t t.predicates (ground_form_of i.objects l.atom) }
+    ensures fluents { (t : LiftedTask) (i : Instance) (is : IsInstance t i) (g : Ground)
+        → IsWellFormed t → Contains (met_by i.objects is.schema) g
+        → IsGround t t.functions g }
 {}

@@ -4,7 +4,9 @@ pub mod Grounded
 pub mod Holding
 pub mod Lantern
 pub mod Numbers
+pub mod Orders
 pub mod Ovens
 pub mod Paying
+pub mod Told
 pub mod Unique
 pub mod Writing

@@ -58,14 +58,14 @@ module _ (condition : Condition) (effects : List NumericEffect) (values : List I
   kept_is i kept = one_instance i (instance_kept task i kept)
 
   -- without atoms in its condition it is kept
-  kept : condition.literals ≡ [] → list_all (equality_holds []) condition.equalities ≡ true → effects_clash [] effects ≡ false → IsKept task the_instance
+  pub kept : condition.literals ≡ [] → list_all (equality_holds []) condition.equalities ≡ true → effects_clash [] effects ≡ false → IsKept task the_instance
   kept none equal compatible =
       keep the_instance (record { schema = schema; is_schema = refl; typed = tt; compatible = compatible })
       (λ l c _. absurd (Contains-nil l (subst (λ ls. Contains ls l) none c)))
       equal
       (λ l c _. absurd (Contains-nil l (subst (λ ls. Contains ls l) none c)))
 
-  numbers : IsKept task the_instance → NumbersInstances task (the_instance ∷ [])
+  pub numbers : IsKept task the_instance → NumbersInstances task (the_instance ∷ [])
   numbers kept = record {
     exactly = λ i. (
       (λ other. subst (Contains (the_instance ∷ [])) (kept_is i other) (Contains-first the_instance [])),
@@ -105,7 +105,7 @@ module _ (condition : Condition) (effects : List NumericEffect) (values : List I
       let more : MAX_AMOUNTS < length (filter is_paid effects) = subst (λ (a : Schema). MAX_AMOUNTS < length (filter is_paid a.effects)) (sym same) over.more in
       omega (arith, few, more)
 
-  fits : goal.literals ≡ [] → length fluents ≤ MAX_FLUENTS → length (filter is_paid effects) ≤ MAX_AMOUNTS → IsTooLarge task → ⊥
+  pub fits : goal.literals ≡ [] → length fluents ≤ MAX_FLUENTS → length (filter is_paid effects) ≤ MAX_AMOUNTS → IsTooLarge task → ⊥
   fits none few paid (IsTooLarge.actions over) =
       no_more (IsKept task) MAX_ACTIONS (the_instance ∷ [])
       (λ i other. subst (Contains (the_instance ∷ [])) (kept_is i other) (Contains-first the_instance [])) (omega arith) over
@@ -115,7 +115,7 @@ module _ (condition : Condition) (effects : List NumericEffect) (values : List I
 
   -- ---- what an instance of a negative cost says
 
-  negative_one : (i : Instance) → IsNegative task i → IsKept task the_instance × (is_negative_instance task the_instance ≡ true)
+  pub negative_one : (i : Instance) → IsNegative task i → IsKept task the_instance × (is_negative_instance task the_instance ≡ true)
   negative_one i fault =
       let found = find-Some (is_negative_instance task) fault.instances i fault.is_first in
       let other : IsKept task i = (fault.numbers_instances.exactly i).1 found.0 in

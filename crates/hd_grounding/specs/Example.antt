@@ -1,5 +1,5 @@
 -- A small lifted task and the task that it is grounded to, and small tasks with a fault, or with what looks like one.
-use Rattle.std.specs.Prelude.{ℕ, Bool, true, false, List, [], ◌∷◌, codes, refl, Some, ℤ, pos, negsuc, replicate}
+use Rattle.std.specs.Prelude.{ℕ, Bool, true, false, List, [], ◌∷◌, map, codes, refl, Some, ℤ, pos, negsuc, replicate}
 use Rattle.hd_base.specs.declared.expression.Operand.{Operand}
 use Rattle.hd_base.specs.declared.expression.Operand.TheVariants.{Number, Fluent}
 use Rattle.hd_base.specs.declared.operation.Operation.TheVariants.{Subtract}
@@ -8,6 +8,7 @@ use Rattle.hd_base.specs.Expression.{Expression, leaf, binary}
 use Rattle.hd_lifted.specs.declared.schema.Applied.{Applied}
 use Rattle.hd_lifted.specs.declared.schema.Ground.{Ground}
 use Rattle.hd_lifted.specs.declared.schema.Literal.{Literal}
+use Rattle.hd_lifted.specs.declared.schema.Comparison.{Comparison}
 use Rattle.hd_lifted.specs.declared.schema.Condition.{Condition}
 use Rattle.hd_lifted.specs.declared.schema.Change.TheVariants as lifted_change
 use Rattle.hd_lifted.specs.declared.schema.NumericEffect.{NumericEffect}
@@ -111,7 +112,7 @@ lantern_task = record {
 }
 
 -- ---- tasks with a fault: an oven has one action, `heat`, which has no parameters and adds nothing. There are an atom, that heating
--- is permitted, which is false at first, the fuel, and the metric's function, the price
+-- is permitted, which is false at first, the fuel, the draught, and the metric's function, the price
 
 -- the schema, by what it asks for and its effects
 abbrev pub heat : Condition → List NumericEffect → Schema
@@ -129,7 +130,11 @@ oven condition effects values goal = record {
   hierarchy = [];
   objects = [];
   predicates = record { name = codes "permitted"; parameters = [] } ∷ [];
-  functions = record { name = codes "fuel"; parameters = [] } ∷ record { name = codes "price"; parameters = [] } ∷ [];
+  functions =
+      record { name = codes "fuel"; parameters = [] }
+      ∷ record { name = codes "price"; parameters = [] }
+      ∷ record { name = codes "draught"; parameters = [] }
+      ∷ [];
   schemas = heat condition effects ∷ [];
   atoms = [];
   values = values;
@@ -142,6 +147,12 @@ fuel = record { symbol = 0; arguments = [] }
 
 abbrev pub permitted : Applied
 permitted = record { symbol = 0; arguments = [] }
+
+abbrev pub draught : Applied
+draught = record { symbol = 2; arguments = [] }
+
+abbrev pub the_draught : Ground
+the_draught = record { symbol = 2; objects = [] }
 
 -- the ground forms of the fuel and of the atom
 abbrev pub the_fuel : Ground
@@ -166,6 +177,44 @@ costing amount = record { change = lifted_change.Cost; fluent = price; amount = 
 
 abbrev pub with_fuel : ℤ → List InitialValue
 with_fuel value = record { fluent = the_fuel; value = value } ∷ []
+
+-- a condition that asks for 2 of each of these
+abbrev two_of : Applied → Comparison
+two_of a = record { relation = GreaterOrEqual; left = leaf (Fluent a); right = leaf (Number (pos 2)) }
+
+abbrev pub asking_for : List Applied → Condition
+asking_for fluents = record { literals = []; equalities = []; comparisons = map two_of fluents }
+
+-- amounts: a number, and the fuel less 10
+abbrev pub costing_number : ℤ → NumericEffect
+costing_number value = costing (leaf (Number value))
+
+abbrev pub costing_fuel_less : NumericEffect
+costing_fuel_less = costing (binary Subtract (leaf (Fluent fuel)) (leaf (Number (pos 10))))
+
+-- `heat` costs -1 and 3
+abbrev pub paying_in_all : LiftedTask
+paying_in_all = oven always (costing_number (negsuc 0) ∷ costing_number (pos 3) ∷ []) [] always
+
+-- `heat` costs -1 and the fuel less 10, of which there is 5
+abbrev pub paying_back_by_fuel : LiftedTask
+paying_back_by_fuel = oven always (costing_number (negsuc 0) ∷ costing_fuel_less ∷ []) (with_fuel (pos 5)) always
+
+-- `heat` costs -1, and asks for fuel, which has no value
+abbrev pub paying_back_without_fuel : LiftedTask
+paying_back_without_fuel = oven (asking_for (fuel ∷ [])) (costing_number (negsuc 0) ∷ []) [] always
+
+-- the goal asks for fuel, which has no value
+abbrev pub goal_without_fuel : LiftedTask
+goal_without_fuel = oven always [] [] (asking_for (fuel ∷ []))
+
+-- `heat` asks for draught and for fuel, which have no values
+abbrev pub without_both : LiftedTask
+without_both = oven (asking_for (draught ∷ fuel ∷ [])) [] [] always
+
+-- `heat` asks for draught, and the goal for fuel, which have no values
+abbrev pub without_either : LiftedTask
+without_either = oven (asking_for (draught ∷ [])) [] [] (asking_for (fuel ∷ []))
 
 -- `heat` asks for 2 of the fuel, which has no value
 abbrev pub without_fuel : LiftedTask

@@ -4,7 +4,7 @@ ghost use Rattle.hd_lifted.specs.declared.instance.Instance.{Instance};
 ghost use Rattle.hd_task.specs.declared.task.TheConstants.{MAX_AMOUNTS};
 ghost use Rattle.hd_kept.specs.Kept.{IsReachable};
 ghost use Rattle.hd_kept.specs.Numbering.{IsTaskAtom};
-ghost use Rattle.hd_grounding.specs.Example.{lantern, lantern_task, the_instance, without_fuel, the_fuel, paying_back, paying_by_fuel, cheap_at_first, never_paying_back, forbidding, the_permission, paying_often};
+ghost use Rattle.hd_grounding.specs.Example.{lantern, lantern_task, the_instance, without_fuel, the_fuel, paying_back, paying_by_fuel, cheap_at_first, never_paying_back, forbidding, the_permission, paying_often, the_draught, paying_in_all, paying_back_by_fuel, paying_back_without_fuel, goal_without_fuel, without_both, without_either};
 ghost use Rattle.hd_grounding.specs.Faults.{IsTooLarge, IsUndefined, IsNegative, is_negative_instance};
 ghost use Rattle.hd_grounding.specs.Grounding.{IsGrounding};
 
@@ -38,4 +38,23 @@ pub fn faults_compute()
 pub fn goal_atoms_compute()
     ensures named { IsTaskAtom forbidding the_permission }
     ensures not_reachable { IsReachable forbidding the_permission → ⊥ }
+{}
+
+/// What of two is told, and what of two amounts is no fault.
+pub fn orders_compute()
+    // It is the sum that is looked at, -1 and 3, and all amounts have to be constant: the fuel less 10 is not.
+    ensures costs_enough { (i : Instance) → IsNegative paying_in_all i → ⊥ }
+    ensures depends_in_part { (i : Instance) → IsNegative paying_back_by_fuel i → ⊥ }
+
+    // A fluent without a value is told before a cost of -1.
+    ensures fuel_first { IsUndefined paying_back_without_fuel the_fuel }
+    ensures cost_untold { (i : Instance) → IsNegative paying_back_without_fuel i → ⊥ }
+
+    // Of two fluents without values the first in the text is told, also where its number is the greater one.
+    ensures draught_first { IsUndefined without_both the_draught }
+    ensures fuel_untold { IsUndefined without_both the_fuel → ⊥ }
+
+    // What the goal reads is looked at, behind what the actions meet.
+    ensures in_goal { IsUndefined goal_without_fuel the_fuel }
+    ensures goal_last { IsUndefined without_either the_draught }
 {}

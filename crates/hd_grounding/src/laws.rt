@@ -70,3 +70,18 @@ pub fn faults_leave_no_grounding()
     ensures negative { (t : LiftedTask) (u : Task) (i : Instance)
         → IsGrounding t u → IsNegative t i → ⊥ }
 {}
+
+/// One fault is told of a task at most: where something is too large, that alone; else the first fluent without a first value, if
+/// there is one; else the first instance of a negative cost.
+pub fn faults_are_one()
+    ensures undefined { (t : LiftedTask) (g h : Ground)
+        → IsUndefined t g → IsUndefined t h → g ≡ h }
+    ensures negative { (t : LiftedTask) (i j : Instance)
+        → IsNegative t i → IsNegative t j → i ≡ j }
+    ensures undefined_first { (t : LiftedTask) (g : Ground) (i : Instance)
+        → IsUndefined t g → IsNegative t i → ⊥ }
+    ensures too_large_first { (t : LiftedTask) (g : Ground)
+        → IsTooLarge t → IsUndefined t g → ⊥ }
+    ensures too_large_alone { (t : LiftedTask) (i : Instance)
+        → IsTooLarge t → IsNegative t i → ⊥ }
+{}

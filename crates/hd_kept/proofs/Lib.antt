@@ -1,6 +1,7 @@
 pub mod Cold
 pub mod Gate
 pub mod Hearth
+pub mod Journey
 pub mod Least
 pub mod Marking
 pub mod Pairing

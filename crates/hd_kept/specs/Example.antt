@@ -22,6 +22,29 @@ with_fuel = journey (pos 9)
 abbrev pub need : Ground
 need = record { symbol = 1; objects = 0 ∷ 1 ∷ [] }
 
+-- the fluent of what the road from b to c needs
+abbrev pub need_bc : Ground
+need_bc = record { symbol = 1; objects = 1 ∷ 2 ∷ [] }
+
+-- being at a, at b and at c, and the roads
+abbrev at : ℕ → Ground
+at place = record { symbol = 0; objects = place ∷ [] }
+
+abbrev pub at_a : Ground
+at_a = at 0
+
+abbrev pub at_b : Ground
+at_b = at 1
+
+abbrev pub at_c : Ground
+at_c = at 2
+
+abbrev pub road_ab : Ground
+road_ab = record { symbol = 1; objects = 0 ∷ 1 ∷ [] }
+
+abbrev pub road_bc : Ground
+road_bc = record { symbol = 1; objects = 1 ∷ 2 ∷ [] }
+
 -- ---- a lamp: `light` makes it burn where it does not
 
 abbrev pub burning : Applied

@@ -1,13 +1,13 @@
 //! Worked examples of the definitions, each a checked fact. The functions do nothing.
 ghost use Rattle.std.specs.Prelude.{◌≡◌, [], ◌∷◌, true, false};
 ghost use Rattle.hd_lifted.specs.declared.instance.Instance.{Instance};
-ghost use Rattle.hd_lifted.specs.Example.{go, a_to_b, a_to_c, the_fuel};
+ghost use Rattle.hd_lifted.specs.Example.{go, a_to_b, b_to_c, a_to_c, the_fuel};
 ghost use Rattle.hd_lifted.specs.Plans.{IsInstance};
 ghost use Rattle.hd_kept.specs.Kept.{is_static, IsKept, IsReachable, IsSupported};
-ghost use Rattle.hd_kept.specs.Numbering.{ComesBefore, instance_key, form_key, NumbersInstances};
+ghost use Rattle.hd_kept.specs.Numbering.{ComesBefore, instance_key, form_key, NumbersInstances, NumbersAtoms, NumbersFluents};
 ghost use Rattle.hd_kept.specs.Met.{met_by, met_by_goal};
 ghost use Rattle.hd_kept.specs.Amounts.{is_changed};
-ghost use Rattle.hd_kept.specs.Example.{with_fuel, need, lamp, the_one, marks, marking, gate, locked, hearth, kindling, striking, the_match, the_fire, cold_hearth, circle, pairs, pairing, numbered_instance, numbered_form};
+ghost use Rattle.hd_kept.specs.Example.{with_fuel, need, need_bc, at_a, at_b, at_c, road_ab, road_bc, lamp, the_one, marks, marking, gate, locked, hearth, kindling, striking, the_match, the_fire, cold_hearth, circle, pairs, pairing, numbered_instance, numbered_form};
 
 /// The definitions on small tasks: of hd_lifted's journey the predicates are `at` and `road`, and the functions the fuel, what a road
 /// needs, and the cost.
@@ -75,4 +75,14 @@ pub fn equalities_compute()
         (instance_key (numbered_instance 1 0)) }
     ensures symbol_first { ComesBefore (form_key (numbered_form 0 1))
         (form_key (numbered_form 1 0)) }
+{}
+
+/// What hd_lifted's journey at fuel 9 has, in the order in which it is numbered.
+pub fn journey_is_numbered()
+    // Of nine ways to go from place to place there is a road on two.
+    ensures instances { NumbersInstances with_fuel (a_to_b ∷ b_to_c ∷ []) }
+
+    // No atom of another place or road, and no fluent but the fuel and what the two roads need.
+    ensures atoms { NumbersAtoms with_fuel (at_a ∷ at_b ∷ at_c ∷ road_ab ∷ road_bc ∷ []) }
+    ensures fluents { NumbersFluents with_fuel (the_fuel ∷ need ∷ need_bc ∷ []) }
 {}

@@ -41,7 +41,7 @@ departing_holds t r i is departs =
     ]
 
 module _ (t : LiftedTask) (u : Task) (made : IsGrounding t u) where
-  kept-has_action : (i : Instance) → IsKept t i → HasAction u i
+  pub kept-has_action : (i : Instance) → IsKept t i → HasAction u i
   kept-has_action i kept =
       let act = action_kept t u made i kept in
       record { number = act.0; is = ap (option_map instance_of) act.2 ∙ ap Some (instance_is t u made i act.1 act.3) }

@@ -1,10 +1,11 @@
 -- A true verdict of the task is one of its domain.
-use Rattle.std.proofs.Common.{ℕ, List, subst, arith}
+use Rattle.std.proofs.Common.{◌≡◌, ℕ, List, subst, arith}
 use Rattle.std.specs.Prelude.{pos}
 use Rattle.std.proofs.lemmas.Int.{ints}
 use Rattle.hd_lifted.specs.declared.task.LiftedTask.{LiftedTask}
 use Rattle.hd_lifted.specs.declared.instance.Instance.{Instance}
 use Rattle.hd_lifted.specs.Plans as domain
+use Rattle.hd_lifted.proofs.Costs.{one_cost}
 use Rattle.hd_task.specs.declared.task.Task.{Task}
 use Rattle.hd_task.specs.Verdicts.{IsOptimal, HasNoPlan}
 use Rattle.hd_grounding.specs.Grounding.{IsGrounding}
@@ -29,6 +30,10 @@ module _ (t : LiftedTask) (u : Task) (made : IsGrounding t u) where
     valid = valid_there t u made p best.cost best.valid;
     least = no_less p best;
   }
+
+  pub optimal_cost : (p : List ℕ) (best : IsOptimal u p) (there : domain.IsOptimal t (plan_of u p)) → there.cost ≡ pos best.cost
+  optimal_cost p best there =
+      one_cost t (plan_of u p) there.cost (pos best.cost) there.valid (valid_there t u made p best.cost best.valid)
 
   pub none_there : HasNoPlan u → domain.HasNoPlan t
   none_there none q v = let k = valid_back t u made q v in none k.plan k.cost k.valid

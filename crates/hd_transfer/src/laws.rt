@@ -1,5 +1,5 @@
 //! Laws over the definitions. Each function does nothing: its contract is the law.
-ghost use Rattle.std.specs.Prelude.{◌≡◌, ℕ, true, List, All, Some, slice_get, pos, ◌↔◌};
+ghost use Rattle.std.specs.Prelude.{◌≡◌, ℕ, true, List, [], map, All, Contains, Some, slice_get, pos, ◌↔◌};
 ghost use Rattle.hd_lifted.specs.declared.instance.Instance.{Instance};
 ghost use Rattle.hd_lifted.specs.declared.task.LiftedTask.{LiftedTask};
 ghost use Rattle.hd_lifted.specs.Departures as ranges;
@@ -9,12 +9,23 @@ ghost use Rattle.hd_lifted.specs.Steps.{Reached};
 ghost use Rattle.hd_task.specs.declared.action.Action.{Action};
 ghost use Rattle.hd_task.specs.declared.task.Task.{Task};
 ghost use Rattle.hd_task.specs.Departures.{action_departs, goal_departs};
+ghost use Rattle.hd_task.specs.Expansions.{departures_of};
 ghost use Rattle.hd_task.specs.Plans.{Node, exec, IsValidAt};
 ghost use Rattle.hd_task.specs.Verdicts.{IsOptimal, HasNoPlan};
+ghost use Rattle.hd_kept.specs.Kept.{IsKept};
+ghost use Rattle.hd_kept.specs.Numbering.{NumbersInstances};
 ghost use Rattle.hd_grounding.specs.Grounding.{IsGrounding};
-ghost use Rattle.hd_transfer.specs.Departures.{NoActionDeparts, NoInstanceDeparts};
+ghost use Rattle.hd_transfer.specs.Departures.{NoActionDeparts, NoInstanceDeparts, InstanceDepartsAt, GoalDepartsAt};
 ghost use Rattle.hd_transfer.specs.Instances.{instance_of, plan_of, IsOfValidPlan, HasAction};
 ghost use Rattle.hd_transfer.specs.Runs.{LeadsThere, IsOfPlan};
+
+/// The actions of a task are the kept instances of its domain, in their order: each has an action, and each action is one of them.
+pub fn actions_are_the_kept_instances()
+    ensures numbered { (t : LiftedTask) (u : Task)
+        → IsGrounding t u → NumbersInstances t (map instance_of u.actions) }
+    ensures kept { (t : LiftedTask) (u : Task) (i : Instance)
+        → IsGrounding t u → IsKept t i ↔ HasAction u i }
+{}
 
 /// The valid plans of a task are those of its domain, at the same costs: none is made up and none is lost, and the cost of each valid
 /// plan of the domain is an integer that is not negative.
@@ -23,6 +34,8 @@ pub fn plans_are_transferred()
         → IsGrounding t u → IsValidAt u p c → domain.IsValidAt t (plan_of u p) (pos c) }
     ensures back { (t : LiftedTask) (u : Task) (q : List Instance)
         → IsGrounding t u → domain.IsValid t q → IsOfValidPlan u q }
+    ensures cost { (t : LiftedTask) (u : Task) (q : List Instance)
+        → IsGrounding t u → domain.IsValid t q → (c : ℕ) × domain.IsValidAt t q (pos c) }
 {}
 
 /// Plans go over, whether they are valid or not: where a plan is executed in the task, its instances are executed in the domain, and
@@ -67,11 +80,34 @@ pub fn nothing_departs_unseen()
         → NoActionDeparts u m ↔ NoInstanceDeparts t r }
 {}
 
-/// A true verdict of a task is one of its domain: the instances of an optimal plan are an optimal plan of the domain, and where the
-/// task has no plan, the domain has none.
+/// Where a search has recorded no departure, nothing departs in the domain where a plan that it expanded leads.
+pub fn nothing_recorded_nothing_departs()
+    ensures { (t : LiftedTask) (u : Task) (expanded : List (List ℕ)) (p : List ℕ)
+        (m : Node) (r : Reached)
+        → IsGrounding t u → departures_of u expanded ≡ [] → Contains expanded p
+        → exec u p ≡ Some m → domain.exec t (plan_of u p) ≡ Some r → NoInstanceDeparts t r }
+{}
+
+/// Where an action of the task departs, the domain leaves the range: the plan's instances are executed there, and where they lead the
+/// action's instance departs. So it is with the goal.
+pub fn departures_are_of_the_domain()
+    ensures actions { (t : LiftedTask) (u : Task) (p : List ℕ) (m : Node)
+        (k : ℕ) (a : Action)
+        → IsGrounding t u → exec u p ≡ Some m → slice_get u.actions k ≡ Some a
+        → action_departs u m k ≡ true → InstanceDepartsAt t (plan_of u p) (instance_of a) }
+    ensures goal { (t : LiftedTask) (u : Task) (p : List ℕ) (m : Node)
+        → IsGrounding t u → exec u p ≡ Some m → goal_departs u m ≡ true
+        → GoalDepartsAt t (plan_of u p) }
+{}
+
+/// A true verdict of a task is one of its domain: the instances of an optimal plan are an optimal plan of the domain, at the same
+/// cost, and where the task has no plan, the domain has none.
 pub fn verdicts_are_transferred()
     ensures optimal { (t : LiftedTask) (u : Task) (p : List ℕ)
         → IsGrounding t u → IsOptimal u p → domain.IsOptimal t (plan_of u p) }
+    ensures cost { (t : LiftedTask) (u : Task) (p : List ℕ)
+        (best : IsOptimal u p) (there : domain.IsOptimal t (plan_of u p))
+        → IsGrounding t u → there.cost ≡ pos best.cost }
     ensures no_plan { (t : LiftedTask) (u : Task)
         → IsGrounding t u → HasNoPlan u → domain.HasNoPlan t }
 {}
