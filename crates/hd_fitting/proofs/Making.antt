@@ -1,8 +1,8 @@
 -- A task of the parts that were grounded is the grounding of the lifted task.
-use Rattle.std.proofs.Common.{◌≡◌, List, [], map, sym, subst}
+use Rattle.std.proofs.Common.{List, [], map, sym, subst}
 use Rattle.std.specs.Prelude.{is_some}
 use Rattle.std.specs.List.{AllZip}
-use Rattle.std.specs.Prelude.{get_or, All}
+use Rattle.std.specs.Prelude.{get_or}
 use Rattle.std.proofs.lemmas.List.Elements.{Contains-get_or}
 use Rattle.hd_lifted.specs.declared.schema.Ground.{Ground}
 use Rattle.hd_lifted.specs.declared.task.LiftedTask.{LiftedTask}
@@ -11,7 +11,7 @@ use Rattle.hd_task.specs.declared.action.Action.{Action}
 use Rattle.hd_task.specs.declared.task.Task.{Task}
 use Rattle.hd_task.specs.Parts.{HasParts}
 use Rattle.hd_grounding.specs.Images.{condition_of}
-use Rattle.hd_grounding.specs.Grounding.{HasFirstValue, names_in, form_of, start_in, IsActionOf, IsGrounding}
+use Rattle.hd_grounding.specs.Grounding.{names_in, form_of, start_in, IsActionOf, IsGrounding}
 use Rattle.hd_fitting.specs.Counted.{AreCounted, AreFaultless}
 use Rattle.hd_fitting.proofs.Starting.{first_there}
 

@@ -5,7 +5,6 @@ use Rattle.hd_lifted.specs.declared.schema.Ground.{Ground}
 use Rattle.hd_lifted.specs.declared.schema.Condition.{Condition}
 use Rattle.hd_lifted.specs.declared.instance.Instance.{Instance}
 use Rattle.hd_lifted.specs.declared.schema.NumericEffect.{NumericEffect}
-use Rattle.hd_kept.specs.Amounts.{is_changed}
 use Rattle.hd_grounding.specs.Faults.{IsUndefined, IsNegative}
 use Rattle.hd_grounding.specs.Example.{the_instance, always, fuel, draught, with_fuel, the_fuel, the_draught, asking_for, costing_number, costing_fuel_less, paying_in_all, paying_back_by_fuel, paying_back_without_fuel, goal_without_fuel, without_both, without_either}
 use Rattle.hd_grounding.proofs.Ovens.{kept, numbers, fits, negative_one}
