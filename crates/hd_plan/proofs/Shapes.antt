@@ -1,7 +1,6 @@
 -- The words of a step.
 use Rattle.std.proofs.Common.{◌≡◌, List, [], ◌∷◌, ◌++◌, map, ℕ, Bool, true, false, ◌&&◌, Option, Some, None, refl, sym, ap, ap₂, ◌∙◌, append_assoc}
 use Rattle.std.proofs.lemmas.Bool.{and_parts}
-use Rattle.std.proofs.lemmas.List.{append-nil}
 use Rattle.std.proofs.lemmas.Option.{same_Some}
 use Rattle.hd_lex.specs.declared.token.Word.{Word}
 use Rattle.hd_lex.specs.declared.token.Word.TheVariants as words
@@ -89,7 +88,7 @@ step_by-words w v ws s true None found is named args e = absurd cc
 step_by-words w v ws s true (Some n) None is named args e = absurd cc
 step_by-words w v ws s true (Some n) (Some found) is named args e =
     let rest : v ∷ ws ≡ words.Name n ∷ closed found =
-        ap₂ (λ (x : Word) (xs : List Word). x ∷ xs) (name_in-is v n named) (args-words ws found args) in
+    ap₂ (λ (x : Word) (xs : List Word). x ∷ xs) (name_in-is v n named) (args-words ws found args) in
     ap₂ (λ (x : Word) (xs : List Word). x ∷ xs) (is_open-is w is) rest
     ∙ ap step_words (same_Some (record { name = n; args = found }) s e)
 

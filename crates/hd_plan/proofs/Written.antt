@@ -1,5 +1,5 @@
 -- What is written is read back.
-use Rattle.std.proofs.Common.{◌≡◌, ℕ, ◌+◌, ◌<◌, ◌^◌, List, [], ◌∷◌, ◌++◌, length, map, flat_map, Bool, true, ◌&&◌, refl, sym, ap, subst, ◌∙◌, append_assoc, arith, rules}
+use Rattle.std.proofs.Common.{◌≡◌, ℕ, ◌+◌, ◌<◌, ◌^◌, List, [], ◌∷◌, ◌++◌, length, flat_map, Bool, true, refl, sym, ap, subst, ◌∙◌, append_assoc, arith, rules}
 use Rattle.std.specs.Prelude.{codes, decimal}
 use Rattle.std.specs.Char.{is_ascii_alphabetic, is_ascii_digit}
 use Rattle.std.specs.Str.Parse.{digits_value}
@@ -120,7 +120,7 @@ has_name : (at : ℕ) (name rest : List ℕ) (said : List Word) → IsLowerName 
     → Has (at + length name) rest said → Has at (name ++ rest) (words.Name name ∷ said)
 has_name at name rest said is end more =
     let run : IsRun is_word_byte (name ++ rest) name rest =
-        record { parts = refl; all = name_all is_word_byte name_byte-word name is.spelled; longest = end } in
+    record { parts = refl; all = name_all is_word_byte name_byte-word name is.spelled; longest = end } in
     record {
       words = record { at = at; bytes = name } ∷ more.words;
       tokens = record { from = at; to = at + length name; word = words.Name name } ∷ more.tokens;
@@ -212,7 +212,7 @@ plan_text_reads (s ∷ ss) cost small are =
     let rest : List ℕ = flat_map step_line ss in
     let behind : List ℕ = rest ++ cost_line cost in
     let split : plan_text (s ∷ ss) cost ≡ step_text s ++ (10 ∷ behind) =
-        append_assoc (step_line s) rest (cost_line cost) ∙ append_assoc (step_text s) (10 ∷ []) behind in
+    append_assoc (step_line s) rest (cost_line cost) ∙ append_assoc (step_text s) (10 ∷ []) behind in
     let first : texts.IsFirstLine (step_text s ++ (10 ∷ behind)) (step_text s) behind = texts.ended (step-one_line s are.0) in
     subst (λ (t : List ℕ). ReadsAs t (s ∷ ss)) (sym split)
     (texts.step first (step-is_line s are.0) (plan_text_reads ss cost small are.1))

@@ -68,12 +68,7 @@ fn plan_text(alloc: Global, steps: &[Step], cost: u64) -> Result<Vec<u8>, NoMemo
 /// # Errors
 /// The writer's fault, after which a beginning of the text has been written; and want of memory, told as `OutOfMemory`, before
 /// anything is written.
-pub fn write_plan<W: Write>(
-    alloc: Global,
-    steps: &[Step],
-    cost: u64,
-    out: &mut W,
-) -> io::Result<()>
+pub fn write_plan<W: Write>(alloc: Global, steps: &[Step], cost: u64, out: &mut W) -> io::Result<()>
     // What is written: just that text.
     ensures whole { OnOk result (Appends (W.contents out.old) (W.contents out.new)
         (plan_text steps.now cost)) }

@@ -1,4 +1,4 @@
-use Rattle.std.proofs.Common.{◌≡◌, ◌++◌, length}
+use Rattle.std.proofs.Common.{◌≡◌, length}
 use Rattle.hd_plan.specs.Reading.{args_of, words_of, behind_args}
 use Rattle.hd_plan.proofs.step.args_of.Given as goal
 
