@@ -1,10 +1,12 @@
-//! Tests of the libraries that read texts: hd_lex, hd_forms, hd_terms and hd_pddl.
+//! Tests of the libraries that read texts: hd_lex, hd_forms, hd_terms, hd_pddl and hd_plan.
 //!
 //! Other tests take from here the small tasks of [`samples`] and the signs of [`signs`].
 #![tactic(auto)]
 
 #[cfg(test)]
 mod forms;
+#[cfg(test)]
+mod plans;
 #[cfg(test)]
 mod refusals;
 #[cfg(test)]

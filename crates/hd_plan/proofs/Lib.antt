@@ -1,0 +1,5 @@
+pub mod Files
+pub mod Lines
+pub mod Lowered
+pub mod Shapes
+pub mod Written

@@ -1,0 +1,5 @@
+pub mod Error
+pub mod Output
+pub mod PlanText
+pub mod Reading
+pub mod Text

@@ -1,0 +1,84 @@
+//! Writing plan files.
+
+ghost use Rattle.std.specs.Prelude.{◌≡◌, ◌++◌, IfOk, OnOk, flat_map};
+ghost use Rattle.std.specs.Io.KnownBytes.{Appends};
+ghost use Rattle.hd_plan.specs.Output.{AppendsFront};
+ghost use Rattle.hd_plan.specs.PlanText.{arg_text, step_text, step_line, plan_text};
+
+use crate::put::put;
+use crate::step::Step;
+use hd_base::{Name, NoMemory};
+use std::alloc::Global;
+use std::io::{self, Write};
+
+/// An object behind a space, behind a text.
+fn push_arg(text: &mut Vec<u8>, arg: &Name) -> Result<(), NoMemory>
+    ensures { OnOk result (text.new.items ≡ text.old.items ++ arg_text arg.now) }
+{
+    text.push(b' ')?;
+    text.extend_from_slice(arg.as_str().as_bytes())
+}
+
+/// Objects, each behind a space, behind a text.
+fn push_args(text: &mut Vec<u8>, args: &[Name]) -> Result<(), NoMemory>
+    ensures { OnOk result (text.new.items ≡ text.old.items ++ flat_map arg_text args.now) }
+{
+    for arg in args {
+        push_arg(text, arg)?;
+    }
+    Ok(())
+}
+
+/// A step behind a text.
+fn push_step(text: &mut Vec<u8>, step: &Step) -> Result<(), NoMemory>
+    ensures { OnOk result (text.new.items ≡ text.old.items ++ step_text step.now) }
+{
+    text.push(b'(')?;
+    text.extend_from_slice(step.name.as_str().as_bytes())?;
+    push_args(text, step.args.as_slice())?;
+    text.push(b')')?;
+    Ok(())
+}
+
+/// The line of a step behind a text.
+fn push_line(text: &mut Vec<u8>, step: &Step) -> Result<(), NoMemory>
+    ensures { OnOk result (text.new.items ≡ text.old.items ++ step_line step.now) }
+{
+    push_step(text, step)?;
+    text.push(b'\n')?;
+    Ok(())
+}
+
+/// The text of a plan at a cost.
+fn plan_text(alloc: Global, steps: &[Step], cost: u64) -> Result<Vec<u8>, NoMemory>
+    ensures { IfOk result (λ text. text.items ≡ plan_text steps.now cost) }
+{
+    let mut text = Vec::new(alloc);
+    for step in steps {
+        push_line(&mut text, step)?;
+    }
+    let cost = format!(in alloc; "; cost = {cost}")?;
+    text.extend_from_slice(cost.as_bytes())?;
+    text.push(b'\n')?;
+    Ok(text)
+}
+
+/// Writes the text of a plan at a cost: each step as `(name object ..)` on a line, and then `; cost = N`.
+///
+/// # Errors
+/// The writer's fault, after which a beginning of the text has been written; and want of memory, told as `OutOfMemory`, before
+/// anything is written.
+pub fn write_plan<W: Write>(alloc: Global, steps: &[Step], cost: u64, out: &mut W) -> io::Result<()>
+    // What is written: just that text.
+    ensures whole { OnOk result (Appends (W.contents out.old) (W.contents out.new)
+        (plan_text steps.now cost)) }
+
+    // What a fault leaves: a beginning of it.
+    ensures front { AppendsFront (W.contents out.old) (W.contents out.new)
+        (plan_text steps.now cost) }
+{
+    let Ok(text) = plan_text(alloc, steps, cost) else {
+        return Err(io::Error::from(io::ErrorKind::OutOfMemory));
+    };
+    put(out, &text)
+}
