@@ -1,0 +1,4 @@
+pub mod Asked
+pub mod Deciding
+pub mod Defined
+pub mod Along

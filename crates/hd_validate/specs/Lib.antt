@@ -1,0 +1,5 @@
+pub mod Fault
+pub mod Questions
+pub mod Asking
+pub mod Validity
+pub mod Way
