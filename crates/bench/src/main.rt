@@ -143,7 +143,7 @@ fn main(rt: HostRuntime) -> anyhow::Result<()> {
     let domain = fs::read(&rt, domain)?;
     let problem = fs::read(&rt, problem)?;
     match words.next() {
-        Some(word) if word == "ground" => time_grounding(&rt, &domain, &problem),
+        Some(word) if word.as_str() == "ground" => time_grounding(&rt, &domain, &problem),
         Some(_) => time_search(&rt, &domain, &problem),
         None => {
             time_words(&rt, &problem)?;
