@@ -3,7 +3,7 @@
 # FOLDER, which has domain.pddl and problem.pddl: bench/ground.sh [FOLDER..]
 # The first has 200 packages, 10 trucks and 50 places with a road map that never changes; each of its packages can be loaded and
 # unloaded everywhere, so that it has some 200,000 actions. Of the others each is a schema over 1000 objects whose conditions bind
-# its parameters; one has no instance at all. The greatest size of the process is printed beside each, in kilobytes.
+# its parameters; two have no instance at all. The greatest size of the process is printed beside each, in kilobytes.
 # The crate `bench` is built and proved as the gate does it.
 set -e
 folder=$(mktemp -d)

@@ -9,9 +9,14 @@ folder=$(mktemp -d)
 trap 'rm -rf "$folder"' EXIT
 long=$(printf '%255s' '' | tr ' ' t)
 
+# Repeats $1 as often as $2 says.
+repeated() {
+    awk -v part="$1" -v count="$2" 'BEGIN { for (i = 0; i < count; i++) printf "%s", part }'
+}
+
 # Repeats $1 up to 2 MB.
 filled() {
-    awk -v part="$1" 'BEGIN { for (i = 0; i < 2000000 / length(part); i++) printf "%s", part }'
+    repeated "$1" $((2000000 / ${#1} + 1))
 }
 
 # The domain and the problem stand on standard input, a line each, with @ where the part named $2 is repeated; $1 is what is printed.
@@ -45,5 +50,10 @@ printf '%s\n' "$numeric" '(define (problem p) (:domain l) (:init @) (:goal (c)))
 printf '%s\n' "$plain" '(define (problem p) (:domain l) (:init) (:goal (and @ (c))))' | row 'goals that are atoms' '(a)'
 printf '%s\n' "$plain" '(define (problem p) (:domain l) (:init) (:goal (and @ (c))))' | row 'comparisons of numbers' '(< 1 1)'
 printf '%s\n' "$numeric" '(define (problem p) (:domain l) (:init) (:goal (and @ (c))))' | row 'comparisons of a fluent' '(<(a)1)'
+printf '%s\n' "$numeric" '(define (problem p) (:domain l) (:init) (:goal (and @ (c))))' | row 'comparisons of two fluents' '(<(a)(a))'
+printf '%s\n' "$plain" '(define (problem p) (:domain l) (:init) (:goal (and @ (c))))' | row 'sums' "(<$(repeated '(+' 60) 1 1)$(repeated '1)' 60)"
+printf '%s\n' "$plain" '(define (problem p) (:domain l) (:init) (:goal (and @ (c))))' | row 'negations' "(<$(repeated '(-' 60) 1$(repeated ')' 60) 1)"
+printf '%s\n' "$plain" '(define (problem p) (:domain l) (:objects o) (:init) (:goal (and @ (c))))' | row 'equalities of objects' '(= o o)'
+printf '%s\n' '(define (domain l) (:predicates (a) (b)) (:action s :parameters () :effect (and @ (c))))' "$simple" | row 'effects that are atoms' '(a)'
 printf '%s\n' "(define (domain l) @)" "$simple" | row 'empty lists' '()'
 printf '%s\n' "(define (domain l) @" "$simple" | row 'lists of a name, one left open' '(a)'

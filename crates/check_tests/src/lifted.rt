@@ -1,6 +1,8 @@
 //! Tuples, ground forms and expressions of lifted tasks: each public function once on its happy path.
-use hd_lifted::{Applied, Argument, Expr, ExprParts, Ground, Operand, Operation, Tuple};
-use smallvec::{SmallVec, smallvec};
+use hd_lifted::{
+    Applied, Argument, Boxed, Expr, ExprParts, Ground, Operand, Operation, Sequence, Tuple,
+};
+use smallvec::SmallVec;
 use std::alloc::Global;
 use std::test::Fail;
 
@@ -74,11 +76,12 @@ fn tuples_and_ground_forms_are_compared_by_items(rt: HostRuntime) -> Result<(), 
 
 /// A fluent of the first parameter and the object 4.
 fn fluent(alloc: Global) -> Result<Expr, Fail> {
-    let arguments = smallvec![in alloc; Argument::Parameter(0), Argument::Object(4)]?;
-    Ok(Expr::leaf(Operand::Fluent(Applied {
+    let arguments = vec![in alloc; Argument::Parameter(0), Argument::Object(4)]?;
+    let applied = Applied {
         symbol: 3,
-        arguments: Tuple::from_small_vec(arguments),
-    })))
+        arguments: Sequence::from_vec(arguments),
+    };
+    Ok(Expr::leaf(Operand::Fluent(Boxed::of(alloc, applied)?)))
 }
 
 fn negated_seven(alloc: Global) -> Result<Expr, Fail> {
@@ -101,7 +104,7 @@ fn operand_of(expr: &Expr) -> Option<&Expr> {
 
 fn fluent_of(expr: &Expr) -> Option<&Applied> {
     match expr.parts() {
-        ExprParts::Leaf(Operand::Fluent(fluent)) => Some(fluent),
+        ExprParts::Leaf(Operand::Fluent(fluent)) => Some(fluent.get()),
         _ => None,
     }
 }

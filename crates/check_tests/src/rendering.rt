@@ -56,7 +56,7 @@ fn add_ground(text: &mut String, ground: &Ground) -> Result<(), AllocError> {
 fn add_expression(text: &mut String, expression: &Expr) -> Result<(), AllocError> {
     match expression.parts() {
         ExprParts::Leaf(Operand::Number(value)) => write!(text, "{value}"),
-        ExprParts::Leaf(Operand::Fluent(fluent)) => add_applied(text, fluent),
+        ExprParts::Leaf(Operand::Fluent(fluent)) => add_applied(text, fluent.get()),
         ExprParts::Negate(operand) => {
             text.push_str("(- ")?;
             add_expression(text, operand)?;

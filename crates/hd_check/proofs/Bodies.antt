@@ -33,7 +33,7 @@ use Rattle.hd_check.proofs.Arguments.{Agrees, placed, applied}
 
 pub expression : (t : LiftedTask) (s : Scope) (ps : Table ℕ) → Agrees t s → length ps.items ≡ length ps.names → (x : trees.Expression Leaf)
     → expression_fault s ps x ≡ None → IsExpression t ps.items (lifted_expression s ps x)
-expression t s ps g long (trees.leaf (Number v at)) e = tt
+expression t s ps g long (trees.leaf (Number at v)) e = tt
 expression t s ps g long (trees.leaf (Fluent a)) e = applied t s ps g long t.functions s.functions g.functions a e
 expression t s ps g long (trees.negate x) e = expression t s ps g long x e
 expression t s ps g long (trees.binary o x y) e =

@@ -76,7 +76,7 @@ fluent_named s ps a e =
 -- an expression that doesn't read it
 pub reads_not : (s : Scope) (ps : Table ℕ) (m : List ℕ) (f : ℕ) → position (bytes_eq m) s.functions.names ≡ Some f → (x : trees.Expression Leaf)
     → expression_fault s ps x ≡ None → read_in m x ≡ None → IsFreeOf f (lifted_expression s ps x)
-reads_not s ps m f is (trees.leaf (Number v at)) e r = tt
+reads_not s ps m f is (trees.leaf (Number at v)) e r = tt
 reads_not s ps m f is (trees.leaf (Fluent a)) e r =
     other_number s.functions.names m a.name.name f is (fluent_named s ps a e) (false-from_none (bytes_eq a.name.name m) a.name.at r)
 reads_not s ps m f is (trees.negate x) e r = reads_not s ps m f is x e r

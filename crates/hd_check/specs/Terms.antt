@@ -97,14 +97,14 @@ lifted_applied symbols s ps a = record {
 
 -- the first fault, from the left
 abbrev pub expression_fault : Scope → Table ℕ → Expression Leaf → Option Fault
-expression_fault s ps (leaf (Number v at)) = None
+expression_fault s ps (leaf (Number at v)) = None
 expression_fault s ps (leaf (Fluent a)) = applied_fault s.functions s ps a
 expression_fault s ps (negate x) = expression_fault s ps x
 expression_fault s ps (binary o x y) = expression_fault s ps x or expression_fault s ps y
 
 -- what an expression stands for
 abbrev pub lifted_expression : Scope → Table ℕ → Expression Leaf → Expression (Operand Applied)
-lifted_expression s ps (leaf (Number v at)) = leaf (operands.Number v)
+lifted_expression s ps (leaf (Number at v)) = leaf (operands.Number v)
 lifted_expression s ps (leaf (Fluent a)) = leaf (operands.Fluent (lifted_applied s.functions s ps a))
 lifted_expression s ps (negate x) = negate (lifted_expression s ps x)
 lifted_expression s ps (binary o x y) = binary o (lifted_expression s ps x) (lifted_expression s ps y)

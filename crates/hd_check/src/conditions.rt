@@ -53,7 +53,7 @@ fn comparison_of(
     ensures { Lifts result comparison_fault lifted_comparison context.entry said.now }
 {
     let left = expression_of(alloc, context, &said.left)?;
-    let right = expression_of(alloc, context, &said.right)?;
+    let right = expression_of(alloc, context, said.right.get())?;
     Ok(Comparison {
         relation: said.relation,
         left,
@@ -97,7 +97,7 @@ impl Found {
             }
             hd_terms::Condition::Compare(comparison) => {
                 self.comparisons
-                    .push(comparison_of(alloc, context, comparison.get())?)?;
+                    .push(comparison_of(alloc, context, comparison)?)?;
             }
         }
         Ok(())

@@ -4,7 +4,7 @@ ghost use Rattle.hd_check.specs.Terms.{expression_fault, lifted_expression};
 
 use crate::context::Context;
 use crate::terms::applied_of;
-use hd_lifted::{Expr, Operand};
+use hd_lifted::{Boxed, Expr, Operand};
 use hd_names::Stop;
 use hd_terms::{ExprParts, Leaf};
 use std::alloc::Global;
@@ -18,10 +18,10 @@ pub fn expression_of(
     ensures { Lifts result expression_fault lifted_expression context.entry said.now }
 {
     match said.parts() {
-        ExprParts::Leaf(Leaf::Number(value, _)) => Ok(Expr::leaf(Operand::Number(*value))),
+        ExprParts::Leaf(Leaf::Number(_, value)) => Ok(Expr::leaf(Operand::Number(*value))),
         ExprParts::Leaf(Leaf::Fluent(atom)) => {
-            let fluent = applied_of(alloc, &context.scope.functions, context, atom)?;
-            Ok(Expr::leaf(Operand::Fluent(fluent)))
+            let fluent = applied_of(alloc, &context.scope.functions, context, atom.get())?;
+            Ok(Expr::leaf(Operand::Fluent(Boxed::of(alloc, fluent)?)))
         }
         ExprParts::Negate(inner) => {
             let inner = expression_of(alloc, context, inner)?;

@@ -109,8 +109,9 @@ fn fluent_of(
     ensures fluent { LiftsFluent result given.old scope.now value.now }
     ensures given { NotesFluent result given.old given.new scope.now value.now }
 {
-    let fluent = ground_of(alloc, &scope.functions, scope, &value.fluent)?;
-    note_value(alloc, given, &fluent, &value.fluent)?;
+    let said = value.fluent.get();
+    let fluent = ground_of(alloc, &scope.functions, scope, said)?;
+    note_value(alloc, given, &fluent, said)?;
     check_range(value)?;
     Ok(fluent)
 }
@@ -160,7 +161,7 @@ impl Found {
                 ground_of(alloc, &scope.predicates, scope, atom)?;
             }
             Init::Value(value) => {
-                add_value(alloc, scope, &mut self.given, &mut self.values, value.get())?;
+                add_value(alloc, scope, &mut self.given, &mut self.values, value)?;
             }
         }
         Ok(())

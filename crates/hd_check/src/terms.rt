@@ -8,10 +8,9 @@ ghost use Rattle.hd_names.specs.declared.fault.Fault.TheVariants.{WrongArity};
 use crate::context::Context;
 use hd_base::Sequence;
 use hd_forms::NameAt;
-use hd_lifted::{Applied, Argument, Tuple};
+use hd_lifted::{Applied, Argument};
 use hd_names::{Fault, Stop, Table, known, spelled};
 use hd_terms::{Atom, ItemKind, Term};
-use smallvec::SmallVec;
 use std::alloc::Global;
 
 /// What a term stands for.
@@ -84,11 +83,11 @@ fn arguments_of(
     context: Context<'_>,
     terms: &[Term],
     wanted: &[usize],
-) -> Result<Tuple<Argument>, Stop>
+) -> Result<Sequence<Argument>, Stop>
     requires { length terms.now ≡ length wanted.now }
     ensures { LiftsArguments result context.entry terms.now wanted.now }
 {
-    let mut arguments = SmallVec::new(alloc);
+    let mut arguments = Vec::with_capacity(alloc, terms.len())?;
     let mut rest = terms;
     let mut types = wanted;
     while let ([term, after @ ..], [first, others @ ..]) = (rest, types) {
@@ -97,7 +96,7 @@ fn arguments_of(
         rest = after;
         types = others;
     }
-    Ok(Tuple::from_small_vec(arguments))
+    Ok(Sequence::from_vec(arguments))
 }
 
 /// The types of the parameters of the predicate, or the function, of this number.

@@ -4,8 +4,9 @@ ghost use Rattle.std.specs.Prelude.{◌≡◌, IfOk};
 use std::alloc::AllocError;
 use std::marker::Model;
 
-/// A place in a text, counted from 0, in six bytes: so it takes no more room in a form than the form's kind alone would.
-#[derive(Drop)]
+/// A place in a text, counted from 0, in six bytes: so it takes no more room beside the kind of a form, or of a leaf, than the
+/// kind alone would.
+#[derive(Debug, Drop)]
 pub struct Place {
     low: u16,
     middle: u16,

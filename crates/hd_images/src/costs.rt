@@ -9,7 +9,7 @@ use crate::changed::is_cost;
 use crate::expressions::expression_of;
 use crate::{Lookups, Numbers};
 use hd_base::{ExprParts, NoMemory, Operand, Sequence};
-use hd_lifted::{Applied, NumericEffect, Schema};
+use hd_lifted::{Leaf, NumericEffect, Schema};
 use hd_task::Expr;
 use std::alloc::Global;
 
@@ -18,14 +18,14 @@ pub(crate) fn first_value(
     alloc: Global,
     lookups: &Lookups<'_>,
     objects: &[usize],
-    said: &Operand<Applied>,
+    said: &Leaf,
 ) -> Result<Option<i64>, NoMemory>
     ensures { IfOk result (λ v. v
         ≡ value_of (first_value lookups.now.values) objects.now (leaf said.now)) }
 {
     match said {
         Operand::Number(value) => Ok(Some(*value)),
-        Operand::Fluent(fluent) => lookups.first_value(alloc, objects, fluent),
+        Operand::Fluent(fluent) => lookups.first_value(alloc, objects, fluent.get()),
     }
 }
 

@@ -4,7 +4,7 @@ ghost use Rattle.hd_grounding.specs.Images.{operand_of, expression_of};
 
 use crate::Numbers;
 use hd_base::{ExprParts, NoMemory, Operand};
-use hd_lifted::Applied;
+use hd_lifted::Leaf;
 use hd_task::Expr;
 use std::alloc::Global;
 
@@ -13,14 +13,14 @@ fn operand_of(
     alloc: Global,
     fluents: &Numbers,
     objects: &[usize],
-    said: &Operand<Applied>,
+    said: &Leaf,
 ) -> Result<Operand<u32>, NoMemory>
     ensures { IfOk result (λ o. o ≡ operand_of fluents.now objects.now said.now) }
 {
     match said {
         Operand::Number(value) => Ok(Operand::Number(*value)),
         Operand::Fluent(fluent) => {
-            let number = fluents.number_at(alloc, objects, fluent)?;
+            let number = fluents.number_at(alloc, objects, fluent.get())?;
             Ok(Operand::Fluent(number.unwrap_or(0)))
         }
     }

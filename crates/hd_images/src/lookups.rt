@@ -73,7 +73,7 @@ impl<'a> Lookups<'a> {
     {
         match amount.parts() {
             ExprParts::Leaf(Operand::Number(_)) => true,
-            ExprParts::Leaf(Operand::Fluent(fluent)) => !self.changed.has(fluent.symbol),
+            ExprParts::Leaf(Operand::Fluent(fluent)) => !self.changed.has(fluent.get().symbol),
             ExprParts::Negate(_) | ExprParts::Binary(_, _, _) => false,
         }
     }

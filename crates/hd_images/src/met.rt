@@ -10,7 +10,7 @@ ghost use Rattle.hd_images.specs.Meeting.{with_forms, IsMet};
 use crate::Forms;
 use crate::changed::is_cost;
 use hd_base::{ExprParts, NoMemory, Operand, Seed};
-use hd_lifted::{Applied, Comparison, Expr, Instance, LiftedTask, NumericEffect, Schema};
+use hd_lifted::{Comparison, Expr, Instance, Leaf, LiftedTask, NumericEffect, Schema};
 use hd_task::MAX_FLUENTS;
 use std::alloc::Global;
 
@@ -19,14 +19,14 @@ fn meet_leaf(
     alloc: Global,
     forms: &mut Forms,
     objects: &[usize],
-    said: &Operand<Applied>,
+    said: &Leaf,
 ) -> Result<(), NoMemory>
     ensures { IfOk result (λ _. forms.new
         ≡ with_forms forms.old (fluents_in objects.now (leaf said.now))) }
 {
     match said {
         Operand::Number(_) => Ok(()),
-        Operand::Fluent(fluent) => forms.add_at(alloc, objects, fluent),
+        Operand::Fluent(fluent) => forms.add_at(alloc, objects, fluent.get()),
     }
 }
 

@@ -16,14 +16,14 @@ mod shortcuts;
 mod task;
 
 pub use checked::Checked;
-pub use hd_base::{ExprParts, Name, Operand, Operation, Relation, Sequence, Tuple};
+pub use hd_base::{Boxed, ExprParts, Name, Operand, Operation, Relation, Sequence, Tuple};
 pub use hierarchy::Hierarchy;
 pub use instance::Instance;
 pub use reading::{
     are_of_types, effects_clash, equalities_hold, ground_form_of, is_of_type, is_same, object_of,
 };
 pub use schema::{
-    Applied, Argument, Change, Comparison, Condition, Equality, Expr, Ground, Literal,
+    Applied, Argument, Change, Comparison, Condition, Equality, Expr, Ground, Leaf, Literal,
     NumericEffect, Schema,
 };
 pub use task::{InitialValue, LiftedTask, Object, Signature};

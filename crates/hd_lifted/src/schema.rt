@@ -2,7 +2,7 @@
 ghost use Rattle.std.specs.Prelude.{◌≡◌};
 ghost use Rattle.hd_lifted.specs.declared.schema.Argument.TheVariants.{Object};
 
-use hd_base::{Name, Operand, Relation, Sequence, Tuple};
+use hd_base::{Boxed, Name, Operand, Relation, Sequence, Tuple};
 
 /// What stands for an object.
 #[derive(Clone, Copy, Debug, PartialEq, Eq)]
@@ -27,7 +27,7 @@ impl Default for Argument {
 pub struct Applied {
     /// The number of the predicate or function.
     pub symbol: usize,
-    pub arguments: Tuple<Argument>,
+    pub arguments: Sequence<Argument>,
 }
 
 /// A predicate or a function, by its number, with the numbers of objects: a ground atom or fluent.
@@ -56,8 +56,12 @@ pub struct Equality {
     pub positive: bool,
 }
 
+/// A number, or the value of a fluent with arguments. What it is applied to has memory of its own, since every part of an
+/// expression is as wide as its widest leaf.
+pub type Leaf = Operand<Boxed<Applied>>;
+
 /// A numeric expression over numbers and fluents with arguments.
-pub type Expr = hd_base::Expr<Operand<Applied>>;
+pub type Expr = hd_base::Expr<Leaf>;
 
 /// A comparison of two numbers.
 #[derive(Debug, Drop)]

@@ -25,7 +25,7 @@ use Rattle.hd_base.specs.Options.{◌or◌}
 
 -- where an expression reads it
 abbrev pub read_in : List ℕ → Expression Leaf → Option ℕ
-read_in f (leaf (Number v at)) = None
+read_in f (leaf (Number at v)) = None
 read_in f (leaf (Fluent a)) = if bytes_eq a.name.name f then Some a.name.at else None
 read_in f (negate x) = read_in f x
 read_in f (binary o x y) = read_in f x or read_in f y

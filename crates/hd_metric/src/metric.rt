@@ -15,6 +15,7 @@ fn read_in(function: &Name, expression: &Expr) -> Option<usize>
     match expression.parts() {
         ExprParts::Leaf(Leaf::Number(_, _)) => None,
         ExprParts::Leaf(Leaf::Fluent(fluent)) => {
+            let fluent = fluent.get();
             if fluent.name.name == *function {
                 Some(fluent.name.at)
             } else {
@@ -35,10 +36,9 @@ fn read_by_part(function: &Name, part: &Condition) -> Option<usize>
 {
     match part {
         Condition::Compare(comparison) => {
-            let comparison = comparison.get();
             match read_in(function, &comparison.left) {
                 Some(at) => Some(at),
-                None => read_in(function, &comparison.right),
+                None => read_in(function, comparison.right.get()),
             }
         }
         Condition::Atom(_) => None,
@@ -135,7 +135,7 @@ fn is_value_of(function: &Name, said: &Init) -> bool
     ensures { result ≡ is_value_of function.now said.now }
 {
     match said {
-        Init::Value(value) => value.get().fluent.name.name == *function,
+        Init::Value(value) => value.fluent.get().name.name == *function,
         Init::Atom(_) => false,
         Init::NotAtom(_) => false,
     }
@@ -147,8 +147,7 @@ fn nonzero_at(function: &Name, said: &Init) -> Option<usize>
 {
     match said {
         Init::Value(value) => {
-            let value = value.get();
-            if value.fluent.name.name == *function && value.value.unsigned_abs() != 0 {
+            if value.fluent.get().name.name == *function && value.value.unsigned_abs() != 0 {
                 Some(value.at)
             } else {
                 None

@@ -49,8 +49,8 @@ fn value_of(alloc: Global, rest: &[Form], to: usize) -> Result<Init, ReadError>
     let fluent = atom_of(alloc, inside, inside_to)?;
     let (value, at, rest) = number_at(alloc, rest, to)?;
     end_at(alloc, rest)?;
-    let value = Boxed::of(alloc, InitialValue { fluent, value, at })?;
-    Ok(Init::Value(value))
+    let fluent = Boxed::of(alloc, fluent)?;
+    Ok(Init::Value(InitialValue { fluent, value, at }))
 }
 
 /// The initial fact that stands in a form which ends at the place `to`.

@@ -34,7 +34,8 @@ pub struct DomainAst {
 /// The value that a fluent has at first.
 #[derive(Debug, Drop)]
 pub struct InitialValue {
-    pub fluent: Atom,
+    /// In memory of its own: most facts are atoms, and a list of facts is as wide as its widest item.
+    pub fluent: Boxed<Atom>,
     pub value: i64,
     /// The place of the number.
     pub at: usize,
@@ -46,8 +47,7 @@ pub enum Init {
     Atom(Atom),
     /// `not` and an atom.
     NotAtom(Atom),
-    /// In memory of its own: most facts are atoms, and a list is as wide as its widest item.
-    Value(Boxed<InitialValue>),
+    Value(InitialValue),
 }
 
 /// What the text of a problem says. The goal is all of its parts, as a condition is.

@@ -6,13 +6,14 @@
 mod error;
 mod law;
 mod line;
-mod put;
+mod output;
 mod read;
 mod step;
 mod write;
 
 pub use error::PlanTextError;
 pub use law::{each_text_reads_or_has_a_bad_line, what_is_written_is_read_back};
+pub use output::put;
 pub use read::read_plan;
 pub use step::Step;
 pub use write::write_plan;

@@ -5,7 +5,7 @@ ghost use Rattle.std.specs.Io.KnownBytes.{Appends};
 ghost use Rattle.hd_plan.specs.Output.{AppendsFront};
 ghost use Rattle.hd_plan.specs.PlanText.{arg_text, step_text, step_line, plan_text};
 
-use crate::put::put;
+use crate::output::put;
 use crate::step::Step;
 use hd_base::{Name, NoMemory};
 use std::alloc::Global;

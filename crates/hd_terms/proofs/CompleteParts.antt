@@ -51,7 +51,7 @@ pub exprs_after-AreExprs : {f : Forms} {es : List (Expression Leaf)} → AreExpr
 unfolding exprs_after
 exprs_after-AreExprs e.end most found h = ap Some (sym (append-nil found))
 exprs_after-AreExprs (e.numeral {at = at} {v = v} {es = es} r) most found h =
-    let x = leaf (leaves.Number v at) in
+    let x = leaf (leaves.Number at v) in
     rw (has_room found (length es) most h) (
     exprs_after-AreExprs r most (found ++ x ∷ []) (less_room found x (length es) most h) ∙ ap Some (append_assoc found (x ∷ []) es)
     )

@@ -111,15 +111,15 @@ mutual
       record { own = []; are = x.end; all = sym (same_Some found es e) ∙ sym (append-nil found) }
   ReadsExprs-exprs_after most (word at w rest) found es e =
       let t =
-      (cond_else_some (length found == most) (number_in w >>= λ v. exprs_after most rest (found ++ leaf (leaves.Number v at) ∷ [])) es e).1 in
-      let s = bind_some (number_in w) (λ v. exprs_after most rest (found ++ leaf (leaves.Number v at) ∷ [])) es t in
-      let q = ReadsExprs-exprs_after most rest (found ++ leaf (leaves.Number s.0 at) ∷ []) es s.2 in
+      (cond_else_some (length found == most) (number_in w >>= λ v. exprs_after most rest (found ++ leaf (leaves.Number at v) ∷ [])) es e).1 in
+      let s = bind_some (number_in w) (λ v. exprs_after most rest (found ++ leaf (leaves.Number at v) ∷ [])) es t in
+      let q = ReadsExprs-exprs_after most rest (found ++ leaf (leaves.Number at s.0) ∷ []) es s.2 in
       record {
-        own = leaf (leaves.Number s.0 at) ∷ q.own;
+        own = leaf (leaves.Number at s.0) ∷ q.own;
         are =
-            subst (λ (v : Word). AreExprs (word at v rest) (leaf (leaves.Number s.0 at) ∷ q.own)) (sym (number_in-some w s.0 s.1))
+            subst (λ (v : Word). AreExprs (word at v rest) (leaf (leaves.Number at s.0) ∷ q.own)) (sym (number_in-some w s.0 s.1))
             (x.numeral q.are);
-        all = q.all ∙ append_assoc found (leaf (leaves.Number s.0 at) ∷ []) q.own;
+        all = q.all ∙ append_assoc found (leaf (leaves.Number at s.0) ∷ []) q.own;
       }
   ReadsExprs-exprs_after most (list from inside to rest) found es e =
       let t =

@@ -18,7 +18,7 @@ pub data AreExprs : Forms → List (Expression Leaf) → Type 0 where
   -- NUMBER, and more
   numeral : {at : ℕ} {v : ℤ} {rest : Forms} {es : List (Expression Leaf)}
       → AreExprs rest es
-      → AreExprs (word at (Number v) rest) (leaf (leaves.Number v at) ∷ es)
+      → AreExprs (word at (Number v) rest) (leaf (leaves.Number at v) ∷ es)
   -- ( NAME term* ), and more
   value : {a b : ℕ} {inside rest : Forms} {f : Atom} {es : List (Expression Leaf)}
       → IsAtom inside f → AreExprs rest es

@@ -207,7 +207,7 @@ unfoldable mutual
   pub exprs_after : ℕ → Forms → List (Expression Leaf) → Option (List (Expression Leaf))
   exprs_after most none found = Some found
   exprs_after most (word at w rest) found =
-      if length found == most then None else (number_in w >>= λ v. exprs_after most rest (found ++ leaf (leaves.Number v at) ∷ []))
+      if length found == most then None else (number_in w >>= λ v. exprs_after most rest (found ++ leaf (leaves.Number at v) ∷ []))
   exprs_after most (list a inside b rest) found =
       if length found == most then None else (expr_in inside >>= λ e. exprs_after most rest (found ++ e ∷ []))
 

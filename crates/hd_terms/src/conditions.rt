@@ -12,11 +12,11 @@ ghost use Rattle.hd_terms.specs.declared.tree.Condition.{Condition};
 use crate::atoms::{atom_of, term_at};
 use crate::expressions::pair_of;
 use crate::negations::{begins_with_term, negation_refusal};
-use crate::tree::{Comparison, Condition, Term};
+use crate::tree::{Comparison, Condition, Expr, Term};
 use hd_base::{Boxed, Relation, Sequence};
 use hd_forms::{Form, ReadError, Word, end_at, first_refusal, form_refusal, group_at};
 use hd_lex::Operator;
-use std::alloc::Global;
+use std::alloc::{AllocError, Global};
 use std::slice;
 
 /// Whether the operator is `=`.
@@ -75,6 +75,28 @@ fn boxed_terms_of(
     }
 }
 
+/// The comparison of these two expressions.
+fn comparison_of(
+    alloc: Global,
+    relation: Relation,
+    left: Expr,
+    right: Expr,
+) -> Result<Comparison, AllocError>
+    ensures { IfOk result (λ c. c ≡ record { relation = relation; left = left; right = right }) }
+{
+    match Boxed::of(alloc, right) {
+        Ok(right) => Ok(Comparison {
+            relation,
+            left,
+            right,
+        }),
+        Err(error) => {
+            drop(left);
+            Err(error)
+        }
+    }
+}
+
 /// What the operator, the first of the forms `inside`, says of the rest of them, in a form that ends at the place `to`.
 #[tactic(auto, unfolding(crate::specs::Reading::relation_of))]
 fn relation_of(
@@ -94,15 +116,7 @@ fn relation_of(
         return Err(first_refusal(alloc, inside, to));
     };
     let (left, right) = pair_of(alloc, rest, to)?;
-    let comparison = Boxed::of(
-        alloc,
-        Comparison {
-            relation,
-            left,
-            right,
-        },
-    )?;
-    Ok(Condition::Compare(comparison))
+    Ok(Condition::Compare(comparison_of(alloc, relation, left, right)?))
 }
 
 /// What is denied in a form behind the `not` at the place `not`. The form ends at `to`.

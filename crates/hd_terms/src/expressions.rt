@@ -12,8 +12,8 @@ ghost use Rattle.hd_terms.specs.Steps.{expression_by, size_in_shape, goes_on_wit
 
 use crate::atoms::atom_of;
 use crate::tree::{Expr, Leaf};
-use hd_base::Operation;
-use hd_forms::{Form, ReadError, Word, first_refusal, form_refusal};
+use hd_base::{Boxed, Operation};
+use hd_forms::{Form, Place, ReadError, Word, first_refusal, form_refusal};
 use hd_lex::Operator;
 use std::alloc::Global;
 
@@ -58,7 +58,7 @@ fn inner_shape(alloc: Global, inside: &[Form], to: usize) -> Result<Shape<'_>, R
             }
         }
         _ => {
-            let fluent = atom_of(alloc, inside, to)?;
+            let fluent = Boxed::of(alloc, atom_of(alloc, inside, to)?)?;
             Ok(Shape::Known(Expr::leaf(Leaf::Fluent(fluent))))
         }
     }
@@ -78,7 +78,10 @@ fn shape_of(alloc: Global, form: &Form) -> Result<Shape<'_>, ReadError>
 {
     match form {
         Form::Word { at, word } => match word {
-            Word::Number(value) => Ok(Shape::Known(Expr::leaf(Leaf::Number(*value, *at)))),
+            Word::Number(value) => {
+                let at = Place::of(*at)?;
+                Ok(Shape::Known(Expr::leaf(Leaf::Number(at, *value))))
+            }
             _ => Err(form_refusal(alloc, form)),
         },
         Form::List { inside, to, .. } => inner_shape(alloc, inside, to.get()),

@@ -5,7 +5,7 @@
 
 use crate::TypeName;
 use hd_base::{Boxed, Relation, Sequence};
-use hd_forms::{Change, NameAt};
+use hd_forms::{Change, NameAt, Place};
 
 /// A declared name, and the name of its type if one is given: without one the type is `object`.
 #[derive(Debug, Drop)]
@@ -29,13 +29,14 @@ pub struct Atom {
     pub terms: Sequence<Term>,
 }
 
-/// What stands at the leaves of an expression.
+/// What stands at the leaves of an expression. Each operation has memory of its own for its operands, which are as wide as the
+/// widest leaf: so a leaf is two words.
 #[derive(Debug, Drop)]
 pub enum Leaf {
-    /// A number, and the place of its first byte.
-    Number(i64, usize),
+    /// The place of a number's first byte, and the number.
+    Number(Place, i64),
     /// The value of a fluent.
-    Fluent(Atom),
+    Fluent(Boxed<Atom>),
 }
 
 /// A numeric expression (PDDL 2.1).
@@ -46,7 +47,8 @@ pub type Expr = hd_base::Expr<Leaf>;
 pub struct Comparison {
     pub relation: Relation,
     pub left: Expr,
-    pub right: Expr,
+    /// In memory of its own, so that a comparison is no wider than an atom.
+    pub right: Boxed<Expr>,
 }
 
 /// A part of a condition, which is a list of them in the text's order, with each `and` opened.
@@ -59,7 +61,7 @@ pub enum Condition {
     Equal(Boxed<Term>, Boxed<Term>),
     /// `not` and an equality of objects.
     NotEqual(Boxed<Term>, Boxed<Term>),
-    Compare(Boxed<Comparison>),
+    Compare(Comparison),
 }
 
 /// A change of a fluent by an amount.

@@ -1,11 +1,5 @@
-pub mod Asked
-pub mod Deciding
-pub mod Defined
-pub mod Along
 pub mod Finding
-pub mod Putting
-pub mod Summing
-pub mod Amounts
-pub mod Schemas
-pub mod Telling
-pub mod Paying
+pub mod Apart
+pub mod Stepping
+pub mod Judged
+pub mod Refusing

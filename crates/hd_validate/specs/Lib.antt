@@ -1,10 +1,6 @@
-pub mod Fault
-pub mod Questions
-pub mod Asking
-pub mod Validity
-pub mod Way
+pub mod Naming
+pub mod Plans
+pub mod Texts
+pub mod Error
+pub mod Telling
 pub mod Tables
-pub mod Judging
-pub mod Constant
-pub mod Effects
-pub mod Costs

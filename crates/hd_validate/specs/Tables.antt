@@ -1,38 +1,41 @@
--- What the tables of a validation say, each for every ground form. (Our own.)
-use Rattle.std.specs.Prelude.{◌≡◌, ℕ, Bool, false, Some, unwrap_or, pos, nat_eq}
-use Rattle.std.specs.List.{list_any}
-use Rattle.std.specs.Map.{lookup}
-use Rattle.hd_lifted.specs.declared.schema.Ground.{Ground}
+-- The tables of a task's names, and what is found in them. (Our own.)
+use Rattle.std.specs.Prelude.{◌≡◌, ℕ, List, [], ◌∷◌, ◌++◌, map, Option, Some, None, MatchOption}
+use Rattle.std.specs.List.{position}
+use Rattle.std.specs.Str.{bytes_eq}
+use Rattle.hd_plan.specs.declared.step.Step.{Step}
+use Rattle.hd_lifted.specs.declared.schema.Schema.{Schema}
+use Rattle.hd_lifted.specs.declared.instance.Instance.{Instance}
+use Rattle.hd_lifted.specs.declared.task.Object as declared
 use Rattle.hd_lifted.specs.declared.task.LiftedTask.{LiftedTask}
-use Rattle.hd_lifted.specs.States.{Values, State, same, first_value}
-use Rattle.hd_lifted.specs.Steps.{Reached}
-use Rattle.hd_kept.specs.Amounts.{is_changed}
-use Rattle.hd_validate.specs.declared.table.Truths.{Truths}
-use Rattle.hd_validate.specs.declared.table.Numbers.{Numbers}
-use Rattle.hd_validate.specs.declared.table.Place.{Place}
-use Rattle.hd_validate.specs.declared.changed.Changed.{Changed}
+use Rattle.hd_validate.specs.Naming.{HasNamesOf}
 
--- an atom is true where the table says so
-abbrev pub truth_in : Truths → Ground → Bool
-truth_in table g = unwrap_or (lookup (same g) table.truths.entries) false
+-- the names of objects and of schemas, by number
+abbrev pub names_of_objects : List declared.Object → List (List ℕ)
+names_of_objects objects = map (λ (o : declared.Object). o.name) objects
 
--- the value of a fluent by the table
-abbrev pub value_in : Numbers → Values
-value_in table g = lookup (same g) table.numbers.entries
+abbrev pub names_of_schemas : List Schema → List (List ℕ)
+names_of_schemas schemas = map (λ (a : Schema). a.name) schemas
 
--- the state that the tables hold
-abbrev pub state_in : Place → State
-state_in place = record { atoms = truth_in place.truths; values = value_in place.numbers }
+-- these are the names of a task's schemas and objects
+pub record AreNamesOf (t : LiftedTask) (schemas objects : List (List ℕ)) : Type 0 where
+  pub schemas_are : schemas ≡ names_of_schemas t.schemas
+  pub objects_are : objects ≡ names_of_objects t.objects
 
--- where a plan leads, by the tables
-abbrev pub reached_in : Place → Reached
-reached_in place = record { state = state_in place; cost = Some (pos place.cost) }
+-- numbers before others, unless these are missing
+abbrev pub behind : List ℕ → Option (List ℕ) → Option (List ℕ)
+behind front None = None
+behind front (Some numbers) = Some (front ++ numbers)
 
--- a function is in the table of those that change
-abbrev pub has_function : Changed → ℕ → Bool
-has_function c f = list_any (nat_eq f) c.functions.keys
+-- a number before others, unless it or they are missing
+abbrev pub with_number : Option ℕ → Option (List ℕ) → Option (List ℕ)
+with_number None found = None
+with_number (Some k) found = behind (k ∷ []) found
 
--- the tables are those of a task
-pub record AreTablesOf (t : LiftedTask) (changed : Changed) (values : Numbers) : Type 0 where
-  pub changed_are : (f : ℕ) → has_function changed f ≡ is_changed t f
-  pub values_are : (g : Ground) → value_in values g ≡ first_value t.values g
+-- the numbers of names: their places in a list, unless one is not there
+abbrev pub numbers_of : List (List ℕ) → List (List ℕ) → Option (List ℕ)
+numbers_of names [] = Some []
+numbers_of names (n ∷ ns) = with_number (position (bytes_eq n) names) (numbers_of names ns)
+
+-- the instance that has the names of a step, unless there is none
+abbrev pub FindsNamed : LiftedTask → Step → Option Instance → Type 0
+FindsNamed t s found = MatchOption found ((i : Instance) → HasNamesOf t s i → ⊥) (λ i. HasNamesOf t s i)

@@ -1,22 +1,16 @@
-//! The validator: which plans of a lifted task are validated, at what cost, and otherwise which fault is the first. So far these are
-//! definitions and laws, and the parts of the code that answer the single questions.
+//! The validator of plan files: whether the steps of a plan, which are names, are a plan of a checked task, at what cost, and
+//! otherwise which fault is the first.
 //!
-//! It stands on the meaning of lifted tasks alone, and on nothing that a grounder does.
+//! It stands on the meaning of lifted tasks alone, and on nothing that a grounder or a search does.
 #![tactic(auto)]
 
-mod asking;
-mod atoms;
-mod changed;
-mod condition;
-mod cost;
-mod effect;
-mod expression;
-mod fault;
-mod instances;
+mod error;
 pub mod laws;
-mod lookups;
-mod negative;
-mod table;
-mod undefined;
+mod names;
+mod steps;
+mod telling;
+mod texts;
+mod validating;
 
-pub use fault::{Fault, Stop};
+pub use error::PlanError;
+pub use validating::validate;

@@ -3,6 +3,24 @@
 use clap::{Arg, Command};
 use std::alloc::{AllocError, Global};
 
+/// What the help of `solve` ends with.
+const SOLVE_HELP: &str = "\
+Reads both files, searches, and writes the plan to standard output: an action on a line, then its cost.
+No valid plan costs less. All else goes to standard error.
+Exit status: 0 a plan; 1 a refusal, told on one line; 2 the command line; 10 there is no plan; 11 a number left the range.";
+
+/// What the help of `ground` ends with.
+const GROUND_HELP: &str = "\
+Reads both files, and writes to standard output how many actions, atoms and fluents the task has, and then each action behind
+its number. A refusal goes to standard error.
+Exit status: 0 the task is printed; 1 a refusal, told on one line; 2 the command line.";
+
+/// What the help of `validate` ends with.
+const VALIDATE_HELP: &str = "\
+Reads the three files, and writes `valid; cost = N` to standard output. Each line of PLAN is an action as `(name object ..)`, or a
+comment behind `;`. The first fault goes to standard error.
+Exit status: 0 the plan is valid; 1 a refusal, told on one line; 2 the command line.";
+
 /// An argument that has to be given, by its place.
 fn file<'a>(alloc: Global, id: &'a str, name: &'a str, help: &'a str) -> Arg<'a> {
     Arg::new(alloc, id)
@@ -21,13 +39,36 @@ fn workers<'a>(alloc: Global) -> Arg<'a> {
         .default_value("4")
 }
 
+/// A command that reads a domain and a problem.
+fn of_task<'a>(alloc: Global, name: &'a str) -> Result<Command<'a>, AllocError> {
+    Command::new(alloc, name)
+        .arg(file(alloc, "domain", "DOMAIN", "The file with the domain"))?
+        .arg(file(alloc, "problem", "PROBLEM", "The file with the problem"))
+}
+
 /// `solve DOMAIN PROBLEM [--workers N]`.
 fn solve<'a>(alloc: Global) -> Result<Command<'a>, AllocError> {
-    Command::new(alloc, "solve")
+    of_task(alloc, "solve")?
         .about("Prints a plan of least cost")
-        .arg(file(alloc, "domain", "DOMAIN", "The file with the domain"))?
-        .arg(file(alloc, "problem", "PROBLEM", "The file with the problem"))?
+        .after_help(SOLVE_HELP)
         .arg(workers(alloc))
+}
+
+/// `ground DOMAIN PROBLEM`.
+fn ground<'a>(alloc: Global) -> Result<Command<'a>, AllocError> {
+    Ok(
+        of_task(alloc, "ground")?
+            .about("Prints the actions of a task, without parameters")
+            .after_help(GROUND_HELP),
+    )
+}
+
+/// `validate DOMAIN PROBLEM PLAN`.
+fn validate<'a>(alloc: Global) -> Result<Command<'a>, AllocError> {
+    of_task(alloc, "validate")?
+        .about("Tells whether a plan is valid, and what it costs")
+        .after_help(VALIDATE_HELP)
+        .arg(file(alloc, "plan", "PLAN", "The file with the plan"))
 }
 
 /// The whole command line.
@@ -37,5 +78,7 @@ pub fn command_line<'a>(alloc: Global) -> Result<Command<'a>, AllocError> {
         .version("0.1.0")
         .subcommand_required(true)
         .arg_required_else_help(true)
-        .subcommand(solve(alloc)?)
+        .subcommand(solve(alloc)?)?
+        .subcommand(ground(alloc)?)?
+        .subcommand(validate(alloc)?)
 }

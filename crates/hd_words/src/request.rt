@@ -23,6 +23,22 @@ pub enum Request {
         /// From 1 to [`MAX_WORKERS`].
         workers: u32,
     },
+    /// To print the actions that a task has.
+    Ground {
+        /// The name of the file with the domain.
+        domain: String,
+        /// The name of the file with the problem.
+        problem: String,
+    },
+    /// To tell whether a plan is valid, and its cost.
+    Validate {
+        /// The name of the file with the domain.
+        domain: String,
+        /// The name of the file with the problem.
+        problem: String,
+        /// The name of the file with the plan.
+        plan: String,
+    },
 }
 
 /// What `clap` answers in place of matches: its text, and where it goes.
@@ -37,26 +53,65 @@ fn refusal_of(alloc: Global, error: Error) -> WordsError {
     }
 }
 
-/// The request to solve, if its files are named and its number of workers is one of 1 to 64.
+/// The request to solve, if its number of workers is one of 1 to 64.
 fn solve_request(
     alloc: Global,
-    domain: Option<&str>,
-    problem: Option<&str>,
+    domain: &str,
+    problem: &str,
     workers: Option<u32>,
 ) -> Result<Option<Request>, AllocError>
     ensures { IfOk result (λ found. IfSome found HasWorkers) }
 {
-    match (domain, problem, workers) {
-        (Some(domain), Some(problem), Some(workers)) => {
-            if workers < 1 || workers > MAX_WORKERS {
-                return Ok(None);
-            }
-            Ok(Some(Request::Solve {
-                domain: String::from_str(alloc, domain)?,
-                problem: String::from_str(alloc, problem)?,
-                workers,
-            }))
-        }
+    let Some(workers) = workers else {
+        return Ok(None);
+    };
+    if workers < 1 || workers > MAX_WORKERS {
+        return Ok(None);
+    }
+    Ok(Some(Request::Solve {
+        domain: String::from_str(alloc, domain)?,
+        problem: String::from_str(alloc, problem)?,
+        workers,
+    }))
+}
+
+/// The request to validate, if its plan is named.
+fn validate_request(
+    alloc: Global,
+    domain: &str,
+    problem: &str,
+    plan: Option<&str>,
+) -> Result<Option<Request>, AllocError>
+    ensures { IfOk result (λ found. IfSome found HasWorkers) }
+{
+    let Some(plan) = plan else {
+        return Ok(None);
+    };
+    Ok(Some(Request::Validate {
+        domain: String::from_str(alloc, domain)?,
+        problem: String::from_str(alloc, problem)?,
+        plan: String::from_str(alloc, plan)?,
+    }))
+}
+
+/// The request of the command of this name, if its files are named.
+fn named_request(
+    alloc: Global,
+    name: &str,
+    found: &ArgMatches<'_>,
+) -> Result<Option<Request>, AllocError>
+    ensures { IfOk result (λ found. IfSome found HasWorkers) }
+{
+    let (Some(domain), Some(problem)) = (found.get_str("domain"), found.get_str("problem")) else {
+        return Ok(None);
+    };
+    match name {
+        "solve" => solve_request(alloc, domain, problem, found.get_one::<u32>("workers")),
+        "ground" => Ok(Some(Request::Ground {
+            domain: String::from_str(alloc, domain)?,
+            problem: String::from_str(alloc, problem)?,
+        })),
+        "validate" => validate_request(alloc, domain, problem, found.get_str("plan")),
         _ => Ok(None),
     }
 }
@@ -66,12 +121,7 @@ fn request_of(alloc: Global, matches: &ArgMatches<'_>) -> Result<Option<Request>
     ensures { IfOk result (λ found. IfSome found HasWorkers) }
 {
     match matches.subcommand() {
-        Some((_, below)) => solve_request(
-            alloc,
-            below.get_str("domain"),
-            below.get_str("problem"),
-            below.get_one::<u32>("workers"),
-        ),
+        Some((name, below)) => named_request(alloc, name, below),
         None => Ok(None),
     }
 }
@@ -90,7 +140,7 @@ pub fn read_words<'a>(alloc: Global, words: &'a [String]) -> Result<Request, Wor
             Some(request) => Ok(request),
             None => Err(WordsError::Fault(String::from_str(
                 alloc,
-                "error: DOMAIN, PROBLEM and 1 to 64 workers are wanted\n",
+                "error: the files of the command, and 1 to 64 workers, are wanted\n",
             )?)),
         },
         Err(error) => Err(refusal_of(alloc, error)),

@@ -16,7 +16,8 @@ use Rattle.hplan.specs.declared.fault.Fault.{Fault}
 use Rattle.hplan.specs.declared.fault.Fault.TheVariants.{Device, Refused, NoMemory}
 use Rattle.hplan.specs.Refused.{Tells}
 use Rattle.hplan.specs.Tasks.{IsTaskOf, Explains}
-use Rattle.hplan.specs.PlanText.{plan_text, departure_text}
+use Rattle.hplan.specs.PlanText.{plan_text}
+use Rattle.hplan.specs.TaskText.{departure_text}
 
 -- a verdict is the answer of a search: some legal list of expansions is covered, and this is what it answers
 pub record IsAnswer (t : Task) (v : Verdict) : Type 0 where

@@ -1,40 +1,34 @@
--- The text of a plan: each action on a line in its ground form, then the cost. (Our own.)
-use Rattle.std.specs.Prelude.{ℕ, Bool, true, ◌&&◌, List, [], ◌∷◌, ◌++◌, Option, Some, None, codes, decimal, slice_get, flat_map, option_and_then}
+-- The text of a plan of a task: that of its steps, by their names, at the cost that it has by the task. (Our own.)
+use Rattle.std.specs.Prelude.{ℕ, Bool, true, ◌&&◌, List, [], ◌∷◌, map, Option, Some, None, slice_get, option_and_then}
+use Rattle.hd_plan.specs.declared.step.Step.{Step}
+use Rattle.hd_plan.specs.PlanText as plans
+use Rattle.hd_task.specs.declared.form.GroundForm.{GroundForm}
+use Rattle.hd_task.specs.declared.form.Names.{Names}
 use Rattle.hd_task.specs.declared.action.Action.{Action}
 use Rattle.hd_task.specs.declared.task.Task.{Task}
-use Rattle.hd_task.specs.declared.departure.DepartsBy.{DepartsBy}
-use Rattle.hd_task.specs.declared.departure.DepartsBy.TheVariants as departs
-use Rattle.hd_task.specs.declared.departure.Departure.{Departure}
-use Rattle.hd_task.specs.FormText.{form_text}
+use Rattle.hd_task.specs.FormText.{name_at}
 use Rattle.hd_task.specs.Plans.{Node, start, step_by, exec}
 use Rattle.hd_task.specs.Expansions.{is_applicable}
+use Rattle.hplan.specs.declared.naming.NamedPlan.{NamedPlan}
 
--- the end of a line
-abbrev pub line_end : List ℕ
-line_end = 10 ∷ []
+-- the step that a ground form of an action is: its names
+abbrev pub step_of : Names → GroundForm → Step
+step_of names g = record { name = name_at names.schemas g.symbol; args = map (name_at names.objects) g.objects }
 
--- the ground form of an action that may not be there
-abbrev pub action_of : Task → Option Action → List ℕ
-action_of t None = []
-action_of t (Some a) = form_text t.names.schemas t.names.objects a.form
+-- the step of an action that may not be there: without one it has no name
+abbrev pub step_by_action : Task → Option Action → Step
+step_by_action t None = record { name = []; args = [] }
+step_by_action t (Some a) = step_of t.names a.form
 
--- the ground form of the action with this number
-abbrev pub action_text : Task → ℕ → List ℕ
-action_text t n = action_of t (slice_get t.actions n)
+-- the step of the action with this number
+abbrev pub step_at : Task → ℕ → Step
+step_at t n = step_by_action t (slice_get t.actions n)
 
--- the line of an action
-abbrev pub action_line : Task → ℕ → List ℕ
-action_line t n = action_text t n ++ line_end
-
--- the line of a cost
-abbrev pub cost_line : ℕ → List ℕ
-cost_line cost = codes "; cost = " ++ decimal cost ++ line_end
-
--- a plan's lines at a cost
+-- a plan's text at a cost
 abbrev pub plan_at : Task → List ℕ → ℕ → List ℕ
-plan_at t p cost = flat_map (action_line t) p ++ cost_line cost
+plan_at t p cost = plans.plan_text (map (step_at t) p) cost
 
--- the lines of a plan that leads to this node
+-- the text of a plan that leads to this node
 abbrev pub plan_to : Task → List ℕ → Option Node → List ℕ
 plan_to t p None = []
 plan_to t p (Some r) = plan_at t p r.cost
@@ -43,14 +37,10 @@ plan_to t p (Some r) = plan_at t p r.cost
 abbrev pub plan_text : Task → List ℕ → List ℕ
 plan_text t p = plan_to t p (exec t p)
 
--- what leaves the range at an entry
-abbrev pub departing_text : Task → DepartsBy → List ℕ
-departing_text t departs.Goal = codes "goal"
-departing_text t (departs.Action n) = action_text t n
-
--- a departure, as it is told
-abbrev pub departure_text : Task → Departure → List ℕ
-departure_text t d = codes "range left: entry " ++ decimal d.entry ++ codes ", " ++ departing_text t d.by
+-- the text of a plan by its names that may be there
+abbrev pub printed : Option NamedPlan → List ℕ
+printed None = []
+printed (Some p) = plans.plan_text p.steps p.cost
 
 -- ---- plans whose steps are applicable
 

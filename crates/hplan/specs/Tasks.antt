@@ -40,17 +40,22 @@ pub record IsTaskOf (domain problem : List ℕ) (t : Task) : Type 0 where
   pub says : IsLiftedOf domain problem lifted
   pub made : IsGrounding lifted t
 
--- what a fault tells of two texts: want of memory tells nothing
-pub data Explains (domain problem : List ℕ) : Fault → Type 0 where
-  Memory : Explains domain problem NoMemory
+-- what a fault tells of two texts that say no lifted task: want of memory tells nothing
+pub data ExplainsTexts (domain problem : List ℕ) : Fault → Type 0 where
+  Memory : ExplainsTexts domain problem NoMemory
   -- the domain's text is at fault
-  InDomain : (error : ReadError) → reader.Explains IsDomain domain error → Explains domain problem (read_in Domain error)
+  InDomain : (error : ReadError) → reader.Explains IsDomain domain error → ExplainsTexts domain problem (read_in Domain error)
   -- the domain's text is read, and the problem's is at fault
   InProblem : (d : DomainAst) (error : ReadError)
-      → IsDomainText domain d → reader.Explains IsProblem problem error → Explains domain problem (read_in Problem error)
+      → IsDomainText domain d → reader.Explains IsProblem problem error → ExplainsTexts domain problem (read_in Problem error)
   -- both are read, and this fault of names, types or the metric stands in them
   AtFault : (d : DomainAst) (p : ProblemAst) (source : Source) (fault : checker.Fault)
-      → SayTrees domain problem d p → Stands d p (In source fault) → Explains domain problem (Check source fault)
+      → SayTrees domain problem d p → Stands d p (In source fault) → ExplainsTexts domain problem (Check source fault)
+
+-- what a fault tells of two texts that say no task
+pub data Explains (domain problem : List ℕ) : Fault → Type 0 where
+  -- they say no lifted task
+  Unlifted : (f : Fault) → ExplainsTexts domain problem f → Explains domain problem f
   -- no fault stands in them, and the grounder tells so of the lifted task
   Ungrounded : (l : LiftedTask) (error : GroundError)
       → IsLiftedOf domain problem l → Tells l error → Explains domain problem (grounded_in error)

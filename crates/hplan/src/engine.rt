@@ -1,18 +1,22 @@
 //! From the bytes of two texts to the bytes of a plan.
-ghost use Rattle.std.specs.Prelude.{◌≡◌, ◌⊎◌, true, IfOk, IfErr, IfSome, OnErr};
+ghost use Rattle.std.specs.Prelude.{◌≡◌, ◌⊎◌, true, IfOk, IfErr, IfSome, OnOk, OnErr};
+ghost use Rattle.std.specs.Io.KnownBytes.{Appends};
+ghost use Rattle.hd_plan.specs.Output.{AppendsFront};
+ghost use Rattle.hd_plan.specs.PlanText as plans;
 ghost use Rattle.hplan.specs.Answer.{plan_in, written_of, ending_of, IsSolved, Writes, WritesFront, IsSolution, HasNoSolution, HasNoAnswer};
-ghost use Rattle.hplan.specs.PlanText.{plan_text, goes_through};
+ghost use Rattle.hplan.specs.PlanText.{printed, plan_text, goes_through};
 
 use crate::fault::{Fault, device_fault};
-use crate::put::put;
+use crate::naming::{NamedPlan, named_plan};
 use crate::searching::run;
 use crate::tasks::task_of;
-use crate::text::{departure_text, plan_text};
+use crate::text::departure_text;
 use hd_base::{NoMemory, Sequence};
 use hd_book::{Refusal, Verdict};
+use hd_plan::write_plan;
 use hd_task::{Plan, Task};
 use std::alloc::Global;
-use std::io::Write;
+use std::io::{self, Write};
 
 /// How an answer ends.
 #[derive(Debug, PartialEq, Eq, Drop)]
@@ -25,40 +29,45 @@ pub enum Ending {
     RangeLeft(Sequence<u8>),
 }
 
-/// The text of a verdict's plan.
-fn text_of(alloc: Global, task: &Task, plan: &Plan) -> Result<Vec<u8>, NoMemory>
+/// A verdict's plan by its names.
+fn plan_of(alloc: Global, task: &Task, plan: &Plan) -> Result<NamedPlan, NoMemory>
     requires { goes_through task.now plan.now ≡ true }
-    ensures { IfOk result (λ v. v.items ≡ plan_text task.now plan.now) }
+    ensures { IfOk result (λ named.
+        plans.plan_text named.steps named.cost ≡ plan_text task.now plan.now) }
 {
-    match plan_text(alloc, task, plan)? {
-        Some(text) => Ok(text),
+    match named_plan(alloc, task, plan)? {
+        Some(named) => Ok(named),
         None => unreachable!(),
     }
 }
 
-/// How a verdict ends, and what is written of it.
-fn texts_of(alloc: Global, task: &Task, verdict: &Verdict) -> Result<(Ending, Vec<u8>), NoMemory>
+/// How a verdict ends, and its plan, if it has one.
+fn told_of(
+    alloc: Global,
+    task: &Task,
+    verdict: &Verdict,
+) -> Result<(Ending, Option<NamedPlan>), NoMemory>
     requires { IfSome (plan_in verdict.now) (λ p. goes_through task.now p ≡ true) }
     ensures ends { IfOk result (λ found. found.0 ≡ ending_of task.now verdict.now) }
-    ensures text { IfOk result (λ found. found.1.items ≡ written_of task.now verdict.now) }
+    ensures text { IfOk result (λ found. printed found.1 ≡ written_of task.now verdict.now) }
 {
     match verdict {
-        Verdict::Optimal(plan) => Ok((Ending::Optimal, text_of(alloc, task, plan)?)),
-        Verdict::NoPlan => Ok((Ending::NoPlan, Vec::new(alloc))),
+        Verdict::Optimal(plan) => Ok((Ending::Optimal, Some(plan_of(alloc, task, plan)?))),
+        Verdict::NoPlan => Ok((Ending::NoPlan, None)),
         Verdict::RangeLeft(departure, plan) => {
             let told = departure_text(alloc, task, *departure)?;
-            let text = match plan {
-                Some(plan) => text_of(alloc, task, plan)?,
-                None => Vec::new(alloc),
+            let plan = match plan {
+                Some(plan) => Some(plan_of(alloc, task, plan)?),
+                None => None,
             };
-            Ok((Ending::RangeLeft(Sequence::from_vec(told)), text))
+            Ok((Ending::RangeLeft(Sequence::from_vec(told)), plan))
         }
     }
 }
 
-/// What the search of a task answers, as it is written.
-fn solution_of(alloc: Global, task: &Task) -> Result<(Ending, Vec<u8>), Fault>
-    ensures found { IfOk result (λ found. IsSolution task.now found.0 found.1.items) }
+/// What the search of a task answers: how it ends, and the plan that is written.
+fn solution_of(alloc: Global, task: &Task) -> Result<(Ending, Option<NamedPlan>), Fault>
+    ensures found { IfOk result (λ found. IsSolution task.now found.0 (printed found.1)) }
     ensures refusal { IfErr result (HasNoSolution task.now) }
 {
     let verdict = match run(alloc, task) {
@@ -66,15 +75,20 @@ fn solution_of(alloc: Global, task: &Task) -> Result<(Ending, Vec<u8>), Fault>
         Err(Refusal::NoMemory) => return Err(Fault::NoMemory),
         Err(refusal) => return Err(Fault::Refused(refusal)),
     };
-    match texts_of(alloc, task, &verdict) {
+    match told_of(alloc, task, &verdict) {
         Ok(found) => Ok(found),
         Err(_) => Err(Fault::NoMemory),
     }
 }
 
-/// The answer to two texts, as it is written.
-fn answer_of(alloc: Global, domain: &[u8], problem: &[u8]) -> Result<(Ending, Vec<u8>), Fault>
-    ensures found { IfOk result (λ found. IsSolved domain.now problem.now found.0 found.1.items) }
+/// The answer to two texts: how it ends, and the plan that is written.
+fn answer_of(
+    alloc: Global,
+    domain: &[u8],
+    problem: &[u8],
+) -> Result<(Ending, Option<NamedPlan>), Fault>
+    ensures found { IfOk result (λ found.
+        IsSolved domain.now problem.now found.0 (printed found.1)) }
     ensures refusal { IfErr result (HasNoAnswer domain.now problem.now) }
 {
     match task_of(alloc, domain, problem) {
@@ -84,6 +98,18 @@ fn answer_of(alloc: Global, domain: &[u8], problem: &[u8]) -> Result<(Ending, Ve
             answer
         }
         Err(fault) => Err(fault),
+    }
+}
+
+/// Writes the text of a plan, if there is one.
+fn write_found<W: Write>(alloc: Global, plan: &Option<NamedPlan>, out: &mut W) -> io::Result<()>
+    ensures whole { OnOk result (Appends (W.contents out.old) (W.contents out.new)
+        (printed plan.now)) }
+    ensures front { AppendsFront (W.contents out.old) (W.contents out.new) (printed plan.now) }
+{
+    match plan {
+        Some(plan) => write_plan(alloc, plan.steps.as_slice(), plan.cost, out),
+        None => Ok(()),
     }
 }
 
@@ -105,9 +131,9 @@ pub fn solve<W: Write>(
         ⊎ WritesFront domain.now problem.now (W.contents out.old) (W.contents out.new)) }
     ensures refusal { IfErr result (HasNoAnswer domain.now problem.now) }
 {
-    let (ending, text) = answer_of(alloc, domain, problem)?;
-    let written = put(out, &text);
-    drop(text);
+    let (ending, plan) = answer_of(alloc, domain, problem)?;
+    let written = write_found(alloc, &plan, out);
+    drop(plan);
     match written {
         Ok(()) => Ok(ending),
         Err(error) => {

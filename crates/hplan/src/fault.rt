@@ -1,6 +1,6 @@
 //! Why there is no answer.
 ghost use Rattle.std.specs.Prelude.{◌≡◌, ◌⊎◌, Some};
-ghost use Rattle.hplan.specs.Fault.{text_of, read_in, checked_in, grounded_in};
+ghost use Rattle.hplan.specs.Fault.{text_of, read_in, checked_in, grounded_in, plan_read_in, judged_in};
 ghost use Rattle.hplan.specs.declared.fault.Fault.TheVariants as faults;
 
 use hd_book::Refusal;
@@ -8,6 +8,8 @@ use hd_check::CheckError;
 pub use hd_check::Source;
 use hd_forms::ReadError;
 use hd_ground::GroundError;
+use hd_plan::PlanTextError;
+use hd_validate::PlanError;
 use std::alloc::{AllocError, AllocFailed};
 use std::{fmt, io};
 use thiserror::Error;
@@ -21,6 +23,10 @@ pub enum Fault {
     Check(Source, hd_check::Fault),
     /// No fault stands in the texts, and what they say has no task to search.
     Ground(GroundError),
+    /// A plan's text could not be read.
+    PlanText(PlanTextError),
+    /// A plan was read, and is not valid.
+    Plan(PlanError),
     /// A file could not be opened, read or written.
     Device,
     /// The book of the search refuses.
@@ -37,6 +43,8 @@ impl fmt::Display for Fault {
             Fault::Read(source, error) => write!(f, "{source}{error}"),
             Fault::Check(source, fault) => write!(f, "{source}{fault}"),
             Fault::Ground(error) => write!(f, "{error}"),
+            Fault::PlanText(error) => write!(f, "{error}"),
+            Fault::Plan(error) => write!(f, "{error}"),
             Fault::Device => write!(f, "35 Device"),
             Fault::Refused(refusal) => write!(f, "{refusal}"),
             Fault::NoMemory => write!(f, "NoMemory"),
@@ -93,6 +101,31 @@ pub fn grounded_in(error: GroundError) -> Fault
         GroundError::TooMany | GroundError::Undefined(_) | GroundError::NegativeCost(_) => {
             Fault::Ground(error)
         }
+    }
+}
+
+/// An error of a plan's text.
+pub fn plan_read_in(error: PlanTextError) -> Fault
+    ensures { result ≡ plan_read_in error }
+{
+    match error {
+        PlanTextError::BadLine(_) => Fault::PlanText(error),
+        PlanTextError::NoMemory => Fault::NoMemory,
+    }
+}
+
+/// Why a plan is not valid.
+pub fn judged_in(error: PlanError) -> Fault
+    ensures { result ≡ judged_in error }
+{
+    match error {
+        PlanError::NoMemory => Fault::NoMemory,
+        PlanError::NoSuchAction(_)
+        | PlanError::NotApplicable(_)
+        | PlanError::Undefined(_)
+        | PlanError::NegativeCost(_)
+        | PlanError::Departs(_)
+        | PlanError::GoalUnmet => Fault::Plan(error),
     }
 }
 

@@ -2,8 +2,11 @@
 
 use crate::engine::{Ending, solve};
 use crate::fault::{Fault, device_fault};
+use crate::grounding::ground;
+use crate::output::write_out;
 use crate::places::{Places, SystemFiles};
-use crate::put::put;
+use crate::validating::validate;
+use hd_plan::put;
 use hd_words::{Request, WordsError, read_words};
 use std::alloc::Global;
 use std::io::Write;
@@ -49,10 +52,8 @@ fn tell<E: Write>(err: &mut E, ending: &Ending) -> u8 {
 
 /// Writes a text, whole.
 fn show<O: Write>(out: &mut O, text: &str) -> Result<(), Fault> {
-    match put(out, text.as_bytes()) {
-        Ok(()) => flush(out),
-        Err(error) => Err(device_fault(error)),
-    }
+    write_out(out, text.as_bytes())?;
+    flush(out)
 }
 
 /// Has what was written reach its end.
@@ -86,6 +87,44 @@ fn solve_files<P: Places, O: Write>(
     Ok(ending)
 }
 
+/// Reads two files, and writes the actions of their task.
+fn ground_files<P: Places, O: Write>(
+    alloc: Global,
+    places: &mut P,
+    domain: &str,
+    problem: &str,
+    out: &mut O,
+) -> Result<(), Fault> {
+    let domain = read(alloc, places, domain)?;
+    let problem = read(alloc, places, problem)?;
+    ground(alloc, &domain, &problem, out)?;
+    flush(out)
+}
+
+/// Reads three files, and writes the verdict on the plan in the third.
+fn validate_files<P: Places, O: Write>(
+    alloc: Global,
+    places: &mut P,
+    domain: &str,
+    problem: &str,
+    plan: &str,
+    out: &mut O,
+) -> Result<(), Fault> {
+    let domain = read(alloc, places, domain)?;
+    let problem = read(alloc, places, problem)?;
+    let plan = read(alloc, places, plan)?;
+    validate(alloc, &domain, &problem, &plan, out)?;
+    flush(out)
+}
+
+/// The exit status of a command that is done or refused; a fault is told.
+fn status_of<E: Write>(err: &mut E, done: Result<(), Fault>) -> u8 {
+    match done {
+        Ok(()) => DONE,
+        Err(fault) => refuse(err, &fault),
+    }
+}
+
 /// Does what a request asks.
 fn answer<P: Places, O: Write, E: Write>(
     alloc: Global,
@@ -103,16 +142,30 @@ fn answer<P: Places, O: Write, E: Write>(
             Ok(ending) => tell(err, &ending),
             Err(fault) => refuse(err, &fault),
         },
+        Request::Ground { domain, problem } => {
+            let done = ground_files(alloc, places, domain.as_str(), problem.as_str(), out);
+            status_of(err, done)
+        }
+        Request::Validate {
+            domain,
+            problem,
+            plan,
+        } => {
+            let names = (domain.as_str(), problem.as_str(), plan.as_str());
+            let done = validate_files(alloc, places, names.0, names.1, names.2, out);
+            status_of(err, done)
+        }
     }
 }
 
 /// Runs the words of a command line, of which the first is the program's name, and answers the exit status.
 ///
-/// The status is 0 for a plan, the help and the version, 1 for a fault, 2 for a faulty command line, 10 where there is no
-/// plan and 11 where a number left the range.
+/// The status is 0 for a plan, the actions of a task, a valid plan, the help and the version, 1 for a fault, 2 for a faulty command line, 10
+/// where there is no plan and 11 where a number left the range.
 ///
 /// What was asked for goes to `out`, and everything else to `err`. Faults are looked for in this order: the command line;
-/// the domain's file, the problem's; the domain's text, the problem's; their names, types and metric; the search.
+/// the domain's file, the problem's, the plan's; the domain's text, the problem's; their names, types and metric; the grounding (not to
+/// validate); the plan's text; the work itself.
 pub fn command<P: Places, O: Write, E: Write>(
     alloc: Global,
     words: &[String],
@@ -122,10 +175,7 @@ pub fn command<P: Places, O: Write, E: Write>(
 ) -> u8 {
     match read_words(alloc, words) {
         Ok(request) => answer(alloc, &request, places, out, err),
-        Err(WordsError::Shown(text)) => match show(out, text.as_str()) {
-            Ok(()) => DONE,
-            Err(fault) => refuse(err, &fault),
-        },
+        Err(WordsError::Shown(text)) => status_of(err, show(out, text.as_str())),
         Err(WordsError::Fault(text)) => {
             let _ = put(err, text.as_bytes());
             MISUSED

@@ -1,6 +1,6 @@
 //! The task that two texts say.
 ghost use Rattle.std.specs.Prelude.{IfOk, IfErr};
-ghost use Rattle.hplan.specs.Tasks.{SayTrees, IsLiftedOf, IsTaskOf, Explains};
+ghost use Rattle.hplan.specs.Tasks.{SayTrees, IsLiftedOf, IsTaskOf, ExplainsTexts, Explains};
 
 use crate::digest::digest_of;
 use crate::fault::{Fault, Source, checked_in, grounded_in, read_in};
@@ -14,7 +14,7 @@ use std::alloc::Global;
 /// The trees of a domain's and a problem's text.
 fn trees_of(alloc: Global, domain: &[u8], problem: &[u8]) -> Result<(DomainAst, ProblemAst), Fault>
     ensures found { IfOk result (λ trees. SayTrees domain.now problem.now trees.0 trees.1) }
-    ensures refusal { IfErr result (Explains domain.now problem.now) }
+    ensures refusal { IfErr result (ExplainsTexts domain.now problem.now) }
 {
     match read_domain(alloc, domain) {
         Err(error) => Err(read_in(Source::Domain, error)),
@@ -26,9 +26,14 @@ fn trees_of(alloc: Global, domain: &[u8], problem: &[u8]) -> Result<(DomainAst, 
 }
 
 /// The lifted task that two texts say.
-fn checked_of(alloc: Global, seed: Seed, domain: &[u8], problem: &[u8]) -> Result<Checked, Fault>
+pub(crate) fn checked_of(
+    alloc: Global,
+    seed: Seed,
+    domain: &[u8],
+    problem: &[u8],
+) -> Result<Checked, Fault>
     ensures found { IfOk result (IsLiftedOf domain.now problem.now) }
-    ensures refusal { IfErr result (Explains domain.now problem.now) }
+    ensures refusal { IfErr result (ExplainsTexts domain.now problem.now) }
 {
     let (domain, problem) = trees_of(alloc, domain, problem)?;
     match check(alloc, seed, domain, problem) {
@@ -42,6 +47,7 @@ fn checked_of(alloc: Global, seed: Seed, domain: &[u8], problem: &[u8]) -> Resul
 /// # Errors
 /// The first fault: of the domain's text, of the problem's, of their names, types and metric, or of the grounding: that the task
 /// would be too large, that a fluent has no first value, or that an action costs less than 0.
+#[tactic(auto, using(crate::proofs::Explaining::unlifted))]
 pub fn task_of(alloc: Global, domain: &[u8], problem: &[u8]) -> Result<Task, Fault>
     ensures found { IfOk result (IsTaskOf domain.now problem.now) }
     ensures refusal { IfErr result (Explains domain.now problem.now) }

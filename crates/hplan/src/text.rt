@@ -1,18 +1,18 @@
-//! The texts of plans and departures.
-ghost use Rattle.std.specs.Prelude.{◌≡◌, ◌++◌, false, IfOk, OnOk, MatchOption, string_bytes};
-ghost use Rattle.hplan.specs.PlanText.{action_text, action_line, plan_at, plan_text, departure_text, goes_through};
+//! The texts of departures, of tasks and of verdicts on plans.
+ghost use Rattle.std.specs.Prelude.{◌≡◌, ◌++◌, IfOk, OnOk, string_bytes};
+ghost use Rattle.hplan.specs.TaskText.{action_text, departure_text, count_line, numbered_line, numbered_lines, task_text};
+ghost use Rattle.hplan.specs.Verdict.{valid_text};
 
-use crate::cost::cost_of;
 use hd_base::NoMemory;
-use hd_task::{DepartsBy, Departure, Plan, Task, push_form};
+use hd_task::{DepartsBy, Departure, Task, push_form};
 use std::alloc::Global;
 
 /// The ground form of an action behind a text.
-fn push_action(text: &mut String, task: &Task, action: u32) -> Result<(), NoMemory>
+fn push_action(text: &mut String, task: &Task, action: usize) -> Result<(), NoMemory>
     ensures { OnOk result (string_bytes text.new
         ≡ string_bytes text.old ++ action_text task.now action) }
 {
-    match task.actions.as_slice().get(action as usize) {
+    match task.actions.as_slice().get(action) {
         Some(found) => push_form(
             text,
             task.names.schemas.as_slice(),
@@ -24,41 +24,6 @@ fn push_action(text: &mut String, task: &Task, action: u32) -> Result<(), NoMemo
     }
 }
 
-/// The line of an action behind a text.
-fn push_line(text: &mut String, task: &Task, action: u32) -> Result<(), NoMemory>
-    ensures { OnOk result (string_bytes text.new
-        ≡ string_bytes text.old ++ action_line task.now action) }
-{
-    push_action(text, task, action)?;
-    text.push_str("\n")
-}
-
-/// The lines of a plan at a cost.
-fn plan_at(alloc: Global, task: &Task, plan: &Plan, cost: u64) -> Result<String, NoMemory>
-    ensures { IfOk result (λ s. string_bytes s ≡ plan_at task.now plan.now cost) }
-{
-    let mut text = String::new(alloc);
-    for action in plan.as_slice() {
-        push_line(&mut text, task, action.0)?;
-    }
-    let cost = format!(in alloc; "; cost = {cost}")?;
-    text.push_str(cost.as_str())?;
-    text.push_str("\n")?;
-    Ok(text)
-}
-
-/// The text of a plan, with its cost; none where a step of the plan is not applicable.
-pub fn plan_text(alloc: Global, task: &Task, plan: &Plan) -> Result<Option<Vec<u8>>, NoMemory>
-    ensures { IfOk result (λ found. MatchOption found
-        (goes_through task.now plan.now ≡ false)
-        (λ v. v.items ≡ plan_text task.now plan.now)) }
-{
-    match cost_of(alloc, task, plan)? {
-        Some(cost) => Ok(Some(plan_at(alloc, task, plan, cost)?.into_bytes())),
-        None => Ok(None),
-    }
-}
-
 /// A departure, as it is told.
 pub fn departure_text(alloc: Global, task: &Task, departure: Departure) -> Result<Vec<u8>, NoMemory>
     ensures { IfOk result (λ v. v.items ≡ departure_text task.now departure) }
@@ -67,7 +32,65 @@ pub fn departure_text(alloc: Global, task: &Task, departure: Departure) -> Resul
     let mut text = format!(in alloc; "range left: entry {entry}, ")?;
     match departure.by {
         DepartsBy::Goal => text.push_str("goal")?,
-        DepartsBy::Action(action) => push_action(&mut text, task, action)?,
+        DepartsBy::Action(action) => push_action(&mut text, task, action as usize)?,
     }
+    Ok(text.into_bytes())
+}
+
+/// The line that counts something, behind a text.
+fn push_count(alloc: Global, text: &mut String, what: &str, count: usize) -> Result<(), NoMemory>
+    ensures { OnOk result (string_bytes text.new
+        ≡ string_bytes text.old ++ count_line what.now count) }
+{
+    let counted = format!(in alloc; "{what} {count}")?;
+    text.push_str(counted.as_str())?;
+    text.push_str("\n")
+}
+
+/// The line of the action with this number, behind a text.
+fn push_numbered(
+    alloc: Global,
+    text: &mut String,
+    task: &Task,
+    action: usize,
+) -> Result<(), NoMemory>
+    ensures { OnOk result (string_bytes text.new
+        ≡ string_bytes text.old ++ numbered_line task.now action) }
+{
+    let number = format!(in alloc; "{action} ")?;
+    text.push_str(number.as_str())?;
+    push_action(text, task, action)?;
+    text.push_str("\n")
+}
+
+/// The lines of all actions, behind a text.
+fn push_actions(alloc: Global, text: &mut String, task: &Task) -> Result<(), NoMemory>
+    ensures { OnOk result (string_bytes text.new
+        ≡ string_bytes text.old ++ numbered_lines task.now) }
+{
+    for action in 0..task.actions.len() {
+        push_numbered(alloc, text, task, action)?;
+    }
+    Ok(())
+}
+
+/// A task: how many actions, atoms and fluents it has, and then its actions in the order of their numbers, a line each.
+pub fn task_text(alloc: Global, task: &Task) -> Result<Vec<u8>, NoMemory>
+    ensures { IfOk result (λ v. v.items ≡ task_text task.now) }
+{
+    let mut text = String::new(alloc);
+    push_count(alloc, &mut text, "actions", task.actions.len())?;
+    push_count(alloc, &mut text, "atoms", task.atoms.len())?;
+    push_count(alloc, &mut text, "fluents", task.fluents.len())?;
+    push_actions(alloc, &mut text, task)?;
+    Ok(text.into_bytes())
+}
+
+/// How it is told that a plan is valid.
+pub fn valid_text(alloc: Global, cost: u64) -> Result<Vec<u8>, NoMemory>
+    ensures { IfOk result (λ v. v.items ≡ valid_text cost) }
+{
+    let mut text = format!(in alloc; "valid; cost = {cost}")?;
+    text.push_str("\n")?;
     Ok(text.into_bytes())
 }

@@ -1,94 +1,7 @@
-//! What command lines print, over files in memory. A run is shown as its exit status, `|`, what is on standard output, `|`,
-//! and what is on standard error.
-use crate::line::line_of;
-use hplan::{Shelf, command};
-use std::alloc::{AllocError, Global};
-use std::io::{self, Write};
+//! What command lines print, and with which exit status.
+use crate::running::{cut_short, run, solved};
 use std::test::Fail;
 use text_tests::samples::{G, G_PROBLEM, L, L_PROBLEM, U};
-
-/// A run as bytes.
-fn shown(alloc: Global, status: u8, out: &[u8], err: &[u8]) -> Result<Vec<u8>, AllocError> {
-    let status = format!(in alloc; "{status}|")?;
-    let mut run = Vec::from_slice(alloc, status.as_bytes())?;
-    run.extend_from_slice(out)?;
-    run.push(b'|')?;
-    run.extend_from_slice(err)?;
-    Ok(run)
-}
-
-/// The files `d` and `p`.
-fn files_of(alloc: Global, domain: &[u8], problem: &[u8]) -> Result<Shelf, AllocError> {
-    let mut files = Shelf::empty(alloc);
-    files.put(alloc, "d", domain)?;
-    files.put(alloc, "p", problem)?;
-    Ok(files)
-}
-
-/// A run of these words over the files `d` and `p`.
-fn run(
-    alloc: Global,
-    words: &[&str],
-    domain: &[u8],
-    problem: &[u8],
-) -> Result<Vec<u8>, AllocError> {
-    let words = line_of(alloc, words)?;
-    let mut files = files_of(alloc, domain, problem)?;
-    let mut out = Vec::new(alloc);
-    let mut err = Vec::new(alloc);
-    let status = command(alloc, &words, &mut files, &mut out, &mut err);
-    shown(alloc, status, &out, &err)
-}
-
-/// The run of `solve` on two texts.
-pub fn solved(alloc: Global, domain: &str, problem: &str) -> Result<Vec<u8>, AllocError> {
-    run(
-        alloc,
-        &["solve", "d", "p", "--workers", "2"],
-        domain.as_bytes(),
-        problem.as_bytes(),
-    )
-}
-
-/// A writer that takes some bytes, and then none.
-#[derive(Drop)]
-struct Short {
-    taken: Vec<u8>,
-    room: usize,
-}
-
-impl Write for Short {
-    fn write(&mut self, bytes: &[u8]) -> io::Result<usize> {
-        if self.room == 0 {
-            return Err(io::Error::from(io::ErrorKind::StorageFull));
-        }
-        self.room -= 1;
-        match bytes.first() {
-            Some(byte) => {
-                self.taken.push(*byte)?;
-                Ok(1)
-            }
-            None => Ok(0),
-        }
-    }
-
-    fn flush(&mut self) -> io::Result<()> {
-        Ok(())
-    }
-}
-
-/// The run of `solve` on L with an output that takes this many bytes.
-fn cut_short(alloc: Global, room: usize) -> Result<Vec<u8>, AllocError> {
-    let words = line_of(alloc, &["solve", "d", "p"])?;
-    let mut files = files_of(alloc, L.as_bytes(), L_PROBLEM.as_bytes())?;
-    let mut out = Short {
-        taken: Vec::new(alloc),
-        room,
-    };
-    let mut err = Vec::new(alloc);
-    let status = command(alloc, &words, &mut files, &mut out, &mut err);
-    shown(alloc, status, &out.taken, &err)
-}
 
 #[test]
 fn plans_are_printed(rt: HostRuntime) -> Result<(), Fail> {
@@ -148,6 +61,10 @@ fn faults_of_the_domain_are_told(rt: HostRuntime) -> Result<(), Fail> {
             "(define (domain l) (:types a - b b - a))",
             "1||hplan: domain: 12 TypeCycle(a, 27)\n",
         ),
+        (
+            "(define (domain l) (:types t) (:constants k) (:predicates (b) (q ?x - t)) (:action s :parameters () :effect (q k)))",
+            "1||hplan: domain: 11 WrongType(k, 111)\n",
+        ),
     ] {
         assert_eq!(rt;
             solved(alloc, domain, L_PROBLEM)?.as_slice(),
@@ -160,21 +77,17 @@ fn faults_of_the_domain_are_told(rt: HostRuntime) -> Result<(), Fail> {
 #[test]
 fn long_and_deep_domains_are_refused(rt: HostRuntime) -> Result<(), Fail> {
     let alloc = rt.alloc();
-    let words = ["solve", "d", "p"].as_slice();
     let deep = vec![in alloc; b'('; 65]?;
-    assert_eq!(rt;
-        run(alloc, words, &deep, b"")?.as_slice(),
-        b"1||hplan: domain: 7 TooDeep(64)\n".as_slice()
-    );
     let long = vec![in alloc; b'a'; 256]?;
-    assert_eq!(rt;
-        run(alloc, words, &long, b"")?.as_slice(),
-        b"1||hplan: domain: 3 NameTooLong(0)\n".as_slice()
-    );
-    assert_eq!(rt;
-        run(alloc, words, b"( \xFF )", b"")?.as_slice(),
-        b"1||hplan: domain: 1 BadByte(2)\n".as_slice()
-    );
+    for (domain, want) in [
+        (deep.as_slice(), "1||hplan: domain: 7 TooDeep(64)\n"),
+        (long.as_slice(), "1||hplan: domain: 3 NameTooLong(0)\n"),
+        (b"( \xFF )".as_slice(), "1||hplan: domain: 1 BadByte(2)\n"),
+    ] {
+        let files = [("d", domain), ("p", b"".as_slice())];
+        let found = run(alloc, &["solve", "d", "p"], &files)?;
+        assert_eq!(rt; found.as_slice(), want.as_bytes());
+    }
     Ok(())
 }
 
@@ -255,8 +168,11 @@ fn command_lines_are_tested(rt: HostRuntime) -> Result<(), Fail> {
         ),
         (["solve", "x", "p"].as_slice(), "1||hplan: 35 Device\n"),
         (["solve", "d", "x"].as_slice(), "1||hplan: 35 Device\n"),
+        (["ground", "d"].as_slice(), "2||error: the following"),
+        (["ground", "d", "x"].as_slice(), "1||hplan: 35 Device\n"),
     ] {
-        let found = run(alloc, words, b"(", b"(")?;
+        let files = [("d", b"(".as_slice()), ("p", b"(".as_slice())];
+        let found = run(alloc, words, &files)?;
         assert!(rt; found.as_slice().starts_with(want.as_bytes()), "at {want}");
     }
     Ok(())
@@ -265,13 +181,25 @@ fn command_lines_are_tested(rt: HostRuntime) -> Result<(), Fail> {
 #[test]
 fn an_output_that_cannot_be_written_is_a_fault(rt: HostRuntime) -> Result<(), Fail> {
     let alloc = rt.alloc();
-    for (room, want) in [
-        (0, "1||hplan: 35 Device\n"),
-        (9, "1|(set-a)\n(|hplan: 35 Device\n"),
-        (25, "1|(set-a)\n(set-b)\n; cost = |hplan: 35 Device\n"),
-        (27, "0|(set-a)\n(set-b)\n; cost = 2\n|"),
+    let files = [("d", L.as_bytes()), ("p", L_PROBLEM.as_bytes())];
+    for (name, room, want) in [
+        ("solve", 0, "1||hplan: 35 Device\n"),
+        ("solve", 9, "1|(set-a)\n(|hplan: 35 Device\n"),
+        (
+            "solve",
+            25,
+            "1|(set-a)\n(set-b)\n; cost = |hplan: 35 Device\n",
+        ),
+        ("solve", 27, "0|(set-a)\n(set-b)\n; cost = 2\n|"),
+        ("ground", 11, "1|actions 2\na|hplan: 35 Device\n"),
+        (
+            "ground",
+            48,
+            "0|actions 2\natoms 2\nfluents 0\n0 (set-a)\n1 (set-b)\n|",
+        ),
     ] {
-        assert_eq!(rt; cut_short(alloc, room)?.as_slice(), want.as_bytes());
+        let found = cut_short(alloc, &[name, "d", "p"], &files, room)?;
+        assert_eq!(rt; found.as_slice(), want.as_bytes());
     }
     Ok(())
 }

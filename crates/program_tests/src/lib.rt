@@ -4,10 +4,18 @@
 #[cfg(test)]
 mod command;
 #[cfg(test)]
+mod counted;
+#[cfg(test)]
 mod digests;
+#[cfg(test)]
+mod grounded;
 #[cfg(test)]
 mod line;
 #[cfg(test)]
 mod numeric;
+#[cfg(test)]
+mod running;
+#[cfg(test)]
+mod validated;
 #[cfg(test)]
 mod words;

@@ -1,5 +1,5 @@
 //! What `solve` prints of tasks with types, objects and numbers. The answers were worked out by hand.
-use crate::command::solved;
+use crate::running::solved;
 use std::alloc::{AllocError, Global};
 use std::test::Fail;
 use text_tests::samples::{N, N_PROBLEM, U, U_PROBLEM, V, V_PROBLEM};
@@ -53,6 +53,10 @@ fn a_cost_may_depend_on_the_state(rt: HostRuntime) -> Result<(), Fail> {
             "(total-cost) (- (fuel) 10)",
             "11||range left: entry 0, (go a b)\n",
         ),
+        (
+            "(total-cost) (+ (total-cost) 1)",
+            "1||hplan: domain: 13 BadMetric(411)\n",
+        ),
     ] {
         let run = changed(alloc, (paid, amount), SAME)?;
         assert_eq!(rt; run.as_slice(), want.as_bytes());
@@ -77,6 +81,11 @@ fn a_number_that_leaves_the_range_is_told(rt: HostRuntime) -> Result<(), Fail> {
     for (value, goal, want) in [
         ("1000000000000000", "(b)", "11||range left: entry 0, (up)\n"),
         (
+            "1000000000000000",
+            "(< (+ (x) 1) 5)",
+            "11||range left: entry 0, goal\n",
+        ),
+        (
             "999999999999999",
             "(= (x) 1000000000000000)",
             "0|(up)\n; cost = 1\n|",
@@ -85,6 +94,33 @@ fn a_number_that_leaves_the_range_is_told(rt: HostRuntime) -> Result<(), Fail> {
         let problem = U_PROBLEM.replace(alloc, "-999999999999999", value)?;
         let problem = problem.as_str().replace(alloc, "(b)", goal)?;
         let run = solved(alloc, U, problem.as_str())?;
+        assert_eq!(rt; run.as_slice(), want.as_bytes());
+    }
+    Ok(())
+}
+
+/// All amounts are those before the action, and what raises and lowers one fluent adds up.
+#[test]
+fn effects_are_taken_together(rt: HostRuntime) -> Result<(), Fail> {
+    let alloc = rt.alloc();
+    let swap = "(define (domain e) (:functions (x) (y))
+  (:action act :parameters () :effect (and (assign (x) (y)) (assign (y) (x)))))";
+    let sum = "(define (domain e) (:functions (x) (y))
+  (:action act :parameters () :effect (and (increase (x) 3) (decrease (x) 1))))";
+    for (domain, x, goal, want) in [
+        (
+            swap,
+            "1",
+            "(and (= (x) 2) (= (y) 1))",
+            "0|(act)\n; cost = 1\n|",
+        ),
+        (sum, "5", "(= (x) 7)", "0|(act)\n; cost = 1\n|"),
+    ] {
+        let problem = format!(in alloc;
+            "(define (problem e1) (:domain e)
+  (:init (= (x) {x}) (= (y) 2)) (:goal {goal}))"
+        )?;
+        let run = solved(alloc, domain, problem.as_str())?;
         assert_eq!(rt; run.as_slice(), want.as_bytes());
     }
     Ok(())

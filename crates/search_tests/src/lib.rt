@@ -1,4 +1,4 @@
-//! Tests of the libraries that searches stand on: hd_task, hd_node and hd_book.
+//! Tests of the libraries that searches stand on: hd_task, hd_zobrist, hd_pack, hd_node and hd_book.
 #![tactic(auto)]
 
 #[cfg(test)]
@@ -12,7 +12,11 @@ mod expansions;
 #[cfg(test)]
 mod expressions;
 #[cfg(test)]
+mod hashes;
+#[cfg(test)]
 mod outcomes;
+#[cfg(test)]
+mod packing;
 #[cfg(test)]
 mod scripts;
 #[cfg(test)]

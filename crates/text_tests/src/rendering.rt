@@ -51,8 +51,8 @@ fn add_atom(text: &mut String, atom: &Atom) -> Result<(), AllocError> {
 
 fn add_expression(text: &mut String, expression: &Expr) -> Result<(), AllocError> {
     match expression.parts() {
-        ExprParts::Leaf(Leaf::Number(value, at)) => write!(text, "{value}@{at}"),
-        ExprParts::Leaf(Leaf::Fluent(fluent)) => add_atom(text, fluent),
+        ExprParts::Leaf(Leaf::Number(at, value)) => write!(text, "{value}@{}", at.get()),
+        ExprParts::Leaf(Leaf::Fluent(fluent)) => add_atom(text, fluent.get()),
         ExprParts::Negate(operand) => {
             text.push_str("(- ")?;
             add_expression(text, operand)?;
@@ -72,7 +72,7 @@ fn add_comparison(text: &mut String, comparison: &Comparison) -> Result<(), Allo
     text.push_str(relation_of(comparison.relation))?;
     add_expression(text, &comparison.left)?;
     text.push(' ')?;
-    add_expression(text, &comparison.right)?;
+    add_expression(text, comparison.right.get())?;
     text.push(')')
 }
 
@@ -101,7 +101,7 @@ fn add_condition(text: &mut String, condition: &Condition) -> Result<(), AllocEr
         }
         Condition::Equal(left, right) => add_equality(text, " =[", left.get(), right.get()),
         Condition::NotEqual(left, right) => add_equality(text, " !=[", left.get(), right.get()),
-        Condition::Compare(comparison) => add_comparison(text, comparison.get()),
+        Condition::Compare(comparison) => add_comparison(text, comparison),
     }
 }
 
@@ -196,9 +196,8 @@ fn add_fact(text: &mut String, fact: &Init) -> Result<(), AllocError> {
             add_atom(text, atom)
         }
         Init::Value(value) => {
-            let value = value.get();
             text.push(' ')?;
-            add_atom(text, &value.fluent)?;
+            add_atom(text, value.fluent.get())?;
             write!(text, "={}@{}", value.value, value.at)
         }
     }

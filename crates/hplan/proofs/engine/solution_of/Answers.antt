@@ -2,8 +2,8 @@ use Rattle.hplan.specs.Answer.{OfMemory, OfBook}
 use Rattle.hplan.proofs.Solving.{answer_goes}
 use Rattle.hplan.proofs.engine.solution_of.Goals as goal
 
-pub texts_of-requires : goal.texts_of-requires
-texts_of-requires c = answer_goes c.args.task.now c.in-Ok.verdict c.in-Ok.ensures.answer
+pub told_of-requires : goal.told_of-requires
+told_of-requires c = answer_goes c.args.task.now c.in-Ok.verdict c.in-Ok.ensures.answer
 
 pub returns-in-Err-NoMemory-clause-refusal : goal.returns-in-Err-NoMemory-clause-refusal
 returns-in-Err-NoMemory-clause-refusal c = OfMemory

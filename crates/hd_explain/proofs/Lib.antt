@@ -1,0 +1,6 @@
+pub mod Finding
+pub mod Leaving
+pub mod Paying
+pub mod Changing
+pub mod Stepping
+pub mod Undefined

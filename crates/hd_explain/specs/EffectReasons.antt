@@ -1,0 +1,108 @@
+-- Why a step departs from the range, where its condition holds and stays in it. (Our own: PDDL 2.1 has no range.)
+use Rattle.std.specs.Prelude.{◌≡◌, ℕ, Bool, true, false, not, ◌||◌, List, Option, Some, MatchOption, find, ℤ, pos, ◌+ℤ◌}
+use Rattle.std.specs.List.{list_all}
+use Rattle.hd_base.specs.Numbers.{in_range, fits}
+use Rattle.hd_lifted.specs.declared.schema.NumericEffect.{NumericEffect}
+use Rattle.hd_lifted.specs.declared.schema.Schema.{Schema}
+use Rattle.hd_lifted.specs.declared.task.LiftedTask.{LiftedTask}
+use Rattle.hd_lifted.specs.States.{Values, ground_form_of}
+use Rattle.hd_lifted.specs.Expressions.{stays_in_range}
+use Rattle.hd_lifted.specs.Effects.{is_cost, value_after, effects_stay, step_cost, is_negative}
+use Rattle.hd_lifted.specs.Steps.{Reached, cost_after}
+use Rattle.hd_explain.specs.declared.reason.Reason.{Reason}
+use Rattle.hd_explain.specs.declared.reason.Reason.TheVariants as reasons
+use Rattle.hd_explain.specs.declared.reason.StepCost.{StepCost}
+use Rattle.hd_explain.specs.declared.reason.NewValue.{NewValue}
+use Rattle.hd_explain.specs.declared.reason.Departure.{Departure}
+use Rattle.hd_judge.specs.declared.changes.Changes.{Changes}
+use Rattle.hd_judge.specs.Effects.{change_fits, new_value_in}
+use Rattle.hd_explain.specs.Departures.{IsDeparture}
+
+-- each subexpression of an effect's amount is in the range
+abbrev pub amount_stays : Values → List ℕ → NumericEffect → Bool
+amount_stays v objects e = stays_in_range v objects e.amount
+
+-- the first effect whose amount has a subexpression out of the range
+abbrev pub departing_effect : Values → List ℕ → List NumericEffect → Option NumericEffect
+departing_effect v objects es = find (λ e. not (amount_stays v objects e)) es
+
+-- the new value of an effect's fluent is in the range; a cost changes none
+abbrev pub new_value_stays : Values → Schema → List ℕ → NumericEffect → Bool
+new_value_stays v a objects e = is_cost e.change || fits (value_after v a objects (ground_form_of objects e.fluent))
+
+-- the first effect whose fluent's new value is out of the range
+abbrev pub leaving_effect : Values → Schema → List ℕ → Option NumericEffect
+leaving_effect v a objects = find (λ e. not (new_value_stays v a objects e)) a.effects
+
+-- what a step costs where it is taken, by its effects
+pub record IsStepCost (t : LiftedTask) (r : Reached) (a : Schema) (objects : List ℕ) (cost : StepCost) : Type 0 where
+  pub effects : cost.effects.now ≡ a.effects
+  pub value : step_cost t r.state.values a objects ≡ Some cost.value
+  pub before : r.cost ≡ Some (pos cost.before)
+
+-- a step's effects, its cost and the plan's with it stay in the range, and the step's cost is not negative
+pub record StaysWithin (t : LiftedTask) (r : Reached) (a : Schema) (objects : List ℕ) : Type 0 where
+  pub effects : effects_stay r.state.values a objects ≡ true
+  pub cost : is_negative (step_cost t r.state.values a objects) ≡ false
+  pub total : fits (cost_after t r a objects) ≡ true
+
+-- this is why they don't: the first departure of the first amount that departs; or, where none does, the first new value that is out of the
+-- range; or, where there is none, the step's cost, which is negative; or else the plan's cost
+abbrev pub IsReasonOfEffects : LiftedTask → Reached → Schema → List ℕ → Reason → Type 0
+IsReasonOfEffects t r a objects (reasons.Literal l) = ⊥
+IsReasonOfEffects t r a objects (reasons.Equality e) = ⊥
+IsReasonOfEffects t r a objects (reasons.Comparison c) = ⊥
+IsReasonOfEffects t r a objects (reasons.Subexpression d) =
+    (of : NumericEffect) × (departing_effect r.state.values objects a.effects ≡ Some of) × IsDeparture r.state.values objects of.amount d.part.now d.value
+IsReasonOfEffects t r a objects (reasons.NewValue n) =
+    (list_all (amount_stays r.state.values objects) a.effects ≡ true) × (leaving_effect r.state.values a objects ≡ Some n.effect.now)
+    × (value_after r.state.values a objects (ground_form_of objects n.effect.now.fluent) ≡ Some n.value)
+IsReasonOfEffects t r a objects (reasons.NegativeCost c) =
+    (effects_stay r.state.values a objects ≡ true) × IsStepCost t r a objects c × (is_negative (Some c.value) ≡ true)
+IsReasonOfEffects t r a objects (reasons.PlanCost c) =
+    (effects_stay r.state.values a objects ≡ true) × IsStepCost t r a objects c × (is_negative (Some c.value) ≡ false)
+    × (in_range (pos c.before +ℤ c.value) ≡ false)
+
+-- ---- what the code answers
+
+-- the departure of an amount, or nothing, where it stays in the range
+abbrev pub ExplainsAmount : Values → List ℕ → NumericEffect → Option Departure → Type 0
+ExplainsAmount v objects e answer =
+    MatchOption answer (amount_stays v objects e ≡ true)
+    (λ d. (amount_stays v objects e ≡ false) × IsDeparture v objects e.amount d.part.now d.value)
+
+-- the first departure of amounts, or nothing, where all stay in the range
+abbrev pub ExplainsAmounts : Values → List ℕ → List NumericEffect → Option Departure → Type 0
+ExplainsAmounts v objects es answer =
+    MatchOption answer (list_all (amount_stays v objects) es ≡ true)
+    (λ d. (of : NumericEffect) × (departing_effect v objects es ≡ Some of) × IsDeparture v objects of.amount d.part.now d.value)
+
+-- the new value of an effect's fluent, where that is out of the range
+abbrev pub JudgesLeaving : Changes → List ℕ → NumericEffect → Option ℤ → Type 0
+JudgesLeaving changes objects e answer =
+    MatchOption answer (change_fits changes objects e ≡ true)
+    (λ z. (change_fits changes objects e ≡ false) × (new_value_in changes (ground_form_of objects e.fluent) ≡ Some z))
+
+-- the first effect with such a value, or nothing, where all are in the range
+abbrev pub ExplainsValues : Changes → List ℕ → List NumericEffect → Option NewValue → Type 0
+ExplainsValues changes objects es answer =
+    MatchOption answer (list_all (change_fits changes objects) es ≡ true)
+    (λ n. (find (λ e. not (change_fits changes objects e)) es ≡ Some n.effect.now)
+    × (new_value_in changes (ground_form_of objects n.effect.now.fluent) ≡ Some n.value))
+
+-- why a step of this cost can't be taken behind a plan of that cost
+abbrev pub IsReasonOfCost : ℕ → ℤ → List NumericEffect → Reason → Type 0
+IsReasonOfCost before step es (reasons.Literal l) = ⊥
+IsReasonOfCost before step es (reasons.Equality e) = ⊥
+IsReasonOfCost before step es (reasons.Comparison c) = ⊥
+IsReasonOfCost before step es (reasons.Subexpression d) = ⊥
+IsReasonOfCost before step es (reasons.NewValue n) = ⊥
+IsReasonOfCost before step es (reasons.NegativeCost c) =
+    (c.effects.now ≡ es) × (c.value ≡ step) × (c.before ≡ before) × (is_negative (Some step) ≡ true)
+IsReasonOfCost before step es (reasons.PlanCost c) =
+    (c.effects.now ≡ es) × (c.value ≡ step) × (c.before ≡ before) × (is_negative (Some step) ≡ false) × (in_range (pos before +ℤ step) ≡ false)
+
+-- that, or nothing, where it can
+abbrev pub ExplainsCost : ℕ → ℤ → List NumericEffect → Option Reason → Type 0
+ExplainsCost before step es answer =
+    MatchOption answer ((is_negative (Some step) ≡ false) × (in_range (pos before +ℤ step) ≡ true)) (IsReasonOfCost before step es)

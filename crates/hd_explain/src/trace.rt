@@ -1,0 +1,123 @@
+//! The values of expressions, or else where they leave the range.
+ghost use Rattle.std.specs.Prelude.{◌≡◌, IfOk, neg_ℤ, option_map};
+ghost use Rattle.hd_base.specs.Numbers.{result_of};
+ghost use Rattle.hd_base.specs.Values.{of_both};
+ghost use Rattle.hd_lifted.specs.Expressions.{leaf_value};
+ghost use Rattle.hd_judge.specs.Tables.{reached_in};
+ghost use Rattle.hd_explain.specs.Departures.{MeansOutcome, IsOutcomeBy};
+
+use crate::reason::Departure;
+use hd_base::{ExprParts, NoMemory, Operand, Operation, RANGE_END};
+use hd_judge::Place;
+use hd_lifted::{Expr, Leaf, ground_form_of};
+use std::alloc::Global;
+
+/// What the computation of an expression comes to.
+#[derive(Clone, Copy)]
+pub(crate) enum Outcome<'a> {
+    /// Its value, if it has one: each subexpression is in the range.
+    Value(Option<i64>),
+    /// A subexpression is out of the range, and those of its own are not.
+    Departs(Departure<'a>),
+}
+
+/// An expression's value, or the expression itself where that is out of the range.
+fn judged<'a>(said: &'a Expr, value: i128) -> Outcome<'a>
+    ensures { IsOutcomeBy said.now (Some value) result }
+{
+    if value.unsigned_abs() <= u128::from(RANGE_END) {
+        Outcome::Value(Some(value as i64))
+    } else {
+        Outcome::Departs(Departure { part: said, value })
+    }
+}
+
+/// The value of a leaf at a place, if it has one.
+fn leaf_value(
+    alloc: Global,
+    place: &Place,
+    objects: &[usize],
+    said: &Leaf,
+) -> Result<Option<i64>, NoMemory>
+    ensures { IfOk result (λ v. v
+        ≡ leaf_value (reached_in place.now).state.values objects.now said.now) }
+{
+    match said {
+        Operand::Number(number) => Ok(Some(*number)),
+        Operand::Fluent(fluent) => {
+            let fluent = ground_form_of(alloc, objects, fluent.get())?;
+            Ok(place.value(&fluent))
+        }
+    }
+}
+
+/// The value of an expression with its sign turned.
+fn negated<'a>(said: &'a Expr, inner: Option<i64>) -> Outcome<'a>
+    ensures { IsOutcomeBy said.now (option_map neg_ℤ inner) result }
+{
+    match inner {
+        Some(number) => judged(said, -i128::from(number)),
+        None => Outcome::Value(None),
+    }
+}
+
+/// What an operation makes of two numbers.
+fn result_of(operation: Operation, left: i64, right: i64) -> i128
+    ensures { result ≡ result_of operation left right }
+{
+    let left = i128::from(left);
+    let right = i128::from(right);
+    match operation {
+        Operation::Add => left + right,
+        Operation::Subtract => left - right,
+        Operation::Multiply => left * right,
+    }
+}
+
+/// The value of what an operation makes of two values.
+fn combined<'a>(
+    said: &'a Expr,
+    operation: Operation,
+    left: Option<i64>,
+    right: Option<i64>,
+) -> Outcome<'a>
+    ensures { IsOutcomeBy said.now (of_both (result_of operation) left right) result }
+{
+    match (left, right) {
+        (Some(left), Some(right)) => judged(said, result_of(operation, left, right)),
+        _ => Outcome::Value(None),
+    }
+}
+
+/// The value of an expression at a place, or else the first of its subexpressions that is out of the range: what it is made of
+/// before itself, and the left before the right.
+pub(crate) fn outcome_of<'a>(
+    alloc: Global,
+    place: &Place,
+    objects: &[usize],
+    said: &'a Expr,
+) -> Result<Outcome<'a>, NoMemory>
+    ensures { IfOk result (MeansOutcome (reached_in place.now).state.values objects.now said.now) }
+{
+    match said.parts() {
+        ExprParts::Leaf(leaf) => match leaf_value(alloc, place, objects, leaf)? {
+            Some(number) => Ok(judged(said, i128::from(number))),
+            None => Ok(Outcome::Value(None)),
+        },
+        ExprParts::Negate(inner) => match outcome_of(alloc, place, objects, inner)? {
+            Outcome::Value(value) => Ok(negated(said, value)),
+            departs => Ok(departs),
+        },
+        ExprParts::Binary(operation, left, right) => {
+            let left = match outcome_of(alloc, place, objects, left)? {
+                Outcome::Value(value) => value,
+                departs => return Ok(departs),
+            };
+            let right = match outcome_of(alloc, place, objects, right)? {
+                Outcome::Value(value) => value,
+                departs => return Ok(departs),
+            };
+            Ok(combined(said, operation, left, right))
+        }
+    }
+}

@@ -1,0 +1,15 @@
+pub mod Asked
+pub mod Deciding
+pub mod Defined
+pub mod Along
+pub mod Judged
+pub mod Beginning
+pub mod Finding
+pub mod Putting
+pub mod Summing
+pub mod Schemas
+pub mod Telling
+pub mod Paying
+pub mod Changing
+pub mod Effecting
+pub mod Stepping

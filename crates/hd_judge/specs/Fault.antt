@@ -1,0 +1,24 @@
+-- What the answers of the questions about a plan say. (Our own.)
+use Rattle.std.specs.Prelude.{◌≡◌, Bool, if◌then◌else◌, Option, Some, None, Result, Ok, Err}
+use Rattle.hd_judge.specs.declared.fault.Fault.{Fault}
+use Rattle.hd_judge.specs.declared.fault.Stop.{Stop}
+use Rattle.hd_judge.specs.declared.fault.Stop.TheVariants as stops
+
+-- a fault where a test fails
+abbrev pub unless : Bool → Fault → Option Fault
+unless test fault = if test then None else Some fault
+
+-- the stop tells this fault; want of memory tells nothing
+abbrev pub StopsAt : Stop → Option Fault → Type 0
+StopsAt (stops.At f) fault = fault ≡ Some f
+StopsAt stops.NoMemory fault = Unit {0}
+
+-- the answer is there where there is no fault, and otherwise the stop tells the fault
+abbrev pub Asks : {X : Type 0} → Result X Stop → Option Fault → Type 0
+Asks (Ok x) fault = fault ≡ None
+Asks (Err e) fault = StopsAt e fault
+
+-- the stop is one at a fault of this kind, or for want of memory
+abbrev pub StopsBy : (Fault → Type 0) → Stop → Type 0
+StopsBy Tells (stops.At f) = Tells f
+StopsBy Tells stops.NoMemory = Unit {0}

@@ -1,0 +1,10 @@
+pub mod Fault
+pub mod Questions
+pub mod Asking
+pub mod Validity
+pub mod Way
+pub mod Tables
+pub mod Judging
+pub mod Constant
+pub mod Effects
+pub mod Costs

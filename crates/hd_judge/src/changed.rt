@@ -1,0 +1,72 @@
+//! Which functions change.
+ghost use Rattle.std.specs.Prelude.{◌≡◌, ◌||◌, not, ℕ, IfOk};
+ghost use Rattle.std.specs.List.{list_any};
+ghost use Rattle.hd_kept.specs.Amounts.{changes_function, is_changed_by};
+ghost use Rattle.hd_lifted.specs.Effects.{is_cost};
+ghost use Rattle.hd_judge.specs.Tables.{has_function};
+
+use hd_base::{NoMemory, Seed};
+use hd_lifted::{Change, NumericEffect, Schema};
+use indexmap::IndexSet;
+use std::alloc::Global;
+
+/// The functions of which some schema changes fluents.
+#[derive(Drop)]
+pub(crate) struct Changed {
+    pub(crate) functions: IndexSet<usize, Seed>,
+}
+
+/// Whether an effect is a part of the cost.
+pub(crate) fn is_cost(change: Change) -> bool
+    ensures { result ≡ is_cost change }
+{
+    match change {
+        Change::Assign | Change::ScaleUp | Change::Increase | Change::Decrease => false,
+        Change::Cost => true,
+    }
+}
+
+impl Changed {
+    /// The function that an effect changes, if it changes one.
+    fn note(&mut self, effect: &NumericEffect) -> Result<(), NoMemory>
+        ensures { IfOk result (λ _. (f : ℕ) → has_function self.new f
+            ≡ (has_function self.old f || changes_function f effect.now)) }
+    {
+        if !is_cost(effect.change) {
+            self.functions.insert(effect.fluent.symbol)?;
+        }
+        Ok(())
+    }
+
+    /// The functions that a schema changes.
+    fn note_all(&mut self, schema: &Schema) -> Result<(), NoMemory>
+        ensures { IfOk result (λ _. (f : ℕ) → has_function self.new f
+            ≡ (has_function self.old f || is_changed_by f schema.now)) }
+    {
+        for effect in schema.effects.as_slice() {
+            self.note(effect)?;
+        }
+        Ok(())
+    }
+
+    /// The functions that these schemas change, in a table that hashes by the seed.
+    pub(crate) fn of(alloc: Global, seed: Seed, schemas: &[Schema]) -> Result<Changed, NoMemory>
+        ensures { IfOk result (λ c. (f : ℕ)
+            → has_function c f ≡ list_any (is_changed_by f) schemas.now) }
+    {
+        let mut changed = Changed {
+            functions: IndexSet::with_hasher(alloc, seed),
+        };
+        for schema in schemas {
+            changed.note_all(schema)?;
+        }
+        Ok(changed)
+    }
+
+    /// Whether some schema changes fluents of the function.
+    pub(crate) fn has(&self, function: usize) -> bool
+        ensures { result ≡ has_function self.now function }
+    {
+        self.functions.contains(&function)
+    }
+}

@@ -1,0 +1,49 @@
+//! What a validation tells.
+ghost use Rattle.std.specs.Prelude.{◌≡◌};
+ghost use Rattle.hd_judge.specs.declared.fault.Stop.TheVariants.{NoMemory};
+
+use hd_lifted::{Ground, Instance};
+use std::alloc::{AllocError, AllocFailed};
+
+/// Why a plan is not valid, or can't be judged. Steps are numbered from 1.
+#[derive(Debug, PartialEq, Eq, Drop)]
+pub enum Fault {
+    /// The step is one of no instance of the task: there is no such schema, its objects are not as many or not of the types that it
+    /// asks for, or two of its effects clash.
+    NoSuchAction(u64),
+    /// A condition of the step does not hold.
+    NotApplicable(u64),
+    /// A fluent that a step or the goal reads or changes has no first value.
+    Undefined(Ground),
+    /// A step of this instance costs the same in each state, and less than 0.
+    NegativeCost(Instance),
+    /// A number leaves the range at the step, or at the goal, whose number is one more than the number of steps.
+    Departs(u64),
+    /// The goal does not hold at the end.
+    GoalUnmet,
+}
+
+/// Why a validation stops.
+#[derive(Debug, PartialEq, Eq, Drop)]
+pub enum Stop {
+    /// At a fault of the plan.
+    At(Fault),
+    /// Memory ran out.
+    NoMemory,
+}
+
+impl From<AllocError> for Stop {
+    ghost from_gives = { λ _ error. error ≡ NoMemory };
+
+    fn from(_error: AllocError) -> Stop {
+        Stop::NoMemory
+    }
+}
+
+impl<T: Drop> From<AllocFailed<T>> for Stop {
+    ghost from_gives = { λ _ error. error ≡ NoMemory };
+
+    fn from(_error: AllocFailed<T>) -> Stop {
+        Stop::NoMemory
+    }
+}

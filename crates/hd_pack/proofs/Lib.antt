@@ -1,0 +1,2 @@
+pub mod AtomBits
+pub mod Trips

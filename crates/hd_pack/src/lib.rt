@@ -1,0 +1,14 @@
+//! States in few bytes: a bit for each atom, then eight bytes for each fluent.
+//!
+//! Atom i is bit `i mod 8`, the least first, of byte `i div 8`, and unused bits are 0. A fluent's value is in two's complement, its
+//! least byte first. So two states are the same exactly where their packings are.
+#![tactic(auto)]
+
+mod bits;
+pub mod laws;
+mod layout;
+mod packed;
+mod values;
+
+pub use layout::Layout;
+pub use packed::{Packed, pack, unpack};

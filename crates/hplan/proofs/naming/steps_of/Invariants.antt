@@ -1,0 +1,6 @@
+use Rattle.std.proofs.Common.{◌≡◌, map, take}
+use Rattle.hplan.specs.PlanText.{step_at}
+use Rattle.hplan.proofs.naming.steps_of.Given as goal
+
+abbrev pub invariant-loop-action : goal.invariant-loop-action
+invariant-loop-action l = l.steps.items ≡ map (step_at l.task) (map (λ a. a.0) (take l.action-index l.action-items))

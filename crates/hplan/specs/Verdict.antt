@@ -1,0 +1,51 @@
+-- What is told of the plan in a third text, and why nothing is. (Our own.)
+use Rattle.std.specs.Prelude.{◌≡◌, ℕ, List, ◌++◌, codes, decimal}
+use Rattle.hd_lifted.specs.declared.task.LiftedTask.{LiftedTask}
+use Rattle.hd_plan.specs.declared.error.PlanTextError.{PlanTextError}
+use Rattle.hd_plan.specs.declared.step.Step.{Step}
+use Rattle.hd_plan.specs.PlanText.{line_end}
+use Rattle.hd_plan.specs.Text.{ReadsAs, IsFault}
+use Rattle.hd_validate.specs.declared.error.PlanError.{PlanError}
+use Rattle.hd_validate.specs.Plans.{IsValidatedBy}
+use Rattle.hd_validate.specs.Telling.{Tells}
+use Rattle.hplan.specs.declared.fault.Fault.{Fault}
+use Rattle.hplan.specs.declared.fault.Fault.TheVariants.{Device, NoMemory}
+use Rattle.hplan.specs.Fault.{plan_read_in, judged_in}
+use Rattle.hplan.specs.Tasks.{IsLiftedOf, ExplainsTexts}
+
+-- how it is told that a plan is valid
+abbrev pub valid_text : ℕ → List ℕ
+valid_text cost = codes "valid; cost = " ++ decimal cost ++ line_end
+
+-- a text says steps that are validated in a lifted task, at a cost
+pub record IsValidIn (l : LiftedTask) (plan : List ℕ) (cost : ℕ) : Type 0 where
+  pub steps : List Step
+  pub reads : ReadsAs plan steps
+  pub validated : IsValidatedBy l steps cost
+
+-- what a fault tells of a text and a lifted task: want of memory tells nothing
+pub data ExplainsPlan (l : LiftedTask) (plan : List ℕ) : Fault → Type 0 where
+  Memory : ExplainsPlan l plan NoMemory
+  -- the text's first bad line
+  Unread : (error : PlanTextError) → IsFault plan error → ExplainsPlan l plan (plan_read_in error)
+  -- the text says steps, and the validator tells so of them
+  Invalid : (steps : List Step) (error : PlanError) → ReadsAs plan steps → Tells l steps error → ExplainsPlan l plan (judged_in error)
+
+-- three texts say a plan that is valid at a cost: two of them a lifted task, and the third steps that are validated in it
+pub record AreValid (domain problem plan : List ℕ) (cost : ℕ) : Type 0 where
+  pub lifted : LiftedTask
+  pub is_lifted : IsLiftedOf domain problem lifted
+  pub valid : IsValidIn lifted plan cost
+
+-- a text is the verdict on the plan of three texts
+pub record IsVerdictOf (domain problem plan : List ℕ) (text : List ℕ) : Type 0 where
+  pub cost : ℕ
+  pub valid : AreValid domain problem plan cost
+  pub is : text ≡ valid_text cost
+
+-- why no verdict is written: what is told of the first two texts; or they say a lifted task, and what is told of the third in it; or the
+-- plan is valid, and the output can't take what is written
+pub data HasNoVerdict (domain problem plan : List ℕ) : Fault → Type 0 where
+  InTexts : (f : Fault) → ExplainsTexts domain problem f → HasNoVerdict domain problem plan f
+  InPlan : (l : LiftedTask) (f : Fault) → IsLiftedOf domain problem l → ExplainsPlan l plan f → HasNoVerdict domain problem plan f
+  InOutput : (cost : ℕ) → AreValid domain problem plan cost → HasNoVerdict domain problem plan Device

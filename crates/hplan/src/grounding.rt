@@ -1,0 +1,57 @@
+//! From the bytes of two texts to the actions of their task.
+ghost use Rattle.std.specs.Prelude.{◌≡◌, ◌⊎◌, IfOk, IfErr, OnOk, OnErr};
+ghost use Rattle.hplan.specs.Tasks.{Explains};
+ghost use Rattle.hplan.specs.Written.{WritesA, WritesFrontOfA};
+ghost use Rattle.hplan.specs.Printing.{IsPrintOf, IsNotPrinted};
+
+use crate::fault::Fault;
+use crate::output::write_out;
+use crate::tasks::task_of;
+use crate::text::task_text;
+use std::alloc::Global;
+use std::io::Write;
+
+/// The task that two texts say, as it is printed.
+#[tactic(auto, using(crate::proofs::Explaining::memory_tells))]
+fn print_of(alloc: Global, domain: &[u8], problem: &[u8]) -> Result<Vec<u8>, Fault>
+    ensures found { IfOk result (λ text. IsPrintOf domain.now problem.now text.items) }
+    ensures refusal { IfErr result (Explains domain.now problem.now) }
+{
+    let task = task_of(alloc, domain, problem)?;
+    let text = task_text(alloc, &task);
+    drop(task);
+    match text {
+        Ok(text) => Ok(text),
+        Err(_) => Err(Fault::NoMemory),
+    }
+}
+
+/// Writes the task that two texts say: how many actions, atoms and fluents it has, and then its actions in the order of their
+/// numbers, a line each.
+///
+/// # Errors
+/// The first fault of the texts, or why the writer fails. After a fault of the writer a beginning of the text has been
+/// written, and else nothing.
+#[tactic(auto, using(crate::proofs::Explaining::unprinted))]
+pub fn ground<W: Write>(
+    alloc: Global,
+    domain: &[u8],
+    problem: &[u8],
+    out: &mut W,
+) -> Result<(), Fault>
+    // The text is exactly that of the task that the two texts say.
+    ensures whole { OnOk result (WritesA (IsPrintOf domain.now problem.now)
+        (W.contents out.old) (W.contents out.new)) }
+    ensures front { OnErr result ((W.contents out.new ≡ W.contents out.old)
+        ⊎ WritesFrontOfA (IsPrintOf domain.now problem.now)
+        (W.contents out.old) (W.contents out.new)) }
+    ensures refusal { IfErr result (IsNotPrinted domain.now problem.now) }
+{
+    let text = print_of(alloc, domain, problem)?;
+    let written = write_out(out, &text);
+    drop(text);
+    match written {
+        Ok(()) => Ok(()),
+        Err(fault) => Err(fault),
+    }
+}

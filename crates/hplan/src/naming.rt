@@ -1,0 +1,86 @@
+//! Plans by the names of their steps.
+ghost use Rattle.std.specs.Prelude.{◌≡◌, false, IfOk, MatchOption, map};
+ghost use Rattle.hd_plan.specs.PlanText as plans;
+ghost use Rattle.hd_task.specs.FormText.{name_at};
+ghost use Rattle.hplan.specs.PlanText.{step_of, step_at, plan_text, goes_through};
+
+use crate::cost::cost_of;
+use hd_base::{Name, NoMemory, Sequence};
+use hd_plan::Step;
+use hd_task::{ActionId, GroundForm, Names, Plan, Task};
+use std::alloc::Global;
+
+/// A plan as it is printed: its steps by their names, and what it costs.
+#[derive(Debug, Drop)]
+pub struct NamedPlan {
+    pub steps: Sequence<Step>,
+    pub cost: u64,
+}
+
+/// The name of this number; every number of a task has one.
+fn name_at(alloc: Global, names: &[Name], number: usize) -> Result<Name, NoMemory>
+    ensures { IfOk result (λ name. name ≡ name_at names.now number) }
+{
+    match names.get(number) {
+        Some(name) => Ok(name.copied(alloc)?),
+        None => Ok(Name::of(alloc, "")?),
+    }
+}
+
+/// The names of these numbers.
+fn names_at(alloc: Global, names: &[Name], numbers: &[usize]) -> Result<Sequence<Name>, NoMemory>
+    ensures { IfOk result (λ found. found ≡ map (name_at names.now) numbers.now) }
+{
+    let mut found = Vec::new(alloc);
+    for number in numbers {
+        found.push(name_at(alloc, names, *number)?)?;
+    }
+    Ok(Sequence::from_vec(found))
+}
+
+/// The step that a ground form of an action is.
+fn step_of(alloc: Global, names: &Names, form: &GroundForm) -> Result<Step, NoMemory>
+    ensures { IfOk result (λ step. step ≡ step_of names.now form.now) }
+{
+    Ok(Step {
+        name: name_at(alloc, names.schemas.as_slice(), form.symbol)?,
+        args: names_at(alloc, names.objects.as_slice(), form.objects.as_slice())?,
+    })
+}
+
+/// The step of the action with this number.
+fn step_at(alloc: Global, task: &Task, action: ActionId) -> Result<Step, NoMemory>
+    ensures { IfOk result (λ step. step ≡ step_at task.now action.0) }
+{
+    match task.actions.as_slice().get(action.0 as usize) {
+        Some(found) => step_of(alloc, &task.names, &found.form),
+        None => Ok(Step {
+            name: Name::of(alloc, "")?,
+            args: Sequence::empty(alloc),
+        }),
+    }
+}
+
+/// The steps of a plan.
+fn steps_of(alloc: Global, task: &Task, plan: &Plan) -> Result<Sequence<Step>, NoMemory>
+    ensures { IfOk result (λ steps. steps ≡ map (step_at task.now) plan.now) }
+{
+    let mut steps = Vec::new(alloc);
+    for action in plan.as_slice() {
+        steps.push(step_at(alloc, task, *action)?)?;
+    }
+    Ok(Sequence::from_vec(steps))
+}
+
+/// A plan by the names of its steps, with its cost; none where a step of the plan is not applicable.
+pub fn named_plan(alloc: Global, task: &Task, plan: &Plan) -> Result<Option<NamedPlan>, NoMemory>
+    ensures { IfOk result (λ found. MatchOption found
+        (goes_through task.now plan.now ≡ false)
+        (λ named. plans.plan_text named.steps named.cost ≡ plan_text task.now plan.now)) }
+{
+    let Some(cost) = cost_of(alloc, task, plan)? else {
+        return Ok(None);
+    };
+    let steps = steps_of(alloc, task, plan)?;
+    Ok(Some(NamedPlan { steps, cost }))
+}

@@ -1,0 +1,81 @@
+//! From the bytes of three texts to the verdict on a plan.
+ghost use Rattle.std.specs.Prelude.{◌≡◌, ◌⊎◌, IfOk, IfErr, OnOk, OnErr};
+ghost use Rattle.hplan.specs.Written.{WritesA, WritesFrontOfA};
+ghost use Rattle.hplan.specs.Verdict.{IsValidIn, ExplainsPlan, AreValid, IsVerdictOf, HasNoVerdict};
+
+use crate::digest::digest_of;
+use crate::fault::{Fault, judged_in, plan_read_in};
+use crate::output::write_out;
+use crate::tasks::checked_of;
+use crate::text::valid_text;
+use hd_base::Seed;
+use hd_check::Checked;
+use hd_plan::read_plan;
+use std::alloc::Global;
+use std::io::Write;
+
+/// What the plan that a text says costs in a checked task.
+#[tactic(auto, using(crate::proofs::Explaining::plan_unread))]
+fn cost_in(alloc: Global, seed: Seed, checked: &Checked, plan: &[u8]) -> Result<u64, Fault>
+    ensures valid { IfOk result (IsValidIn checked.now plan.now) }
+    ensures refusal { IfErr result (ExplainsPlan checked.now plan.now) }
+{
+    let steps = match read_plan(alloc, plan) {
+        Ok(steps) => steps,
+        Err(error) => return Err(plan_read_in(error)),
+    };
+    let cost = hd_validate::validate(alloc, seed, checked, steps.as_slice());
+    drop(steps);
+    match cost {
+        Ok(cost) => Ok(cost),
+        Err(error) => Err(judged_in(error)),
+    }
+}
+
+/// What the plan of the third text costs in the task of the first two.
+#[tactic(auto, using(crate::proofs::Explaining::texts_without_verdict))]
+fn cost_of_texts(alloc: Global, domain: &[u8], problem: &[u8], plan: &[u8]) -> Result<u64, Fault>
+    ensures valid { IfOk result (AreValid domain.now problem.now plan.now) }
+    ensures refusal { IfErr result (HasNoVerdict domain.now problem.now plan.now) }
+{
+    let seed = Seed::of(digest_of(domain, problem));
+    let checked = checked_of(alloc, seed, domain, problem)?;
+    let cost = cost_in(alloc, seed, &checked, plan);
+    drop(checked);
+    match cost {
+        Ok(cost) => Ok(cost),
+        Err(fault) => Err(fault),
+    }
+}
+
+/// Judges the plan of a third text on the task that two texts say, without grounding it, and writes `valid; cost = N`.
+///
+/// # Errors
+/// The first fault: of the domain's text, of the problem's, of their names, types and metric; the first bad line of the plan's
+/// text; the first fault of the plan; or why the writer fails. After a fault of the writer a beginning of the verdict has been
+/// written, and else nothing.
+#[tactic(auto, using(crate::proofs::Explaining::memory_without_verdict))]
+pub fn validate<W: Write>(
+    alloc: Global,
+    domain: &[u8],
+    problem: &[u8],
+    plan: &[u8],
+    out: &mut W,
+) -> Result<(), Fault>
+    // The verdict is written only where the plan is valid, and tells its cost.
+    ensures whole { OnOk result (WritesA (IsVerdictOf domain.now problem.now plan.now)
+        (W.contents out.old) (W.contents out.new)) }
+    ensures front { OnErr result ((W.contents out.new ≡ W.contents out.old)
+        ⊎ WritesFrontOfA (IsVerdictOf domain.now problem.now plan.now)
+        (W.contents out.old) (W.contents out.new)) }
+    ensures refusal { IfErr result (HasNoVerdict domain.now problem.now plan.now) }
+{
+    let cost = cost_of_texts(alloc, domain, problem, plan)?;
+    let text = valid_text(alloc, cost)?;
+    let written = write_out(out, &text);
+    drop(text);
+    match written {
+        Ok(()) => Ok(()),
+        Err(fault) => Err(fault),
+    }
+}

@@ -1,0 +1,107 @@
+//! Runs of command lines over files in memory. A run is shown as its exit status, `|`, what is on standard output, `|`, and what is
+//! on standard error.
+use crate::line::line_of;
+use hplan::{Shelf, command};
+use std::alloc::{AllocError, Global};
+use std::io::{self, Write};
+
+/// A run as bytes.
+fn shown(alloc: Global, status: u8, out: &[u8], err: &[u8]) -> Result<Vec<u8>, AllocError> {
+    let status = format!(in alloc; "{status}|")?;
+    let mut run = Vec::from_slice(alloc, status.as_bytes())?;
+    run.extend_from_slice(out)?;
+    run.push(b'|')?;
+    run.extend_from_slice(err)?;
+    Ok(run)
+}
+
+/// The files of these names.
+fn shelf_of(alloc: Global, files: &[(&str, &[u8])]) -> Result<Shelf, AllocError> {
+    let mut shelf = Shelf::empty(alloc);
+    for (name, bytes) in files {
+        shelf.put(alloc, name, bytes)?;
+    }
+    Ok(shelf)
+}
+
+/// A run of these words over files of these names.
+pub fn run(alloc: Global, words: &[&str], files: &[(&str, &[u8])]) -> Result<Vec<u8>, AllocError> {
+    let words = line_of(alloc, words)?;
+    let mut shelf = shelf_of(alloc, files)?;
+    let mut out = Vec::new(alloc);
+    let mut err = Vec::new(alloc);
+    let status = command(alloc, &words, &mut shelf, &mut out, &mut err);
+    shown(alloc, status, &out, &err)
+}
+
+/// The run of `solve` on two texts.
+pub fn solved(alloc: Global, domain: &str, problem: &str) -> Result<Vec<u8>, AllocError> {
+    let files = [("d", domain.as_bytes()), ("p", problem.as_bytes())];
+    run(alloc, &["solve", "d", "p", "--workers", "2"], &files)
+}
+
+/// The run of `ground` on two texts.
+pub fn grounded(alloc: Global, domain: &str, problem: &str) -> Result<Vec<u8>, AllocError> {
+    let files = [("d", domain.as_bytes()), ("p", problem.as_bytes())];
+    run(alloc, &["ground", "d", "p"], &files)
+}
+
+/// The run of `validate` on three texts.
+pub fn validated(
+    alloc: Global,
+    domain: &str,
+    problem: &str,
+    plan: &[u8],
+) -> Result<Vec<u8>, AllocError> {
+    let files = [
+        ("d", domain.as_bytes()),
+        ("p", problem.as_bytes()),
+        ("s", plan),
+    ];
+    run(alloc, &["validate", "d", "p", "s"], &files)
+}
+
+/// A writer that takes some bytes, and then none.
+#[derive(Drop)]
+struct Short {
+    taken: Vec<u8>,
+    room: usize,
+}
+
+impl Write for Short {
+    fn write(&mut self, bytes: &[u8]) -> io::Result<usize> {
+        if self.room == 0 {
+            return Err(io::Error::from(io::ErrorKind::StorageFull));
+        }
+        self.room -= 1;
+        match bytes.first() {
+            Some(byte) => {
+                self.taken.push(*byte)?;
+                Ok(1)
+            }
+            None => Ok(0),
+        }
+    }
+
+    fn flush(&mut self) -> io::Result<()> {
+        Ok(())
+    }
+}
+
+/// A run of these words over these files, with an output that takes so many bytes.
+pub fn cut_short(
+    alloc: Global,
+    words: &[&str],
+    files: &[(&str, &[u8])],
+    room: usize,
+) -> Result<Vec<u8>, AllocError> {
+    let words = line_of(alloc, words)?;
+    let mut shelf = shelf_of(alloc, files)?;
+    let mut out = Short {
+        taken: Vec::new(alloc),
+        room,
+    };
+    let mut err = Vec::new(alloc);
+    let status = command(alloc, &words, &mut shelf, &mut out, &mut err);
+    shown(alloc, status, &out.taken, &err)
+}
