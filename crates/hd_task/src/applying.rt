@@ -7,7 +7,7 @@ ghost use Rattle.hd_task.specs.Applying.{test_of, goal_of, applied_of, applied_a
 
 use crate::condition::test_of;
 use crate::effect::{new_value, sum_of_costs};
-use crate::{Action, ActionId, State, Task};
+use crate::{Action, ActionId, Reads, State, Task};
 use hd_base::{NoMemory, Sequence};
 use std::alloc::Global;
 
@@ -69,10 +69,9 @@ fn fluents_after(
     requires fits { fits_task task.now action.now ≡ true }
     ensures { IfOk result (JudgesFluents task.now state.now action.now) }
 {
-    let old = state.fluents.as_slice();
-    let mut next = Vec::from_slice(alloc, old)?;
+    let mut next = Vec::from_slice(alloc, state.fluents.as_slice())?;
     for effect in action.effects.as_slice() {
-        let Some(value) = new_value(old, effect) else {
+        let Some(value) = new_value(state, effect) else {
             return Ok(None);
         };
         let fluent = effect.fluent as usize;
@@ -85,10 +84,10 @@ fn fluents_after(
 
 /// The cost of a step, by the values before it, unless a subexpression of it leaves the range or it is negative.
 #[tactic(auto, unfolding(crate::specs::Effects::step_cost))]
-pub(crate) fn step_cost(task: &Task, state: &State, action: &Action) -> Option<u128>
-    ensures { JudgesStepCost task.now state.now action.now result }
+pub fn step_cost<R: Reads>(task: &Task, state: &R, action: &Action) -> Option<u128>
+    ensures { JudgesStepCost task.now (R.seen state.now) action.now result }
 {
-    let sum = sum_of_costs(state.fluents.as_slice(), action.costs.as_slice())?;
+    let sum = sum_of_costs(state, action.costs.as_slice())?;
     if task.metric {
         u128::try_from(sum).ok()
     } else {

@@ -1,12 +1,12 @@
 //! Conditions of actions and of the goal.
 ghost use Rattle.std.specs.Prelude.{◌≡◌};
 ghost use Rattle.std.specs.List.{list_all};
-ghost use Rattle.hd_task.specs.Conditions.{has_atom, literal_holds, literals_hold};
+ghost use Rattle.hd_task.specs.Conditions.{literal_holds, literals_hold};
 ghost use Rattle.hd_task.specs.Judging.{JudgesComparison, JudgesComparisons};
 ghost use Rattle.hd_task.specs.Applying.{test_of};
 
 use crate::expression::value_of;
-use crate::{Expr, GoalTest, State};
+use crate::{Expr, GoalTest, Reads};
 use hd_base::{Relation, Sequence};
 
 /// That an atom is true, or that it is false.
@@ -35,21 +35,14 @@ pub struct Condition {
     pub never: bool,
 }
 
-fn has_atom(state: &State, atom: u32) -> bool
-    ensures { result ≡ has_atom state.now atom }
+fn literal_holds<R: Reads>(state: &R, literal: Literal) -> bool
+    ensures { result ≡ literal_holds (R.seen state.now) literal }
 {
-    let atoms = state.atoms.as_slice();
-    atoms.get(atom as usize).copied().unwrap_or(false)
+    state.has_atom(literal.atom) == literal.positive
 }
 
-fn literal_holds(state: &State, literal: Literal) -> bool
-    ensures { result ≡ literal_holds state.now literal }
-{
-    has_atom(state, literal.atom) == literal.positive
-}
-
-fn all_hold(state: &State, literals: &[Literal]) -> bool
-    ensures { result ≡ list_all (literal_holds state.now) literals.now }
+fn all_hold<R: Reads>(state: &R, literals: &[Literal]) -> bool
+    ensures { result ≡ list_all (literal_holds (R.seen state.now)) literals.now }
 {
     literals
         .iter()
@@ -57,42 +50,42 @@ fn all_hold(state: &State, literals: &[Literal]) -> bool
 }
 
 /// Whether the conditions on atoms and objects hold.
-fn literals_hold(state: &State, condition: &Condition) -> bool
-    ensures { result ≡ literals_hold state.now condition.now }
+fn literals_hold<R: Reads>(state: &R, condition: &Condition) -> bool
+    ensures { result ≡ literals_hold (R.seen state.now) condition.now }
 {
     !condition.never && all_hold(state, condition.literals.as_slice())
 }
 
 /// Whether a comparison holds, unless a subexpression leaves the range.
-fn comparison_holds(fluents: &[i64], comparison: &Comparison) -> Option<bool>
-    ensures { JudgesComparison fluents.now comparison.now result }
+fn comparison_holds<R: Reads>(state: &R, comparison: &Comparison) -> Option<bool>
+    ensures { JudgesComparison (R.seen state.now).fluents comparison.now result }
 {
-    let left = value_of(fluents, &comparison.left)?;
-    let right = value_of(fluents, &comparison.right)?;
+    let left = value_of(state, &comparison.left)?;
+    let right = value_of(state, &comparison.right)?;
     Some(comparison.relation.holds(left, right))
 }
 
 /// Whether all comparisons hold, unless a subexpression of one leaves the range.
-fn comparisons_hold(fluents: &[i64], comparisons: &[Comparison]) -> Option<bool>
-    ensures { JudgesComparisons fluents.now comparisons.now result }
+fn comparisons_hold<R: Reads>(state: &R, comparisons: &[Comparison]) -> Option<bool>
+    ensures { JudgesComparisons (R.seen state.now).fluents comparisons.now result }
 {
     let mut all = true;
     for comparison in comparisons {
-        let holds = comparison_holds(fluents, comparison)?;
+        let holds = comparison_holds(state, comparison)?;
         all = all && holds;
     }
     Some(all)
 }
 
-/// Whether a condition holds, or departs.
+/// Whether a condition holds in a state, or departs there. It takes no memory.
 #[tactic(auto, unfolding(crate::specs::Applying::test_of, crate::specs::Conditions::holds, crate::specs::Conditions::condition_departs))]
-pub(crate) fn test_of(state: &State, condition: &Condition) -> GoalTest
-    ensures { result ≡ test_of state.now condition.now }
+pub fn test_of<R: Reads>(state: &R, condition: &Condition) -> GoalTest
+    ensures { result ≡ test_of (R.seen state.now) condition.now }
 {
     if !literals_hold(state, condition) {
         return GoalTest::No;
     }
-    match comparisons_hold(state.fluents.as_slice(), condition.comparisons.as_slice()) {
+    match comparisons_hold(state, condition.comparisons.as_slice()) {
         None => GoalTest::Departs,
         Some(true) => GoalTest::Yes,
         Some(false) => GoalTest::No,

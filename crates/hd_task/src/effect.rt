@@ -6,8 +6,8 @@ ghost use Rattle.hd_base.specs.Answers.{Judges};
 ghost use Rattle.hd_task.specs.Judging.{JudgesSum, JudgesTerm, JudgesTerms, JudgesCosts, JudgesEffect};
 ghost use Rattle.hd_task.specs.Sums.{IsNear};
 
-use crate::Expr;
-use crate::expression::{fluent_of, value_of};
+use crate::expression::value_of;
+use crate::{Expr, Reads};
 use hd_base::{RANGE_END, Sequence, if_in_range};
 
 /// One part of a sum onto a fluent.
@@ -36,35 +36,35 @@ pub struct Effect {
 }
 
 /// A sum with one more amount, unless a subexpression leaves the range. The sum itself is not judged.
-fn plus_value(fluents: &[i64], sum: i128, amount: &Expr) -> Option<i128>
+fn plus_value<R: Reads>(state: &R, sum: i128, amount: &Expr) -> Option<i128>
     requires low { neg_ℤ (pos (2 ^ 126)) ≤ℤ sum }
     requires high { sum ≤ℤ pos (2 ^ 126) }
-    ensures value { JudgesSum fluents.now sum amount.now result }
+    ensures value { JudgesSum (R.seen state.now).fluents sum amount.now result }
     ensures near { IfSome result (IsNear RANGE_END sum) }
 {
-    Some(sum + i128::from(value_of(fluents, amount)?))
+    Some(sum + i128::from(value_of(state, amount)?))
 }
 
 /// A sum with one more term, unless a subexpression leaves the range. The sum itself is not judged.
-fn with_term(fluents: &[i64], sum: i128, term: &Term) -> Option<i128>
+fn with_term<R: Reads>(state: &R, sum: i128, term: &Term) -> Option<i128>
     requires low { neg_ℤ (pos (2 ^ 126)) ≤ℤ sum }
     requires high { sum ≤ℤ pos (2 ^ 126) }
-    ensures value { JudgesTerm fluents.now sum term.now result }
+    ensures value { JudgesTerm (R.seen state.now).fluents sum term.now result }
     ensures near { IfSome result (IsNear RANGE_END sum) }
 {
     match term {
-        Term::Increase(amount) => plus_value(fluents, sum, amount),
-        Term::Decrease(amount) => Some(sum - i128::from(value_of(fluents, amount)?)),
+        Term::Increase(amount) => plus_value(state, sum, amount),
+        Term::Decrease(amount) => Some(sum - i128::from(value_of(state, amount)?)),
     }
 }
 
 /// The sum of the terms, onto a first value.
-fn sum_of(fluents: &[i64], terms: &[Term], first: i64) -> Option<i128>
-    ensures { JudgesTerms fluents.now first terms.now result }
+fn sum_of<R: Reads>(state: &R, terms: &[Term], first: i64) -> Option<i128>
+    ensures { JudgesTerms (R.seen state.now).fluents first terms.now result }
 {
     let mut sum = i128::from(first);
     for term in terms {
-        sum = with_term(fluents, sum, term)?;
+        sum = with_term(state, sum, term)?;
     }
     Some(sum)
 }
@@ -80,25 +80,25 @@ fn narrow(value: i128) -> Option<i64>
     }
 }
 
-/// The value that an effect gives its fluent, unless it or a subexpression leaves the range.
-pub(crate) fn new_value(fluents: &[i64], effect: &Effect) -> Option<i64>
-    ensures { JudgesEffect fluents.now effect.now result }
+/// The value that an effect gives its fluent by the values of a state, unless it or a subexpression leaves the range.
+pub fn new_value<R: Reads>(state: &R, effect: &Effect) -> Option<i64>
+    ensures { JudgesEffect (R.seen state.now).fluents effect.now result }
 {
-    let old = fluent_of(fluents, effect.fluent);
+    let old = state.fluent_of(effect.fluent);
     match &effect.change {
-        Change::Assign(amount) => value_of(fluents, amount),
-        Change::ScaleUp(amount) => if_in_range(old.checked_mul(value_of(fluents, amount)?)),
-        Change::Sum(terms) => narrow(sum_of(fluents, terms.as_slice(), old)?),
+        Change::Assign(amount) => value_of(state, amount),
+        Change::ScaleUp(amount) => if_in_range(old.checked_mul(value_of(state, amount)?)),
+        Change::Sum(terms) => narrow(sum_of(state, terms.as_slice(), old)?),
     }
 }
 
 /// The sum of the amounts, unless a subexpression of one leaves the range.
-pub(crate) fn sum_of_costs(fluents: &[i64], amounts: &[Expr]) -> Option<i128>
-    ensures { JudgesCosts fluents.now amounts.now result }
+pub(crate) fn sum_of_costs<R: Reads>(state: &R, amounts: &[Expr]) -> Option<i128>
+    ensures { JudgesCosts (R.seen state.now).fluents amounts.now result }
 {
     let mut sum = 0;
     for amount in amounts {
-        sum = plus_value(fluents, sum, amount)?;
+        sum = plus_value(state, sum, amount)?;
     }
     Some(sum)
 }

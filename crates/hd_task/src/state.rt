@@ -1,6 +1,7 @@
 //! States.
 ghost use Rattle.std.specs.Prelude.{◌≡◌, IfOk};
 
+use crate::Reads;
 use hd_base::{NoMemory, Sequence};
 use std::alloc::Global;
 
@@ -27,5 +28,19 @@ impl State {
             atoms: Sequence::from_vec(atoms),
             fluents: Sequence::from_vec(fluents),
         })
+    }
+}
+
+impl Reads for State {
+    ghost seen = { λ s. s };
+
+    fn has_atom(&self, atom: u32) -> bool {
+        let atoms = self.atoms.as_slice();
+        atoms.get(atom as usize).copied().unwrap_or(false)
+    }
+
+    fn fluent_of(&self, fluent: u32) -> i64 {
+        let fluents = self.fluents.as_slice();
+        fluents.get(fluent as usize).copied().unwrap_or(0)
     }
 }

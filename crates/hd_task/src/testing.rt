@@ -23,12 +23,12 @@ pub enum ActionTest {
 }
 
 /// Whether the effects' subexpressions and new values stay in the range.
-fn do_effects_stay(fluents: &[i64], effects: &[Effect]) -> bool
-    ensures { result ≡ list_all (effect_stays fluents.now) effects.now }
+fn do_effects_stay(state: &State, effects: &[Effect]) -> bool
+    ensures { result ≡ list_all (effect_stays state.now.fluents) effects.now }
 {
     effects
         .iter()
-        .all(|effect| new_value(fluents, effect).is_some())
+        .all(|effect| new_value(state, effect).is_some())
 }
 
 /// What an action does where its condition holds, without the state after it.
@@ -40,7 +40,7 @@ fn effect_test(task: &Task, state: &State, action: &Action) -> ActionTest
     let Some(cost) = step_cost(task, state, action) else {
         return ActionTest::Departs;
     };
-    if do_effects_stay(state.fluents.as_slice(), action.effects.as_slice()) {
+    if do_effects_stay(state, action.effects.as_slice()) {
         ActionTest::Costs(cost)
     } else {
         ActionTest::Departs

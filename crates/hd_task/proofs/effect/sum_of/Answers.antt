@@ -6,7 +6,7 @@ use Rattle.hd_base.proofs.Lists.{fold_more_read}
 use Rattle.hd_task.proofs.effect.sum_of.Goals as goal
 
 pub loop-term-preserved : goal.loop-term-preserved
-loop-term-preserved c =
+loop-term-preserved g c =
     let fits : SFits w128 c.in_ok-sum.sum = search rules in
     record {
       stay = grind (arith, common_steps, c.in_ok-sum.ensures);

@@ -6,9 +6,9 @@ use Rattle.hd_task.proofs.effect.sum_of.Given as goal
 
 -- the terms so far stay in the range, and `sum` is their exact sum, which is far from the ends of 128 bits
 abbrev pub invariant-loop-term : goal.invariant-loop-term
-invariant-loop-term l = record {
-  stay : list_all (term_stays l.fluents) (take l.term-index l.terms) ≡ true;
-  sum : l.sum ≡ fold (with_term l.fluents) l.first (take l.term-index l.terms);
+invariant-loop-term g l = record {
+  stay : list_all (term_stays (g.R.Reads.seen l.state).fluents) (take l.term-index l.terms) ≡ true;
+  sum : l.sum ≡ fold (with_term (g.R.Reads.seen l.state).fluents) l.first (take l.term-index l.terms);
   low : neg_ℤ (pos (2 ^ 63 + RANGE_END * l.term-index)) ≤ℤ l.sum;
   high : l.sum ≤ℤ pos (2 ^ 63 + RANGE_END * l.term-index);
 }

@@ -6,7 +6,7 @@ use Rattle.hd_task.proofs.effect.sum_of_costs.Goals as goal
 use Rattle.hd_base.proofs.Lists.{fold_more_read}
 
 pub loop-amount-preserved : goal.loop-amount-preserved
-loop-amount-preserved c =
+loop-amount-preserved g c =
     let fits : SFits w128 c.in_ok-sum.sum = search rules in
     record {
       stay = grind (arith, common_steps, c.in_ok-sum.ensures);
