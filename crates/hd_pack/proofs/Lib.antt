@@ -1,2 +1,5 @@
 pub mod AtomBits
+pub mod Packings
+pub mod Steps
 pub mod Trips
+pub mod ValueBytes

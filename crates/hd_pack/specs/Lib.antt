@@ -1,2 +1,3 @@
 pub mod Laws
+pub mod Leading
 pub mod Packing

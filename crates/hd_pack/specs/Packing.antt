@@ -1,7 +1,7 @@
 -- How a state is packed: a bit for each atom, then eight bytes for each fluent. (Our own.)
-use Rattle.std.specs.Prelude.{◌≡◌, ℕ, zero, suc, ◌+◌, ◌*◌, ◌/◌, ◌%◌, ◌==◌, ◌&&◌, Bool, if◌then◌else◌, List, [], ◌∷◌, ◌++◌, length, map, take, drop, get_or, ℤ, nat_eq}
+use Rattle.std.specs.Prelude.{◌≡◌, ℕ, zero, suc, ◌+◌, ◌*◌, ◌/◌, ◌%◌, ◌==◌, ◌&&◌, Bool, if◌then◌else◌, List, [], ◌∷◌, ◌++◌, length, map, take, drop, get_or, set, ℤ, nat_eq, ◌^◌, bit_xor, FitsSigned}
 use Rattle.std.specs.Int.{w64, cast_signed, cast_unsigned, to_le_bytes, from_le_bytes, bit_at}
-use Rattle.std.specs.List.{flat_map, range_with_len}
+use Rattle.std.specs.List.{flat_map, range_with_len, AllByRecursion}
 use Rattle.std.specs.Cmp.Lexicographic.{pointwise}
 use Rattle.hd_task.specs.declared.state.State.{State}
 
@@ -42,6 +42,19 @@ values_in few = []
 -- the state of so many atoms that stands in bytes
 unfoldable pub unpacked : ℕ → List ℕ → State
 unpacked n bytes = record { atoms = map (atom_in bytes) (range_with_len 0 n); fluents = values_in (drop (bytes_for n) bytes) }
+
+-- bytes are the packing of the state of so many atoms that stands in them, and its values fit 64 bits
+pub record IsPacking (n : ℕ) (bytes : List ℕ) : Type 0 where
+  pub packed : bytes ≡ packed_bytes (unpacked n bytes)
+  pub fit : AllByRecursion (FitsSigned w64) (unpacked n bytes).fluents
+
+-- bytes in which the atom of this number is turned round
+abbrev pub flipped : List ℕ → ℕ → List ℕ
+flipped bytes i = set bytes (i / 8) (bit_xor (get_or bytes (i / 8) 0) (2 ^ (i % 8)))
+
+-- bytes of which eight are replaced
+abbrev pub replaced : ℕ → List ℕ → List ℕ → List ℕ
+replaced n xs ys = take n xs ++ (ys ++ drop 8 (drop n xs))
 
 -- ---- two packed states
 

@@ -1,7 +1,7 @@
 //! Atoms in bytes.
 ghost use Rattle.std.specs.Prelude.{◌≡◌, ◌≤◌, ◌<◌, ◌++◌, ◌/◌, IfOk, length, map};
 ghost use Rattle.std.specs.List.{range_with_len};
-ghost use Rattle.hd_pack.specs.Packing.{byte_of, atom_bytes, atom_in, bytes_for};
+ghost use Rattle.hd_pack.specs.Packing.{byte_of, atom_bytes, atom_in, bytes_for, flipped};
 
 use hd_base::NoMemory;
 use std::alloc::Global;
@@ -48,6 +48,14 @@ pub(crate) fn atom_in(bytes: &[u8], atom: usize) -> bool
     ensures { result ≡ atom_in bytes.now atom }
 {
     (bytes[atom / 8] >> (atom % 8)) % 2 == 1
+}
+
+/// Turns the atom of this number round.
+pub(crate) fn flip_atom(bytes: &mut Vec<u8>, atom: usize)
+    requires { atom / 8 < length bytes.old.items }
+    ensures { bytes.new.items ≡ flipped bytes.old.items atom }
+{
+    bytes[atom / 8] ^= 1 << (atom % 8);
 }
 
 /// The first atoms, as many as asked, in a vector with room for as many as said.

@@ -1,15 +1,18 @@
 //! Packed states.
-ghost use Rattle.std.specs.Prelude.{◌≡◌, IfOk, nat_eq};
+ghost use Rattle.std.specs.Prelude.{◌≡◌, ◌<◌, IfOk, length, nat_eq, slice_get};
 ghost use Rattle.std.specs.Hash as fed;
 ghost use Rattle.std.specs.Cmp.{partial_equiv_from_equiv};
 ghost use Rattle.hd_pack.specs.Packing.{packed_bytes, same_packing};
+ghost use Rattle.hd_pack.specs.Leading.{with_value};
+ghost use Rattle.hd_zobrist.specs.Hash.{IsChangeOf, changed};
 ghost use Rattle.hd_pack.specs.Laws.{same_equiv, same_alike};
 
 use crate::Layout;
-use crate::bits::{atoms_in, bytes_for, push_atoms};
-use crate::values::{push_values, values_in};
+use crate::bits::{atom_in, atoms_in, bytes_for, flip_atom, push_atoms};
+use crate::values::{push_values, put_value, value_at, values_in};
 use hd_base::{NoMemory, Sequence};
-use hd_task::State;
+use hd_task::{Reads, State};
+use hd_zobrist::Change;
 use std::alloc::Global;
 use std::hash::{Hash, Hasher};
 use std::marker::Model;
@@ -18,19 +21,19 @@ use std::marker::Model;
 #[derive(Debug, Drop)]
 pub struct Packed {
     atoms: usize,
-    bytes: Sequence<u8>,
+    bytes: Vec<u8>,
 }
 
 impl Model for Packed {
     ghost use Rattle.std.specs.Prelude.{◌≡◌};
     ghost use Rattle.hd_task.specs.declared.state.State.{State};
-    ghost use Rattle.hd_pack.specs.Packing.{packed_bytes, unpacked};
+    ghost use Rattle.hd_pack.specs.Packing.{unpacked, IsPacking};
 
     ghost Value = { State };
 
-    ghost view = { λ p. unpacked p.atoms p.bytes };
+    ghost view = { λ p. unpacked p.atoms p.bytes.items };
 
-    ghost invariant = { λ p. p.bytes ≡ packed_bytes (unpacked p.atoms p.bytes) };
+    ghost invariant = { λ p. IsPacking p.atoms p.bytes.items };
 }
 
 impl Packed {
@@ -39,6 +42,80 @@ impl Packed {
         ensures { result.now ≡ packed_bytes self.now }
     {
         self.bytes.as_slice()
+    }
+
+    /// A copy of the packing.
+    ///
+    /// # Errors
+    /// `NoMemory` where there is no room for the bytes.
+    pub fn copied(&self, alloc: Global) -> Result<Packed, NoMemory>
+        ensures { IfOk result (λ p. p ≡ self.now) }
+    {
+        let bytes = Vec::from_slice(alloc, self.bytes.as_slice())?;
+        Ok(Packed {
+            atoms: self.atoms,
+            bytes,
+        })
+    }
+
+    /// Whether the atom of this number is true, if the state has it. It reads one byte.
+    pub fn atom(&self, atom: u32) -> Option<bool>
+        ensures { result ≡ slice_get self.now.atoms atom }
+    {
+        let atom = atom as usize;
+        if atom < self.atoms {
+            Some(atom_in(self.bytes.as_slice(), atom))
+        } else {
+            None
+        }
+    }
+
+    /// The value of the fluent of this number, if the state has it. It reads eight bytes.
+    pub fn fluent(&self, fluent: u32) -> Option<i64>
+        ensures { result ≡ slice_get self.now.fluents fluent }
+    {
+        let values = self.bytes.as_slice().split_at(bytes_for(self.atoms)).1;
+        value_at(values, fluent)
+    }
+
+    /// Turns an atom round.
+    fn flip(&mut self, atom: usize)
+        requires { atom < length self.old.atoms }
+        ensures { self.new ≡ changed self.old (Change.Atom atom) }
+    {
+        flip_atom(&mut self.bytes, atom);
+    }
+
+    /// Gives a fluent a value.
+    fn put(&mut self, fluent: usize, value: &i64)
+        requires { fluent < length self.old.fluents }
+        ensures { self.new ≡ with_value self.old fluent value.now }
+    {
+        let bytes = self.bytes.as_mut_slice();
+        put_value(bytes, bytes_for(self.atoms) + 8 * fluent, value);
+    }
+
+    /// Makes a change. It takes no memory.
+    pub fn change(&mut self, change: Change)
+        requires fits { IsChangeOf self.old change }
+        ensures { self.new ≡ changed self.old change }
+    {
+        match change {
+            Change::Atom(atom) => self.flip(atom),
+            Change::Fluent(fluent, _, after) => self.put(fluent, &after),
+        }
+    }
+}
+
+impl Reads for Packed {
+    ghost seen = { λ s. s };
+
+    fn has_atom(&self, atom: u32) -> bool {
+        self.atom(atom).unwrap_or(false)
+    }
+
+    fn fluent_of(&self, fluent: u32) -> i64 {
+        self.fluent(fluent).unwrap_or(0)
     }
 }
 
@@ -54,7 +131,7 @@ pub fn pack(alloc: Global, layout: &Layout, state: &State) -> Result<Packed, NoM
     push_values(&mut bytes, state.fluents.as_slice())?;
     Ok(Packed {
         atoms: state.atoms.len(),
-        bytes: Sequence::from_vec(bytes),
+        bytes,
     })
 }
 

@@ -1,8 +1,8 @@
 //! Values in bytes.
-ghost use Rattle.std.specs.Prelude.{◌≡◌, ◌++◌, IfOk, length, FitsSigned};
+ghost use Rattle.std.specs.Prelude.{◌≡◌, ◌≤◌, ◌+◌, ◌++◌, IfOk, length, slice_get, FitsSigned};
 ghost use Rattle.std.specs.Int.{w64, cast_signed, from_le_bytes};
 ghost use Rattle.std.specs.List.{flat_map, AllByRecursion};
-ghost use Rattle.hd_pack.specs.Packing.{value_bytes, values_in};
+ghost use Rattle.hd_pack.specs.Packing.{value_bytes, values_in, replaced};
 
 use hd_base::NoMemory;
 use std::alloc::Global;
@@ -52,4 +52,25 @@ pub(crate) fn values_in(alloc: Global, bytes: &[u8], room: usize) -> Result<Vec<
         rest = after;
     }
     Ok(values)
+}
+
+/// The value of this number that stands in bytes, if there are so many.
+pub(crate) fn value_at(bytes: &[u8], number: u32) -> Option<i64>
+    ensures { result ≡ slice_get (values_in bytes.now) number }
+{
+    let place = 8 * number as usize;
+    if bytes.len() < place + 8 {
+        return None;
+    }
+    Some(value_in(&bytes[place..place + 8]))
+}
+
+/// Replaces the eight bytes from a place on by those of a value.
+pub(crate) fn put_value(bytes: &mut [u8], place: usize, value: &i64)
+    requires { place + 8 ≤ length bytes.old }
+    ensures bytes { bytes.new ≡ replaced place bytes.old (value_bytes value.now) }
+    ensures length { length bytes.new ≡ length bytes.old }
+    ensures fits { FitsSigned w64 value.now }
+{
+    bytes[place..place + 8].copy_from_slice(&value_bytes(value));
 }

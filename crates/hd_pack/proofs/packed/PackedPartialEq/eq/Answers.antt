@@ -8,12 +8,12 @@ use Rattle.hd_pack.proofs.packed.PackedPartialEq.eq.Goals as goal
 pub returns-then-self-other : goal.returns-then-self-other
 returns-then-self-other c =
     c.eq.ensures
-    ∙ (ap₂ (pointwise nat_eq) c.as_slice.ensures c.as_slice-then-self-other.ensures
-    ∙ sym (same_is _ _ _ _ _ _ c.self.view_is c.other.view_is c.self.invariant c.other.invariant
-    ∙ ap (λ (b : Bool). b && pointwise nat_eq c.self.inside.bytes c.other.inside.bytes) (eq-eqb _ _ c.if-self-other.true)))
+    ∙ (ap₂ (pointwise nat_eq) c.as_slice.ensures.value c.as_slice-then-self-other.ensures.value
+    ∙ sym (same_is _ _ _ _ _ _ c.self.view_is c.other.view_is c.self.invariant.packed c.other.invariant.packed
+    ∙ ap (λ (b : Bool). b && pointwise nat_eq c.self.inside.bytes.items c.other.inside.bytes.items) (eq-eqb _ _ c.if-self-other.true)))
 
 pub returns-else-self-other : goal.returns-else-self-other
 returns-else-self-other c =
     differ _ _ c.if-self-other.false
-    ∙ sym (same_is _ _ _ _ _ _ c.self.view_is c.other.view_is c.self.invariant c.other.invariant
-    ∙ ap (λ (b : Bool). b && pointwise nat_eq c.self.inside.bytes c.other.inside.bytes) (differ _ _ c.if-self-other.false))
+    ∙ sym (same_is _ _ _ _ _ _ c.self.view_is c.other.view_is c.self.invariant.packed c.other.invariant.packed
+    ∙ ap (λ (b : Bool). b && pointwise nat_eq c.self.inside.bytes.items c.other.inside.bytes.items) (differ _ _ c.if-self-other.false))
