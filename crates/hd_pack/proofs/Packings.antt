@@ -1,5 +1,5 @@
 -- What stands in the bytes of a packing: the atoms and values of its state, also after a change.
-use Rattle.std.proofs.Common.{◌≡◌, ℕ, ◌+◌, ◌*◌, ◌<◌, ◌≤◌, ◌/◌, Bool, false, not, List, ◌++◌, length, take, drop, get_or, set, map, refl, sym, ap, ap₂, ◌∙◌, subst, arith, length-set}
+use Rattle.std.proofs.Common.{◌≡◌, ℕ, ◌+◌, ◌*◌, ◌<◌, ◌≤◌, ◌/◌, Bool, false, not, List, ◌++◌, length, drop, get_or, map, sym, ap, ap₂, ◌∙◌, subst, arith, length-set}
 use Rattle.std.specs.Prelude.{ℤ, Some, None, slice_get}
 use Rattle.std.specs.Int.{w64}
 use Rattle.std.specs.Int.RustNames.{FitsSigned}
@@ -71,9 +71,9 @@ unfolding packed_bytes
 parts_put n xs ys s j v parts lt fits is = record {
   count = parts.count;
   bytes = is
-    ∙ (ap₂ (λ (k : ℕ) (ns : List ℕ). replaced (k + 8 * j) ns (value_bytes v)) (ap bytes_for parts.count ∙ sym (length-atom_bytes s.atoms)) parts.bytes
-    ∙ (replaced_behind (atom_bytes s.atoms) (8 * j) (flat_map value_bytes s.fluents) (value_bytes v)
-    ∙ ap (λ (ns : List ℕ). atom_bytes s.atoms ++ ns) (value_replaced s.fluents j v lt)));
+      ∙ (ap₂ (λ (k : ℕ) (ns : List ℕ). replaced (k + 8 * j) ns (value_bytes v)) (ap bytes_for parts.count ∙ sym (length-atom_bytes s.atoms)) parts.bytes
+      ∙ (replaced_behind (atom_bytes s.atoms) (8 * j) (flat_map value_bytes s.fluents) (value_bytes v)
+      ∙ ap (λ (ns : List ℕ). atom_bytes s.atoms ++ ns) (value_replaced s.fluents j v lt)));
   fit = fit-set s.fluents j v fits parts.fit;
 }
 

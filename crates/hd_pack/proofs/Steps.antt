@@ -1,5 +1,5 @@
 -- Where an action leads: what is written of a state, one part after another, and what is answered.
-use Rattle.std.proofs.Common.{◌≡◌, ◌≢◌, ℕ, zero, suc, ◌+◌, ◌<◌, Bool, true, false, cond, not, ◌&&◌, ◌||◌, List, [], ◌∷◌, length, get_or, set, fold, Option, Some, None, is_some, refl, sym, ap, ap₂, ◌∙◌, arith}
+use Rattle.std.proofs.Common.{◌≡◌, ◌≢◌, ℕ, zero, suc, ◌+◌, ◌<◌, Bool, true, false, cond, not, ◌&&◌, ◌||◌, List, [], ◌∷◌, length, get_or, set, fold, Option, Some, None, is_some, refl, sym, ap, ap₂, ◌∙◌}
 use Rattle.std.specs.Prelude.{ℤ, slice_get, unwrap_or, MatchOption, Result, Ok, Err, IfOk}
 use mathlib.Core.Bool.{beq}
 use Rattle.std.specs.List.{list_all}
@@ -7,7 +7,6 @@ use Rattle.std.proofs.lemmas.List.{set-get_or}
 use Rattle.std.proofs.lemmas.Option.{slice_get_within, get_or_from_slice_get, slice_get_read, unwrap_or-slice_get}
 use Rattle.hd_base.specs.Numbers.{cost_in_range}
 use Rattle.hd_task.specs.declared.state.State.{State}
-use Rattle.hd_task.specs.declared.condition.Condition.{Condition}
 use Rattle.hd_task.specs.declared.effect.Effect.{Effect}
 use Rattle.hd_task.specs.declared.action.Action.{Action}
 use Rattle.hd_task.specs.declared.task.Task.{Task}
@@ -18,16 +17,16 @@ use Rattle.hd_task.specs.declared.stepping.Reached.TheVariants as Step
 use Rattle.hd_task.specs.Expressions.{stays_in_range}
 use Rattle.hd_task.specs.Conditions.{holds, condition_departs}
 use Rattle.hd_task.specs.Effects.{effect_stays, effects_stay, state_after, step_cost}
-use Rattle.hd_task.specs.Plans.{IsStateOf, Node, node}
+use Rattle.hd_task.specs.Plans.{IsStateOf, node}
 use Rattle.hd_task.specs.Applying.{test_of, departs_aside, next_of, applied_of, applied_by, applied_at, fits_task}
 use Rattle.hd_task.specs.Stepping.{step_at}
 use Rattle.hd_task.proofs.Atoms.{put, written_atoms}
 use Rattle.hd_task.proofs.Fluents.{write, written_fluents, rising_effects}
 use Rattle.hd_task.proofs.Reaching.{reached_from, step_at-is}
-use Rattle.hd_zobrist.specs.declared.change.Change.TheVariants.{Atom, Fluent}
+use Rattle.hd_zobrist.specs.declared.change.Change.TheVariants.{Atom}
 use Rattle.hd_zobrist.specs.Hash.{changed, state_hash}
 use Rattle.hd_pack.specs.declared.leading.Led.{Led}
-use Rattle.hd_pack.specs.declared.leading.Led.TheVariants.{No, Departs, Next}
+use Rattle.hd_pack.specs.declared.leading.Led.TheVariants.{Departs, Next}
 use Rattle.hd_pack.specs.Leading.{led_of, led_by, with_atom, with_value, with_effect}
 
 -- ---- one write
@@ -105,8 +104,8 @@ effects_written t s a deleted added of_task fits ed ea =
     ap (λ (u : State). fold (with_effect s.fluents) u a.effects) second
     ∙ (values_written s.fluents (record { atoms = fold (put true) (fold (put false) s.atoms a.deletes) a.adds; fluents = s.fluents }) a.effects
     ∙ ap₂ (λ (bs : List Bool) (vs : List ℤ). record { atoms = bs; fluents = vs })
-      (written_atoms t s a _ of_task.atoms refl)
-      (written_fluents t s a _ of_task.fluents (rising_effects _ _ a fits) refl))
+    (written_atoms t s a _ of_task.atoms refl)
+    (written_fluents t s a _ of_task.fluents (rising_effects _ _ a fits) refl))
 
 -- the same from what the code wrote, one effect after another
 pub written_by :

@@ -26,7 +26,7 @@ value_within (a ∷ b ∷ c ∷ d ∷ e ∷ f ∷ g ∷ h ∷ more) zero le = re
 value_within (a ∷ b ∷ c ∷ d ∷ e ∷ f ∷ g ∷ h ∷ more) (suc j) le =
     value_within more j (omega (arith, le))
     ∙ ap (λ (ys : List ℕ). Some (cast_signed w64 (from_le_bytes w64 (take 8 ys))))
-      (drop-drop (8 * j) 8 (a ∷ b ∷ c ∷ d ∷ e ∷ f ∷ g ∷ h ∷ more) ∙ ap (λ n. drop n (a ∷ b ∷ c ∷ d ∷ e ∷ f ∷ g ∷ h ∷ more)) (sym (eight_more j)))
+    (drop-drop (8 * j) 8 (a ∷ b ∷ c ∷ d ∷ e ∷ f ∷ g ∷ h ∷ more) ∙ ap (λ n. drop n (a ∷ b ∷ c ∷ d ∷ e ∷ f ∷ g ∷ h ∷ more)) (sym (eight_more j)))
 
 pub value_beyond : (xs : List ℕ) (j : ℕ) → length xs < 8 * j + 8 → slice_get (values_in xs) j ≡ None
 value_beyond [] j lt = refl

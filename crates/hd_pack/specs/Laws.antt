@@ -1,9 +1,8 @@
 -- What `==` and hashes of packed states owe: to be the same packing is an equivalence, and the same ones are hashed alike. (Our own.)
-use Rattle.std.specs.Prelude.{◌≡◌, ℕ, ◌==◌, ◌&&◌, Bool, true, List, length, nat_eq}
+use Rattle.std.specs.Prelude.{◌≡◌, true, length, nat_eq}
 use Rattle.std.specs.Cmp.{IsEquivalence}
-use Rattle.std.specs.Cmp.Lexicographic.{pointwise}
 use Rattle.std.specs.Hash as fed
-use Rattle.std.specs.Hash.{Alike, second_alike, on_Alike, items_Alike, same_Alike}
+use Rattle.std.specs.Hash.{second_alike, on_Alike, items_Alike, same_Alike}
 use Rattle.std.proofs.lemmas.Cmp.{nat_list_eq_equiv, nat_eq_equiv, on_equiv, and_equiv}
 use Rattle.std.proofs.lemmas.Bool.Decides.{Decides-eqb}
 use Rattle.hd_task.specs.declared.state.State.{State}

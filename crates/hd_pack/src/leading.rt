@@ -72,7 +72,12 @@ fn set_fluent(words: &Words, state: &mut Packed, hash: u64, fluent: u32, value: 
     if before == value {
         return hash;
     }
-    make(words, state, hash, Change::Fluent(fluent as usize, before, value))
+    make(
+        words,
+        state,
+        hash,
+        Change::Fluent(fluent as usize, before, value),
+    )
 }
 
 /// Gives fluents their new values, each by the values before the action, and gives the hash after that; unless one leaves the range.
@@ -86,8 +91,8 @@ fn set_fluents(
     requires is_hash { hash ≡ state_hash kid.old }
     ensures { MatchOption result (list_all (effect_stays state.now.fluents) effects.now ≡ false)
         (λ h. (list_all (effect_stays state.now.fluents) effects.now ≡ true)
-            × (kid.new ≡ fold (with_effect state.now.fluents) kid.old effects.now)
-            × (h ≡ state_hash kid.new)) }
+        × (kid.new ≡ fold (with_effect state.now.fluents) kid.old effects.now)
+        × (h ≡ state_hash kid.new)) }
 {
     let mut hash = hash;
     for effect in effects {
@@ -113,8 +118,8 @@ fn write_effects(
     ensures { MatchOption result
         (list_all (effect_stays state.now.fluents) action.now.effects ≡ false)
         (λ h. (list_all (effect_stays state.now.fluents) action.now.effects ≡ true)
-            × (kid.new ≡ state_after task.now state.now action.now)
-            × (h ≡ state_hash kid.new)) }
+        × (kid.new ≡ state_after task.now state.now action.now)
+        × (h ≡ state_hash kid.new)) }
 {
     let hash = set_atoms(words, kid, hash, action.deletes.as_slice(), false);
     let hash = set_atoms(words, kid, hash, action.adds.as_slice(), true);

@@ -1,4 +1,4 @@
-use Rattle.std.proofs.Common.{rules, ◌≡◌, ◌+◌, ◌*◌, ◌<◌, ◌≤◌, ℕ, Bool, true, false, length, slice_index_or, Fits, w8, arith}
+use Rattle.std.proofs.Common.{rules, ◌+◌, ◌*◌, ◌<◌, ℕ, Bool, true, false, slice_index_or, arith}
 use Rattle.std.proofs.Math.Facts.{Fits-of_lt}
 use Rattle.hd_pack.proofs.AtomBits.{twice}
 use Rattle.hd_pack.proofs.bits.+byte_of.Goals as goal

@@ -1,4 +1,4 @@
-use Rattle.std.proofs.Common.{rules, ◌≡◌, ◌++◌, List, ℕ, Bool, ap, ap₂, ◌∙◌, arith}
+use Rattle.std.proofs.Common.{rules, ◌++◌, List, ℕ, Bool, ap, ap₂, ◌∙◌}
 use Rattle.hd_pack.specs.Packing.{byte_of, atom_bytes}
 use Rattle.hd_pack.proofs.AtomBits.{atoms_next, atoms_last}
 use Rattle.hd_pack.proofs.bits.push_atoms.Goals as goal

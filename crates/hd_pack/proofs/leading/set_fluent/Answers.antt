@@ -11,5 +11,5 @@ returns-then-before-value-clause-state c =
     let before = to_z-of_z w64 c.unwrap_or-before.result (search rules) in
     value_stays c.args.state.now c.args.fluent c.args.value c.unwrap_or-before.result
     (read_or c.args.state.now.fluents c.args.fluent c.fluent.result c.args.value c.unwrap_or-before.result c.fluent.ensures
-      (c.unwrap_or-before.ensures ∙ ap (λ (v : ℤ). unwrap_or c.fluent.result v) value))
+    (c.unwrap_or-before.ensures ∙ ap (λ (v : ℤ). unwrap_or c.fluent.result v) value))
     (sym before ∙ (ap (to_z w64) c.if-before-value.true ∙ value))

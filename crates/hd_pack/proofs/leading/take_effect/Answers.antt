@@ -1,4 +1,4 @@
-use Rattle.std.proofs.Common.{sym, ap, ◌∙◌}
+use Rattle.std.proofs.Common.{sym, ap}
 use Rattle.hd_pack.specs.Leading.{led_by}
 use Rattle.hd_pack.proofs.Steps.{applied_costless, applied_aside, led_beyond, led_within}
 use Rattle.hd_pack.proofs.leading.take_effect.Goals as goal

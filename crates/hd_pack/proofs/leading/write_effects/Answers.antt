@@ -1,4 +1,4 @@
-use Rattle.std.proofs.Common.{◌≡◌, ℕ, List, true, false, fold, ap, ap₂, ◌∙◌}
+use Rattle.std.proofs.Common.{ℕ, List, true, false, fold, ap, ap₂, ◌∙◌}
 use Rattle.hd_task.specs.declared.state.State.{State}
 use Rattle.hd_pack.specs.Leading.{with_atom}
 use Rattle.hd_pack.proofs.Steps.{written_by}

@@ -1,4 +1,4 @@
-use Rattle.std.proofs.Common.{rules, ◌≡◌, List, ℕ, length, refl, ap, ◌∙◌}
+use Rattle.std.proofs.Common.{refl}
 use Rattle.hd_pack.proofs.Trips.{packed_whole}
 use Rattle.hd_pack.proofs.Packings.{state_of, packing_of}
 use Rattle.hd_pack.proofs.packed.pack.Goals as goal

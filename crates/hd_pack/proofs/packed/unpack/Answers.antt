@@ -1,4 +1,4 @@
-use Rattle.std.proofs.Common.{rules, ◌≡◌, List, ℕ, drop, map, ap, ◌∙◌}
+use Rattle.std.proofs.Common.{List, ℕ, drop, map, ap, ◌∙◌}
 use Rattle.std.specs.List.{range_with_len}
 use Rattle.hd_pack.specs.Packing.{values_in, atom_in}
 use Rattle.hd_pack.proofs.Trips.{unpacked_parts}

@@ -1,4 +1,4 @@
-use Rattle.std.proofs.Common.{rules, ◌≡◌, ◌+◌, ◌-◌, ◌*◌, ℕ, ℤ, Some, List, take, drop, sym, ap, ◌∙◌, arith}
+use Rattle.std.proofs.Common.{rules, ◌≡◌, ◌+◌, ◌-◌, ◌*◌, ℤ, Some, take, drop, sym, ap, ◌∙◌, arith}
 use Rattle.std.specs.Int.{w64, cast_signed, from_le_bytes}
 use Rattle.std.proofs.lemmas.Int.{to_z-of_z}
 use Rattle.hd_pack.proofs.ValueBytes.{value_within, value_beyond}
@@ -12,6 +12,6 @@ returns c =
     let place = 8 * c.args.number in
     let eight : place + 8 - place ≡ 8 = omega arith in
     ap (λ (v : ℤ). Some v)
-      (to_z-of_z w64 c.value_in.result (search rules)
-      ∙ (c.value_in.ensures ∙ ap (λ k. cast_signed w64 (from_le_bytes w64 (take k (drop place c.args.bytes.now)))) eight))
+    (to_z-of_z w64 c.value_in.result (search rules)
+    ∙ (c.value_in.ensures ∙ ap (λ k. cast_signed w64 (from_le_bytes w64 (take k (drop place c.args.bytes.now)))) eight))
     ∙ sym (value_within c.args.bytes.now c.args.number c.if-bytes-place.false)

@@ -1,4 +1,4 @@
-use Rattle.std.proofs.Common.{rules, ◌≡◌, ◌++◌, List, ℕ, ℤ, ap, ap₂, ◌∙◌, arith}
+use Rattle.std.proofs.Common.{rules, ◌++◌, List, ℕ, ℤ, ap, ap₂, ◌∙◌}
 use Rattle.std.specs.Int.{w64, cast_signed, from_le_bytes}
 use Rattle.hd_pack.specs.Packing.{values_in}
 use Rattle.std.proofs.lemmas.Int.{to_z-of_z}

@@ -1,5 +1,5 @@
-use Rattle.std.proofs.Common.{◌≡◌, ◌<◌, ◌≤◌, ◌/◌, ℕ, Bool, Some, List, length, sym, ap, ◌∙◌, arith}
-use Rattle.hd_pack.specs.Packing.{atom_in, bytes_for}
+use Rattle.std.proofs.Common.{◌≡◌, ℕ, Bool, Some, List, length, sym, ap, ◌∙◌, arith}
+use Rattle.hd_pack.specs.Packing.{atom_in}
 use Rattle.hd_pack.proofs.Trips.{bytes_enough}
 use Rattle.hd_pack.proofs.Packings.{atom_within, atom_beyond}
 use Rattle.hd_pack.proofs.packed.Packed.atom.Goals as goal

@@ -1,4 +1,3 @@
-use Rattle.std.proofs.Common.{◌≡◌}
 use Rattle.hd_pack.proofs.Packings.{parts_of, parts_flipped, state_of, packing_of, atom_byte}
 use Rattle.hd_pack.proofs.packed.Packed.flip.Goals as goal
 

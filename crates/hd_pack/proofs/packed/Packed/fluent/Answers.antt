@@ -1,4 +1,4 @@
-use Rattle.std.proofs.Common.{◌≡◌, ◌≤◌, ℕ, ℤ, List, length, drop, slice_get, ap, ap₂, ◌∙◌, arith}
+use Rattle.std.proofs.Common.{◌≡◌, ℕ, ℤ, List, length, drop, slice_get, ap, ap₂, ◌∙◌, arith}
 use Rattle.hd_pack.specs.Packing.{bytes_for, values_in}
 use Rattle.hd_pack.proofs.Trips.{bytes_enough}
 use Rattle.hd_pack.proofs.Packings.{values_of}
@@ -15,5 +15,5 @@ pub returns : goal.returns
 returns c =
     c.value_at.ensures
     ∙ ap (λ (vs : List ℤ). slice_get vs c.args.fluent)
-      (ap values_in (c.split_at.ensures.back ∙ ap₂ (λ (k : ℕ) (ns : List ℕ). drop k ns) c.bytes_for.ensures c.as_slice.ensures.value)
-      ∙ values_of _ _ _ c.self.view_is)
+    (ap values_in (c.split_at.ensures.back ∙ ap₂ (λ (k : ℕ) (ns : List ℕ). drop k ns) c.bytes_for.ensures c.as_slice.ensures.value)
+    ∙ values_of _ _ _ c.self.view_is)

@@ -1,4 +1,4 @@
-use Rattle.std.proofs.Common.{◌≡◌, nat_eq, sym, ap, ap₂, ◌∙◌}
+use Rattle.std.proofs.Common.{nat_eq, sym, ap, ap₂, ◌∙◌}
 use Rattle.std.specs.Prelude.{Bool, ◌&&◌}
 use Rattle.std.specs.Cmp.Lexicographic.{pointwise}
 use Rattle.hd_pack.proofs.Trips.{same_is, differ}
