@@ -37,6 +37,8 @@ row() {
 
 plain='(define (domain l) (:predicates (a) (b)))'
 numeric='(define (domain l) (:predicates (b)) (:functions (a)))'
+unary='(define (domain l) (:predicates (a ?x) (b)))'
+binary='(define (domain l) (:predicates (a ?x ?y) (b)))'
 simple='(define (problem p) (:domain l) (:init) (:goal (b)))'
 echo "| A text full of | Times its size | What is told |"
 echo "|---|---|---|"
@@ -45,9 +47,17 @@ printf '%s\n' "$plain" "(define (problem p) (:domain l) (:objects @- $long) (:in
 printf '%s\n' "$plain" '(define (problem p) (:domain l) (:objects @) (:init) (:goal (b)))' | row 'objects, each with a type' 'a - t '
 printf '%s\n' '(define (domain l) (:predicates @))' "$simple" | row 'predicates' '(a)'
 printf '%s\n' "$plain" '(define (problem p) (:domain l) (:init @) (:goal (c)))' | row 'initial atoms' '(a)'
+printf '%s\n' "$unary" '(define (problem p) (:domain l) (:objects o) (:init @) (:goal (c)))' | row 'initial atoms of one term' '(a o)'
+printf '%s\n' "$binary" '(define (problem p) (:domain l) (:objects o) (:init @) (:goal (c)))' | row 'initial atoms of two terms' '(a o o)'
+printf '%s\n' "$plain" '(define (problem p) (:domain l) (:init @) (:goal (c)))' | row 'initial atoms that are denied' '(not(a))'
 printf '%s\n' "$plain" '(define (problem p) (:domain l) (:init (a @)) (:goal (c)))' | row 'terms of an atom' 'a '
 printf '%s\n' "$numeric" '(define (problem p) (:domain l) (:init @) (:goal (c)))' | row 'first values' '(=(a)1)'
 printf '%s\n' "$plain" '(define (problem p) (:domain l) (:init) (:goal (and @ (c))))' | row 'goals that are atoms' '(a)'
+printf '%s\n' "$unary" '(define (problem p) (:domain l) (:objects o) (:init) (:goal (and @ (c))))' | row 'goals of one term' '(a o)'
+printf '%s\n' "$binary" '(define (problem p) (:domain l) (:objects o) (:init) (:goal (and @ (c))))' | row 'goals of two terms' '(a o o)'
+printf '%s\n' "$plain" '(define (problem p) (:domain l) (:init) (:goal (and @ (c))))' | row 'goals that are denied' '(not(a))'
+printf '%s\n' "$plain" '(define (problem p) (:domain l) (:init) (:goal (and @ (c))))' | row 'empty goals' '()'
+printf '%s\n' "$plain" '(define (problem p) (:domain l) (:init) (:goal (and @ (c))))' | row 'goals in goals' '(and(a))'
 printf '%s\n' "$plain" '(define (problem p) (:domain l) (:init) (:goal (and @ (c))))' | row 'comparisons of numbers' '(< 1 1)'
 printf '%s\n' "$numeric" '(define (problem p) (:domain l) (:init) (:goal (and @ (c))))' | row 'comparisons of a fluent' '(<(a)1)'
 printf '%s\n' "$numeric" '(define (problem p) (:domain l) (:init) (:goal (and @ (c))))' | row 'comparisons of two fluents' '(<(a)(a))'
@@ -55,5 +65,9 @@ printf '%s\n' "$plain" '(define (problem p) (:domain l) (:init) (:goal (and @ (c
 printf '%s\n' "$plain" '(define (problem p) (:domain l) (:init) (:goal (and @ (c))))' | row 'negations' "(<$(repeated '(-' 60) 1$(repeated ')' 60) 1)"
 printf '%s\n' "$plain" '(define (problem p) (:domain l) (:objects o) (:init) (:goal (and @ (c))))' | row 'equalities of objects' '(= o o)'
 printf '%s\n' '(define (domain l) (:predicates (a) (b)) (:action s :parameters () :effect (and @ (c))))' "$simple" | row 'effects that are atoms' '(a)'
+printf '%s\n' '(define (domain l) (:predicates (a) (b)) (:action s :parameters () :effect (and @ (c))))' "$simple" | row 'effects that are denied' '(not(a))'
+printf '%s\n' '(define (domain l) (:predicates (b)) (:functions (a)) (:action s :parameters () :effect (and @ (c))))' "$simple" | row 'increases' '(increase(a)1)'
+printf '%s\n' '(define (domain l) (:predicates (b)) (:functions @))' "$simple" | row 'functions' '(a)'
+printf '%s\n' '(define (domain l) (:predicates (b) (a @)))' "$simple" | row 'parameters' '?a '
 printf '%s\n' "(define (domain l) @)" "$simple" | row 'empty lists' '()'
 printf '%s\n' "(define (domain l) @" "$simple" | row 'lists of a name, one left open' '(a)'

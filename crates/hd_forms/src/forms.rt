@@ -16,6 +16,10 @@ use std::mem;
 /// The most forms that may be open at once.
 const MOST_OPEN: usize = 64;
 
+/// How many forms an open form has room for at first. Most have no more, and what they leave when they are closed is just as large
+/// as what the next ones ask for: so it is taken again, and not cut into pieces.
+const ROOM: usize = 3;
+
 /// A word, or a form in parentheses, with the places of its word or of its parentheses.
 #[derive(Drop)]
 pub enum Form {
@@ -50,7 +54,7 @@ fn begin(
     ensures depth { OnOk result (vec_len around.new ≡ vec_len around.old + 1) }
     ensures no_memory { IfErr result (λ e. e ≡ ReadError.NoMemory) }
 {
-    let before = mem::replace(forms, Vec::new(alloc));
+    let before = mem::replace(forms, Vec::with_capacity(alloc, ROOM)?);
     around.push(OpenForm { from: at, before })?;
     Ok(())
 }

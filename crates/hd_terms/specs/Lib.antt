@@ -1,3 +1,4 @@
+pub mod Terms
 pub mod Typed
 pub mod Atoms
 pub mod Expressions

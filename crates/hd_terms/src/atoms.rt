@@ -6,8 +6,8 @@ ghost use Rattle.hd_forms.specs.Reading.{Refuses};
 ghost use Rattle.hd_forms.specs.View.{forms_view};
 ghost use Rattle.hd_terms.specs.Reading.{term_at, terms_after, atom_of};
 
+use crate::terms::Terms;
 use crate::tree::{Atom, Term};
-use hd_base::Sequence;
 use hd_forms::{Form, ReadError, Word, first_refusal, form_refusal, name_at, placed_name};
 use std::alloc::Global;
 
@@ -28,7 +28,7 @@ pub fn term_at(alloc: Global, forms: &[Form], end: usize) -> Result<(Term, &[For
 
 /// The terms that these forms are, one each.
 #[tactic(auto, unfolding(crate::specs::Reading::terms_after))]
-fn terms_of(alloc: Global, forms: &[Form]) -> Result<Sequence<Term>, ReadError>
+fn terms_of(alloc: Global, forms: &[Form]) -> Result<Terms, ReadError>
     ensures { Gives Refuses (λ x. x) result (terms_after (forms_view forms.now) []) }
 {
     let mut terms = Vec::with_capacity(alloc, forms.len())?;
@@ -44,7 +44,7 @@ fn terms_of(alloc: Global, forms: &[Form]) -> Result<Sequence<Term>, ReadError>
         }
         rest = after;
     }
-    Ok(Sequence::from_vec(terms))
+    Ok(Terms::of(alloc, terms)?)
 }
 
 /// The atom, or the fluent, that stands in a form which ends at the place `to`.

@@ -3,8 +3,8 @@
 //! Most conditions and effects are atoms, and a list of them is as wide as its widest part: so what is wider than an atom has
 //! memory of its own.
 
-use crate::TypeName;
-use hd_base::{Boxed, Relation, Sequence};
+use crate::{Terms, TypeName};
+use hd_base::{Boxed, Relation};
 use hd_forms::{Change, NameAt, Place};
 
 /// A declared name, and the name of its type if one is given: without one the type is `object`.
@@ -26,7 +26,8 @@ pub enum Term {
 #[derive(Debug, PartialEq, Eq, Drop)]
 pub struct Atom {
     pub name: NameAt,
-    pub terms: Sequence<Term>,
+    /// Mostly few, and often none: in two words.
+    pub terms: Terms,
 }
 
 /// What stands at the leaves of an expression. Each operation has memory of its own for its operands, which are as wide as the
