@@ -65,7 +65,9 @@ fn assert_same(
         assert!(rt; packed.has_atom(atom) == state.has_atom(atom));
     }
     for fluent in 0..8 {
-        assert!(rt; packed.fluent(fluent) == state.fluents.as_slice().get(fluent as usize).copied());
+        assert!(rt;
+            packed.fluent(fluent) == state.fluents.as_slice().get(fluent as usize).copied()
+        );
         assert!(rt; packed.fluent_of(fluent) == state.fluent_of(fluent));
     }
     Ok(())
@@ -107,7 +109,15 @@ fn reached(
     let packed = pack(alloc, &tables.layout, &place.state)?;
     let hash = tables.words.hash(&place.state);
     let id = ActionId(action);
-    let led = leads(alloc, tables.task, tables.words, &packed, hash, place.cost, id)?;
+    let led = leads(
+        alloc,
+        tables.task,
+        tables.words,
+        &packed,
+        hash,
+        place.cost,
+        id,
+    )?;
     let reached = step(alloc, tables.task, &place.state, place.cost, id)?;
     assert_led(rt, alloc, tables, &led, &reached)?;
     Ok(reached)
@@ -240,7 +250,9 @@ const BEFORE: [u8; 18] = [
     0xFF, 0x01, 5, 0, 0, 0, 0, 0, 0, 0, 255, 255, 255, 255, 255, 255, 255, 255,
 ];
 
-const AFTER: [u8; 18] = [0xFF, 0x00, 5, 0, 0, 0, 0, 0, 0, 0, 0x34, 0x12, 0, 0, 0, 0, 0, 0];
+const AFTER: [u8; 18] = [
+    0xFF, 0x00, 5, 0, 0, 0, 0, 0, 0, 0, 0x34, 0x12, 0, 0, 0, 0, 0, 0,
+];
 
 /// Asserts what changes of a copy make of its bytes, and that the first packing stays.
 fn assert_changed(rt: &impl Abort, alloc: Global, task: &Task) -> Result<(), Fail> {
