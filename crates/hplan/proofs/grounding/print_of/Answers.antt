@@ -1,0 +1,5 @@
+use Rattle.hplan.specs.Printing.{InTexts}
+use Rattle.hplan.proofs.grounding.print_of.Goals as goal
+
+pub returns-in-Err-clause-refusal : goal.returns-in-Err-clause-refusal
+returns-in-Err-clause-refusal c = rw c.from.ensures (InTexts c.in-Err.fault c.in-Err.ensures.refusal)
