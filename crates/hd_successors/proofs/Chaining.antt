@@ -1,5 +1,5 @@
 -- Chains of the actions that watch an atom.
-use Rattle.std.proofs.Common.{◌≡◌, ℕ, zero, suc, ◌+◌, ◌-◌, ◌<◌, ◌≤◌, ◌==◌, ◌&&◌, ◌||◌, nat_le, nat_lt, Bool, true, false, cond, List, [], ◌∷◌, ◌++◌, length, get_or, set, replicate, slice_get, inl, inr, refl, sym, ap, ap₂, ◌∙◌, subst, arith, true≢false, add-one}
+use Rattle.std.proofs.Common.{◌≡◌, ℕ, zero, suc, ◌+◌, ◌-◌, ◌<◌, ◌≤◌, ◌==◌, ◌&&◌, ◌||◌, nat_le, nat_lt, Bool, true, false, cond, List, [], ◌∷◌, ◌++◌, length, get_or, replicate, slice_get, inl, inr, refl, sym, ap, ap₂, ◌∙◌, subst, arith, true≢false}
 use Rattle.std.specs.Prelude.{Option, Some, None}
 use Rattle.std.proofs.lemmas.Bool.{cases_eq, cases_lt, cases_order, eq-eqb, ne_eqb, eqb-true, le-leb, lt-leb, lt-ltb, le-ltb, and_left}
 use Rattle.std.proofs.lemmas.Option.{slice_get_within, slice_get_past}
@@ -9,6 +9,7 @@ use Rattle.hd_base.proofs.Lists.{get_or-set, get_or-replicate_same}
 use Rattle.hd_successors.specs.declared.watching.Watch.{Watch}
 use Rattle.hd_successors.specs.declared.watching.Watch.TheVariants.{Always, Atom}
 use Rattle.hd_successors.specs.Seeing.{watches_one, is_always}
+use Rattle.hd_successors.proofs.Rows.{and_true}
 use Rattle.hd_successors.specs.Chains.{is_watcher, last_watcher, AreChains, last_with, last_in}
 
 -- ---- the last watcher
@@ -124,10 +125,6 @@ more_chains ws last before k n w chains is next =
 
 -- ---- marks along a chain
 
-or_again : (a b c : Bool) → a ≡ true → (a || (b || c)) ≡ true
-or_again true b c e = refl
-or_again false b c e = absurd (true≢false (sym e))
-
 -- the marks of a chain's part from `left` on, and others
 abbrev pub marked_from : List Watch → ℕ → ℕ → Bool → ℕ → Bool
 marked_from ws a left other i = (is_watcher ws a i && nat_le left i) || other
@@ -205,10 +202,6 @@ chain_continues ws last before xs ys a (suc n) e chains ex ey lt some end within
     }
 
 -- ---- the actions that watch nothing
-
-and_true : (b : Bool) → (b && true) ≡ b
-and_true true = refl
-and_true false = refl
 
 nothing_more : (x y : Bool) → (x || (y && false)) ≡ x
 nothing_more true y = refl

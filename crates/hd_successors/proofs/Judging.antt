@@ -1,6 +1,6 @@
 -- An action that is no candidate does nothing.
-use Rattle.std.proofs.Common.{◌≡◌, ℕ, ◌<◌, ◌≤◌, ◌==◌, ◌&&◌, ◌||◌, not, Bool, true, false, cond, List, [], ◌∷◌, length, slice_get, Contains, inl, inr, refl, sym, ap, ◌∙◌, subst, arith, true≢false}
-use Rattle.std.specs.Prelude.{Option, Some, None, is_some, find, nat_le}
+use Rattle.std.proofs.Common.{◌≡◌, ℕ, ◌<◌, ◌≤◌, ◌==◌, ◌&&◌, not, true, false, List, [], ◌∷◌, length, slice_get, inl, inr, refl, sym, ap, ◌∙◌, arith, true≢false}
+use Rattle.std.specs.Prelude.{Some, None, is_some, find, nat_le}
 use Rattle.std.specs.List.{list_any, list_all}
 use Rattle.std.proofs.lemmas.Bool.{and_parts, and_left, or_cases, or_from, cond-true, cond-false, cases_lt, eqb-true, both_ways, false_from_ne_true}
 use Rattle.std.proofs.lemmas.Option.{none-some, slice_get_within, slice_get_past, slice_get-get_or}
@@ -9,7 +9,7 @@ use Rattle.hd_task.specs.declared.condition.Literal.{Literal}
 use Rattle.hd_task.specs.declared.action.Action.{Action}
 use Rattle.hd_task.specs.declared.task.Task.{Task}
 use Rattle.hd_task.specs.Conditions.{has_atom, literal_holds, literals_hold, comparisons_hold, comparisons_stay, holds, condition_departs}
-use Rattle.hd_task.specs.Effects.{effects_stay, step_cost, numbers_below}
+use Rattle.hd_task.specs.Effects.{effects_stay, step_cost}
 use Rattle.hd_task.specs.Plans.{Node, after_step, step, step_of, step_by}
 use Rattle.hd_task.specs.Departures.{cost_stays, departs_by, action_departs}
 use Rattle.hd_task.specs.Expansions.{is_applicable}

@@ -1,6 +1,6 @@
 -- The first element of a rising list that passes.
-use Rattle.std.proofs.Common.{◌≡◌, ℕ, zero, suc, ◌+◌, ◌<◌, ◌≤◌, nat_le, Bool, true, false, cond, List, [], ◌∷◌, filter, inl, inr, refl, sym, ap, ◌∙◌, arith, true≢false}
-use Rattle.std.specs.Prelude.{Option, Some, None, find}
+use Rattle.std.proofs.Common.{◌≡◌, ℕ, zero, suc, ◌+◌, ◌<◌, ◌≤◌, nat_le, Bool, true, false, cond, ◌∷◌, filter, inl, inr, refl, sym, ap, ◌∙◌, arith, true≢false}
+use Rattle.std.specs.Prelude.{Some, None, find}
 use Rattle.std.specs.List.{range_with_len}
 use Rattle.std.proofs.lemmas.Bool.{cases_eq, cases_lt, le-leb, lt-leb, leb-true, leb-false, false_from_ne_true}
 use Rattle.std.proofs.lemmas.Option.{none-some, same_Some}

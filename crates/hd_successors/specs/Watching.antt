@@ -4,7 +4,6 @@ use Rattle.std.specs.List.{list_any, filter}
 use Rattle.hd_task.specs.declared.state.State.{State}
 use Rattle.hd_task.specs.declared.condition.Literal.{Literal}
 use Rattle.hd_task.specs.declared.action.Action.{Action}
-use Rattle.hd_task.specs.declared.task.Task.{Task}
 use Rattle.hd_task.specs.Conditions.{has_atom}
 use Rattle.hd_task.specs.Effects.{numbers_below}
 use Rattle.hd_successors.specs.declared.watching.Watch.{Watch}

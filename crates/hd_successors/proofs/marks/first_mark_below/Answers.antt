@@ -1,5 +1,4 @@
-use Rattle.std.proofs.Common.{◌≡◌, ℕ, ◌≤◌, ◌<◌, false, sym, arith}
-use Rattle.std.proofs.lemmas.Bool.{cases_lt}
+use Rattle.std.proofs.Common.{sym, arith}
 use Rattle.hd_successors.specs.Marks.{is_marked, IsFirstMark}
 use Rattle.hd_successors.proofs.Tests.{find_first, find_none}
 use Rattle.hd_successors.proofs.marks.first_mark_below.Goals as goal

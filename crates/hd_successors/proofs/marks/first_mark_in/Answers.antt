@@ -1,4 +1,4 @@
-use Rattle.std.proofs.Common.{◌≤◌, refl, arith}
+use Rattle.std.proofs.Common.{refl, arith}
 use Rattle.std.proofs.Math.Facts.{Fits-lt-pow}
 use Rattle.hd_successors.proofs.Bits.{first_in_row, none_more, none_left}
 use Rattle.hd_successors.proofs.marks.first_mark_in.Goals as goal

@@ -1,4 +1,4 @@
-use Rattle.std.proofs.Common.{◌≡◌, ℕ, true, take, length, slice_get}
+use Rattle.std.proofs.Common.{take}
 use Rattle.hd_successors.specs.Watching.{IsWatchedBy}
 use Rattle.hd_successors.proofs.watching.each_rarest.Given as goal
 

@@ -1,4 +1,4 @@
-use Rattle.std.proofs.Common.{◌∙◌, ap, length, arith}
+use Rattle.std.proofs.Common.{◌∙◌, ap, arith}
 use Rattle.hd_successors.specs.Watching.{candidates}
 use Rattle.hd_successors.specs.Successors.{SuccessorsView}
 use Rattle.hd_successors.proofs.Rows.{written_over, marked_candidates}

@@ -1,6 +1,5 @@
 use Rattle.std.proofs.Common.{◌≡◌, ◌||◌, ◌+◌, ◌∙◌, ap, length, slice_get, arith}
-use Rattle.std.proofs.Math.Facts.{Fits-lt-pow}
-use Rattle.hd_successors.specs.Seeing.{is_in_byte, watches_one}
+use Rattle.hd_successors.specs.Seeing.{is_in_byte}
 use Rattle.hd_successors.specs.Marks.{is_marked}
 use Rattle.hd_successors.proofs.Rows.{passing_below, watches_same, all_bits}
 use Rattle.hd_successors.proofs.watches.Watches.mark_byte.Goals as goal

@@ -1,4 +1,4 @@
-use Rattle.std.proofs.Common.{◌≡◌, ℕ, ◌+◌, ◌*◌, ◌≤◌, ◌||◌, length, slice_get}
+use Rattle.std.proofs.Common.{◌≡◌, ℕ, ◌+◌, ◌||◌, length, slice_get}
 use Rattle.hd_successors.specs.Seeing.{watches_one, is_in_byte}
 use Rattle.hd_successors.specs.Marks.{is_marked}
 use Rattle.hd_successors.proofs.Rows.{passing_below}

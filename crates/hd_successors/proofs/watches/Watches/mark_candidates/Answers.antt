@@ -1,4 +1,4 @@
-use Rattle.std.proofs.Common.{◌≡◌, ◌||◌, ◌∙◌, ap, sym, slice_get}
+use Rattle.std.proofs.Common.{◌||◌, ◌∙◌, ap, sym, slice_get}
 use Rattle.hd_task.specs.Conditions.{has_atom}
 use Rattle.hd_successors.specs.Seeing.{watches_one}
 use Rattle.hd_successors.specs.Marks.{is_marked}

@@ -1,4 +1,4 @@
-use Rattle.std.proofs.Common.{◌≡◌, ◌||◌, ◌&&◌, ◌+◌, ◌*◌, ◌/◌, ◌∙◌, ap, sym, refl, length, nat_lt, get_or, slice_get, arith}
+use Rattle.std.proofs.Common.{◌||◌, ◌&&◌, ◌+◌, ◌*◌, ◌∙◌, ap, sym, length, nat_lt, get_or, slice_get, arith}
 use Rattle.std.proofs.Math.Facts.{Fits-lt-pow}
 use Rattle.hd_task.specs.Conditions.{has_atom}
 use Rattle.hd_successors.specs.Seeing.{watches_one, is_in_byte}

@@ -1,4 +1,4 @@
-use Rattle.std.proofs.Common.{◌≡◌, ◌<◌, ◌||◌, ◌==◌, ◌-◌, ◌∙◌, ap, refl, length, arith}
+use Rattle.std.proofs.Common.{◌||◌, ◌==◌, ◌-◌, ◌∙◌, ap, refl, arith}
 use Rattle.hd_successors.proofs.Chaining.{chain_begins, chain_continues}
 use Rattle.hd_successors.proofs.watches.Watches.mark_watchers.Goals as goal
 

@@ -1,4 +1,4 @@
-use Rattle.std.proofs.Common.{◌≡◌, ℕ, ◌*◌, ◌<◌, ◌≤◌, length}
+use Rattle.std.proofs.Common.{◌≡◌, ℕ, ◌≤◌, length}
 use Rattle.hd_successors.specs.Chains.{last_watcher}
 use Rattle.hd_successors.specs.Marks.{is_marked}
 use Rattle.hd_successors.proofs.Chaining.{marked_from}
