@@ -1,4 +1,5 @@
-//! Tests of the libraries that searches stand on: hd_task, hd_zobrist, hd_pack, hd_node and hd_book.
+//! Tests of the libraries that searches stand on: hd_task, hd_zobrist, hd_pack, hd_successors, hd_node and
+//! hd_book.
 #![tactic(auto)]
 
 #[cfg(test)]
@@ -21,5 +22,7 @@ mod packing;
 mod scripts;
 #[cfg(test)]
 mod stepping;
+#[cfg(test)]
+mod successors;
 #[cfg(test)]
 mod tasks;

@@ -1,0 +1,5 @@
+pub mod Bits
+pub mod Chaining
+pub mod Judging
+pub mod Rows
+pub mod Tests

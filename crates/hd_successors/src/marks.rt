@@ -1,0 +1,76 @@
+//! Marks on numbers: a bit each, in words.
+ghost use Rattle.std.specs.Prelude.{◌≡◌, ℕ, ◌≤◌, ◌<◌, ◌*◌, ◌/◌, ◌^◌, ◌==◌, ◌||◌, false, IfOk, length, find, nat_le};
+ghost use Rattle.std.specs.List.{filter, range_with_len};
+ghost use Rattle.hd_successors.specs.Marks.{is_marked, words_for, FirstMark};
+
+use hd_base::NoMemory;
+use std::alloc::Global;
+
+/// No marks, with room for as many as asked.
+#[tactic(auto, using(crate::proofs::Bits::none_marked))]
+pub(crate) fn no_marks(alloc: Global, count: usize) -> Result<Vec<u64>, NoMemory>
+    ensures none { IfOk result (λ v. (i : ℕ) → is_marked v.items i ≡ false) }
+    ensures room { IfOk result (λ v. length v.items ≡ words_for count) }
+{
+    let marks = vec![in alloc; 0; count.div_ceil(64)]?;
+    Ok(marks)
+}
+
+/// Marks a number.
+#[tactic(auto, using(crate::proofs::Bits::marked_more))]
+pub(crate) fn set_mark(marks: &mut [u64], number: usize)
+    requires { number / 64 < length marks.old }
+    ensures { (i : ℕ) → is_marked marks.new i ≡ ((i == number) || is_marked marks.old i) }
+{
+    marks[number / 64] |= 1 << (number % 64);
+}
+
+/// The first number that is marked, of those in the words from this place on.
+fn first_mark_in(marks: &[u64], place: usize) -> Option<usize>
+    requires { length marks.now ≤ 2 ^ 20 }
+    ensures { FirstMark marks.now (64 * place) result }
+{
+    let mut at = place;
+    while at < marks.len() {
+        let word = marks[at];
+        if word != 0 {
+            return Some(64 * at + word.trailing_zeros() as usize);
+        }
+        at += 1;
+    }
+    None
+}
+
+/// The first number that is marked, from this one on.
+fn first_mark(marks: &[u64], from: usize) -> Option<usize>
+    requires { length marks.now ≤ 2 ^ 20 }
+    ensures { FirstMark marks.now from result }
+{
+    let place = from / 64;
+    if place >= marks.len() {
+        return None;
+    }
+    let word = marks[place] >> (from % 64);
+    if word != 0 {
+        return Some(from + word.trailing_zeros() as usize);
+    }
+    first_mark_in(marks, place + 1)
+}
+
+/// The first number that is marked, from this one on, of so many.
+pub(crate) fn first_mark_below(marks: &[u64], from: u32, count: usize) -> Option<u32>
+    requires words { length marks.now ≤ 2 ^ 20 }
+    requires few { count ≤ 2 ^ 20 }
+    ensures { result ≡ find (nat_le from) (filter (is_marked marks.now) (range_with_len 0 count)) }
+{
+    match first_mark(marks, from as usize) {
+        None => None,
+        Some(found) => {
+            if found < count {
+                Some(found as u32)
+            } else {
+                None
+            }
+        }
+    }
+}

@@ -1,0 +1,188 @@
+//! Which actions watch an atom.
+ghost use Rattle.std.specs.Prelude.{◌≡◌, ℕ, ◌+◌, ◌*◌, ◌<◌, ◌≤◌, ◌/◌, ◌^◌, ◌==◌, ◌&&◌, ◌||◌, false, Some, IfOk, length, slice_get, nat_lt};
+ghost use Rattle.hd_task.specs.Conditions.{has_atom};
+ghost use Rattle.hd_successors.specs.Watching.{IsWatchedBy, is_candidate};
+ghost use Rattle.hd_successors.specs.Seeing.{is_always, watches_one, is_in_byte};
+ghost use Rattle.hd_successors.specs.Chains.{AreChains, last_with, last_in};
+ghost use Rattle.hd_successors.specs.Marks.{is_marked, words_for};
+
+use crate::Watch;
+use crate::marks::{no_marks, set_mark};
+use crate::watching::watched_of;
+use hd_base::{NoMemory, Sequence};
+use hd_pack::Packed;
+use hd_task::Action;
+use std::alloc::Global;
+
+/// What each action watches, and which actions watch an atom.
+#[derive(Debug, Drop)]
+pub(crate) struct Watches {
+    /// By action.
+    pub(crate) watched: Sequence<Watch>,
+    /// By atom: one more than the last action that watches it, or 0.
+    last: Sequence<u32>,
+    /// By action: one more than the last one before it that watches the same atom, or 0.
+    before: Sequence<u32>,
+    // The chains are of all actions.
+    ghost chained: { AreChains watched last before (length watched) },
+    // There are no more than a task may have.
+    ghost few_atoms: { length last ≤ 2 ^ 20 },
+    ghost few_actions: { length watched ≤ 2 ^ 20 },
+}
+
+/// Puts an action at the end of the chain of what it watches, and gives what stands before it.
+fn link(last: &mut [u32], watch: Watch, action: u32) -> u32
+    requires { action < 2 ^ 20 }
+    ensures last { last.new ≡ last_with last.old watch action }
+    ensures before { result ≡ last_in last.old watch }
+{
+    let Watch::Atom(atom) = watch else {
+        return 0;
+    };
+    let atom = atom as usize;
+    if atom >= last.len() {
+        return 0;
+    }
+    let before = last[atom];
+    last[atom] = action + 1;
+    before
+}
+
+/// The chains of all actions: by atom where each begins, and by action what stands before it.
+fn chains_of(
+    alloc: Global,
+    watched: &[Watch],
+    atoms: usize,
+) -> Result<(Vec<u32>, Vec<u32>), NoMemory>
+    requires { length watched.now ≤ 2 ^ 20 }
+    ensures chains { IfOk result (λ r. AreChains watched.now r.0.items r.1.items
+        (length watched.now)) }
+    ensures atoms { IfOk result (λ r. length r.0.items ≡ atoms) }
+{
+    let mut last = vec![in alloc; 0; atoms]?;
+    let mut before = Vec::with_capacity(alloc, watched.len())?;
+    for action in 0..watched.len() {
+        before.push(link(last.as_mut_slice(), watched[action], action as u32))?;
+    }
+    Ok((last, before))
+}
+
+/// Marks an action if it watches nothing.
+fn mark_if_always(watch: Watch, action: usize, marks: &mut [u64])
+    requires { action / 64 < length marks.old }
+    ensures { (i : ℕ) → is_marked marks.new i
+        ≡ (((i == action) && is_always (Some watch)) || is_marked marks.old i) }
+{
+    if let Watch::Always = watch {
+        set_mark(marks, action);
+    }
+}
+
+/// Marks the actions that watch nothing, where there are no marks yet.
+fn mark_always(watched: &[Watch], marks: &mut [u64])
+    requires room { length watched.now ≤ 64 * length marks.old }
+    requires none { (i : ℕ) → is_marked marks.old i ≡ false }
+    ensures { (i : ℕ) → is_marked marks.new i ≡ is_always (slice_get watched.now i) }
+{
+    for action in 0..watched.len() {
+        mark_if_always(watched[action], action, marks);
+    }
+}
+
+impl Watches {
+    /// What each of these actions watches, of a task of so many atoms.
+    ///
+    /// # Errors
+    /// `NoMemory` where there is no room for a number an atom and three an action.
+    pub(crate) fn of(alloc: Global, actions: &[Action], atoms: usize) -> Result<Watches, NoMemory>
+        requires few_atoms { atoms ≤ 2 ^ 20 }
+        requires few_actions { length actions.now ≤ 2 ^ 20 }
+        ensures watched { IfOk result (λ w. IsWatchedBy actions.now w.watched) }
+        ensures atoms { IfOk result (λ w. length w.last ≡ atoms) }
+    {
+        let watched = watched_of(alloc, actions, atoms)?;
+        let (last, before) = match chains_of(alloc, watched.as_slice(), atoms) {
+            Ok(chains) => chains,
+            Err(error) => {
+                drop(watched);
+                return Err(error);
+            }
+        };
+        Ok(Watches {
+            watched,
+            last: Sequence::from_vec(last),
+            before: Sequence::from_vec(before),
+        })
+    }
+
+    /// Marks of the actions that watch nothing.
+    pub(crate) fn always(&self, alloc: Global) -> Result<Vec<u64>, NoMemory>
+        ensures marks { IfOk result (λ v. (i : ℕ) → is_marked v.items i
+            ≡ is_always (slice_get self.now.watched i)) }
+        ensures room { IfOk result (λ v. length v.items ≡ words_for (length self.now.watched)) }
+    {
+        let mut marks = no_marks(alloc, self.watched.len())?;
+        mark_always(self.watched.as_slice(), marks.as_mut_slice());
+        Ok(marks)
+    }
+
+    /// Marks the actions that watch an atom.
+    fn mark_watchers(&self, atom: usize, marks: &mut [u64])
+        requires { length self.now.watched ≤ 64 * length marks.old }
+        ensures { (i : ℕ) → is_marked marks.new i
+            ≡ (watches_one (λ a. (a == atom) && nat_lt a (length self.now.last))
+            (slice_get self.now.watched i) || is_marked marks.old i) }
+    {
+        let Some(last) = self.last.as_slice().get(atom) else {
+            return;
+        };
+        let before = self.before.as_slice();
+        let mut left = *last as usize;
+        while left > 0 {
+            set_mark(marks, left - 1);
+            left = before[left - 1] as usize;
+        }
+    }
+
+    /// Marks the actions that watch an atom which a byte has; the byte's atoms are those from `base` on.
+    fn mark_byte(&self, byte: u8, base: usize, marks: &mut [u64])
+        requires room { length self.now.watched ≤ 64 * length marks.old }
+        requires near { base ≤ 2 ^ 20 }
+        ensures { (i : ℕ) → is_marked marks.new i
+            ≡ (watches_one (λ a. nat_lt a (length self.now.last) && is_in_byte byte base a)
+            (slice_get self.now.watched i) || is_marked marks.old i) }
+    {
+        for bit in 0..8 {
+            if (byte >> bit) % 2 == 1 {
+                self.mark_watchers(base + bit, marks);
+            }
+        }
+    }
+
+    /// Marks the actions that watch an atom which is true in a state.
+    fn mark_seen(&self, state: &Packed, marks: &mut [u64])
+        requires room { length self.now.watched ≤ 64 * length marks.old }
+        requires of_task { length state.now.atoms ≡ length self.now.last }
+        ensures { (i : ℕ) → is_marked marks.new i
+            ≡ (watches_one (has_atom state.now) (slice_get self.now.watched i)
+            || is_marked marks.old i) }
+    {
+        let bytes = state.bytes();
+        for place in 0..self.last.len().div_ceil(8) {
+            self.mark_byte(bytes[place], 8 * place, marks);
+        }
+    }
+
+    /// Marks the candidates at a state, and no other action, where the marks of the actions that watch nothing are known.
+    pub(crate) fn mark_candidates(&self, always: &[u64], state: &Packed, marks: &mut [u64])
+        requires always { (i : ℕ) → is_marked always.now i
+            ≡ is_always (slice_get self.now.watched i) }
+        requires room { length self.now.watched ≤ 64 * length marks.old }
+        requires alike { length always.now ≡ length marks.old }
+        requires of_task { length state.now.atoms ≡ length self.now.last }
+        ensures { (i : ℕ) → is_marked marks.new i ≡ is_candidate self.now.watched state.now i }
+    {
+        marks.copy_from_slice(always);
+        self.mark_seen(state, marks);
+    }
+}

@@ -1,0 +1,102 @@
+//! What actions watch.
+ghost use Rattle.std.specs.Prelude.{◌≡◌, ℕ, ◌≤◌, ◌++◌, [], ◌∷◌, List, true, IfOk, length};
+ghost use Rattle.hd_task.specs.declared.condition.Literal.{Literal};
+ghost use Rattle.hd_task.specs.declared.task.TheConstants.{MAX_ATOMS};
+ghost use Rattle.hd_successors.specs.Watching.{asks_for, IsWatchedBy};
+
+use hd_base::{NoMemory, Sequence};
+use hd_task::{Action, Condition, Literal};
+use std::alloc::Global;
+
+/// What an action watches.
+#[derive(Clone, Copy, Debug, PartialEq, Eq)]
+pub enum Watch {
+    /// Nothing: it may always apply.
+    Always,
+    /// An atom that its condition asks to be true. One that the task lacks is false.
+    Atom(u32),
+}
+
+/// How many actions ask for an atom; none where it is beyond the table.
+fn uses_of(uses: &[u32], atom: u32) -> u32 {
+    uses.get(atom as usize).copied().unwrap_or(0)
+}
+
+/// Counts what a condition asks for.
+fn count_uses(uses: &mut [u32], condition: &Condition) {
+    for literal in condition.literals.as_slice() {
+        let atom = literal.atom as usize;
+        if literal.positive && atom < uses.len() {
+            uses[atom] = uses[atom].saturating_add(1);
+        }
+    }
+}
+
+/// How many literals of conditions ask for each atom.
+fn all_uses(alloc: Global, actions: &[Action], atoms: usize) -> Result<Vec<u32>, NoMemory>
+    ensures { IfOk result (λ v. length v.items ≡ atoms) }
+{
+    let mut uses = vec![in alloc; 0; atoms]?;
+    for action in actions {
+        count_uses(uses.as_mut_slice(), &action.condition);
+    }
+    Ok(uses)
+}
+
+/// What to watch with one literal more: of two atoms the one that fewer ask for, the earlier of equal ones.
+fn rarer(uses: &[u32], watch: Watch, literal: Literal) -> Watch
+    ensures { (literals : List Literal) → asks_for literals watch ≡ true
+        → asks_for (literals ++ literal ∷ []) result ≡ true }
+{
+    if !literal.positive {
+        return watch;
+    }
+    match watch {
+        Watch::Always => Watch::Atom(literal.atom),
+        Watch::Atom(atom) => {
+            if uses_of(uses, literal.atom) < uses_of(uses, atom) {
+                Watch::Atom(literal.atom)
+            } else {
+                watch
+            }
+        }
+    }
+}
+
+/// What an action of these literals watches: the atom that fewest ask for, of those that it asks to be true.
+fn rarest(uses: &[u32], literals: &[Literal]) -> Watch
+    ensures { asks_for literals.now result ≡ true }
+{
+    let mut watch = Watch::Always;
+    for literal in literals {
+        watch = rarer(uses, watch, *literal);
+    }
+    watch
+}
+
+/// What each action watches.
+fn each_rarest(alloc: Global, uses: &[u32], actions: &[Action]) -> Result<Vec<Watch>, NoMemory>
+    ensures { IfOk result (λ v. IsWatchedBy actions.now v.items) }
+{
+    let mut watched = Vec::with_capacity(alloc, actions.len())?;
+    for action in actions {
+        watched.push(rarest(uses, action.condition.literals.as_slice()))?;
+    }
+    Ok(watched)
+}
+
+/// What each of the actions of a task of so many atoms watches.
+///
+/// # Errors
+/// `NoMemory` where there is no room for a number an atom and an action.
+pub(crate) fn watched_of(
+    alloc: Global,
+    actions: &[Action],
+    atoms: usize,
+) -> Result<Sequence<Watch>, NoMemory>
+    ensures { IfOk result (IsWatchedBy actions.now) }
+{
+    let uses = all_uses(alloc, actions, atoms)?;
+    let watched = each_rarest(alloc, uses.as_slice(), actions)?;
+    Ok(Sequence::from_vec(watched))
+}
