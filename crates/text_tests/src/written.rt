@@ -3,7 +3,6 @@
 use hd_plan::{Watched, WriteError, read_plan, write_plan};
 use std::alloc::{AllocError, Global};
 use std::io::{self, Write};
-use std::process::Abort;
 use std::test::Fail;
 
 /// The text of the plan that the tests write.
