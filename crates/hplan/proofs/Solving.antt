@@ -11,8 +11,10 @@ use Rattle.hd_book.specs.declared.verdict.Verdict.{Verdict}
 use Rattle.hplan.specs.declared.fault.Fault.{Fault}
 use Rattle.hplan.specs.declared.fault.Fault.TheVariants.{NoMemory, Device}
 use Rattle.hplan.specs.declared.engine.Ending.{Ending}
-use Rattle.hplan.specs.Tasks.{Unlifted, Memory}
-use Rattle.hplan.specs.Answer.{IsAnswer, plan_in, IsTrueOfDomain, IsSolved, HasNoAnswer, OfTexts, OfOutput}
+use Rattle.hd_search.specs.Answer.{IsAnswer}
+use Rattle.hd_texts.specs.declared.fault.TaskFault.TheVariants as texts
+use Rattle.hd_texts.specs.Tasks.{Unlifted, Memory}
+use Rattle.hplan.specs.Answer.{plan_in, IsTrueOfDomain, IsSolved, HasNoAnswer, OfTexts, OfOutput}
 use Rattle.hd_book.specs.Answers.{IsBoundPlan, IsTrueAnswer}
 use Rattle.hd_lifted.specs.declared.task.LiftedTask.{LiftedTask}
 use Rattle.hd_grounding.specs.Grounding.{IsGrounding}
@@ -50,5 +52,5 @@ err_weaker (Err e) f p = f e p
 -- a fault of the output, where there is an answer to write
 pub output_fails : (domain problem : List ℕ) (ending : Ending) (text : List ℕ) (f : Fault)
     → IsSolved domain problem ending text → ((f ≡ NoMemory) ⊎ (f ≡ Device)) → HasNoAnswer domain problem f
-output_fails domain problem ending text f s (inl e) = subst (HasNoAnswer domain problem) (sym e) (OfTexts NoMemory (Unlifted NoMemory Memory))
+output_fails domain problem ending text f s (inl e) = subst (HasNoAnswer domain problem) (sym e) (OfTexts texts.NoMemory (Unlifted texts.NoMemory Memory))
 output_fails domain problem ending text f s (inr e) = subst (HasNoAnswer domain problem) (sym e) (OfOutput s.task s.is_task)

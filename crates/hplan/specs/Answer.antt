@@ -1,12 +1,10 @@
--- What an answer of a search is, and what is written of it. (Our own.)
+-- What the answer to two texts is, and what is written of it. (Our own.)
 use Rattle.std.specs.Prelude.{◌≡◌, ℕ, List, [], Option, Some, None, take, pos}
 use Rattle.std.specs.Io.KnownBytes.{Appends}
 use Rattle.hd_lifted.specs.declared.task.LiftedTask.{LiftedTask}
 use Rattle.hd_lifted.specs.Plans as plans
 use Rattle.hd_transfer.specs.Instances.{plan_of}
 use Rattle.hd_task.specs.declared.task.Task.{Task}
-use Rattle.hd_task.specs.Expansions.{IsLegal}
-use Rattle.hd_task.specs.Covers.{IsCovered, zero_estimate}
 use Rattle.hd_book.specs.declared.verdict.Verdict.{Verdict}
 use Rattle.hd_book.specs.declared.verdict.Verdict.TheVariants.{Optimal, NoPlan, RangeLeft}
 use Rattle.hd_book.specs.Answers as book
@@ -14,17 +12,13 @@ use Rattle.hplan.specs.declared.engine.Ending.{Ending}
 use Rattle.hd_book.specs.declared.refusal.Refusal.{Refusal}
 use Rattle.hplan.specs.declared.fault.Fault.{Fault}
 use Rattle.hplan.specs.declared.fault.Fault.TheVariants.{Device, Refused, NoMemory}
-use Rattle.hplan.specs.Refused.{Tells}
-use Rattle.hplan.specs.Tasks.{IsTaskOf, Explains}
+use Rattle.hd_search.specs.Answer.{IsAnswer}
+use Rattle.hd_search.specs.Refused.{Tells}
+use Rattle.hd_texts.specs.declared.fault.TaskFault.{TaskFault}
+use Rattle.hd_texts.specs.Tasks.{IsTaskOf, Explains}
+use Rattle.hplan.specs.Fault.{task_in}
 use Rattle.hplan.specs.PlanText.{plan_text}
 use Rattle.hplan.specs.TaskText.{departure_text}
-
--- a verdict is the answer of a search: some legal list of expansions is covered, and this is what it answers
-pub record IsAnswer (t : Task) (v : Verdict) : Type 0 where
-  pub expanded : List (List ℕ)
-  pub legal : IsLegal t expanded
-  pub covered : IsCovered t zero_estimate expanded
-  pub answers : book.IsAnswer t expanded v
 
 -- the instances of a plan are a valid plan of the domain, if there is a plan
 abbrev pub IsValidInDomain : LiftedTask → Task → Option (List ℕ) → Type 0
@@ -96,6 +90,6 @@ pub data HasNoSolution (task : Task) : Fault → Type 0 where
 -- why two texts have no answer: what is told of the texts; or they say a task, and its search has none, or the output can't take what
 -- is written
 pub data HasNoAnswer (domain problem : List ℕ) : Fault → Type 0 where
-  OfTexts : (f : Fault) → Explains domain problem f → HasNoAnswer domain problem f
+  OfTexts : (f : TaskFault) → Explains domain problem f → HasNoAnswer domain problem (task_in f)
   OfSearch : (t : Task) (f : Fault) → IsTaskOf domain problem t → HasNoSolution t f → HasNoAnswer domain problem f
   OfOutput : (t : Task) → IsTaskOf domain problem t → HasNoAnswer domain problem Device

@@ -1,12 +1,8 @@
 pub mod Answer
-pub mod Digest
 pub mod Fault
-pub mod Frontier
 pub mod Places
 pub mod PlanText
 pub mod Printing
-pub mod Refused
 pub mod TaskText
-pub mod Tasks
 pub mod Verdict
 pub mod Written

@@ -8,10 +8,11 @@ use Rattle.hd_plan.specs.Text.{ReadsAs, IsFault}
 use Rattle.hd_validate.specs.declared.error.PlanError.{PlanError}
 use Rattle.hd_validate.specs.Plans.{IsValidatedBy}
 use Rattle.hd_validate.specs.Telling.{Tells}
+use Rattle.hd_texts.specs.declared.fault.TaskFault.{TaskFault}
+use Rattle.hd_texts.specs.Tasks.{IsLiftedOf, ExplainsTexts}
 use Rattle.hplan.specs.declared.fault.Fault.{Fault}
 use Rattle.hplan.specs.declared.fault.Fault.TheVariants.{Device, NoMemory}
-use Rattle.hplan.specs.Fault.{plan_read_in, judged_in}
-use Rattle.hplan.specs.Tasks.{IsLiftedOf, ExplainsTexts}
+use Rattle.hplan.specs.Fault.{task_in, plan_read_in, judged_in}
 
 -- how it is told that a plan is valid
 abbrev pub valid_text : ℕ → List ℕ
@@ -46,6 +47,6 @@ pub record IsVerdictOf (domain problem plan : List ℕ) (text : List ℕ) : Type
 -- why no verdict is written: what is told of the first two texts; or they say a lifted task, and what is told of the third in it; or the
 -- plan is valid, and the output can't take what is written
 pub data HasNoVerdict (domain problem plan : List ℕ) : Fault → Type 0 where
-  InTexts : (f : Fault) → ExplainsTexts domain problem f → HasNoVerdict domain problem plan f
+  InTexts : (f : TaskFault) → ExplainsTexts domain problem f → HasNoVerdict domain problem plan (task_in f)
   InPlan : (l : LiftedTask) (f : Fault) → IsLiftedOf domain problem l → ExplainsPlan l plan f → HasNoVerdict domain problem plan f
   InOutput : (cost : ℕ) → AreValid domain problem plan cost → HasNoVerdict domain problem plan Device

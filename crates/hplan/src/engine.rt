@@ -8,13 +8,13 @@ ghost use Rattle.hplan.specs.PlanText.{printed, plan_text, goes_through};
 
 use crate::fault::{Fault, device_fault};
 use crate::naming::{NamedPlan, named_plan};
-use crate::searching::run;
-use crate::tasks::task_of;
 use crate::text::departure_text;
 use hd_base::{NoMemory, Sequence};
 use hd_book::{Refusal, Verdict};
 use hd_plan::write_plan;
+use hd_search::run;
 use hd_task::{Plan, Task};
+use hd_texts::task_of;
 use std::alloc::Global;
 use std::io::{self, Write};
 
@@ -97,7 +97,7 @@ fn answer_of(
             drop(task);
             answer
         }
-        Err(fault) => Err(fault),
+        Err(fault) => Err(Fault::from(fault)),
     }
 }
 

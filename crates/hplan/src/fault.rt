@@ -1,14 +1,11 @@
 //! Why there is no answer.
 ghost use Rattle.std.specs.Prelude.{◌≡◌, ◌⊎◌, Some};
-ghost use Rattle.hplan.specs.Fault.{text_of, read_in, checked_in, grounded_in, plan_read_in, judged_in};
+ghost use Rattle.hplan.specs.Fault.{text_of, task_in, plan_read_in, judged_in};
 ghost use Rattle.hplan.specs.declared.fault.Fault.TheVariants as faults;
 
 use hd_book::Refusal;
-use hd_check::CheckError;
-pub use hd_check::Source;
-use hd_forms::ReadError;
-use hd_ground::GroundError;
 use hd_plan::PlanTextError;
+use hd_texts::TaskFault;
 use hd_validate::PlanError;
 use std::alloc::{AllocError, AllocFailed};
 use std::{fmt, io};
@@ -17,12 +14,8 @@ use thiserror::Error;
 /// Why there is no answer.
 #[derive(Debug, PartialEq, Eq, Drop, Error)]
 pub enum Fault {
-    /// A text could not be read.
-    Read(Source, ReadError),
-    /// A text was read, and a name, a type or the metric is at fault in it.
-    Check(Source, hd_check::Fault),
-    /// No fault stands in the texts, and what they say has no task to search.
-    Ground(GroundError),
+    /// The domain's and the problem's texts have no task.
+    Task(TaskFault),
     /// A plan's text could not be read.
     PlanText(PlanTextError),
     /// A plan was read, and is not valid.
@@ -40,9 +33,7 @@ impl fmt::Display for Fault {
 
     fn fmt<W: fmt::Write>(&self, f: &mut fmt::Formatter<W>) -> fmt::Result {
         match self {
-            Fault::Read(source, error) => write!(f, "{source}{error}"),
-            Fault::Check(source, fault) => write!(f, "{source}{fault}"),
-            Fault::Ground(error) => write!(f, "{error}"),
+            Fault::Task(fault) => write!(f, "{fault}"),
             Fault::PlanText(error) => write!(f, "{error}"),
             Fault::Plan(error) => write!(f, "{error}"),
             Fault::Device => write!(f, "35 Device"),
@@ -68,38 +59,15 @@ impl<T: Drop> From<AllocFailed<T>> for Fault {
     }
 }
 
-/// A reader's error in a text.
-pub fn read_in(source: Source, error: ReadError) -> Fault
-    ensures { result ≡ read_in source error }
-{
-    match error {
-        ReadError::NoMemory => Fault::NoMemory,
-        ReadError::Lex(_)
-        | ReadError::Unbalanced(_)
-        | ReadError::Unexpected(_)
-        | ReadError::Unsupported(_, _)
-        | ReadError::TooDeep(_) => Fault::Read(source, error),
-    }
-}
+impl From<TaskFault> for Fault {
+    ghost from_gives = { λ error fault. fault ≡ task_in error };
 
-/// What a check tells.
-pub fn checked_in(error: CheckError) -> Fault
-    ensures { result ≡ checked_in error }
-{
-    match error {
-        CheckError::In(source, fault) => Fault::Check(source, fault),
-        CheckError::NoMemory => Fault::NoMemory,
-    }
-}
-
-/// Why a lifted task has no task to search.
-pub fn grounded_in(error: GroundError) -> Fault
-    ensures { result ≡ grounded_in error }
-{
-    match error {
-        GroundError::NoMemory => Fault::NoMemory,
-        GroundError::TooMany | GroundError::Undefined(_) | GroundError::NegativeCost(_) => {
-            Fault::Ground(error)
+    fn from(error: TaskFault) -> Fault {
+        match error {
+            TaskFault::NoMemory => Fault::NoMemory,
+            TaskFault::Read(_, _) | TaskFault::Check(_, _) | TaskFault::Ground(_) => {
+                Fault::Task(error)
+            }
         }
     }
 }

@@ -1,21 +1,20 @@
 //! From the bytes of two texts to the actions of their task.
 ghost use Rattle.std.specs.Prelude.{◌≡◌, ◌⊎◌, IfOk, IfErr, OnOk, OnErr};
-ghost use Rattle.hplan.specs.Tasks.{Explains};
 ghost use Rattle.hplan.specs.Written.{WritesA, WritesFrontOfA};
 ghost use Rattle.hplan.specs.Printing.{IsPrintOf, IsNotPrinted};
 
 use crate::fault::Fault;
 use crate::output::write_out;
-use crate::tasks::task_of;
 use crate::text::task_text;
+use hd_texts::task_of;
 use std::alloc::Global;
 use std::io::Write;
 
 /// The task that two texts say, as it is printed.
-#[tactic(auto, using(crate::proofs::Explaining::memory_tells))]
+#[tactic(auto, using(crate::proofs::Explaining::memory_unprinted))]
 fn print_of(alloc: Global, domain: &[u8], problem: &[u8]) -> Result<Vec<u8>, Fault>
     ensures found { IfOk result (λ text. IsPrintOf domain.now problem.now text.items) }
-    ensures refusal { IfErr result (Explains domain.now problem.now) }
+    ensures refusal { IfErr result (IsNotPrinted domain.now problem.now) }
 {
     let task = task_of(alloc, domain, problem)?;
     let text = task_text(alloc, &task);
@@ -32,7 +31,6 @@ fn print_of(alloc: Global, domain: &[u8], problem: &[u8]) -> Result<Vec<u8>, Fau
 /// # Errors
 /// The first fault of the texts, or why the writer fails. After a fault of the writer a beginning of the text has been
 /// written, and else nothing.
-#[tactic(auto, using(crate::proofs::Explaining::unprinted))]
 pub fn ground<W: Write>(
     alloc: Global,
     domain: &[u8],

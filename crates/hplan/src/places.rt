@@ -16,7 +16,8 @@ pub trait Places {
 
     /// The bytes of a file, whole.
     fn read(&mut self, alloc: Global, name: &str) -> io::Result<Vec<u8>>
-        ensures { IfOk result (λ v. IfSome (file_of self.old name.now) (λ bytes. v.items ≡ bytes)) };
+        ensures { IfOk result (λ v.
+            IfSome (file_of self.old name.now) (λ bytes. v.items ≡ bytes)) };
 }
 
 /// The system's files, of whose bytes nothing is known.

@@ -3,14 +3,13 @@ ghost use Rattle.std.specs.Prelude.{◌≡◌, ◌⊎◌, IfOk, IfErr, OnOk, OnE
 ghost use Rattle.hplan.specs.Written.{WritesA, WritesFrontOfA};
 ghost use Rattle.hplan.specs.Verdict.{IsValidIn, ExplainsPlan, AreValid, IsVerdictOf, HasNoVerdict};
 
-use crate::digest::digest_of;
 use crate::fault::{Fault, judged_in, plan_read_in};
 use crate::output::write_out;
-use crate::tasks::checked_of;
 use crate::text::valid_text;
 use hd_base::Seed;
 use hd_check::Checked;
 use hd_plan::read_plan;
+use hd_texts::{checked_of, digest_of};
 use std::alloc::Global;
 use std::io::Write;
 
@@ -33,7 +32,6 @@ fn cost_in(alloc: Global, seed: Seed, checked: &Checked, plan: &[u8]) -> Result<
 }
 
 /// What the plan of the third text costs in the task of the first two.
-#[tactic(auto, using(crate::proofs::Explaining::texts_without_verdict))]
 fn cost_of_texts(alloc: Global, domain: &[u8], problem: &[u8], plan: &[u8]) -> Result<u64, Fault>
     ensures valid { IfOk result (AreValid domain.now problem.now plan.now) }
     ensures refusal { IfErr result (HasNoVerdict domain.now problem.now plan.now) }

@@ -1,6 +1,8 @@
 //! How many plans a search expands, and how many kids are posted and settled. The numbers were worked out by hand: each state that can be
 //! reached is expanded once, at its least cost, and each of its kids is settled.
-use hplan::{Fault, searched, task_of};
+use hd_search::searched;
+use hd_texts::task_of;
+use hplan::Fault;
 use std::alloc::Global;
 use std::test::Fail;
 use text_tests::samples::{G, G_PROBLEM, N, N_PROBLEM};

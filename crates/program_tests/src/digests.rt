@@ -1,5 +1,5 @@
 //! The digest of a task's texts. The values were computed with another program.
-use hplan::digest_of;
+use hd_texts::digest_of;
 use std::test::Fail;
 
 #[test]

@@ -16,4 +16,4 @@ returns-in-Ok-clause-refusal c =
     err_weaker c.solution_of-answer.result (λ f s. OfSearch c.in-Ok.task f c.in-Ok.ensures.found s) c.solution_of-answer.ensures.refusal
 
 pub returns-in-Err-clause-refusal : goal.returns-in-Err-clause-refusal
-returns-in-Err-clause-refusal c = OfTexts c.in-Err.fault c.in-Err.ensures.refusal
+returns-in-Err-clause-refusal c = rw c.from.ensures (OfTexts c.in-Err.fault c.in-Err.ensures.refusal)

@@ -1,0 +1,14 @@
+-- What a verdict is, as the answer of a search. (Our own.)
+use Rattle.std.specs.Prelude.{ℕ, List}
+use Rattle.hd_task.specs.declared.task.Task.{Task}
+use Rattle.hd_task.specs.Expansions.{IsLegal}
+use Rattle.hd_task.specs.Covers.{IsCovered, zero_estimate}
+use Rattle.hd_book.specs.declared.verdict.Verdict.{Verdict}
+use Rattle.hd_book.specs.Answers as book
+
+-- a verdict is the answer of a search: some legal list of expansions is covered, and this is what it answers
+pub record IsAnswer (t : Task) (v : Verdict) : Type 0 where
+  pub expanded : List (List ℕ)
+  pub legal : IsLegal t expanded
+  pub covered : IsCovered t zero_estimate expanded
+  pub answers : book.IsAnswer t expanded v

@@ -1,0 +1,9 @@
+//! The search of a task, on one thread: from a task to its verdict.
+#![tactic(auto)]
+
+mod closed;
+mod frontier;
+mod judging;
+mod searching;
+
+pub use searching::{run, searched};

@@ -1,0 +1,142 @@
+//! The search of a task, on one thread.
+ghost use Rattle.std.specs.Prelude.{◌≡◌, IfOk, IfErr, OnOk};
+ghost use Rattle.hd_book.specs.Answers.{IsTrueAnswer};
+ghost use Rattle.hd_search.specs.Answer.{IsAnswer};
+ghost use Rattle.hd_book.specs.Settling.{IsOf};
+ghost use Rattle.hd_search.specs.Frontier.{IsOfTask};
+ghost use Rattle.hd_search.specs.Refused.{IsOpen, Tells};
+
+use crate::closed::{Closed, Known, key_of};
+use crate::frontier::Frontier;
+use crate::judging::{batch_of, outcome_of};
+use hd_base::NoMemory;
+use hd_book::{Book, Redeemed, Refusal, Ticket, Verdict};
+use hd_node::{Outcome, Parcel};
+use hd_task::{Kid, ROOT_ACTION, ROOT_PARENT, Task};
+use std::alloc::Global;
+
+/// How many entries a search may make: each has a number below that of the root's parent.
+pub const MOST_ENTRIES: u64 = ROOT_PARENT - 1;
+
+/// The parcel of the root.
+fn root<'t>(alloc: Global, task: &'t Task) -> Result<Parcel<'t>, NoMemory>
+    ensures { IfOk result (λ p. p.task ≡ task.now) }
+{
+    let kid = Kid {
+        parent: ROOT_PARENT,
+        action: ROOT_ACTION,
+    };
+    Parcel::of(alloc, task, kid, task.initial.copied(alloc)?, 0)
+}
+
+/// Commits an outcome alone: the number of its entry, if it is an expansion, and the ticket.
+fn commit_alone<'t>(
+    alloc: Global,
+    book: &mut Book<'t>,
+    outcome: Outcome<'t>,
+) -> Result<(u64, Ticket), Refusal>
+    requires of_task { IsOf book.old.state.task outcome }
+    requires running { IsOpen book.old }
+    ensures task { book.new.state.task ≡ book.old.state.task }
+    ensures running { IsOpen book.new }
+    ensures told { IfErr result (Tells book.old.state.task) }
+{
+    let batch = batch_of(alloc, outcome)?;
+    let entry = book.counts().entries;
+    match book.commit(batch) {
+        Ok(ticket) => Ok((entry, ticket)),
+        Err((_, refusal)) => Err(refusal),
+    }
+}
+
+/// Redeems a ticket: what its batch releases waits from now on.
+fn release<'t>(
+    book: &mut Book<'t>,
+    frontier: &mut Frontier<'t>,
+    ticket: Ticket,
+) -> Result<(), Refusal>
+    requires waiting { IsOfTask book.old.state.task frontier.old }
+    requires running { IsOpen book.old }
+    ensures task { book.new.state.task ≡ book.old.state.task }
+    ensures running { IsOpen book.new }
+    ensures waiting { OnOk result (IsOfTask book.old.state.task frontier.new) }
+    ensures told { IfErr result (Tells book.old.state.task) }
+{
+    let Redeemed::Released(receipt, parcels) = book.redeem(ticket)?;
+    book.present(receipt)?;
+    frontier.push_all(parcels)?;
+    Ok(())
+}
+
+/// Settles a parcel: its outcome is committed alone, and the ticket redeemed.
+fn settle<'t>(
+    alloc: Global,
+    task: &'t Task,
+    book: &mut Book<'t>,
+    frontier: &mut Frontier<'t>,
+    closed: &mut Closed,
+    parcel: Parcel<'t>,
+) -> Result<(), Refusal>
+    requires task { book.old.state.task ≡ task.now }
+    requires running { IsOpen book.old }
+    requires parcel { parcel.task ≡ task.now }
+    requires waiting { IsOfTask task.now frontier.old }
+    ensures task { book.new.state.task ≡ task.now }
+    ensures running { IsOpen book.new }
+    ensures waiting { OnOk result (IsOfTask task.now frontier.new) }
+    ensures told { IfErr result (Tells task.now) }
+{
+    let cost = parcel.cost();
+    let key = key_of(alloc, parcel.state())?;
+    let outcome = outcome_of(alloc, task, closed, &key, book.bound(), parcel)?;
+    let is_entry = matches!(&outcome, Outcome::Expanded(_));
+    let (entry, ticket) = commit_alone(alloc, book, outcome)?;
+    release(book, frontier, ticket)?;
+    if is_entry {
+        closed.close(key, Known { entry, cost })?;
+    }
+    Ok(())
+}
+
+/// Searches a task to the end: the book of the whole search.
+///
+/// The parcels that wait stand in one list. That of least cost is taken, the earliest of equal ones, and committed alone: as a
+/// duplicate, else as bounded, else expanded.
+///
+/// # Errors
+/// Why the book refuses, or `NoMemory`: `Full` only where as many plans are expanded as there may be entries, and `Halted`
+/// never. That no other refusal comes is tested, and not proved.
+pub fn searched<'t>(alloc: Global, task: &'t Task) -> Result<Book<'t>, Refusal>
+    ensures task { IfOk result (λ b. b.state.task ≡ task.now) }
+    ensures told { IfErr result (Tells task.now) }
+{
+    let mut book = Book::new(alloc, task, MOST_ENTRIES)?;
+    let mut frontier = Frontier::empty(alloc);
+    let mut closed = Closed::empty(alloc);
+    frontier.push(root(alloc, task)?)?;
+    for _turn in 0..u64::MAX {
+        let Some(parcel) = frontier.pop() else {
+            break;
+        };
+        settle(alloc, task, &mut book, &mut frontier, &mut closed, parcel)?;
+    }
+    Ok(book)
+}
+
+/// Searches a task to the end, and answers its verdict.
+///
+/// # Errors
+/// Why the book refuses, or `NoMemory`: `Full` only where as many plans are expanded as there may be entries, and `Halted`
+/// never. That no other refusal comes is tested, and not proved; it would be `NotOut` where the search ended before all was
+/// settled.
+pub fn run(alloc: Global, task: &Task) -> Result<Verdict, Refusal>
+    ensures answer { IfOk result (IsAnswer task.now) }
+    ensures truth { IfOk result (IsTrueAnswer task.now) }
+    ensures told { IfErr result (Tells task.now) }
+{
+    let book = searched(alloc, task)?;
+    match book.verdict()? {
+        Some(verdict) => Ok(verdict),
+        None => Err(Refusal::NotOut),
+    }
+}

@@ -1,0 +1,3 @@
+pub mod Digest
+pub mod Fault
+pub mod Tasks

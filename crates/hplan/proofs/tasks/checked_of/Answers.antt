@@ -1,8 +1,0 @@
-use Rattle.hplan.proofs.Explaining.{check_explained}
-use Rattle.hplan.proofs.tasks.checked_of.Goals as goal
-
-pub returns-in-Err-clause-refusal : goal.returns-in-Err-clause-refusal
-returns-in-Err-clause-refusal c =
-    rw c.checked_in.ensures
-    (check_explained c.args.domain.now c.args.problem.now c.in_ok-domain.domain c.in_ok-domain.problem c.in-Err.error
-    c.in_ok-domain.ensures.found c.in-Err.ensures)
