@@ -21,10 +21,10 @@ IsPartOf bytes n = (0 < n) × (n ≤ length bytes)
 abbrev pub NotesFault : {X Kind : Type 0} → Option Kind → Option Kind → Result X Kind → Type 0
 NotesFault old new result = MatchResult result (λ _. new ≡ old) (λ kind. new ≡ Some kind)
 
--- what an error leaves of a text: want of memory nothing, and a fault of the writer a beginning that is not all of it
-abbrev pub Leaves : Option (List ℕ) → Option (List ℕ) → List ℕ → WriteError → Type 0
-Leaves old new text NoMemory = Keeps old new
-Leaves old new text (Device kind) = AppendsShort old new text
+-- where memory ran out, nothing was written
+abbrev pub KeepsFor : Option (List ℕ) → Option (List ℕ) → WriteError → Type 0
+KeepsFor old new NoMemory = Keeps old new
+KeepsFor old new (Device kind) = Unit {0}
 
 -- the error that is told is the one that is noted of the writer; want of memory is none of the writer's
 abbrev pub IsNoted : Option ErrorKind → Option ErrorKind → WriteError → Type 0

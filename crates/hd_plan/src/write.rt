@@ -1,8 +1,8 @@
 //! Writing plan files.
 
-ghost use Rattle.std.specs.Prelude.{◌≡◌, ◌++◌, IfOk, IfErr, OnOk, flat_map};
+ghost use Rattle.std.specs.Prelude.{◌≡◌, ◌++◌, IfOk, IfErr, OnOk, OnErr, flat_map};
 ghost use Rattle.std.specs.Io.KnownBytes.{Appends};
-ghost use Rattle.hd_plan.specs.Output.{Leaves, NotesError};
+ghost use Rattle.hd_plan.specs.Output.{AppendsShort, KeepsFor, NotesError};
 ghost use Rattle.hd_plan.specs.PlanText.{arg_text, step_text, step_line, plan_text};
 
 use crate::output::{Watched, WriteError};
@@ -68,6 +68,7 @@ fn plan_text(alloc: Global, steps: &[Step], cost: u64) -> Result<Vec<u8>, NoMemo
 /// # Errors
 /// Want of memory, before anything is written; and the writer's fault, which it has then answered and which is noted of it. A beginning of
 /// the text has then been written, and not all of it.
+#[tactic(auto, using(crate::proofs::Parts::nothing_appended))]
 pub fn write_plan<W: Write>(
     alloc: Global,
     steps: &[Step],
@@ -78,9 +79,11 @@ pub fn write_plan<W: Write>(
     ensures whole { OnOk result (Appends (W.contents out.old.writer.now)
         (W.contents out.new.writer.now) (plan_text steps.now cost)) }
 
-    // What an error leaves: nothing more than before, or a beginning of that text, which is not all of it.
-    ensures left { IfErr result (Leaves (W.contents out.old.writer.now)
+    // What an error leaves: a beginning of that text, which is not all of it, and nothing of it where memory ran out.
+    ensures short { OnErr result (AppendsShort (W.contents out.old.writer.now)
         (W.contents out.new.writer.now) (plan_text steps.now cost)) }
+    ensures no_memory { IfErr result (KeepsFor (W.contents out.old.writer.now)
+        (W.contents out.new.writer.now)) }
 
     // A fault of the writer is told only where it has answered that error, and none that it answers is passed over.
     ensures fault { NotesError out.old.fault out.new.fault result }

@@ -6,7 +6,7 @@ use crate::grounding::ground;
 use crate::output::write_out;
 use crate::places::{Places, SystemFiles};
 use crate::validating::validate;
-use hd_plan::put;
+use hd_plan::{Watched, put};
 use hd_words::{Request, WordsError, read_words};
 use std::alloc::Global;
 use std::io::Write;
@@ -52,7 +52,7 @@ fn tell<E: Write>(err: &mut E, ending: &Ending) -> u8 {
 
 /// Writes a text, whole.
 fn show<O: Write>(out: &mut O, text: &str) -> Result<(), Fault> {
-    write_out(out, text.as_bytes())?;
+    write_out(&mut Watched::of(&mut *out), text.as_bytes())?;
     flush(out)
 }
 
@@ -82,7 +82,7 @@ fn solve_files<P: Places, O: Write>(
 ) -> Result<Ending, Fault> {
     let domain = read(alloc, places, domain)?;
     let problem = read(alloc, places, problem)?;
-    let ending = solve(alloc, &domain, &problem, out)?;
+    let ending = solve(alloc, &domain, &problem, &mut Watched::of(&mut *out))?;
     flush(out)?;
     Ok(ending)
 }
@@ -97,7 +97,7 @@ fn ground_files<P: Places, O: Write>(
 ) -> Result<(), Fault> {
     let domain = read(alloc, places, domain)?;
     let problem = read(alloc, places, problem)?;
-    ground(alloc, &domain, &problem, out)?;
+    ground(alloc, &domain, &problem, &mut Watched::of(&mut *out))?;
     flush(out)
 }
 
@@ -113,7 +113,7 @@ fn validate_files<P: Places, O: Write>(
     let domain = read(alloc, places, domain)?;
     let problem = read(alloc, places, problem)?;
     let plan = read(alloc, places, plan)?;
-    validate(alloc, &domain, &problem, &plan, out)?;
+    validate(alloc, &domain, &problem, &plan, &mut Watched::of(&mut *out))?;
     flush(out)
 }
 
