@@ -12,7 +12,11 @@ use hd_task::Task;
 use std::alloc::Global;
 
 /// The trees of a domain's and a problem's text.
-fn trees_of(alloc: Global, domain: &[u8], problem: &[u8]) -> Result<(DomainAst, ProblemAst), TaskFault>
+fn trees_of(
+    alloc: Global,
+    domain: &[u8],
+    problem: &[u8],
+) -> Result<(DomainAst, ProblemAst), TaskFault>
     ensures found { IfOk result (λ trees. SayTrees domain.now problem.now trees.0 trees.1) }
     ensures refusal { IfErr result (ExplainsTexts domain.now problem.now) }
 {
