@@ -1,4 +1,7 @@
 //! The program: from the words of a command line to an exit status.
+ghost use Rattle.std.specs.Prelude.{◌≡◌, MatchResult};
+ghost use Rattle.hplan.specs.Status.{status_of_ending};
+ghost use Rattle.hplan.specs.declared.program.TheConstants.{DONE, REFUSED};
 
 use crate::engine::{Ending, solve};
 use crate::fault::{Fault, device_fault};
@@ -29,13 +32,17 @@ const NO_PLAN: u8 = 10;
 const RANGE_LEFT: u8 = 11;
 
 /// Tells a fault, on one line.
-fn refuse<E: Write>(err: &mut E, fault: &Fault) -> u8 {
+fn refuse<E: Write>(err: &mut E, fault: &Fault) -> u8
+    ensures { result ≡ REFUSED }
+{
     let _ = writeln!(err, "hplan: {fault}");
     REFUSED
 }
 
 /// Tells how an answer ends.
-fn tell<E: Write>(err: &mut E, ending: &Ending) -> u8 {
+fn tell<E: Write>(err: &mut E, ending: &Ending) -> u8
+    ensures { result ≡ status_of_ending ending.now }
+{
     match ending {
         Ending::Optimal => DONE,
         Ending::NoPlan => {
@@ -118,7 +125,9 @@ fn validate_files<P: Places, O: Write>(
 }
 
 /// The exit status of a command that is done or refused; a fault is told.
-fn status_of<E: Write>(err: &mut E, done: Result<(), Fault>) -> u8 {
+fn status_of<E: Write>(err: &mut E, done: Result<(), Fault>) -> u8
+    ensures { MatchResult done (λ _. result ≡ DONE) (λ _. result ≡ REFUSED) }
+{
     match done {
         Ok(()) => DONE,
         Err(fault) => refuse(err, &fault),
