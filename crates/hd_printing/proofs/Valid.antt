@@ -6,6 +6,7 @@ use Rattle.std.proofs.lemmas.Bool.{false_from_ne_true}
 use Rattle.std.proofs.lemmas.Option.{none-some}
 use Rattle.hd_base.proofs.Tests.{find-None}
 use Rattle.hd_base.proofs.Members.{Contains-cons_cases, Contains-nil}
+use Rattle.hd_base.proofs.Lists.{cons_parts}
 use Rattle.hd_lifted.specs.declared.schema.Ground.{Ground}
 use Rattle.hd_lifted.specs.declared.task.LiftedTask.{LiftedTask}
 use Rattle.hd_lifted.specs.declared.instance.Instance.{Instance}
@@ -33,13 +34,6 @@ use Rattle.hd_validate.specs.Plans.{IsValidatedBy}
 use Rattle.hd_printing.specs.Printing.{steps_of, GoesThrough, GoalStays}
 use Rattle.hd_printing.proofs.Named.{are_steps}
 
--- two lists with a first element each
-cons-first : {X : Type 0} (x y : X) (xs ys : List X) → x ∷ xs ≡ y ∷ ys → x ≡ y
-cons-first x y xs ys refl = refl
-
-cons-rest : {X : Type 0} (x y : X) (xs ys : List X) → x ∷ xs ≡ y ∷ ys → xs ≡ ys
-cons-rest x y xs ys refl = refl
-
 nil-split : (before after : List Instance) (i : Instance) → [] ≡ before ++ i ∷ after → ⊥
 nil-split [] after i e = cc
 nil-split (b ∷ before) after i e = cc
@@ -62,18 +56,18 @@ module _ (t : LiftedTask) (u : Task) (made : IsGrounding t u) where
   parted (n ∷ p) named [] after i e =
       let b = named.0.0 in
       let e : instance_of b ∷ plan_of u p ≡ i ∷ after = sym (plan_of-named t u made n b p named.0.1) ∙ e in
-      record { front = []; number = n; back = p; action = b; parts = refl; front_is = refl; is_action = named.0.1; is = cons-first _ _ _ _ e }
+      record { front = []; number = n; back = p; action = b; parts = refl; front_is = refl; is_action = named.0.1; is = (cons_parts (instance_of b) i (plan_of u p) after e).0 }
   parted (n ∷ p) named (j ∷ before) after i e =
       let b = named.0.0 in
       let e : instance_of b ∷ plan_of u p ≡ j ∷ (before ++ i ∷ after) = sym (plan_of-named t u made n b p named.0.1) ∙ e in
-      let rest = parted p named.1 before after i (cons-rest _ _ _ _ e) in
+      let rest = parted p named.1 before after i (cons_parts (instance_of b) j (plan_of u p) (before ++ i ∷ after) e).1 in
       record {
         front = n ∷ rest.front;
         number = rest.number;
         back = rest.back;
         action = rest.action;
         parts = ap (λ q. n ∷ q) rest.parts;
-        front_is = plan_of-named t u made n b rest.front named.0.1 ∙ ap₂ (λ x xs. x ∷ xs) (cons-first _ _ _ _ e) rest.front_is;
+        front_is = plan_of-named t u made n b rest.front named.0.1 ∙ ap₂ (λ x xs. x ∷ xs) (cons_parts (instance_of b) j (plan_of u p) (before ++ i ∷ after) e).0 rest.front_is;
         is_action = rest.is_action;
         is = rest.is;
       }
