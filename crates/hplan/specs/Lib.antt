@@ -6,3 +6,4 @@ pub mod Printing
 pub mod TaskText
 pub mod Verdict
 pub mod Written
+pub mod Status
