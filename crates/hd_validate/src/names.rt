@@ -117,11 +117,7 @@ impl<'a> TaskNames<'a> {
     /// The tables of a checked task, which hash by the seed.
     ///
     /// Fails only for want of memory.
-    pub fn of(
-        alloc: Global,
-        seed: Seed,
-        checked: &'a Checked,
-    ) -> Result<TaskNames<'a>, NoMemory>
+    pub fn of(alloc: Global, seed: Seed, checked: &'a Checked) -> Result<TaskNames<'a>, NoMemory>
         ensures { IfOk result (λ n. n ≡ checked.now) }
     {
         let task = checked.task();
