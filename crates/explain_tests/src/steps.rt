@@ -149,7 +149,7 @@ fn departures(rt: HostRuntime) -> Result<(), Fail> {
         alloc,
         GROWN.as_slice(),
         Some((3, &[])),
-        "the new value of (x) is 1000000000000034, out of the range: (x) = 1000000000000000, (fuel) = 17",
+        "the new value of (x) is 1000000000000034, out of the range: (x) = 1000000000000000, (fuel) = 17, (fuel) = 17",
     )?;
     assert_trip(
         &rt,
