@@ -57,3 +57,17 @@ fn as_many_actions_as_there_may_be(rt: HostRuntime) -> Result<(), Fail> {
         "actions 1048576\natoms 0\nfluents 0",
     )
 }
+
+#[test]
+fn a_schema_of_many_parameters_has_one_action(rt: HostRuntime) -> Result<(), Fail> {
+    // The one object of the type t stands for each parameter; the other objects are of no type.
+    let frame = "(define (domain d) (:types t) (:action go :parameters (% - t)))|
+      (define (problem p) (:domain d) (:objects one - t #) (:init) (:goal ()))";
+    assert_with_objects(
+        &rt,
+        rt.alloc(),
+        frame,
+        (20_000, " ?@"),
+        "actions 1\natoms 0\nfluents 0",
+    )
+}
