@@ -1,0 +1,42 @@
+-- From the reason of a plan's steps to that of the texts which say them.
+use Rattle.std.proofs.Common.{◌≡◌, ◌⊎◌, inl, inr, ℕ, List, Option, Some, None, Ok, Err}
+use Rattle.std.specs.Prelude.{Result, IfOk, IfSome, IfNone}
+use Rattle.hd_explain.specs.Plans.{HasReason, NeedsNoReason}
+use Rattle.hd_lifted.specs.declared.task.LiftedTask.{LiftedTask}
+use Rattle.hd_plan.specs.declared.error.PlanTextError.TheVariants.{BadLine, NoMemory}
+use Rattle.hd_plan.specs.declared.step.Step.{Step}
+use Rattle.hd_plan.specs.Text.{ReadsAs, IsFault}
+use Rattle.hd_texts.specs.Tasks.{IsLiftedOf}
+use Rattle.hplan.specs.Reasons.{HasReasonIn, HasReasonOf, NeedsNoReasonIn, NeedsNoReasonOf, Unread, OfSteps, InPlan}
+
+-- ---- of a plan's text in a lifted task
+
+pub told_in : {A E : Type 0} (l : LiftedTask) (plan : List ℕ) (steps : List Step) → ReadsAs plan steps → (r : Result (Option A) E)
+    → IfOk r (λ x. IfSome x (λ _. HasReason l steps)) → IfOk r (λ x. IfSome x (λ _. HasReasonIn l plan))
+told_in l plan steps reads (Ok (Some x)) told = record { steps = steps; reads = reads; reason = told }
+told_in l plan steps reads (Ok None) told = tt
+told_in l plan steps reads (Err e) told = tt
+
+pub none_in : {A E : Type 0} (l : LiftedTask) (plan : List ℕ) (steps : List Step) → ReadsAs plan steps → (r : Result (Option A) E)
+    → IfOk r (λ x. IfNone x (NeedsNoReason l steps)) → IfOk r (λ x. IfNone x (NeedsNoReasonIn l plan))
+none_in l plan steps reads (Ok (Some x)) none = tt
+none_in l plan steps reads (Ok None) none = OfSteps steps reads none
+none_in l plan steps reads (Err e) none = tt
+
+pub unread_in : (l : LiftedTask) (plan : List ℕ) (line : ℕ) → (BadLine line ≡ NoMemory) ⊎ IsFault plan (BadLine line) → NeedsNoReasonIn l plan
+unread_in l plan line (inl e) = let no = e in absurd (cc)
+unread_in l plan line (inr bad) = Unread line bad
+
+-- ---- of three texts
+
+pub told_of : {A E : Type 0} (domain problem plan : List ℕ) (l : LiftedTask) → IsLiftedOf domain problem l → (r : Result (Option A) E)
+    → IfOk r (λ x. IfSome x (λ _. HasReasonIn l plan)) → IfOk r (λ x. IfSome x (λ _. HasReasonOf domain problem plan))
+told_of domain problem plan l says (Ok (Some x)) told = record { lifted = l; is_lifted = says; reason = told }
+told_of domain problem plan l says (Ok None) told = tt
+told_of domain problem plan l says (Err e) told = tt
+
+pub none_of : {A E : Type 0} (domain problem plan : List ℕ) (l : LiftedTask) → IsLiftedOf domain problem l → (r : Result (Option A) E)
+    → IfOk r (λ x. IfNone x (NeedsNoReasonIn l plan)) → IfOk r (λ x. IfNone x (NeedsNoReasonOf domain problem plan))
+none_of domain problem plan l says (Ok (Some x)) none = tt
+none_of domain problem plan l says (Ok None) none = InPlan l says none
+none_of domain problem plan l says (Err e) none = tt
