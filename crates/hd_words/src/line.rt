@@ -3,23 +3,35 @@
 use clap::{Arg, Command};
 use std::alloc::{AllocError, Global};
 
+/// The name of the program, whatever its file is called.
+const NAME: &str = "hplan";
+
 /// What the help of `solve` ends with.
 const SOLVE_HELP: &str = "\
-Reads both files, searches, and writes the plan to standard output: an action on a line, then its cost.
-No valid plan costs less. All else goes to standard error.
-Exit status: 0 a plan; 1 a refusal, told on one line; 2 the command line; 10 there is no plan; 11 a number left the range.";
+Reads both files, searches, and writes the plan that it finds to standard output: an action on a line, then its cost. All else
+goes to standard error.
+Exit status: 0 a plan of least cost is printed: it is valid, and no valid plan costs less;
+  10 `no plan` is told: there is none, of any length;
+  11 a number left the range from -10^15 to 10^15, and where it did is told: a plan that is printed is valid, but nothing is
+     said of other plans, so one of them may cost less;
+  1 a refusal, told on one line: nothing is printed, or a beginning of the plan where the output fails;
+  2 the command line is at fault.";
 
 /// What the help of `ground` ends with.
 const GROUND_HELP: &str = "\
 Reads both files, and writes to standard output how many actions, atoms and fluents the task has, and then each action behind
 its number. A refusal goes to standard error.
-Exit status: 0 the task is printed; 1 a refusal, told on one line; 2 the command line.";
+Exit status: 0 the task is printed;
+  1 a refusal, told on one line: nothing is printed, or a beginning where the output fails;
+  2 the command line is at fault.";
 
 /// What the help of `validate` ends with.
 const VALIDATE_HELP: &str = "\
 Reads the three files, and writes `valid; cost = N` to standard output. Each line of PLAN is an action as `(name object ..)`, or a
 comment behind `;`. The first fault goes to standard error.
-Exit status: 0 the plan is valid; 1 a refusal, told on one line; 2 the command line.";
+Exit status: 0 the plan is valid, at the cost that is printed;
+  1 a refusal, told on one line: of a file, or of the plan, which is then not valid;
+  2 the command line is at fault.";
 
 /// An argument that has to be given, by its place.
 fn file<'a>(alloc: Global, id: &'a str, name: &'a str, help: &'a str) -> Arg<'a> {
@@ -34,7 +46,7 @@ fn workers<'a>(alloc: Global) -> Arg<'a> {
     Arg::new(alloc, "workers")
         .long("workers")
         .value_name("N")
-        .help("How many threads search, 1 to 64")
+        .help("How many threads may search, 1 to 64; so far one does, whatever N is")
         .value_parser(clap::value_parser!(u32).range(1..=64))
         .default_value("4")
 }
@@ -73,7 +85,8 @@ fn validate<'a>(alloc: Global) -> Result<Command<'a>, AllocError> {
 
 /// The whole command line.
 pub fn command_line<'a>(alloc: Global) -> Result<Command<'a>, AllocError> {
-    Command::new(alloc, "hplan")
+    Command::new(alloc, NAME)
+        .bin_name(NAME)?
         .about("A planner for numeric planning tasks written in PDDL")
         .version("0.1.0")
         .subcommand_required(true)

@@ -17,12 +17,16 @@ fn print_of(alloc: Global, domain: &[u8], problem: &[u8]) -> Result<Vec<u8>, Fau
     ensures found { IfOk result (λ text. IsPrintOf domain.now problem.now text.items) }
     ensures refusal { IfErr result (IsNotPrintedYet domain.now problem.now) }
 {
-    let task = task_of(alloc, domain, problem)?;
-    let text = task_text(alloc, &task);
-    drop(task);
-    match text {
-        Ok(text) => Ok(text),
-        Err(_) => Err(Fault::NoMemory),
+    match task_of(alloc, domain, problem) {
+        Ok(task) => {
+            let text = task_text(alloc, &task);
+            drop(task);
+            match text {
+                Ok(text) => Ok(text),
+                Err(_) => Err(Fault::NoMemory),
+            }
+        }
+        Err(fault) => Err(Fault::from(fault)),
     }
 }
 

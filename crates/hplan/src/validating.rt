@@ -38,12 +38,16 @@ fn cost_of_texts(alloc: Global, domain: &[u8], problem: &[u8], plan: &[u8]) -> R
     ensures refusal { IfErr result (HasNoVerdictYet domain.now problem.now plan.now) }
 {
     let seed = Seed::of(digest_of(domain, problem));
-    let checked = checked_of(alloc, seed, domain, problem)?;
-    let cost = cost_in(alloc, seed, &checked, plan);
-    drop(checked);
-    match cost {
-        Ok(cost) => Ok(cost),
-        Err(fault) => Err(fault),
+    match checked_of(alloc, seed, domain, problem) {
+        Ok(checked) => {
+            let cost = cost_in(alloc, seed, &checked, plan);
+            drop(checked);
+            match cost {
+                Ok(cost) => Ok(cost),
+                Err(fault) => Err(fault),
+            }
+        }
+        Err(fault) => Err(Fault::from(fault)),
     }
 }
 

@@ -1,5 +1,6 @@
 //! What command lines print, and with which exit status.
-use crate::running::{cut_short, run, solved};
+use crate::running::{cut_short, cut_short_by, grounded, run, solved, validated};
+use std::io;
 use std::test::Fail;
 use text_tests::samples::{G, G_PROBLEM, L, L_PROBLEM, U};
 
@@ -204,6 +205,31 @@ fn an_output_that_cannot_be_written_is_a_fault(rt: HostRuntime) -> Result<(), Fa
     Ok(())
 }
 
+/// What an output says that has no memory is `NoMemory`, and no fault of a device.
+#[test]
+fn an_output_without_memory_is_no_device_fault(rt: HostRuntime) -> Result<(), Fail> {
+    let alloc = rt.alloc();
+    let files = [
+        ("d", L.as_bytes()),
+        ("p", L_PROBLEM.as_bytes()),
+        ("s", b"(set-a)\n(set-b)\n".as_slice()),
+    ];
+    for (words, room, want) in [
+        (["solve", "d", "p"].as_slice(), 3, "1|(se|hplan: NoMemory\n"),
+        (["ground", "d", "p"].as_slice(), 0, "1||hplan: NoMemory\n"),
+        (
+            ["validate", "d", "p", "s"].as_slice(),
+            5,
+            "1|valid|hplan: NoMemory\n",
+        ),
+        (["--version"].as_slice(), 2, "1|hp|hplan: NoMemory\n"),
+    ] {
+        let found = cut_short_by(alloc, words, &files, room, io::ErrorKind::OutOfMemory)?;
+        assert_eq!(rt; found.as_slice(), want.as_bytes());
+    }
+    Ok(())
+}
+
 /// Where a growth is refused, `NoMemory` is told, and else the answer: `rt try --test --fail-alloc N` refuses the N-th one.
 #[test]
 fn a_refused_growth_changes_no_answer(rt: HostRuntime) {
@@ -211,5 +237,30 @@ fn a_refused_growth_changes_no_answer(rt: HostRuntime) {
     let refused = b"1||hplan: NoMemory\n".as_slice();
     if let Ok(found) = solved(rt.alloc(), L, L_PROBLEM) {
         assert!(rt; found.as_slice() == undisturbed || found.as_slice() == refused);
+    }
+}
+
+/// As above, of `ground`.
+#[test]
+fn a_refused_growth_changes_no_list_of_actions(rt: HostRuntime) {
+    let undisturbed = b"0|actions 2\natoms 2\nfluents 0\n0 (set-a)\n1 (set-b)\n|".as_slice();
+    let refused = b"1||hplan: NoMemory\n".as_slice();
+    if let Ok(found) = grounded(rt.alloc(), L, L_PROBLEM) {
+        assert!(rt; found.as_slice() == undisturbed || found.as_slice() == refused);
+    }
+}
+
+/// As above, of `validate`: on a valid plan, and on one that is not.
+#[test]
+fn a_refused_growth_changes_no_verdict(rt: HostRuntime) {
+    let refused = b"1||hplan: NoMemory\n".as_slice();
+    for (plan, undisturbed) in [
+        ("(set-a)\n(set-b)\n", "0|valid; cost = 2\n|"),
+        ("(set-b)\n", "1||hplan: 21 NotApplicable(1)\n"),
+    ] {
+        if let Ok(found) = validated(rt.alloc(), L, L_PROBLEM, plan.as_bytes()) {
+            let found = found.as_slice();
+            assert!(rt; found == undisturbed.as_bytes() || found == refused);
+        }
     }
 }

@@ -99,6 +99,38 @@ fn a_number_that_leaves_the_range_is_told(rt: HostRuntime) -> Result<(), Fail> {
     Ok(())
 }
 
+/// A plan may be found where a number left the range, in an action that it does not take or in the goal before it: it is printed, and
+/// nothing is said of other plans.
+#[test]
+fn a_plan_beside_a_departure_is_printed(rt: HostRuntime) -> Result<(), Fail> {
+    let alloc = rt.alloc();
+    let beside_an_action = "(define (domain u) (:predicates (b) (c)) (:functions (x))
+  (:action up :parameters () :precondition (not (b))
+    :effect (and (b) (increase (x) 1)))
+  (:action c :parameters () :effect (c)))";
+    let beside_the_goal = "(define (domain u) (:functions (x))
+  (:action reset :parameters () :effect (assign (x) 0)))";
+    for (domain, goal, want) in [
+        (
+            beside_an_action,
+            "(c)",
+            "11|(c)\n; cost = 1\n|range left: entry 0, (up)\n",
+        ),
+        (
+            beside_the_goal,
+            "(< (+ (x) 1) 5)",
+            "11|(reset)\n; cost = 1\n|range left: entry 0, goal\n",
+        ),
+    ] {
+        let problem = format!(in alloc;
+            "(define (problem u1) (:domain u) (:init (= (x) 1000000000000000)) (:goal {goal}))"
+        )?;
+        let run = solved(alloc, domain, problem.as_str())?;
+        assert_eq!(rt; run.as_slice(), want.as_bytes());
+    }
+    Ok(())
+}
+
 /// All amounts are those before the action, and what raises and lowers one fluent adds up.
 #[test]
 fn effects_are_taken_together(rt: HostRuntime) -> Result<(), Fail> {

@@ -61,17 +61,18 @@ pub fn validated(
     run(alloc, &["validate", "d", "p", "s"], &files)
 }
 
-/// A writer that takes some bytes, and then none.
+/// A writer that takes some bytes, and then fails.
 #[derive(Drop)]
 struct Short {
     taken: Vec<u8>,
     room: usize,
+    fault: io::ErrorKind,
 }
 
 impl Write for Short {
     fn write(&mut self, bytes: &[u8]) -> io::Result<usize> {
         if self.room == 0 {
-            return Err(io::Error::from(io::ErrorKind::StorageFull));
+            return Err(io::Error::from(self.fault));
         }
         self.room -= 1;
         match bytes.first() {
@@ -88,20 +89,32 @@ impl Write for Short {
     }
 }
 
-/// A run of these words over these files, with an output that takes so many bytes.
-pub fn cut_short(
+/// A run of these words over these files, with an output that takes so many bytes, and then fails so.
+pub fn cut_short_by(
     alloc: Global,
     words: &[&str],
     files: &[(&str, &[u8])],
     room: usize,
+    fault: io::ErrorKind,
 ) -> Result<Vec<u8>, AllocError> {
     let words = line_of(alloc, words)?;
     let mut shelf = shelf_of(alloc, files)?;
     let mut out = Short {
         taken: Vec::new(alloc),
         room,
+        fault,
     };
     let mut err = Vec::new(alloc);
     let status = command(alloc, &words, &mut shelf, &mut out, &mut err);
     shown(alloc, status, &out.taken, &err)
+}
+
+/// A run of these words over these files, with an output that takes so many bytes, and is then full.
+pub fn cut_short(
+    alloc: Global,
+    words: &[&str],
+    files: &[(&str, &[u8])],
+    room: usize,
+) -> Result<Vec<u8>, AllocError> {
+    cut_short_by(alloc, words, files, room, io::ErrorKind::StorageFull)
 }

@@ -1,13 +1,12 @@
 //! What each form of command line is read as.
-use crate::line::line_of;
+use crate::line::{line_by, line_of};
 use hd_words::{Request, WordsError, read_words};
 use std::alloc::{AllocError, Global};
 use std::test::Fail;
 
-/// How these words, behind the program's name, are read: as a request, or where its text goes, and the text.
-fn read(alloc: Global, words: &[&str]) -> Result<String, AllocError> {
-    let line = line_of(alloc, words)?;
-    match read_words(alloc, &line) {
+/// How a command line is read: as a request, or where its text goes, and the text.
+fn read_line(alloc: Global, line: &[String]) -> Result<String, AllocError> {
+    match read_words(alloc, line) {
         Ok(
             Request::Solve {
                 domain,
@@ -29,6 +28,12 @@ fn read(alloc: Global, words: &[&str]) -> Result<String, AllocError> {
         Err(WordsError::Fault(text)) => format!(in alloc; "fault: {text}"),
         Err(WordsError::NoMemory) => String::from_str(alloc, "no memory"),
     }
+}
+
+/// How these words are read, behind the program's name.
+fn read(alloc: Global, words: &[&str]) -> Result<String, AllocError> {
+    let line = line_of(alloc, words)?;
+    read_line(alloc, &line)
 }
 
 #[test]
@@ -129,6 +134,69 @@ fn help_and_version_are_shown(rt: HostRuntime) -> Result<(), Fail> {
         for part in contained {
             assert!(rt; help.contains(part), "at {part}");
         }
+    }
+    Ok(())
+}
+
+/// The help is `--help`'s, also where it is asked for as a command.
+#[test]
+fn help_is_a_command_too(rt: HostRuntime) -> Result<(), Fail> {
+    let alloc = rt.alloc();
+    for (command, option) in [
+        (["help"].as_slice(), ["--help"].as_slice()),
+        (["help", "solve"].as_slice(), ["solve", "--help"].as_slice()),
+        (
+            ["help", "validate"].as_slice(),
+            ["validate", "--help"].as_slice(),
+        ),
+    ] {
+        let help = read(alloc, command)?;
+        assert!(rt; help.starts_with("shown: "));
+        assert_eq!(rt; help.as_str(), read(alloc, option)?.as_str());
+    }
+    let other = read(alloc, &["help", "fly"])?;
+    assert!(rt; other.starts_with("fault: error: unrecognized subcommand 'fly'"));
+    Ok(())
+}
+
+/// The program's own name stands in its texts, whatever its file is called.
+#[test]
+fn the_program_is_called_hplan(rt: HostRuntime) -> Result<(), Fail> {
+    let alloc = rt.alloc();
+    for (words, usage) in [
+        (["--help"].as_slice(), "Usage: hplan <COMMAND>"),
+        (
+            ["solve", "--help"].as_slice(),
+            "Usage: hplan solve [OPTIONS] <DOMAIN> <PROBLEM>",
+        ),
+        (
+            ["help", "ground"].as_slice(),
+            "Usage: hplan ground <DOMAIN> <PROBLEM>",
+        ),
+        (
+            ["validate"].as_slice(),
+            "Usage: hplan validate <DOMAIN> <PROBLEM> <PLAN>",
+        ),
+    ] {
+        let line = line_by(alloc, "out/hplan_main", words)?;
+        let text = read_line(alloc, &line)?;
+        assert!(rt; text.contains(usage), "at {usage}");
+        assert!(rt; !text.contains("hplan_main"), "at {usage}");
+    }
+    Ok(())
+}
+
+/// What each status says of plans.
+#[test]
+fn each_status_says_what_it_promises(rt: HostRuntime) -> Result<(), Fail> {
+    let help = read(rt.alloc(), &["solve", "--help"])?;
+    for part in [
+        "0 a plan of least cost is printed: it is valid, and no valid plan costs less;",
+        "10 `no plan` is told: there is none",
+        "a plan that is printed is valid, but nothing is\n     said of other plans",
+        "so far one does, whatever N is",
+    ] {
+        assert!(rt; help.contains(part), "at {part}");
     }
     Ok(())
 }
