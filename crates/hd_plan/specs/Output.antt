@@ -1,7 +1,36 @@
--- What a writer holds afterwards. (A rule of this project.)
-use Rattle.std.specs.Prelude.{ℕ, ◌≤◌, List, Option, length, take}
-use Rattle.std.specs.Io.KnownBytes.{Appends}
+-- What a writer holds afterwards, and which error is noted of it. (A rule of this project.)
+use Rattle.std.specs.Prelude.{◌≡◌, ℕ, ◌<◌, ◌≤◌, List, Option, Some, length, take, Result, MatchResult}
+use Rattle.std.specs.Io.KnownBytes.{Keeps, Appends}
+use Rattle.std.specs.declared.io.ErrorKind.{ErrorKind}
+use Rattle.hd_plan.specs.declared.output.WriteError.{WriteError}
+use Rattle.hd_plan.specs.declared.output.WriteError.TheVariants.{NoMemory, Device}
 
 -- a beginning of these bytes was appended, which may be nothing or all
 abbrev pub AppendsFront : Option (List ℕ) → Option (List ℕ) → List ℕ → Type 0
 AppendsFront old new bytes = (n : ℕ) × (n ≤ length bytes) × Appends old new (take n bytes)
+
+-- a beginning of these bytes was appended, which may be nothing, and is not all of them
+abbrev pub AppendsShort : Option (List ℕ) → Option (List ℕ) → List ℕ → Type 0
+AppendsShort old new bytes = (n : ℕ) × (n < length bytes) × Appends old new (take n bytes)
+
+-- a count of some of these bytes: at least one
+abbrev pub IsPartOf : List ℕ → ℕ → Type 0
+IsPartOf bytes n = (0 < n) × (n ≤ length bytes)
+
+-- what is noted of a writer is the error that is told, and stays as it was where none is
+abbrev pub NotesFault : {X Kind : Type 0} → Option Kind → Option Kind → Result X Kind → Type 0
+NotesFault old new result = MatchResult result (λ _. new ≡ old) (λ kind. new ≡ Some kind)
+
+-- where memory ran out, nothing was written
+abbrev pub KeepsFor : Option (List ℕ) → Option (List ℕ) → WriteError → Type 0
+KeepsFor old new NoMemory = Keeps old new
+KeepsFor old new (Device kind) = Unit {0}
+
+-- the error that is told is the one that is noted of the writer; want of memory is none of the writer's
+abbrev pub IsNoted : Option ErrorKind → Option ErrorKind → WriteError → Type 0
+IsNoted old new NoMemory = new ≡ old
+IsNoted old new (Device kind) = new ≡ Some kind
+
+-- the writer has answered the error that is told of it, and none where none is told
+abbrev pub NotesError : {X : Type 0} → Option ErrorKind → Option ErrorKind → Result X WriteError → Type 0
+NotesError old new result = MatchResult result (λ _. new ≡ old) (IsNoted old new)

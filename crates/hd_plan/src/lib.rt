@@ -13,7 +13,7 @@ mod write;
 
 pub use error::PlanTextError;
 pub use law::{each_text_reads_or_has_a_bad_line, what_is_written_is_read_back};
-pub use output::put;
+pub use output::{Watched, WriteError, put};
 pub use read::read_plan;
 pub use step::Step;
 pub use write::write_plan;

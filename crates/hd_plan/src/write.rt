@@ -1,15 +1,15 @@
 //! Writing plan files.
 
-ghost use Rattle.std.specs.Prelude.{◌≡◌, ◌++◌, IfOk, OnOk, flat_map};
+ghost use Rattle.std.specs.Prelude.{◌≡◌, ◌++◌, IfOk, IfErr, OnOk, OnErr, flat_map};
 ghost use Rattle.std.specs.Io.KnownBytes.{Appends};
-ghost use Rattle.hd_plan.specs.Output.{AppendsFront};
+ghost use Rattle.hd_plan.specs.Output.{AppendsShort, KeepsFor, NotesError};
 ghost use Rattle.hd_plan.specs.PlanText.{arg_text, step_text, step_line, plan_text};
 
-use crate::output::put;
+use crate::output::{Watched, WriteError};
 use crate::step::Step;
 use hd_base::{Name, NoMemory};
 use std::alloc::Global;
-use std::io::{self, Write};
+use std::io::Write;
 
 /// An object behind a space, behind a text.
 fn push_arg(text: &mut Vec<u8>, arg: &Name) -> Result<(), NoMemory>
@@ -66,19 +66,33 @@ fn plan_text(alloc: Global, steps: &[Step], cost: u64) -> Result<Vec<u8>, NoMemo
 /// Writes the text of a plan at a cost: each step as `(name object ..)` on a line, and then `; cost = N`.
 ///
 /// # Errors
-/// The writer's fault, after which a beginning of the text has been written; and want of memory, told as `OutOfMemory`, before
-/// anything is written.
-pub fn write_plan<W: Write>(alloc: Global, steps: &[Step], cost: u64, out: &mut W) -> io::Result<()>
+/// Want of memory, before anything is written; and the writer's fault, which it has then answered and which is noted of it. A beginning of
+/// the text has then been written, and not all of it.
+#[tactic(auto, using(crate::proofs::Parts::nothing_appended))]
+pub fn write_plan<W: Write>(
+    alloc: Global,
+    steps: &[Step],
+    cost: u64,
+    out: &mut Watched<'_, W>,
+) -> Result<(), WriteError>
     // What is written: just that text.
-    ensures whole { OnOk result (Appends (W.contents out.old) (W.contents out.new)
-        (plan_text steps.now cost)) }
+    ensures whole { OnOk result (Appends (W.contents out.old.writer.now)
+        (W.contents out.new.writer.now) (plan_text steps.now cost)) }
 
-    // What a fault leaves: a beginning of it.
-    ensures front { AppendsFront (W.contents out.old) (W.contents out.new)
-        (plan_text steps.now cost) }
+    // What an error leaves: a beginning of that text, which is not all of it, and nothing of it where memory ran out.
+    ensures short { OnErr result (AppendsShort (W.contents out.old.writer.now)
+        (W.contents out.new.writer.now) (plan_text steps.now cost)) }
+    ensures no_memory { IfErr result (KeepsFor (W.contents out.old.writer.now)
+        (W.contents out.new.writer.now)) }
+
+    // A fault of the writer is told only where it has answered that error, and none that it answers is passed over.
+    ensures fault { NotesError out.old.fault out.new.fault result }
 {
-    let Ok(text) = plan_text(alloc, steps, cost) else {
-        return Err(io::Error::from(io::ErrorKind::OutOfMemory));
-    };
-    put(out, &text)
+    let text = plan_text(alloc, steps, cost)?;
+    let written = out.put(&text);
+    drop(text);
+    match written {
+        Ok(()) => Ok(()),
+        Err(kind) => Err(WriteError::Device(kind)),
+    }
 }

@@ -1,28 +1,33 @@
 -- What faults tell of texts.
-use Rattle.std.proofs.Common.{◌≡◌, ◌⊎◌, inl, inr, ℕ, List, subst, sym}
+use Rattle.std.proofs.Common.{◌≡◌, ◌⊎◌, inl, inr, ℕ, List, Option, refl, subst, sym}
+use Rattle.std.specs.declared.io.ErrorKind.{ErrorKind}
 use Rattle.hd_lifted.specs.declared.task.LiftedTask.{LiftedTask}
 use Rattle.hd_plan.specs.declared.error.PlanTextError.{PlanTextError}
 use Rattle.hd_plan.specs.declared.error.PlanTextError.TheVariants as plan_text
 use Rattle.hd_plan.specs.Text.{IsFault}
+use Rattle.hd_texts.specs.declared.fault.TaskFault.{TaskFault}
 use Rattle.hd_texts.specs.declared.fault.TaskFault.TheVariants as texts
-use Rattle.hd_texts.specs.Tasks.{Memory, Unlifted}
-use Rattle.hplan.specs.Fault.{plan_read_in}
+use Rattle.hd_texts.specs.Tasks.{Explains, ExplainsTexts, Memory, Unlifted}
+use Rattle.hplan.specs.Fault.{task_in, plan_read_in, AnswersFault}
 use Rattle.hplan.specs.declared.fault.Fault.{Fault}
-use Rattle.hplan.specs.declared.fault.Fault.TheVariants.{NoMemory, Device}
-use Rattle.hplan.specs.Printing.{IsPrintOf, IsNotPrinted, InTexts, InOutput}
+use Rattle.hplan.specs.declared.fault.Fault.TheVariants.{NoMemory}
+use Rattle.hplan.specs.Printing.{IsPrintOf, IsNotPrinted, IsNotPrintedYet, InTexts, InOutput}
 use Rattle.hplan.specs.Verdict as verdict
-use Rattle.hplan.specs.Verdict.{ExplainsPlan, AreValid, HasNoVerdict}
+use Rattle.hplan.specs.Verdict.{ExplainsPlan, AreValid, HasNoVerdict, HasNoVerdictYet}
 
 -- ---- a task that is not printed
 
-pub memory_unprinted : (domain problem : List ℕ) → IsNotPrinted domain problem NoMemory
-memory_unprinted domain problem = InTexts texts.NoMemory (Unlifted texts.NoMemory Memory)
+pub memory_unprinted : (domain problem : List ℕ) → IsNotPrintedYet domain problem NoMemory
+memory_unprinted domain problem noted = InTexts refl texts.NoMemory (Unlifted texts.NoMemory Memory)
+
+pub task_unprinted : (domain problem : List ℕ) (f : TaskFault) (fault : Fault) → fault ≡ task_in f → Explains domain problem f
+    → IsNotPrintedYet domain problem fault
+task_unprinted domain problem f fault is told noted = subst (IsNotPrinted domain problem noted noted) (sym is) (InTexts refl f told)
 
 -- a fault of the output
-pub printing_fails : (domain problem text : List ℕ) (f : Fault)
-    → IsPrintOf domain problem text → ((f ≡ NoMemory) ⊎ (f ≡ Device)) → IsNotPrinted domain problem f
-printing_fails domain problem text f s (inl e) = subst (IsNotPrinted domain problem) (sym e) (memory_unprinted domain problem)
-printing_fails domain problem text f s (inr e) = subst (IsNotPrinted domain problem) (sym e) (InOutput s.task s.is_task)
+pub printing_fails : (domain problem text : List ℕ) (old new : Option ErrorKind) (f : Fault)
+    → IsPrintOf domain problem text → AnswersFault new f → IsNotPrinted domain problem old new f
+printing_fails domain problem text old new f s told = InOutput s.task f s.is_task told
 
 -- ---- no verdict
 
@@ -33,12 +38,15 @@ plan_unread l plan plan_text.NoMemory told = verdict.Memory
 plan_unread l plan (plan_text.BadLine n) (inl e) = let no = e in absurd (cc)
 plan_unread l plan (plan_text.BadLine n) (inr bad) = verdict.Unread (plan_text.BadLine n) bad
 
-pub memory_without_verdict : (domain problem plan : List ℕ) → HasNoVerdict domain problem plan NoMemory
-memory_without_verdict domain problem plan = verdict.InTexts texts.NoMemory Memory
+pub memory_without_verdict : (domain problem plan : List ℕ) → HasNoVerdictYet domain problem plan NoMemory
+memory_without_verdict domain problem plan noted = verdict.InTexts refl texts.NoMemory Memory
+
+pub texts_without_verdict : (domain problem plan : List ℕ) (f : TaskFault) (fault : Fault) → fault ≡ task_in f
+    → ExplainsTexts domain problem f → HasNoVerdictYet domain problem plan fault
+texts_without_verdict domain problem plan f fault is told noted =
+    subst (HasNoVerdict domain problem plan noted noted) (sym is) (verdict.InTexts refl f told)
 
 -- a fault of the output
-pub verdict_fails : (domain problem plan : List ℕ) (cost : ℕ) (f : Fault)
-    → AreValid domain problem plan cost → ((f ≡ NoMemory) ⊎ (f ≡ Device)) → HasNoVerdict domain problem plan f
-verdict_fails domain problem plan cost f s (inl e) =
-    subst (HasNoVerdict domain problem plan) (sym e) (memory_without_verdict domain problem plan)
-verdict_fails domain problem plan cost f s (inr e) = subst (HasNoVerdict domain problem plan) (sym e) (verdict.InOutput cost s)
+pub verdict_fails : (domain problem plan : List ℕ) (cost : ℕ) (old new : Option ErrorKind) (f : Fault)
+    → AreValid domain problem plan cost → AnswersFault new f → HasNoVerdict domain problem plan old new f
+verdict_fails domain problem plan cost old new f s told = verdict.InOutput cost f s told

@@ -1,6 +1,6 @@
 -- From the answer of a search to what is written.
-use Rattle.std.proofs.Common.{◌≡◌, ℕ, true, List, [], Contains, Some, None, Ok, Err, IfSome, subst, sym, inl, inr}
-use Rattle.std.specs.Prelude.{Result, IfOk, IfErr, ◌⊎◌}
+use Rattle.std.proofs.Common.{◌≡◌, ℕ, true, List, [], Contains, Option, Some, None, Ok, Err, IfSome, refl, subst, sym}
+use Rattle.std.specs.Prelude.{Result, IfOk, IfErr}
 use Rattle.std.proofs.lemmas.List.Elements.{Contains-get_or}
 use Rattle.hd_task.specs.Expansions.{IsLegal}
 use Rattle.hd_book.specs.declared.verdict.Verdict.TheVariants.{Optimal, NoPlan, RangeLeft}
@@ -9,12 +9,17 @@ use Rattle.hplan.proofs.Legal.{legal_goes}
 use Rattle.hd_task.specs.declared.task.Task.{Task}
 use Rattle.hd_book.specs.declared.verdict.Verdict.{Verdict}
 use Rattle.hplan.specs.declared.fault.Fault.{Fault}
-use Rattle.hplan.specs.declared.fault.Fault.TheVariants.{NoMemory, Device}
 use Rattle.hplan.specs.declared.engine.Ending.{Ending}
 use Rattle.hd_search.specs.Answer.{IsAnswer}
+use Rattle.std.specs.declared.io.ErrorKind.{ErrorKind}
+use Rattle.hd_plan.specs.declared.output.WriteError.{WriteError}
+use Rattle.hd_plan.specs.declared.output.WriteError.TheVariants as unwritten
+use Rattle.hd_plan.specs.Output.{IsNoted}
+use Rattle.hd_texts.specs.declared.fault.TaskFault.{TaskFault}
 use Rattle.hd_texts.specs.declared.fault.TaskFault.TheVariants as texts
-use Rattle.hd_texts.specs.Tasks.{Unlifted, Memory}
-use Rattle.hplan.specs.Answer.{plan_in, IsTrueOfDomain, IsSolved, HasNoAnswer, OfTexts, OfOutput}
+use Rattle.hd_texts.specs.Tasks.{Explains, Unlifted, Memory}
+use Rattle.hplan.specs.Fault.{task_in, TellsUnwritten}
+use Rattle.hplan.specs.Answer.{plan_in, IsTrueOfDomain, IsSolved, HasNoAnswer, HasNoAnswerYet, OfTexts, OfOutput}
 use Rattle.hd_book.specs.Answers.{IsBoundPlan, IsTrueAnswer}
 use Rattle.hd_lifted.specs.declared.task.LiftedTask.{LiftedTask}
 use Rattle.hd_grounding.specs.Grounding.{IsGrounding}
@@ -49,8 +54,16 @@ pub err_weaker : {A E : Type 0} {P Q : E → Type 0} (r : Result A E) → ((e : 
 err_weaker (Ok x) f p = tt
 err_weaker (Err e) f p = f e p
 
--- a fault of the output, where there is an answer to write
-pub output_fails : (domain problem : List ℕ) (ending : Ending) (text : List ℕ) (f : Fault)
-    → IsSolved domain problem ending text → ((f ≡ NoMemory) ⊎ (f ≡ Device)) → HasNoAnswer domain problem f
-output_fails domain problem ending text f s (inl e) = subst (HasNoAnswer domain problem) (sym e) (OfTexts texts.NoMemory (Unlifted texts.NoMemory Memory))
-output_fails domain problem ending text f s (inr e) = subst (HasNoAnswer domain problem) (sym e) (OfOutput s.task s.is_task)
+-- ---- no answer
+
+pub task_unanswered : (domain problem : List ℕ) (f : TaskFault) (fault : Fault) → fault ≡ task_in f → Explains domain problem f
+    → HasNoAnswerYet domain problem fault
+task_unanswered domain problem f fault is told noted = subst (HasNoAnswer domain problem noted noted) (sym is) (OfTexts refl f told)
+
+-- why an answer is not written: memory ran out, or the writer has answered an error
+pub answer_unwritten : (domain problem : List ℕ) (ending : Ending) (text : List ℕ) (old new : Option ErrorKind) (error : WriteError) (f : Fault)
+    → IsSolved domain problem ending text → IsNoted old new error → TellsUnwritten error f → HasNoAnswer domain problem old new f
+answer_unwritten domain problem ending text old new unwritten.NoMemory f s noted told =
+    subst (HasNoAnswer domain problem old new) (sym told) (OfTexts noted texts.NoMemory (Unlifted texts.NoMemory Memory))
+answer_unwritten domain problem ending text old new (unwritten.Device kind) f s noted told =
+    OfOutput s.task f s.is_task (record { kind = kind; is_noted = noted; told = told })

@@ -1,5 +1,6 @@
 -- What the answer to two texts is, and what is written of it. (Our own.)
-use Rattle.std.specs.Prelude.{◌≡◌, ℕ, List, [], Option, Some, None, take, pos}
+use Rattle.std.specs.Prelude.{◌≡◌, ℕ, ◌<◌, List, [], Option, Some, None, length, take, pos}
+use Rattle.std.specs.declared.io.ErrorKind.{ErrorKind}
 use Rattle.std.specs.Io.KnownBytes.{Appends}
 use Rattle.hd_lifted.specs.declared.task.LiftedTask.{LiftedTask}
 use Rattle.hd_lifted.specs.Plans as plans
@@ -11,12 +12,12 @@ use Rattle.hd_book.specs.Answers as book
 use Rattle.hplan.specs.declared.engine.Ending.{Ending}
 use Rattle.hd_book.specs.declared.refusal.Refusal.{Refusal}
 use Rattle.hplan.specs.declared.fault.Fault.{Fault}
-use Rattle.hplan.specs.declared.fault.Fault.TheVariants.{Device, Refused, NoMemory}
+use Rattle.hplan.specs.declared.fault.Fault.TheVariants.{Refused, NoMemory}
 use Rattle.hd_search.specs.Answer.{IsAnswer}
 use Rattle.hd_search.specs.Refused.{Tells}
 use Rattle.hd_texts.specs.declared.fault.TaskFault.{TaskFault}
 use Rattle.hd_texts.specs.Tasks.{IsTaskOf, Explains}
-use Rattle.hplan.specs.Fault.{task_in}
+use Rattle.hplan.specs.Fault.{task_in, AnswersFault}
 use Rattle.hplan.specs.PlanText.{plan_text}
 use Rattle.hplan.specs.TaskText.{departure_text}
 
@@ -74,11 +75,12 @@ pub record Writes (domain problem : List ℕ) (old new : Option (List ℕ)) (end
   pub solved : IsSolved domain problem ending text
   pub bytes : Appends old new text
 
--- a beginning of the text of an answer is written, which may be nothing
+-- a beginning of the text of an answer is written, which may be nothing, and is not all of it
 pub record WritesFront (domain problem : List ℕ) (old new : Option (List ℕ)) : Type 0 where
   pub ending : Ending
   pub text : List ℕ
   pub count : ℕ
+  pub within : count < length text
   pub solved : IsSolved domain problem ending text
   pub bytes : Appends old new (take count text)
 
@@ -87,9 +89,13 @@ pub data HasNoSolution (task : Task) : Fault → Type 0 where
   OfMemory : HasNoSolution task NoMemory
   OfBook : (r : Refusal) → Tells task r → HasNoSolution task (Refused r)
 
--- why two texts have no answer: what is told of the texts; or they say a task, and its search has none, or the output can't take what
--- is written
-pub data HasNoAnswer (domain problem : List ℕ) : Fault → Type 0 where
-  OfTexts : (f : TaskFault) → Explains domain problem f → HasNoAnswer domain problem (task_in f)
-  OfSearch : (t : Task) (f : Fault) → IsTaskOf domain problem t → HasNoSolution t f → HasNoAnswer domain problem f
-  OfOutput : (t : Task) → IsTaskOf domain problem t → HasNoAnswer domain problem Device
+-- why two texts have no answer: what is told of the texts; or they say a task, and its search has none; or there is an answer to write,
+-- and what is told of the error that the writer has answered. What was noted of the writer before is noted still where it is not to blame
+pub data HasNoAnswer (domain problem : List ℕ) (old new : Option ErrorKind) : Fault → Type 0 where
+  OfTexts : new ≡ old → (f : TaskFault) → Explains domain problem f → HasNoAnswer domain problem old new (task_in f)
+  OfSearch : new ≡ old → (t : Task) (f : Fault) → IsTaskOf domain problem t → HasNoSolution t f → HasNoAnswer domain problem old new f
+  OfOutput : (t : Task) (f : Fault) → IsTaskOf domain problem t → AnswersFault new f → HasNoAnswer domain problem old new f
+
+-- the same, where nothing was to be written yet: whatever is noted of a writer
+abbrev pub HasNoAnswerYet : List ℕ → List ℕ → Fault → Type 0
+HasNoAnswerYet domain problem f = (noted : Option ErrorKind) → HasNoAnswer domain problem noted noted f

@@ -1,9 +1,13 @@
 -- Why there is no answer. (Our own.)
-use Rattle.std.specs.Prelude.{ℕ, List, codes}
+use Rattle.std.specs.Prelude.{◌≡◌, ◌≢◌, ◌⊎◌, ℕ, List, Option, Some, Result, MatchResult, codes}
+use Rattle.std.specs.declared.io.ErrorKind.{ErrorKind}
+use Rattle.std.specs.declared.io.ErrorKind.TheVariants.{OutOfMemory}
 use Rattle.hd_book.specs.Refusal as book
 use Rattle.hd_plan.specs.declared.error.PlanTextError.{PlanTextError}
 use Rattle.hd_plan.specs.declared.error.PlanTextError.TheVariants as plan_text
 use Rattle.hd_plan.specs.Error as plan_reader
+use Rattle.hd_plan.specs.declared.output.WriteError.{WriteError}
+use Rattle.hd_plan.specs.declared.output.WriteError.TheVariants as unwritten
 use Rattle.hd_validate.specs.declared.error.PlanError.{PlanError}
 use Rattle.hd_validate.specs.declared.error.PlanError.TheVariants as judging
 use Rattle.hd_texts.specs.declared.fault.TaskFault.{TaskFault}
@@ -43,3 +47,24 @@ judged_in (judging.NegativeCost action) = Plan (judging.NegativeCost action)
 judged_in (judging.Departs step) = Plan (judging.Departs step)
 judged_in judging.GoalUnmet = Plan judging.GoalUnmet
 judged_in judging.NoMemory = NoMemory
+
+-- ---- files, readers and writers
+
+-- what is told of an error of this kind: want of memory, or else that the device failed
+abbrev pub TellsKind : ErrorKind → Fault → Type 0
+TellsKind kind fault = ((kind ≡ OutOfMemory) × (fault ≡ NoMemory)) ⊎ ((kind ≢ OutOfMemory) × (fault ≡ Device))
+
+-- what is told where a plan's text was not written
+abbrev pub TellsUnwritten : WriteError → Fault → Type 0
+TellsUnwritten unwritten.NoMemory fault = fault ≡ NoMemory
+TellsUnwritten (unwritten.Device kind) fault = TellsKind kind fault
+
+-- a writer has answered an error, which is noted of it, and this is told of it
+pub record AnswersFault (noted : Option ErrorKind) (fault : Fault) : Type 0 where
+  pub kind : ErrorKind
+  pub is_noted : noted ≡ Some kind
+  pub told : TellsKind kind fault
+
+-- a writer answers the error that is told, and none where none is told
+abbrev pub Answers : {X : Type 0} → Option ErrorKind → Option ErrorKind → Result X Fault → Type 0
+Answers old new result = MatchResult result (λ _. new ≡ old) (AnswersFault new)

@@ -7,3 +7,4 @@ pub mod Reasons
 pub mod TaskText
 pub mod Verdict
 pub mod Written
+pub mod Status

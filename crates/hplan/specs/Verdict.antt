@@ -1,5 +1,6 @@
 -- What is told of the plan in a third text, and why nothing is. (Our own.)
-use Rattle.std.specs.Prelude.{◌≡◌, ℕ, List, ◌++◌, codes, decimal}
+use Rattle.std.specs.Prelude.{◌≡◌, ℕ, List, Option, ◌++◌, codes, decimal}
+use Rattle.std.specs.declared.io.ErrorKind.{ErrorKind}
 use Rattle.hd_lifted.specs.declared.task.LiftedTask.{LiftedTask}
 use Rattle.hd_plan.specs.declared.error.PlanTextError.{PlanTextError}
 use Rattle.hd_plan.specs.declared.step.Step.{Step}
@@ -11,8 +12,8 @@ use Rattle.hd_validate.specs.Telling.{Tells}
 use Rattle.hd_texts.specs.declared.fault.TaskFault.{TaskFault}
 use Rattle.hd_texts.specs.Tasks.{IsLiftedOf, ExplainsTexts}
 use Rattle.hplan.specs.declared.fault.Fault.{Fault}
-use Rattle.hplan.specs.declared.fault.Fault.TheVariants.{Device, NoMemory}
-use Rattle.hplan.specs.Fault.{task_in, plan_read_in, judged_in}
+use Rattle.hplan.specs.declared.fault.Fault.TheVariants.{NoMemory}
+use Rattle.hplan.specs.Fault.{task_in, plan_read_in, judged_in, AnswersFault}
 
 -- how it is told that a plan is valid
 abbrev pub valid_text : ℕ → List ℕ
@@ -45,8 +46,13 @@ pub record IsVerdictOf (domain problem plan : List ℕ) (text : List ℕ) : Type
   pub is : text ≡ valid_text cost
 
 -- why no verdict is written: what is told of the first two texts; or they say a lifted task, and what is told of the third in it; or the
--- plan is valid, and the output can't take what is written
-pub data HasNoVerdict (domain problem plan : List ℕ) : Fault → Type 0 where
-  InTexts : (f : TaskFault) → ExplainsTexts domain problem f → HasNoVerdict domain problem plan (task_in f)
-  InPlan : (l : LiftedTask) (f : Fault) → IsLiftedOf domain problem l → ExplainsPlan l plan f → HasNoVerdict domain problem plan f
-  InOutput : (cost : ℕ) → AreValid domain problem plan cost → HasNoVerdict domain problem plan Device
+-- plan is valid, and what is told of the error that the writer has answered. What was noted of the writer before is noted still where it is
+-- not to blame
+pub data HasNoVerdict (domain problem plan : List ℕ) (old new : Option ErrorKind) : Fault → Type 0 where
+  InTexts : new ≡ old → (f : TaskFault) → ExplainsTexts domain problem f → HasNoVerdict domain problem plan old new (task_in f)
+  InPlan : new ≡ old → (l : LiftedTask) (f : Fault) → IsLiftedOf domain problem l → ExplainsPlan l plan f → HasNoVerdict domain problem plan old new f
+  InOutput : (cost : ℕ) (f : Fault) → AreValid domain problem plan cost → AnswersFault new f → HasNoVerdict domain problem plan old new f
+
+-- the same, where nothing was to be written yet: whatever is noted of a writer
+abbrev pub HasNoVerdictYet : List ℕ → List ℕ → List ℕ → Fault → Type 0
+HasNoVerdictYet domain problem plan f = (noted : Option ErrorKind) → HasNoVerdict domain problem plan noted noted f

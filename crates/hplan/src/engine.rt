@@ -1,22 +1,22 @@
 //! From the bytes of two texts to the bytes of a plan.
 ghost use Rattle.std.specs.Prelude.{◌≡◌, ◌⊎◌, true, IfOk, IfErr, IfSome, OnOk, OnErr};
 ghost use Rattle.std.specs.Io.KnownBytes.{Appends};
-ghost use Rattle.hd_plan.specs.Output.{AppendsFront};
+ghost use Rattle.hd_plan.specs.Output.{AppendsShort, NotesError};
 ghost use Rattle.hd_plan.specs.PlanText as plans;
-ghost use Rattle.hplan.specs.Answer.{plan_in, written_of, ending_of, IsSolved, Writes, WritesFront, IsSolution, HasNoSolution, HasNoAnswer};
+ghost use Rattle.hplan.specs.Answer.{plan_in, written_of, ending_of, IsSolved, Writes, WritesFront, IsSolution, HasNoSolution, HasNoAnswer, HasNoAnswerYet};
 ghost use Rattle.hplan.specs.PlanText.{printed, plan_text, goes_through};
 
-use crate::fault::{Fault, device_fault};
+use crate::fault::{Fault, unwritten};
 use crate::naming::{NamedPlan, named_plan};
 use crate::text::departure_text;
 use hd_base::{NoMemory, Sequence};
 use hd_book::{Refusal, Verdict};
-use hd_plan::write_plan;
+use hd_plan::{Watched, WriteError, write_plan};
 use hd_search::run;
 use hd_task::{Plan, Task};
 use hd_texts::task_of;
 use std::alloc::Global;
-use std::io::{self, Write};
+use std::io::Write;
 
 /// How an answer ends.
 #[derive(Debug, PartialEq, Eq, Drop)]
@@ -89,7 +89,7 @@ fn answer_of(
 ) -> Result<(Ending, Option<NamedPlan>), Fault>
     ensures found { IfOk result (λ found.
         IsSolved domain.now problem.now found.0 (printed found.1)) }
-    ensures refusal { IfErr result (HasNoAnswer domain.now problem.now) }
+    ensures refusal { IfErr result (HasNoAnswerYet domain.now problem.now) }
 {
     match task_of(alloc, domain, problem) {
         Ok(task) => {
@@ -102,10 +102,16 @@ fn answer_of(
 }
 
 /// Writes the text of a plan, if there is one.
-fn write_found<W: Write>(alloc: Global, plan: &Option<NamedPlan>, out: &mut W) -> io::Result<()>
-    ensures whole { OnOk result (Appends (W.contents out.old) (W.contents out.new)
-        (printed plan.now)) }
-    ensures front { AppendsFront (W.contents out.old) (W.contents out.new) (printed plan.now) }
+fn write_found<W: Write>(
+    alloc: Global,
+    plan: &Option<NamedPlan>,
+    out: &mut Watched<'_, W>,
+) -> Result<(), WriteError>
+    ensures whole { OnOk result (Appends (W.contents out.old.writer.now)
+        (W.contents out.new.writer.now) (printed plan.now)) }
+    ensures short { OnErr result (AppendsShort (W.contents out.old.writer.now)
+        (W.contents out.new.writer.now) (printed plan.now)) }
+    ensures fault { NotesError out.old.fault out.new.fault result }
 {
     match plan {
         Some(plan) => write_plan(alloc, plan.steps.as_slice(), plan.cost, out),
@@ -116,20 +122,26 @@ fn write_found<W: Write>(alloc: Global, plan: &Option<NamedPlan>, out: &mut W) -
 /// Answers the task that two texts say, and writes the text of its plan, if it has one.
 ///
 /// # Errors
-/// The first fault of the texts, or why the search or the writer fails. After a fault of the writer a beginning of the text has
-/// been written, and else nothing.
+/// The first fault of the texts, or why the search fails, or what is told of the error that the writer has answered. A beginning of
+/// the text has then been written, and not all of it, and else nothing.
 pub fn solve<W: Write>(
     alloc: Global,
     domain: &[u8],
     problem: &[u8],
-    out: &mut W,
+    out: &mut Watched<'_, W>,
 ) -> Result<Ending, Fault>
     // The text is exactly that of the plan that the search of the task answers.
-    ensures whole { IfOk result (Writes domain.now problem.now (W.contents out.old)
-        (W.contents out.new)) }
-    ensures front { OnErr result ((W.contents out.new ≡ W.contents out.old)
-        ⊎ WritesFront domain.now problem.now (W.contents out.old) (W.contents out.new)) }
-    ensures refusal { IfErr result (HasNoAnswer domain.now problem.now) }
+    ensures whole { IfOk result (Writes domain.now problem.now (W.contents out.old.writer.now)
+        (W.contents out.new.writer.now)) }
+    ensures front { OnErr result
+        ((W.contents out.new.writer.now ≡ W.contents out.old.writer.now)
+        ⊎ WritesFront domain.now problem.now (W.contents out.old.writer.now)
+        (W.contents out.new.writer.now)) }
+
+    // Why there is no answer. `Device` is told only of an error that the writer has answered, and none that it answers is passed over.
+    ensures refusal { IfErr result
+        (HasNoAnswer domain.now problem.now out.old.fault out.new.fault) }
+    ensures no_fault { OnOk result (out.new.fault ≡ out.old.fault) }
 {
     let (ending, plan) = answer_of(alloc, domain, problem)?;
     let written = write_found(alloc, &plan, out);
@@ -138,7 +150,7 @@ pub fn solve<W: Write>(
         Ok(()) => Ok(ending),
         Err(error) => {
             drop(ending);
-            Err(device_fault(error))
+            Err(unwritten(error))
         }
     }
 }

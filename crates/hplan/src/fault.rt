@@ -1,10 +1,11 @@
 //! Why there is no answer.
-ghost use Rattle.std.specs.Prelude.{◌≡◌, ◌⊎◌, Some};
-ghost use Rattle.hplan.specs.Fault.{text_of, task_in, plan_read_in, judged_in};
+ghost use Rattle.std.specs.IoError.{error_kind};
+ghost use Rattle.std.specs.Prelude.{◌≡◌, Some};
+ghost use Rattle.hplan.specs.Fault.{text_of, task_in, plan_read_in, judged_in, TellsKind, TellsUnwritten};
 ghost use Rattle.hplan.specs.declared.fault.Fault.TheVariants as faults;
 
 use hd_book::Refusal;
-use hd_plan::PlanTextError;
+use hd_plan::{PlanTextError, WriteError};
 use hd_texts::TaskFault;
 use hd_validate::PlanError;
 use std::alloc::{AllocError, AllocFailed};
@@ -97,13 +98,30 @@ pub fn judged_in(error: PlanError) -> Fault
     }
 }
 
-/// A fault of a file, a reader or a writer: `NoMemory` where memory ran out, else `Device`.
-pub fn device_fault(error: io::Error) -> Fault
-    ensures { (result ≡ faults.NoMemory) ⊎ (result ≡ faults.Device) }
+/// A fault of a file, a reader or a writer, by its error's kind: `NoMemory` where memory ran out, else `Device`.
+pub fn kind_fault(kind: io::ErrorKind) -> Fault
+    ensures { TellsKind kind result }
 {
-    if error.kind() == io::ErrorKind::OutOfMemory {
+    if kind == io::ErrorKind::OutOfMemory {
         Fault::NoMemory
     } else {
         Fault::Device
     }
+}
+
+/// Why a plan's text was not written.
+pub fn unwritten(error: WriteError) -> Fault
+    ensures { TellsUnwritten error result }
+{
+    match error {
+        WriteError::NoMemory => Fault::NoMemory,
+        WriteError::Device(kind) => kind_fault(kind),
+    }
+}
+
+/// A fault of a file, a reader or a writer, by its error.
+pub fn device_fault(error: io::Error) -> Fault
+    ensures { TellsKind (error_kind error) result }
+{
+    kind_fault(error.kind())
 }

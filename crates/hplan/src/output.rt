@@ -1,21 +1,26 @@
 //! What is written, whole or with a fault.
-ghost use Rattle.std.specs.Prelude.{◌≡◌, ◌⊎◌, OnOk, IfErr};
+ghost use Rattle.std.specs.Prelude.{◌≡◌, OnOk, OnErr};
 ghost use Rattle.std.specs.Io.KnownBytes.{Appends};
-ghost use Rattle.hd_plan.specs.Output.{AppendsFront};
-ghost use Rattle.hplan.specs.declared.fault.Fault.TheVariants as faults;
+ghost use Rattle.hd_plan.specs.Output.{AppendsShort};
+ghost use Rattle.hplan.specs.Fault.{Answers};
 
-use crate::fault::{Fault, device_fault};
-use hd_plan::put;
+use crate::fault::{Fault, kind_fault};
+use hd_plan::Watched;
 use std::io::Write;
 
-/// Writes bytes, whole. After a fault a beginning of them has been written.
-pub fn write_out<W: Write>(out: &mut W, bytes: &[u8]) -> Result<(), Fault>
-    ensures whole { OnOk result (Appends (W.contents out.old) (W.contents out.new) bytes.now) }
-    ensures front { AppendsFront (W.contents out.old) (W.contents out.new) bytes.now }
-    ensures refusal { IfErr result (λ fault. (fault ≡ faults.NoMemory) ⊎ (fault ≡ faults.Device)) }
+/// Writes bytes, whole.
+///
+/// # Errors
+/// What is told of the error that the writer has then answered. A beginning of the bytes has been written, and not all of them.
+pub fn write_out<W: Write>(out: &mut Watched<'_, W>, bytes: &[u8]) -> Result<(), Fault>
+    ensures whole { OnOk result (Appends (W.contents out.old.writer.now)
+        (W.contents out.new.writer.now) bytes.now) }
+    ensures short { OnErr result (AppendsShort (W.contents out.old.writer.now)
+        (W.contents out.new.writer.now) bytes.now) }
+    ensures fault { Answers out.old.fault out.new.fault result }
 {
-    match put(out, bytes) {
+    match out.put(bytes) {
         Ok(()) => Ok(()),
-        Err(error) => Err(device_fault(error)),
+        Err(kind) => Err(kind_fault(kind)),
     }
 }

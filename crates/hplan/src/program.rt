@@ -1,4 +1,7 @@
 //! The program: from the words of a command line to an exit status.
+ghost use Rattle.std.specs.Prelude.{◌≡◌, MatchResult};
+ghost use Rattle.hplan.specs.Status.{status_of_ending};
+ghost use Rattle.hplan.specs.declared.program.TheConstants.{DONE, REFUSED};
 
 use crate::engine::{Ending, solve};
 use crate::fault::{Fault, device_fault};
@@ -7,7 +10,7 @@ use crate::output::write_out;
 use crate::places::{Places, SystemFiles};
 use crate::reasons::explain;
 use crate::validating::validate;
-use hd_plan::put;
+use hd_plan::{Watched, put};
 use hd_words::{Request, WordsError, read_words};
 use std::alloc::Global;
 use std::io::Write;
@@ -30,13 +33,17 @@ const NO_PLAN: u8 = 10;
 const RANGE_LEFT: u8 = 11;
 
 /// Tells a fault, on one line.
-fn refuse<E: Write>(err: &mut E, fault: &Fault) -> u8 {
+fn refuse<E: Write>(err: &mut E, fault: &Fault) -> u8
+    ensures { result ≡ REFUSED }
+{
     let _ = writeln!(err, "hplan: {fault}");
     REFUSED
 }
 
 /// Tells how an answer ends.
-fn tell<E: Write>(err: &mut E, ending: &Ending) -> u8 {
+fn tell<E: Write>(err: &mut E, ending: &Ending) -> u8
+    ensures { result ≡ status_of_ending ending.now }
+{
     match ending {
         Ending::Optimal => DONE,
         Ending::NoPlan => {
@@ -53,7 +60,7 @@ fn tell<E: Write>(err: &mut E, ending: &Ending) -> u8 {
 
 /// Writes a text, whole.
 fn show<O: Write>(out: &mut O, text: &str) -> Result<(), Fault> {
-    write_out(out, text.as_bytes())?;
+    write_out(&mut Watched::of(&mut *out), text.as_bytes())?;
     flush(out)
 }
 
@@ -83,7 +90,7 @@ fn solve_files<P: Places, O: Write>(
 ) -> Result<Ending, Fault> {
     let domain = read(alloc, places, domain)?;
     let problem = read(alloc, places, problem)?;
-    let ending = solve(alloc, &domain, &problem, out)?;
+    let ending = solve(alloc, &domain, &problem, &mut Watched::of(&mut *out))?;
     flush(out)?;
     Ok(ending)
 }
@@ -98,7 +105,7 @@ fn ground_files<P: Places, O: Write>(
 ) -> Result<(), Fault> {
     let domain = read(alloc, places, domain)?;
     let problem = read(alloc, places, problem)?;
-    ground(alloc, &domain, &problem, out)?;
+    ground(alloc, &domain, &problem, &mut Watched::of(&mut *out))?;
     flush(out)
 }
 
@@ -127,12 +134,15 @@ fn read_plan_files<P: Places>(
 
 /// Writes the verdict on the plan in the third file.
 fn judge<O: Write>(alloc: Global, files: &PlanFiles, out: &mut O) -> Result<(), Fault> {
-    validate(alloc, &files.domain, &files.problem, &files.plan, out)?;
+    let (domain, problem, plan) = (&files.domain, &files.problem, &files.plan);
+    validate(alloc, domain, problem, plan, &mut Watched::of(&mut *out))?;
     flush(out)
 }
 
 /// The exit status of a command that is done or refused; a fault is told.
-fn status_of<E: Write>(err: &mut E, done: Result<(), Fault>) -> u8 {
+fn status_of<E: Write>(err: &mut E, done: Result<(), Fault>) -> u8
+    ensures { MatchResult done (λ _. result ≡ DONE) (λ _. result ≡ REFUSED) }
+{
     match done {
         Ok(()) => DONE,
         Err(fault) => refuse(err, &fault),
@@ -155,16 +165,13 @@ fn judge_files<O: Write, E: Write>(
     out: &mut O,
     err: &mut E,
 ) -> u8 {
-    match judge(alloc, files, out) {
-        Ok(()) => DONE,
-        Err(fault) => {
-            let status = refuse(err, &fault);
-            if explained && matches!(&fault, Fault::Plan(_)) {
-                tell_reason(alloc, files, err);
-            }
-            status
-        }
+    let done = judge(alloc, files, out);
+    let is_of_plan = matches!(&done, Err(Fault::Plan(_)));
+    let status = status_of(err, done);
+    if explained && is_of_plan {
+        tell_reason(alloc, files, err);
     }
+    status
 }
 
 /// Does what a request asks.

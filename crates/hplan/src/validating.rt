@@ -1,14 +1,14 @@
 //! From the bytes of three texts to the verdict on a plan.
 ghost use Rattle.std.specs.Prelude.{◌≡◌, ◌⊎◌, IfOk, IfErr, OnOk, OnErr};
 ghost use Rattle.hplan.specs.Written.{WritesA, WritesFrontOfA};
-ghost use Rattle.hplan.specs.Verdict.{IsValidIn, ExplainsPlan, AreValid, IsVerdictOf, HasNoVerdict};
+ghost use Rattle.hplan.specs.Verdict.{IsValidIn, ExplainsPlan, AreValid, IsVerdictOf, HasNoVerdict, HasNoVerdictYet};
 
 use crate::fault::{Fault, judged_in, plan_read_in};
 use crate::output::write_out;
 use crate::text::valid_text;
 use hd_base::Seed;
 use hd_check::Checked;
-use hd_plan::read_plan;
+use hd_plan::{Watched, read_plan};
 use hd_texts::{checked_of, digest_of};
 use std::alloc::Global;
 use std::io::Write;
@@ -32,9 +32,10 @@ fn cost_in(alloc: Global, seed: Seed, checked: &Checked, plan: &[u8]) -> Result<
 }
 
 /// What the plan of the third text costs in the task of the first two.
+#[tactic(auto, using(crate::proofs::Explaining::texts_without_verdict))]
 fn cost_of_texts(alloc: Global, domain: &[u8], problem: &[u8], plan: &[u8]) -> Result<u64, Fault>
     ensures valid { IfOk result (AreValid domain.now problem.now plan.now) }
-    ensures refusal { IfErr result (HasNoVerdict domain.now problem.now plan.now) }
+    ensures refusal { IfErr result (HasNoVerdictYet domain.now problem.now plan.now) }
 {
     let seed = Seed::of(digest_of(domain, problem));
     match checked_of(alloc, seed, domain, problem) {
@@ -62,15 +63,20 @@ pub fn validate<W: Write>(
     domain: &[u8],
     problem: &[u8],
     plan: &[u8],
-    out: &mut W,
+    out: &mut Watched<'_, W>,
 ) -> Result<(), Fault>
     // The verdict is written only where the plan is valid, and tells its cost.
     ensures whole { OnOk result (WritesA (IsVerdictOf domain.now problem.now plan.now)
-        (W.contents out.old) (W.contents out.new)) }
-    ensures front { OnErr result ((W.contents out.new ≡ W.contents out.old)
+        (W.contents out.old.writer.now) (W.contents out.new.writer.now)) }
+    ensures front { OnErr result
+        ((W.contents out.new.writer.now ≡ W.contents out.old.writer.now)
         ⊎ WritesFrontOfA (IsVerdictOf domain.now problem.now plan.now)
-        (W.contents out.old) (W.contents out.new)) }
-    ensures refusal { IfErr result (HasNoVerdict domain.now problem.now plan.now) }
+        (W.contents out.old.writer.now) (W.contents out.new.writer.now)) }
+
+    // Why nothing is written, or not all. `Device` is told only of an error that the writer has answered, and none is passed over.
+    ensures refusal { IfErr result
+        (HasNoVerdict domain.now problem.now plan.now out.old.fault out.new.fault) }
+    ensures no_fault { OnOk result (out.new.fault ≡ out.old.fault) }
 {
     let cost = cost_of_texts(alloc, domain, problem, plan)?;
     let text = valid_text(alloc, cost)?;

@@ -19,3 +19,5 @@ mod told;
 mod trees;
 #[cfg(test)]
 mod words;
+#[cfg(test)]
+mod written;

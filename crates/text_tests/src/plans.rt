@@ -1,6 +1,6 @@
 //! Small plan files, with answers worked out by hand from the rules of lines.
 
-use hd_plan::{PlanTextError, Step, read_plan, write_plan};
+use hd_plan::{PlanTextError, Step, read_plan};
 use std::alloc::{AllocError, Global};
 use std::process::Abort;
 use std::test::Fail;
@@ -109,21 +109,4 @@ fn longest_names(rt: HostRuntime) -> Result<(), Fail> {
     line[256] = b'a';
     line[257] = b')';
     assert_shown(&rt, rt.alloc(), &line, b"19 BadLine(1)")
-}
-
-#[test]
-fn written_and_read_back(rt: HostRuntime) -> Result<(), Fail> {
-    let steps = read_plan(rt.alloc(), b" (Load p1  t)\r\n\n(go)")?;
-    let mut text = Vec::new(rt.alloc());
-    write_plan(rt.alloc(), steps.as_slice(), 9, &mut text)?;
-    assert_eq!(rt;
-        text.as_slice(),
-        b"(load p1 t)\n(go)\n; cost = 9\n".as_slice()
-    );
-    let again = read_plan(rt.alloc(), &text)?;
-    assert_eq!(rt; again.as_slice(), steps.as_slice());
-    let mut empty = Vec::new(rt.alloc());
-    write_plan(rt.alloc(), &[], 0, &mut empty)?;
-    assert_eq!(rt; empty.as_slice(), b"; cost = 0\n".as_slice());
-    Ok(())
 }

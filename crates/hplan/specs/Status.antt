@@ -1,0 +1,11 @@
+-- The exit status of an answer. (Our own.)
+use Rattle.std.specs.Prelude.{ℕ}
+use Rattle.hplan.specs.declared.engine.Ending.{Ending}
+use Rattle.hplan.specs.declared.engine.Ending.TheVariants.{Optimal, NoPlan, RangeLeft}
+use Rattle.hplan.specs.declared.program.TheConstants.{DONE, NO_PLAN, RANGE_LEFT}
+
+-- by how the answer ends
+abbrev pub status_of_ending : Ending → ℕ
+status_of_ending Optimal = DONE
+status_of_ending NoPlan = NO_PLAN
+status_of_ending (RangeLeft departure) = RANGE_LEFT
