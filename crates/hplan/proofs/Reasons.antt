@@ -1,21 +1,21 @@
 -- From the reason of a plan's steps to that of the texts which say them.
 use Rattle.std.proofs.Common.{◌≡◌, ◌⊎◌, inl, inr, ℕ, List, Option, Some, None, Ok, Err}
 use Rattle.std.specs.Prelude.{Result, IfOk, IfSome, IfNone}
-use Rattle.hd_explain.specs.Plans.{HasReason, NeedsNoReason}
+use Rattle.hd_explain.specs.Plans.{TellsReason, NeedsNoReason}
 use Rattle.hd_lifted.specs.declared.task.LiftedTask.{LiftedTask}
 use Rattle.hd_plan.specs.declared.error.PlanTextError.TheVariants.{BadLine, NoMemory}
 use Rattle.hd_plan.specs.declared.step.Step.{Step}
 use Rattle.hd_plan.specs.Text.{ReadsAs, IsFault}
 use Rattle.hd_texts.specs.Tasks.{IsLiftedOf}
-use Rattle.hplan.specs.Reasons.{HasReasonIn, HasReasonOf, NeedsNoReasonIn, NeedsNoReasonOf, Unread, OfSteps, InPlan}
+use Rattle.hplan.specs.Reasons.{TellsReasonIn, TellsReasonOf, NeedsNoReasonIn, NeedsNoReasonOf, Unread, OfSteps, InPlan}
 
 -- ---- of a plan's text in a lifted task
 
-pub told_in : {A E : Type 0} (l : LiftedTask) (plan : List ℕ) (steps : List Step) → ReadsAs plan steps → (r : Result (Option A) E)
-    → IfOk r (λ x. IfSome x (λ _. HasReason l steps)) → IfOk r (λ x. IfSome x (λ _. HasReasonIn l plan))
-told_in l plan steps reads (Ok (Some x)) told = record { steps = steps; reads = reads; reason = told }
-told_in l plan steps reads (Ok None) told = tt
-told_in l plan steps reads (Err e) told = tt
+pub told_in : {A E : Type 0} (bytes : A → List ℕ) (l : LiftedTask) (plan : List ℕ) (steps : List Step) → ReadsAs plan steps → (r : Result (Option A) E)
+    → IfOk r (λ x. IfSome x (λ line. TellsReason l steps (bytes line))) → IfOk r (λ x. IfSome x (λ line. TellsReasonIn l plan (bytes line)))
+told_in bytes l plan steps reads (Ok (Some x)) told = record { steps = steps; reads = reads; tells = told }
+told_in bytes l plan steps reads (Ok None) told = tt
+told_in bytes l plan steps reads (Err e) told = tt
 
 pub none_in : {A E : Type 0} (l : LiftedTask) (plan : List ℕ) (steps : List Step) → ReadsAs plan steps → (r : Result (Option A) E)
     → IfOk r (λ x. IfNone x (NeedsNoReason l steps)) → IfOk r (λ x. IfNone x (NeedsNoReasonIn l plan))
@@ -29,11 +29,11 @@ unread_in l plan line (inr bad) = Unread line bad
 
 -- ---- of three texts
 
-pub told_of : {A E : Type 0} (domain problem plan : List ℕ) (l : LiftedTask) → IsLiftedOf domain problem l → (r : Result (Option A) E)
-    → IfOk r (λ x. IfSome x (λ _. HasReasonIn l plan)) → IfOk r (λ x. IfSome x (λ _. HasReasonOf domain problem plan))
-told_of domain problem plan l says (Ok (Some x)) told = record { lifted = l; is_lifted = says; reason = told }
-told_of domain problem plan l says (Ok None) told = tt
-told_of domain problem plan l says (Err e) told = tt
+pub told_of : {A E : Type 0} (bytes : A → List ℕ) (domain problem plan : List ℕ) (l : LiftedTask) → IsLiftedOf domain problem l → (r : Result (Option A) E)
+    → IfOk r (λ x. IfSome x (λ line. TellsReasonIn l plan (bytes line))) → IfOk r (λ x. IfSome x (λ line. TellsReasonOf domain problem plan (bytes line)))
+told_of bytes domain problem plan l says (Ok (Some x)) told = record { lifted = l; is_lifted = says; tells = told }
+told_of bytes domain problem plan l says (Ok None) told = tt
+told_of bytes domain problem plan l says (Err e) told = tt
 
 pub none_of : {A E : Type 0} (domain problem plan : List ℕ) (l : LiftedTask) → IsLiftedOf domain problem l → (r : Result (Option A) E)
     → IfOk r (λ x. IfNone x (NeedsNoReasonIn l plan)) → IfOk r (λ x. IfNone x (NeedsNoReasonOf domain problem plan))

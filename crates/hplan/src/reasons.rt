@@ -1,6 +1,6 @@
 //! From the bytes of three texts to the reason why the plan in the third is not valid.
-ghost use Rattle.std.specs.Prelude.{IfOk, IfSome, IfNone};
-ghost use Rattle.hplan.specs.Reasons.{HasReasonIn, HasReasonOf, NeedsNoReasonIn, NeedsNoReasonOf};
+ghost use Rattle.std.specs.Prelude.{IfOk, IfSome, IfNone, string_bytes};
+ghost use Rattle.hplan.specs.Reasons.{TellsReasonIn, TellsReasonOf, NeedsNoReasonIn, NeedsNoReasonOf};
 
 use hd_base::{NoMemory, Seed};
 use hd_check::Checked;
@@ -15,8 +15,10 @@ fn reason_in(
     checked: &Checked,
     plan: &[u8],
 ) -> Result<Option<String>, NoMemory>
-    ensures told { IfOk result (λ line. IfSome line (λ _. HasReasonIn checked.now plan.now)) }
-    ensures none { IfOk result (λ line. IfNone line (NeedsNoReasonIn checked.now plan.now)) }
+    ensures told { IfOk result (λ found. IfSome found (λ line.
+        TellsReasonIn checked.now plan.now (string_bytes line))) }
+    ensures none { IfOk result (λ found. IfNone found
+        (NeedsNoReasonIn checked.now plan.now)) }
 {
     match read_plan(alloc, plan) {
         Ok(steps) => {
@@ -42,10 +44,10 @@ pub fn explain(
     problem: &[u8],
     plan: &[u8],
 ) -> Result<Option<String>, NoMemory>
-    // The reason is that of the first fault of the plan, in the lifted task of the texts.
-    ensures told { IfOk result (λ line. IfSome line (λ _.
-        HasReasonOf domain.now problem.now plan.now)) }
-    ensures none { IfOk result (λ line. IfNone line
+    // The line is that of the reason of the plan's first fault, in the lifted task of the texts.
+    ensures told { IfOk result (λ found. IfSome found (λ line.
+        TellsReasonOf domain.now problem.now plan.now (string_bytes line))) }
+    ensures none { IfOk result (λ found. IfNone found
         (NeedsNoReasonOf domain.now problem.now plan.now)) }
 {
     let seed = Seed::of(digest_of(domain, problem));
