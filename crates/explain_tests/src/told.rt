@@ -5,10 +5,11 @@ ghost use Rattle.hd_judge.specs.Way.{IsOnWay};
 
 use hd_base::{Seed, Tuple};
 use hd_check::{Checked, check};
-use hd_explain::{explain_goal, explain_step, place_after, text_of};
-use hd_judge::{Lookups, Place};
+use hd_explain::{Reason, explain, explain_goal, explain_step, place_after, text_of};
+use hd_judge::{Lookups, Place, begin};
 use hd_lifted::{Instance, LiftedTask};
 use hd_pddl::{DomainAst, ProblemAst, read_domain, read_problem};
+use hd_plan::read_plan;
 use smallvec::SmallVec;
 use std::alloc::Global;
 use std::process::Abort;
@@ -119,6 +120,57 @@ pub fn assert_told(
 ) -> Result<(), Fail> {
     let checked = checked(alloc, domain, problem)?;
     let told = told(alloc, checked.task(), before, step)?;
+    drop(checked);
+    assert_eq!(rt; told.as_str(), expected);
+    Ok(())
+}
+
+/// The line that explains the text of a plan.
+fn explained(alloc: Global, checked: &Checked, plan: &str) -> Result<String, Fail> {
+    let steps = read_plan(alloc, plan.as_bytes())?;
+    let line = explain(alloc, seed(), checked, steps.as_slice());
+    drop(steps);
+    match line? {
+        Some(line) => Ok(line),
+        None => Ok(format!(in alloc; "nothing")?),
+    }
+}
+
+/// Asserts for each row the line that explains its plan.
+pub fn assert_plans(
+    rt: &impl Abort,
+    alloc: Global,
+    (domain, problem): (&str, &str),
+    rows: &[(&str, &str)],
+) -> Result<(), Fail> {
+    let checked = checked(alloc, domain, problem)?;
+    for (plan, expected) in rows {
+        let line = explained(alloc, &checked, plan)?;
+        assert_eq!(rt; line.as_str(), *expected, "{plan}");
+    }
+    drop(checked);
+    Ok(())
+}
+
+/// What is told of the goal's first comparison at the beginning of a plan, whether it holds or not.
+fn told_of_comparison(alloc: Global, task: &LiftedTask) -> Result<String, Fail> {
+    let none: [usize; 0] = [];
+    let place = begin(alloc, seed(), task)?;
+    let comparison = task.goal.comparisons.as_slice().first();
+    let comparison = comparison.ok_or("a comparison")?;
+    let reason = Reason::Comparison(comparison);
+    Ok(text_of(alloc, task, &place, none.as_slice(), &reason)?)
+}
+
+/// Asserts what is told of the goal's first comparison at the beginning of a plan.
+pub fn assert_unvalued(
+    rt: &impl Abort,
+    alloc: Global,
+    (domain, problem): (&str, &str),
+    expected: &str,
+) -> Result<(), Fail> {
+    let checked = checked(alloc, domain, problem)?;
+    let told = told_of_comparison(alloc, checked.task())?;
     drop(checked);
     assert_eq!(rt; told.as_str(), expected);
     Ok(())

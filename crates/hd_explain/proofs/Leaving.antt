@@ -11,11 +11,11 @@ use Rattle.hd_lifted.specs.Expressions.{value_of, stays_in_range}
 use Rattle.hd_lifted.specs.Conditions.{comparison_stays}
 use Rattle.hd_explain.specs.Departures.{IsDeparture}
 
-and_false : (a b : Bool) → b ≡ false → (a && b) ≡ false
+pub and_false : (a b : Bool) → b ≡ false → (a && b) ≡ false
 and_false false b is = refl
 and_false true b is = is
 
-false_and : (a b : Bool) → a ≡ false → (a && b) ≡ false
+pub false_and : (a b : Bool) → a ≡ false → (a && b) ≡ false
 false_and false b is = refl
 false_and true b is = absurd (true≢false is)
 

@@ -4,3 +4,5 @@ pub mod Paying
 pub mod Changing
 pub mod Stepping
 pub mod Undefined
+pub mod Asked
+pub mod Named

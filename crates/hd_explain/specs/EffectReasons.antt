@@ -55,7 +55,8 @@ IsReasonOfEffects t r a objects (reasons.Comparison c) = ⊥
 IsReasonOfEffects t r a objects (reasons.Subexpression d) =
     (of : NumericEffect) × (departing_effect r.state.values objects a.effects ≡ Some of) × IsDeparture r.state.values objects of.amount d.part.now d.value
 IsReasonOfEffects t r a objects (reasons.NewValue n) =
-    (list_all (amount_stays r.state.values objects) a.effects ≡ true) × (leaving_effect r.state.values a objects ≡ Some n.effect.now)
+    (list_all (amount_stays r.state.values objects) a.effects ≡ true) × (n.effects.now ≡ a.effects)
+    × (leaving_effect r.state.values a objects ≡ Some n.effect.now)
     × (value_after r.state.values a objects (ground_form_of objects n.effect.now.fluent) ≡ Some n.value)
 IsReasonOfEffects t r a objects (reasons.NegativeCost c) =
     (effects_stay r.state.values a objects ≡ true) × IsStepCost t r a objects c × (is_negative (Some c.value) ≡ true)
@@ -87,7 +88,7 @@ JudgesLeaving changes objects e answer =
 abbrev pub ExplainsValues : Changes → List ℕ → List NumericEffect → Option NewValue → Type 0
 ExplainsValues changes objects es answer =
     MatchOption answer (list_all (change_fits changes objects) es ≡ true)
-    (λ n. (find (λ e. not (change_fits changes objects e)) es ≡ Some n.effect.now)
+    (λ n. (n.effects.now ≡ es) × (find (λ e. not (change_fits changes objects e)) es ≡ Some n.effect.now)
     × (new_value_in changes (ground_form_of objects n.effect.now.fluent) ≡ Some n.value))
 
 -- why a step of this cost can't be taken behind a plan of that cost

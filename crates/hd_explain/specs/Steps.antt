@@ -1,5 +1,4 @@
--- Why a step of a plan is refused, or the goal at its end. (The order is our own. A cost that is negative in each state is not asked for
--- before the comparisons, as the fault of such a step is: that fault needs no reason.)
+-- Why a step of a plan is refused, or the goal at its end. (The order is our own.)
 use Rattle.std.specs.Prelude.{◌≡◌, ℕ, Bool, true, false, ◌⊎◌, ◌++◌, ◌+◌, List, [], ◌∷◌, Some, None, slice_get}
 use Rattle.hd_lifted.specs.declared.schema.Schema.{Schema}
 use Rattle.hd_lifted.specs.declared.task.LiftedTask.{LiftedTask}
@@ -10,7 +9,7 @@ use Rattle.hd_lifted.specs.Plans.{IsInstance}
 use Rattle.hd_kept.specs.Met.{met_by, met_by_goal}
 use Rattle.hd_judge.specs.declared.fault.Fault.{Fault}
 use Rattle.hd_judge.specs.declared.fault.Fault.TheVariants.{NoSuchAction, NotApplicable, Undefined, NegativeCost, Departs, GoalUnmet}
-use Rattle.hd_judge.specs.Questions.{first_undefined}
+use Rattle.hd_judge.specs.Questions.{first_undefined, costs_negative}
 use Rattle.hd_judge.specs.Validity.{Passes, TellsFrom, IsFirstFault}
 use Rattle.hd_explain.specs.declared.reason.Reason.{Reason}
 use Rattle.hd_explain.specs.Reasons.{IsReasonOfLiterals, IsReasonOfComparisons, HoldWithin}
@@ -39,21 +38,22 @@ IsReasonOfNumbers t r a objects reason =
 abbrev pub StayNumbers : LiftedTask → Reached → Schema → List ℕ → Type 0
 StayNumbers t r a objects = HoldWithin r.state.values objects a.condition.comparisons × StaysWithin t r a objects
 
--- this is why a step of an instance is refused: the first literal or equality that does not hold; or, where these hold and all that the
--- step meets has first values, why its comparisons do not hold, or depart; or, where they hold and stay in the range, why its effects depart
+-- this is why a step of an instance is refused: the first literal or equality that does not hold; or, where these hold, all that the
+-- step meets has first values, and its cost is not the same in each state and negative, why its comparisons do not hold, or depart; or,
+-- where they hold and stay in the range, why its effects depart
 abbrev pub IsReasonOfStep : LiftedTask → Reached → Instance → Reason → Type 0
 IsReasonOfStep t r i reason =
     IsInstance t i × (a : Schema) × (slice_get t.schemas i.schema ≡ Some a)
     × (IsReasonOfLiterals r.state i.objects a.condition reason
     ⊎ ((literals_hold r.state i.objects a.condition ≡ true) × (first_undefined t (met_by i.objects a) ≡ None)
-    × IsReasonOfNumbers t r a i.objects reason))
+    × (costs_negative t a i.objects ≡ false) × IsReasonOfNumbers t r a i.objects reason))
 
--- if the step is one of an instance, its literals and equalities hold; and if all that it meets has first values, its comparisons hold,
--- and nothing departs
+-- if the step is one of an instance, its literals and equalities hold; and if all that it meets has first values, and its cost is not the
+-- same in each state and negative, its comparisons hold, and nothing departs
 abbrev pub GoesThrough : LiftedTask → Reached → Instance → Type 0
 GoesThrough t r i =
     (is : IsInstance t i) → (literals_hold r.state i.objects is.schema.condition ≡ true)
-    × (first_undefined t (met_by i.objects is.schema) ≡ None → StayNumbers t r is.schema i.objects)
+    × (first_undefined t (met_by i.objects is.schema) ≡ None → costs_negative t is.schema i.objects ≡ false → StayNumbers t r is.schema i.objects)
 
 -- the fault is that of a fluent without a first value
 abbrev pub is_undefined : Fault → Bool

@@ -75,15 +75,16 @@ fn leaving_effect<'a>(
     alloc: Global,
     changes: &Changes,
     objects: &[usize],
-    said: &'a [NumericEffect],
+    effects: &'a [NumericEffect],
 ) -> Result<Option<NewValue<'a>>, NoMemory>
-    ensures { IfOk result (ExplainsValues changes.now objects.now said.now) }
+    ensures { IfOk result (ExplainsValues changes.now objects.now effects.now) }
 {
-    let mut rest = said;
+    let mut rest = effects;
     while let [first, after @ ..] = rest {
         if let Some(value) = leaving_value(alloc, changes, objects, first)? {
             return Ok(Some(NewValue {
                 effect: first,
+                effects,
                 value,
             }));
         }

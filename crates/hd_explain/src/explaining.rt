@@ -15,7 +15,9 @@ use crate::condition::explain_literals;
 use crate::effect::explain_effects;
 use crate::reason::Reason;
 use hd_base::{NoMemory, Seed};
-use hd_judge::{Lookups, Place, Stop, begin, judge_step, schema_of, undefined_schema};
+use hd_judge::{
+    Lookups, Place, Stop, begin, costs_negative, judge_step, schema_of, undefined_schema,
+};
 use hd_lifted::{Instance, LiftedTask, Schema};
 use std::alloc::Global;
 
@@ -98,11 +100,11 @@ fn explain_numbers<'a>(
 }
 
 /// Why a step is refused at a place: the first literal or equality of its condition that does not hold; or else, where all that it meets
-/// has first values, its first comparison that departs, or else the first that does not hold, or else what of its effects departs.
+/// has first values and its cost is not negative in each state, its first comparison that departs, or else the first that does not hold, or
+/// else what of its effects departs.
 ///
 /// `None` says that it is not refused for such a reason: it is one of no instance, or its literals and equalities hold, and a fluent that
-/// it meets has no first value, or its comparisons hold and nothing departs. A step whose cost is the same in each state and negative has
-/// that fault before any of its comparisons: what is told here of these is then not its fault's reason.
+/// it meets has no first value, or it costs the same in each state and less than 0, or its comparisons hold and nothing departs.
 ///
 /// # Errors
 /// Want of memory.
@@ -132,6 +134,11 @@ pub fn explain_step<'a>(
             drop(fluent);
             Ok(None)
         }
-        None => explain_numbers(alloc, lookups, place, objects, schema),
+        None => {
+            if costs_negative(alloc, lookups, schema, objects)? {
+                return Ok(None);
+            }
+            explain_numbers(alloc, lookups, place, objects, schema)
+        }
     }
 }

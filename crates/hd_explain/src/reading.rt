@@ -3,14 +3,16 @@ ghost use Rattle.std.specs.Prelude.{◌≡◌, ◌++◌, ◌∷◌, [], map, IfO
 ghost use Rattle.hd_base.specs.Expression.{leaf};
 ghost use Rattle.hd_lifted.specs.States.{ground_form_of};
 ghost use Rattle.hd_lifted.specs.Effects.{is_cost};
-ghost use Rattle.hd_kept.specs.Met.{fluents_in, met_by_comparison, met_by_effect};
+ghost use Rattle.hd_kept.specs.Met.{fluents_in, met_by_comparison};
 ghost use Rattle.hd_judge.specs.Tables.{reached_in};
-ghost use Rattle.hd_explain.specs.Readings.{reading_at, fluents_of, paid_fluents};
+ghost use Rattle.hd_explain.specs.Readings.{reading_at, changing_fluents, fluents_of, paid_fluents};
 
-use crate::reason::Reason;
+use crate::reason::{NewValue, Reason};
 use hd_base::{ExprParts, NoMemory, Operand, Sequence};
 use hd_judge::Place;
-use hd_lifted::{Applied, Change, Comparison, Expr, Ground, NumericEffect, ground_form_of};
+use hd_lifted::{
+    Applied, Change, Comparison, Expr, Ground, NumericEffect, ground_form_of, is_same,
+};
 use std::alloc::Global;
 
 /// A fluent in its ground form, with its value at a place, if it has one there.
@@ -89,22 +91,64 @@ pub(crate) fn is_cost(change: Change) -> bool
     }
 }
 
-/// Puts the fluents that an effect meets, with their values, behind others.
-fn push_effect(
+/// Puts the fluents that an effect's amount reads, with their values, behind others, if the effect is on this fluent.
+fn push_change(
     alloc: Global,
     readings: &mut Vec<Reading>,
     place: &Place,
     objects: &[usize],
+    fluent: &Applied,
     said: &NumericEffect,
 ) -> Result<(), NoMemory>
     ensures { OnOk result (readings.new.items ≡ readings.old.items
         ++ map (reading_at (reached_in place.now).state.values)
-        (met_by_effect objects.now said.now)) }
+        (changing_fluents objects.now (ground_form_of objects.now fluent.now)
+        (said.now ∷ []))) }
 {
-    if !is_cost(said.change) {
-        push_reading(alloc, readings, place, objects, &said.fluent)?;
+    if is_cost(said.change) || !is_same(objects, &said.fluent, fluent) {
+        return Ok(());
     }
     push_expression(alloc, readings, place, objects, &said.amount)
+}
+
+/// Puts the fluents that the amounts of the effects on a fluent read, with their values, behind others.
+fn push_changes(
+    alloc: Global,
+    readings: &mut Vec<Reading>,
+    place: &Place,
+    objects: &[usize],
+    fluent: &Applied,
+    said: &[NumericEffect],
+) -> Result<(), NoMemory>
+    ensures { OnOk result (readings.new.items ≡ readings.old.items
+        ++ map (reading_at (reached_in place.now).state.values)
+        (changing_fluents objects.now (ground_form_of objects.now fluent.now) said.now)) }
+{
+    let mut rest = said;
+    while let [first, after @ ..] = rest {
+        push_change(alloc, readings, place, objects, fluent, first)?;
+        rest = after;
+    }
+    Ok(())
+}
+
+/// Puts a fluent whose new value is told, and those that its new value is made of, with their values, behind others.
+fn push_new_value(
+    alloc: Global,
+    readings: &mut Vec<Reading>,
+    place: &Place,
+    objects: &[usize],
+    new: &NewValue<'_>,
+) -> Result<(), NoMemory>
+    ensures { OnOk result (readings.new.items ≡ readings.old.items
+        ++ map (reading_at (reached_in place.now).state.values)
+        (ground_form_of objects.now new.now.effect.now.fluent
+        ∷ changing_fluents objects.now (ground_form_of objects.now new.now.effect.now.fluent)
+        new.now.effects.now)) }
+{
+    let fluent = &new.effect.fluent;
+    push_reading(alloc, readings, place, objects, fluent)?;
+    push_changes(alloc, readings, place, objects, fluent, new.effects)
 }
 
 /// Puts the fluents that the amounts of the cost read, with their values, behind others.
@@ -149,7 +193,7 @@ fn push_readings(
         Reason::Subexpression(departure) => {
             push_expression(alloc, readings, place, objects, departure.part)
         }
-        Reason::NewValue(new) => push_effect(alloc, readings, place, objects, new.effect),
+        Reason::NewValue(new) => push_new_value(alloc, readings, place, objects, new),
         Reason::NegativeCost(cost) | Reason::PlanCost(cost) => {
             push_costs(alloc, readings, place, objects, cost.effects)
         }

@@ -14,6 +14,8 @@ pub struct Departure<'a> {
 pub struct NewValue<'a> {
     /// The first effect on the fluent.
     pub effect: &'a NumericEffect,
+    /// The step's effects, all those on the fluent among them.
+    pub effects: &'a [NumericEffect],
     /// The exact value of the fluent after all effects.
     pub value: i128,
 }

@@ -31,7 +31,3 @@ first_value_put listed left v g old new lt at now =
     ∙ ap (λ (o : Option ℤ). option_or o old)
     (sym (ap (λ (xs : List InitialValue). first_value xs g) more
     ∙ (ap (option_map (λ (i : InitialValue). i.value)) (find-append test front (v ∷ [])) ∙ map_or (find test front) (find test (v ∷ []))))))
-
-pub option_or_nothing : (a : Option ℤ) → option_or a None ≡ a
-option_or_nothing None = refl
-option_or_nothing (Some x) = refl

@@ -28,5 +28,6 @@ pub use fault::{Fault, Stop};
 pub use instances::schema_of;
 pub use judging::{begin, judge_goal, judge_step};
 pub use lookups::Lookups;
+pub use negative::costs_negative;
 pub use table::Place;
 pub use undefined::undefined_schema;

@@ -72,7 +72,9 @@ fn with_cost(
 }
 
 /// Whether a schema with objects costs the same in each state, and less than 0.
-pub(crate) fn costs_negative(
+///
+/// Fails only for want of memory.
+pub fn costs_negative(
     alloc: Global,
     lookups: &Lookups<'_>,
     schema: &Schema,

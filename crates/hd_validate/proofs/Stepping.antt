@@ -11,14 +11,13 @@ use Rattle.hd_lifted.specs.WellFormed.{HasDistinctNames}
 use Rattle.hd_lifted.specs.Steps.{Reached, start}
 use Rattle.hd_lifted.specs.Plans.{IsInstance}
 use Rattle.hd_judge.specs.declared.fault.Fault.{Fault}
-use Rattle.hd_judge.specs.declared.fault.Fault.TheVariants.{NoSuchAction}
 use Rattle.hd_judge.specs.declared.fault.Stop.{Stop}
 use Rattle.hd_judge.specs.declared.fault.Stop.TheVariants as stops
 use Rattle.hd_judge.specs.Fault.{StopsBy}
-use Rattle.hd_judge.specs.Validity.{Passes, TellsStep, no_instance, fails}
+use Rattle.hd_judge.specs.Validity.{TellsStep, no_instance, fails}
 use Rattle.hd_validate.specs.Naming.{HasNamesOf}
 use Rattle.hd_validate.specs.Tables.{names_of_objects, names_of_schemas, numbers_of}
-use Rattle.hd_validate.specs.Plans.{PassesBy, TellsStepBy, names_none, fails_named, TellsFromBy, IsFirstFaultBy}
+use Rattle.hd_validate.specs.Plans.{TellsStepBy, names_none, fails_named, TellsFromBy, IsFirstFaultBy}
 use Rattle.hd_validate.proofs.Finding.{found_at, found_nowhere, named_at, name_at, objects_named, objects_unnamed}
 use Rattle.hd_validate.proofs.Apart.{one_instance}
 
@@ -41,13 +40,6 @@ pub no_objects : (t : LiftedTask) (s : Step) → numbers_of (names_of_objects t.
 no_objects t s e i names = objects_unnamed t s.args i.objects e names.objects
 
 -- ---- telling
-
-pub passes_by : (t : LiftedTask) (r to : Reached) (n : ℕ) (s : Step) (i : Instance) → HasNamesOf t s i → Passes t r n i to → PassesBy t r n s to
-passes_by t r to n s i names passes = record { instance = i; is_step = record { instance = passes.instance; names = names }; passes = passes }
-
--- no instance has the names
-pub tells_unnamed : (t : LiftedTask) (r : Reached) (n : ℕ) (s : Step) → ((i : Instance) → HasNamesOf t s i → ⊥) → TellsStepBy t r n s (NoSuchAction n)
-tells_unnamed t r n s none = names_none (λ i step. none i step.names) refl
 
 -- what is told of the instance that has the names is told of the step
 tells_named : (t : LiftedTask) (r : Reached) (n : ℕ) (s : Step) (i : Instance) (fault : Fault) → HasDistinctNames t → HasNamesOf t s i

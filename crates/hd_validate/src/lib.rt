@@ -13,4 +13,6 @@ mod texts;
 mod validating;
 
 pub use error::PlanError;
+pub use names::TaskNames;
+pub use steps::instance_of;
 pub use validating::validate;

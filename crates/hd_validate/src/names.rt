@@ -91,7 +91,7 @@ fn object_names<'a>(
 
 /// A checked task with the numbers of its schemas and objects by name. Contracts see the task.
 #[derive(Drop)]
-pub(crate) struct TaskNames<'a> {
+pub struct TaskNames<'a> {
     checked: &'a Checked,
     schemas: NameTable<'a>,
     objects: NameTable<'a>,
@@ -115,11 +115,9 @@ impl<'a> Model for TaskNames<'a> {
 
 impl<'a> TaskNames<'a> {
     /// The tables of a checked task, which hash by the seed.
-    pub(crate) fn of(
-        alloc: Global,
-        seed: Seed,
-        checked: &'a Checked,
-    ) -> Result<TaskNames<'a>, NoMemory>
+    ///
+    /// Fails only for want of memory.
+    pub fn of(alloc: Global, seed: Seed, checked: &'a Checked) -> Result<TaskNames<'a>, NoMemory>
         ensures { IfOk result (λ n. n ≡ checked.now) }
     {
         let task = checked.task();

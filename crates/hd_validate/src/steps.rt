@@ -32,8 +32,10 @@ fn numbers_of(
 }
 
 /// The instance that has the names of a step, if there is one: whether its objects fit is not asked here.
+///
+/// Fails only for want of memory.
 #[tactic(auto, using(crate::proofs::Stepping::names_found, crate::proofs::Stepping::no_schema, crate::proofs::Stepping::no_objects))]
-pub(crate) fn instance_of(
+pub fn instance_of(
     alloc: Global,
     names: &TaskNames<'_>,
     step: &Step,

@@ -21,9 +21,10 @@ returns-in-Some-clause-reason c =
     let changes = c.args.changes.now in
     let found = rw c.in-Some.is at c.in_ok-new.ensures in (
       c.requires.stay,
+      found.0 ∙ c.as_slice-effects.ensures,
       sym (leaving v objects a changes c.requires.changes)
-          ∙ (ap (λ (es : List NumericEffect). find (λ e. not (change_fits changes objects e)) es) (sym c.as_slice-effects.ensures) ∙ found.0),
-      value_is v objects a changes (ground_form_of objects c.in-Some.new.effect.now.fluent) c.in-Some.new.value c.requires.changes found.1,
+          ∙ (ap (λ (es : List NumericEffect). find (λ e. not (change_fits changes objects e)) es) (sym c.as_slice-effects.ensures) ∙ found.1),
+      value_is v objects a changes (ground_form_of objects c.in-Some.new.effect.now.fluent) c.in-Some.new.value c.requires.changes found.2,
     )
 
 pub returns-clause-reason : goal.returns-clause-reason

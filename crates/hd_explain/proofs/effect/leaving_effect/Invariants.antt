@@ -6,8 +6,8 @@ use Rattle.hd_explain.proofs.effect.leaving_effect.Given as goal
 
 abbrev pub invariant-loop-rest : goal.invariant-loop-rest
 invariant-loop-rest l = record {
-  leaving : find (λ e. not (change_fits l.changes l.objects e)) l.said ≡ find (λ e. not (change_fits l.changes l.objects e)) l.rest;
-  fit : list_all (change_fits l.changes l.objects) l.said ≡ list_all (change_fits l.changes l.objects) l.rest;
+  leaving : find (λ e. not (change_fits l.changes l.objects e)) l.effects ≡ find (λ e. not (change_fits l.changes l.objects e)) l.rest;
+  fit : list_all (change_fits l.changes l.objects) l.effects ≡ list_all (change_fits l.changes l.objects) l.rest;
 }
 
 abbrev pub decreases-loop-rest : goal.decreases-loop-rest

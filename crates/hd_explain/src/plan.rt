@@ -1,0 +1,238 @@
+//! Why a plan of steps is not valid.
+ghost use Rattle.std.specs.Prelude.{◌≡◌, ℕ, [], string_bytes, IfOk, IfSome, IfNone};
+ghost use Rattle.hd_lifted.specs.Steps.{start};
+ghost use Rattle.hd_lifted.specs.WellFormed.{HasDistinctNames};
+ghost use Rattle.hd_judge.specs.Tables.{reached_in};
+ghost use Rattle.hd_judge.specs.Way.{IsOnWay};
+ghost use Rattle.hd_validate.specs.Plans.{PassesBy};
+ghost use Rattle.hd_explain.specs.Steps.{GoesThrough};
+ghost use Rattle.hd_explain.specs.Texts.{text_of};
+ghost use Rattle.hd_explain.specs.Plans.{objects_of, TellsReason, NeedsNoReason, HaltsAt, HaltsFrom, MeansTaken};
+
+use crate::explaining::explain_step;
+use crate::goal::explain_goal;
+use crate::reason::Reason;
+use crate::text::text_of;
+use hd_base::{NoMemory, Seed};
+use hd_judge::{Lookups, Place, Stop, begin, judge_step};
+use hd_lifted::{Checked, Instance, LiftedTask};
+use hd_plan::Step;
+use hd_validate::{TaskNames, instance_of};
+use std::alloc::{AllocError, Global};
+
+/// Why a plan is not valid.
+#[derive(Drop)]
+pub(crate) struct PlanReason<'a> {
+    /// The instance of the step that is refused; none where the goal is not met.
+    pub(crate) instance: Option<Instance>,
+    pub(crate) reason: Reason<'a>,
+}
+
+/// Where the way along a plan ends.
+#[derive(Drop)]
+pub(crate) enum Halt<'a> {
+    /// At a fault that says all that there is to say, or at the goal, which is met.
+    Untold,
+    /// At a fault that has this reason.
+    Told(PlanReason<'a>),
+}
+
+/// Takes a step for whose refusal there is no reason, and says whether it passes. Else, and on an error, the place is of no use.
+fn take(
+    alloc: Global,
+    lookups: &Lookups<'_>,
+    place: &mut Place,
+    number: u64,
+    instance: &Instance,
+) -> Result<bool, NoMemory>
+    requires way { IsOnWay lookups.now (reached_in place.old) }
+    requires through { GoesThrough lookups.now (reached_in place.old) instance.now }
+    ensures { IfOk result (MeansTaken lookups.now (reached_in place.old) number instance.now
+        (reached_in place.new)) }
+{
+    match judge_step(alloc, lookups, place, number, instance) {
+        Ok(()) => Ok(true),
+        Err(Stop::At(fault)) => {
+            drop(fault);
+            Ok(false)
+        }
+        Err(Stop::NoMemory) => Err(AllocError),
+    }
+}
+
+/// Explains the n-th step where it is refused, and else takes it: `None` says that it passes. Where it is refused without a reason, and on
+/// an error, the place is of no use.
+#[tactic(auto, using(crate::proofs::Named::step_unnamed, crate::proofs::Named::step_told, crate::proofs::Named::step_passes, crate::proofs::Named::step_untold))]
+fn explain_next<'a>(
+    alloc: Global,
+    names: &TaskNames<'_>,
+    lookups: &Lookups<'_>,
+    task: &'a LiftedTask,
+    place: &mut Place,
+    number: u64,
+    step: &Step,
+) -> Result<Option<Halt<'a>>, NoMemory>
+    requires named { names.now ≡ task.now }
+    requires same { lookups.now ≡ task.now }
+    requires distinct { HasDistinctNames task.now }
+    requires way { IsOnWay task.now (reached_in place.old) }
+    ensures passes { IfOk result (λ o. IfNone o (PassesBy task.now (reached_in place.old) number
+        step.now (reached_in place.new))) }
+    ensures way { IfOk result (λ o. IfNone o (IsOnWay task.now (reached_in place.new))) }
+    ensures halts { IfOk result (λ o. IfSome o (HaltsAt task.now (reached_in place.old) number
+        step.now (reached_in place.new))) }
+{
+    let Some(instance) = instance_of(alloc, names, step)? else {
+        return Ok(Some(Halt::Untold));
+    };
+    match explain_step(alloc, lookups, task, place, &instance) {
+        Ok(Some(reason)) => Ok(Some(Halt::Told(PlanReason {
+            instance: Some(instance),
+            reason,
+        }))),
+        Ok(None) => {
+            let taken = take(alloc, lookups, place, number, &instance);
+            drop(instance);
+            match taken {
+                Ok(true) => Ok(None),
+                Ok(false) => Ok(Some(Halt::Untold)),
+                Err(error) => Err(error),
+            }
+        }
+        Err(error) => {
+            drop(instance);
+            Err(error)
+        }
+    }
+}
+
+/// Explains the goal, where it is not met.
+#[tactic(auto, using(crate::proofs::Named::goal_told, crate::proofs::Named::goal_untold))]
+fn explain_end<'a>(
+    alloc: Global,
+    lookups: &Lookups<'_>,
+    task: &'a LiftedTask,
+    place: &Place,
+) -> Result<Halt<'a>, NoMemory>
+    requires same { lookups.now ≡ task.now }
+    requires way { IsOnWay task.now (reached_in place.now) }
+    ensures { IfOk result (λ h. (n : ℕ) → HaltsFrom task.now (reached_in place.now) n []
+        (reached_in place.now) h) }
+{
+    match explain_goal(alloc, lookups, task, place)? {
+        Some(reason) => Ok(Halt::Told(PlanReason {
+            instance: None,
+            reason,
+        })),
+        None => Ok(Halt::Untold),
+    }
+}
+
+/// Explains the first of the steps that is refused, or else the goal: the place is then the one where the steps before lead. Where there
+/// is no reason, and on an error, the place is of no use.
+#[tactic(auto, using(crate::proofs::Named::halts_whole, crate::proofs::Named::halts_behind))]
+fn explain_all<'a>(
+    alloc: Global,
+    names: &TaskNames<'_>,
+    lookups: &Lookups<'_>,
+    task: &'a LiftedTask,
+    place: &mut Place,
+    steps: &[Step],
+) -> Result<Halt<'a>, NoMemory>
+    requires named { names.now ≡ task.now }
+    requires same { lookups.now ≡ task.now }
+    requires distinct { HasDistinctNames task.now }
+    requires way { IsOnWay task.now (reached_in place.old) }
+    ensures { IfOk result (HaltsFrom task.now (reached_in place.old) 1 steps.now
+        (reached_in place.new)) }
+{
+    let mut number: u64 = 1;
+    let mut rest = steps;
+    while let [first, after @ ..] = rest {
+        if let Some(halt) = explain_next(alloc, names, lookups, task, place, number, first)? {
+            return Ok(halt);
+        }
+        number += 1;
+        rest = after;
+    }
+    explain_end(alloc, lookups, task, place)
+}
+
+/// The line of a reason at a place.
+fn line_of(
+    alloc: Global,
+    task: &LiftedTask,
+    place: &Place,
+    told: &PlanReason<'_>,
+) -> Result<String, NoMemory>
+    ensures { IfOk result (λ line. string_bytes line ≡ text_of task.now (reached_in place.now)
+        (objects_of told.now.instance) told.now.reason) }
+{
+    let none: [usize; 0] = [];
+    match &told.instance {
+        Some(instance) => {
+            let objects = instance.objects.as_slice();
+            text_of(alloc, task, place, objects, &told.reason)
+        }
+        None => text_of(alloc, task, place, none.as_slice(), &told.reason),
+    }
+}
+
+/// The line that explains a plan which begins here.
+fn explain_from(
+    alloc: Global,
+    names: &TaskNames<'_>,
+    lookups: &Lookups<'_>,
+    task: &LiftedTask,
+    mut place: Place,
+    steps: &[Step],
+) -> Result<Option<String>, NoMemory>
+    requires named { names.now ≡ task.now }
+    requires same { lookups.now ≡ task.now }
+    requires distinct { HasDistinctNames task.now }
+    requires start { reached_in place ≡ start task.now }
+    requires way { IsOnWay task.now (reached_in place) }
+    ensures told { IfOk result (λ l. IfSome l (λ line.
+        TellsReason task.now steps.now (string_bytes line))) }
+    ensures none { IfOk result (λ l. IfNone l (NeedsNoReason task.now steps.now)) }
+{
+    match explain_all(alloc, names, lookups, task, &mut place, steps) {
+        Ok(Halt::Told(told)) => {
+            let line = line_of(alloc, task, &place, &told);
+            drop(told);
+            match line {
+                Ok(line) => Ok(Some(line)),
+                Err(error) => Err(error),
+            }
+        }
+        Ok(Halt::Untold) => Ok(None),
+        Err(error) => Err(error),
+    }
+}
+
+/// Why a plan of a checked task is not valid, in one line without a line's end: the reason of its first fault, as `text_of` tells it.
+/// The tables hash by the seed.
+///
+/// `None` says that the plan is valid, or that its fault says all that there is to say: a step is one of no instance, a fluent has no
+/// first value, or a step costs the same in each state and less than 0.
+///
+/// # Errors
+/// Want of memory.
+pub fn explain(
+    alloc: Global,
+    seed: Seed,
+    checked: &Checked,
+    steps: &[Step],
+) -> Result<Option<String>, NoMemory>
+    ensures told { IfOk result (λ l. IfSome l (λ line.
+        TellsReason checked.now steps.now (string_bytes line))) }
+    ensures none { IfOk result (λ l. IfNone l (NeedsNoReason checked.now steps.now)) }
+{
+    let task = checked.task();
+    let names = TaskNames::of(alloc, seed, checked)?;
+    let lookups = Lookups::of(alloc, seed, task)?;
+    match begin(alloc, seed, task) {
+        Ok(place) => explain_from(alloc, &names, &lookups, task, place, steps),
+        Err(error) => Err(error),
+    }
+}
