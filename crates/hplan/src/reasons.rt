@@ -1,6 +1,6 @@
 //! From the bytes of three texts to the reason why the plan in the third is not valid.
-ghost use Rattle.std.specs.Prelude.{IfOk, IfSome, IfNone, string_bytes};
-ghost use Rattle.hplan.specs.Reasons.{TellsReasonIn, TellsReasonOf, NeedsNoReasonIn, NeedsNoReasonOf};
+ghost use Rattle.std.specs.Prelude.{◌≡◌, IfOk, IfSome, IfNone, string_bytes};
+ghost use Rattle.hplan.specs.Reasons.{TellsReasonIn, TellsReasonOf, NeedsNoReasonIn, NeedsNoReasonOf, is_in_texts};
 
 use hd_base::{NoMemory, Seed};
 use hd_check::Checked;
@@ -31,6 +31,16 @@ fn reason_in(
     }
 }
 
+/// Whether a fault of texts stands in them: it is no want of memory.
+fn is_in_texts(fault: &TaskFault) -> bool
+    ensures { result ≡ is_in_texts fault.now }
+{
+    match fault {
+        TaskFault::Read(_, _) | TaskFault::Check(_, _) | TaskFault::Ground(_) => true,
+        TaskFault::NoMemory => false,
+    }
+}
+
 /// Why the plan of a third text is not valid in the task that two texts say, in one line without its end: the first condition of an
 /// action or of the goal that does not hold, or what is out of the range, with the values of its fluents.
 ///
@@ -57,10 +67,10 @@ pub fn explain(
             drop(checked);
             reason
         }
-        Err(TaskFault::NoMemory) => Err(AllocError),
         Err(fault) => {
+            let stands = is_in_texts(&fault);
             drop(fault);
-            Ok(None)
+            if stands { Ok(None) } else { Err(AllocError) }
         }
     }
 }

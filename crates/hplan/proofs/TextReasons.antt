@@ -1,8 +1,9 @@
 -- From the reason of a plan's steps to that of the texts which say them.
-use Rattle.std.proofs.Common.{◌≡◌, ◌⊎◌, inl, inr, ℕ, List, Option, Some, None, Ok, Err}
+use Rattle.std.proofs.Common.{◌≡◌, ◌⊎◌, inl, inr, ℕ, List, Option, Some, None, Ok, Err, sym, subst, ◌∙◌}
 use Rattle.std.specs.Prelude.{Result, IfOk, IfSome, IfNone}
 use Rattle.hd_explain.specs.Plans.{TellsReason, NeedsNoReason}
 use Rattle.hd_lifted.specs.declared.task.LiftedTask.{LiftedTask}
+use Rattle.hd_plan.specs.declared.error.PlanTextError.{PlanTextError}
 use Rattle.hd_plan.specs.declared.error.PlanTextError.TheVariants.{BadLine, NoMemory}
 use Rattle.hd_plan.specs.declared.step.Step.{Step}
 use Rattle.hd_plan.specs.Text.{ReadsAs, IsFault}
@@ -23,9 +24,10 @@ none_in l plan steps reads (Ok (Some x)) none = tt
 none_in l plan steps reads (Ok None) none = OfSteps steps reads none
 none_in l plan steps reads (Err e) none = tt
 
-pub unread_in : (l : LiftedTask) (plan : List ℕ) (line : ℕ) → (BadLine line ≡ NoMemory) ⊎ IsFault plan (BadLine line) → NeedsNoReasonIn l plan
-unread_in l plan line (inl e) = let no = e in absurd (cc)
-unread_in l plan line (inr bad) = Unread line bad
+pub unread_in : (l : LiftedTask) (plan : List ℕ) (error : PlanTextError) (line : ℕ) → error ≡ BadLine line
+    → (error ≡ NoMemory) ⊎ IsFault plan error → NeedsNoReasonIn l plan
+unread_in l plan error line is (inl e) = let no : BadLine line ≡ NoMemory = sym is ∙ e in absurd (cc)
+unread_in l plan error line is (inr bad) = Unread line (subst (IsFault plan) is bad)
 
 -- ---- of three texts
 
