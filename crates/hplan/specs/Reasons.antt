@@ -1,8 +1,7 @@
 -- What is told of the plan in a third text beside its fault. (Our own.)
-use Rattle.std.specs.Prelude.{◌≡◌, ℕ, Bool, true, false, ◌⊎◌, List}
+use Rattle.std.specs.Prelude.{◌≡◌, ℕ, Bool, true, false, List}
 use Rattle.hd_explain.specs.Plans.{TellsReason, NeedsNoReason}
 use Rattle.hd_lifted.specs.declared.task.LiftedTask.{LiftedTask}
-use Rattle.hd_plan.specs.declared.error.PlanTextError.{PlanTextError}
 use Rattle.hd_plan.specs.declared.error.PlanTextError.TheVariants.{BadLine}
 use Rattle.hd_plan.specs.declared.step.Step.{Step}
 use Rattle.hd_plan.specs.Text.{ReadsAs, IsFault}
