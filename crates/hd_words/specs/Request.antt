@@ -7,4 +7,4 @@ use Rattle.hd_words.specs.declared.request.Request.TheVariants.{Solve, Ground, V
 abbrev pub HasWorkers : Request → Type 0
 HasWorkers (Solve domain problem workers) = (1 ≤ workers) × (workers ≤ 64)
 HasWorkers (Ground domain problem) = Unit {0}
-HasWorkers (Validate domain problem plan) = Unit {0}
+HasWorkers (Validate domain problem plan explain) = Unit {0}

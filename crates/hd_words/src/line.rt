@@ -1,6 +1,6 @@
 //! What `clap` is told of the command line.
 
-use clap::{Arg, Command};
+use clap::{Arg, ArgAction, Command};
 use std::alloc::{AllocError, Global};
 
 /// The name of the program, whatever its file is called.
@@ -30,7 +30,8 @@ const VALIDATE_HELP: &str = "\
 Reads the three files, and writes `valid; cost = N` to standard output. Each line of PLAN is an action as `(name object ..)`, or a
 comment behind `;`. The first fault goes to standard error.
 Exit status: 0 the plan is valid, at the cost that is printed;
-  1 a refusal, told on one line: of a file, or of the plan, which is then not valid;
+  1 a refusal, told on one line: of a file, or of the plan, which is then not valid; with --explain a line with the reason may
+    follow;
   2 the command line is at fault.";
 
 /// An argument that has to be given, by its place.
@@ -75,12 +76,21 @@ fn ground<'a>(alloc: Global) -> Result<Command<'a>, AllocError> {
     )
 }
 
-/// `validate DOMAIN PROBLEM PLAN`.
+/// Whether the reason of a refusal is told.
+fn explain<'a>(alloc: Global) -> Arg<'a> {
+    Arg::new(alloc, "explain")
+        .long("explain")
+        .help("Tells on a second line why an action or the goal is refused (21, 22, 23)")
+        .action(ArgAction::SetTrue)
+}
+
+/// `validate DOMAIN PROBLEM PLAN [--explain]`.
 fn validate<'a>(alloc: Global) -> Result<Command<'a>, AllocError> {
     of_task(alloc, "validate")?
         .about("Tells whether a plan is valid, and what it costs")
         .after_help(VALIDATE_HELP)
-        .arg(file(alloc, "plan", "PLAN", "The file with the plan"))
+        .arg(file(alloc, "plan", "PLAN", "The file with the plan"))?
+        .arg(explain(alloc))
 }
 
 /// The whole command line.

@@ -38,6 +38,8 @@ pub enum Request {
         problem: String,
         /// The name of the file with the plan.
         plan: String,
+        /// Whether the reason of a refusal is told.
+        explain: bool,
     },
 }
 
@@ -81,6 +83,7 @@ fn validate_request(
     domain: &str,
     problem: &str,
     plan: Option<&str>,
+    explain: bool,
 ) -> Result<Option<Request>, AllocError>
     ensures { IfOk result (λ found. IfSome found HasWorkers) }
 {
@@ -91,6 +94,7 @@ fn validate_request(
         domain: String::from_str(alloc, domain)?,
         problem: String::from_str(alloc, problem)?,
         plan: String::from_str(alloc, plan)?,
+        explain,
     }))
 }
 
@@ -111,7 +115,10 @@ fn named_request(
             domain: String::from_str(alloc, domain)?,
             problem: String::from_str(alloc, problem)?,
         })),
-        "validate" => validate_request(alloc, domain, problem, found.get_str("plan")),
+        "validate" => {
+            let explain = found.get_flag("explain");
+            validate_request(alloc, domain, problem, found.get_str("plan"), explain)
+        }
         _ => Ok(None),
     }
 }

@@ -4,3 +4,4 @@ pub mod Legal
 pub mod Solving
 pub mod StepTexts
 pub mod TaskLines
+pub mod TextReasons

@@ -3,6 +3,7 @@ pub mod Fault
 pub mod Places
 pub mod PlanText
 pub mod Printing
+pub mod Reasons
 pub mod TaskText
 pub mod Verdict
 pub mod Written

@@ -11,6 +11,7 @@ mod naming;
 mod output;
 mod places;
 mod program;
+mod reasons;
 mod text;
 mod validating;
 
@@ -20,4 +21,5 @@ pub use grounding::ground;
 pub use hd_texts::{Source, TaskFault};
 pub use places::{Places, Shelf, SystemFiles};
 pub use program::{command, start};
+pub use reasons::explain;
 pub use validating::validate;

@@ -8,6 +8,7 @@ use crate::fault::{Fault, device_fault};
 use crate::grounding::ground;
 use crate::output::write_out;
 use crate::places::{Places, SystemFiles};
+use crate::reasons::explain;
 use crate::validating::validate;
 use hd_plan::{Watched, put};
 use hd_words::{Request, WordsError, read_words};
@@ -108,19 +109,33 @@ fn ground_files<P: Places, O: Write>(
     flush(out)
 }
 
-/// Reads three files, and writes the verdict on the plan in the third.
-fn validate_files<P: Places, O: Write>(
+/// The bytes of a domain's file, a problem's and a plan's.
+#[derive(Drop)]
+struct PlanFiles {
+    domain: Vec<u8>,
+    problem: Vec<u8>,
+    plan: Vec<u8>,
+}
+
+/// Reads three files.
+fn read_plan_files<P: Places>(
     alloc: Global,
     places: &mut P,
     domain: &str,
     problem: &str,
     plan: &str,
-    out: &mut O,
-) -> Result<(), Fault> {
-    let domain = read(alloc, places, domain)?;
-    let problem = read(alloc, places, problem)?;
-    let plan = read(alloc, places, plan)?;
-    validate(alloc, &domain, &problem, &plan, &mut Watched::of(&mut *out))?;
+) -> Result<PlanFiles, Fault> {
+    Ok(PlanFiles {
+        domain: read(alloc, places, domain)?,
+        problem: read(alloc, places, problem)?,
+        plan: read(alloc, places, plan)?,
+    })
+}
+
+/// Writes the verdict on the plan in the third file.
+fn judge<O: Write>(alloc: Global, files: &PlanFiles, out: &mut O) -> Result<(), Fault> {
+    let (domain, problem, plan) = (&files.domain, &files.problem, &files.plan);
+    validate(alloc, domain, problem, plan, &mut Watched::of(&mut *out))?;
     flush(out)
 }
 
@@ -132,6 +147,31 @@ fn status_of<E: Write>(err: &mut E, done: Result<(), Fault>) -> u8
         Ok(()) => DONE,
         Err(fault) => refuse(err, &fault),
     }
+}
+
+/// Tells the reason of a plan's fault on one line, if it has one, and there is memory for it.
+fn tell_reason<E: Write>(alloc: Global, files: &PlanFiles, err: &mut E) {
+    if let Ok(Some(reason)) = explain(alloc, &files.domain, &files.problem, &files.plan) {
+        let _ = put(err, reason.as_bytes());
+        let _ = put(err, b"\n");
+    }
+}
+
+/// The exit status of a judged plan: a fault is told, and behind that of a plan its reason, where it is asked for.
+fn judge_files<O: Write, E: Write>(
+    alloc: Global,
+    files: &PlanFiles,
+    explained: bool,
+    out: &mut O,
+    err: &mut E,
+) -> u8 {
+    let done = judge(alloc, files, out);
+    let is_of_plan = matches!(&done, Err(Fault::Plan(_)));
+    let status = status_of(err, done);
+    if explained && is_of_plan {
+        tell_reason(alloc, files, err);
+    }
+    status
 }
 
 /// Does what a request asks.
@@ -159,10 +199,13 @@ fn answer<P: Places, O: Write, E: Write>(
             domain,
             problem,
             plan,
+            explain,
         } => {
             let names = (domain.as_str(), problem.as_str(), plan.as_str());
-            let done = validate_files(alloc, places, names.0, names.1, names.2, out);
-            status_of(err, done)
+            match read_plan_files(alloc, places, names.0, names.1, names.2) {
+                Ok(files) => judge_files(alloc, &files, *explain, out, err),
+                Err(fault) => refuse(err, &fault),
+            }
         }
     }
 }

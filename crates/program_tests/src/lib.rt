@@ -8,6 +8,8 @@ mod counted;
 #[cfg(test)]
 mod digests;
 #[cfg(test)]
+mod explained;
+#[cfg(test)]
 mod grounded;
 #[cfg(test)]
 mod line;

@@ -46,6 +46,22 @@ pub fn grounded(alloc: Global, domain: &str, problem: &str) -> Result<Vec<u8>, A
     run(alloc, &["ground", "d", "p"], &files)
 }
 
+/// The run of `validate` on three texts, with these options.
+fn judged(
+    alloc: Global,
+    domain: &str,
+    problem: &str,
+    plan: &[u8],
+    words: &[&str],
+) -> Result<Vec<u8>, AllocError> {
+    let files = [
+        ("d", domain.as_bytes()),
+        ("p", problem.as_bytes()),
+        ("s", plan),
+    ];
+    run(alloc, words, &files)
+}
+
 /// The run of `validate` on three texts.
 pub fn validated(
     alloc: Global,
@@ -53,12 +69,19 @@ pub fn validated(
     problem: &str,
     plan: &[u8],
 ) -> Result<Vec<u8>, AllocError> {
-    let files = [
-        ("d", domain.as_bytes()),
-        ("p", problem.as_bytes()),
-        ("s", plan),
-    ];
-    run(alloc, &["validate", "d", "p", "s"], &files)
+    let words = ["validate", "d", "p", "s"];
+    judged(alloc, domain, problem, plan, words.as_slice())
+}
+
+/// The run of `validate --explain` on three texts.
+pub fn explained(
+    alloc: Global,
+    domain: &str,
+    problem: &str,
+    plan: &[u8],
+) -> Result<Vec<u8>, AllocError> {
+    let words = ["validate", "--explain", "d", "p", "s"];
+    judged(alloc, domain, problem, plan, words.as_slice())
 }
 
 /// A writer that takes some bytes, and then fails.

@@ -22,8 +22,12 @@ fn read_line(alloc: Global, line: &[String]) -> Result<String, AllocError> {
                 domain,
                 problem,
                 plan,
+                explain,
             },
-        ) => format!(in alloc; "validate {domain} {problem} {plan}"),
+        ) => {
+            let how = if explain { " with reasons" } else { "" };
+            format!(in alloc; "validate {domain} {problem} {plan}{how}")
+        }
         Err(WordsError::Shown(text)) => format!(in alloc; "shown: {text}"),
         Err(WordsError::Fault(text)) => format!(in alloc; "fault: {text}"),
         Err(WordsError::NoMemory) => String::from_str(alloc, "no memory"),
@@ -51,6 +55,14 @@ fn commands_take_files_and_a_number_of_workers(rt: HostRuntime) -> Result<(), Fa
         ),
         (["ground", "d", "p"].as_slice(), "ground d p"),
         (["validate", "d", "p", "s"].as_slice(), "validate d p s"),
+        (
+            ["validate", "d", "p", "s", "--explain"].as_slice(),
+            "validate d p s with reasons",
+        ),
+        (
+            ["validate", "--explain", "d", "p", "s"].as_slice(),
+            "validate d p s with reasons",
+        ),
     ] {
         assert_eq!(rt; read(alloc, words)?.as_str(), want);
     }
@@ -76,6 +88,14 @@ fn other_words_are_faults(rt: HostRuntime) -> Result<(), Fail> {
         (
             ["solve", "d", "p", "--fast"].as_slice(),
             "fault: error: unexpected argument '--fast' found",
+        ),
+        (
+            ["solve", "d", "p", "--explain"].as_slice(),
+            "fault: error: unexpected argument '--explain' found",
+        ),
+        (
+            ["validate", "d", "p", "s", "--explain=no"].as_slice(),
+            "fault: error: unexpected value 'no' for '--explain' found",
         ),
         (
             ["validate", "d", "p"].as_slice(),
