@@ -1,5 +1,6 @@
 //! Large tasks, which a look at every tuple of objects would never end on, and the largest one that there may be.
-use crate::told::assert_with_objects;
+use crate::told::{Telling, assert_with_objects, told};
+use std::fmt::Write;
 use std::test::Fail;
 
 #[test]
@@ -70,4 +71,30 @@ fn a_schema_of_many_parameters_has_one_action(rt: HostRuntime) -> Result<(), Fai
         (20_000, " ?@"),
         "actions 1\natoms 0\nfluents 0",
     )
+}
+
+#[test]
+fn objects_of_a_chain_of_types_are_of_each_type(rt: HostRuntime) -> Result<(), Fail> {
+    // The types t0, t1, .. form a chain, t1999 the lowest; all 2,000 objects are of the lowest, so of each type.
+    let alloc = rt.alloc();
+    let mut types = String::new(alloc);
+    let mut objects = String::new(alloc);
+    for number in 0..1_999 {
+        write!(types, " t{} - t{number}", number + 1)?;
+    }
+    for number in 0..2_000 {
+        write!(objects, " o{number}")?;
+    }
+    let text = format!(in alloc;
+        "(define (domain d) (:requirements :typing) (:types{types})
+      (:predicates (p ?x))
+      (:action top :parameters (?a - t0) :effect (p ?a))
+      (:action middle :parameters (?a - t1000) :effect (p ?a))
+      (:action low :parameters (?a - t1999) :effect (p ?a))
+      (:action same :parameters (?a - t1 ?b - t1998) :precondition (= ?a ?b) :effect (p ?a)))|
+      (define (problem p) (:domain d) (:objects{objects} - t1999) (:init) (:goal ()))"
+    )?;
+    let told = told(alloc, Telling::Counts, &text)?;
+    assert_eq!(rt; told.as_str(), "actions 8000\natoms 2000\nfluents 0");
+    Ok(())
 }
