@@ -3,8 +3,9 @@ ghost use Rattle.std.specs.Prelude.{◌≡◌, IfOk, IfErr, OnOk};
 ghost use Rattle.hd_book.specs.Answers.{IsTrueAnswer};
 ghost use Rattle.hd_search.specs.Answer.{IsAnswer};
 ghost use Rattle.hd_book.specs.Settling.{IsOf};
+ghost use Rattle.hd_book.specs.declared.refusal.Refusal.TheVariants as Refusal;
 ghost use Rattle.hd_search.specs.Frontier.{IsOfTask};
-ghost use Rattle.hd_search.specs.Refused.{IsOpen, Tells};
+ghost use Rattle.hd_search.specs.Refused.{HasOut, IsOpen, Tells};
 
 use crate::closed::{Closed, Known, key_of};
 use crate::frontier::Frontier;
@@ -39,6 +40,7 @@ fn commit_alone<'t>(
     requires running { IsOpen book.old }
     ensures task { book.new.state.task ≡ book.old.state.task }
     ensures running { IsOpen book.new }
+    ensures out { IfOk result (λ r. HasOut book.new r.1) }
     ensures told { IfErr result (Tells book.old.state.task) }
 {
     let batch = batch_of(alloc, outcome)?;
@@ -49,7 +51,10 @@ fn commit_alone<'t>(
     }
 }
 
-/// Redeems a ticket: what its batch releases waits from now on.
+/// Redeems a ticket that is out: what its batch releases waits from now on.
+///
+/// # Errors
+/// `NoMemory` alone.
 fn release<'t>(
     book: &mut Book<'t>,
     frontier: &mut Frontier<'t>,
@@ -57,10 +62,11 @@ fn release<'t>(
 ) -> Result<(), Refusal>
     requires waiting { IsOfTask book.old.state.task frontier.old }
     requires running { IsOpen book.old }
+    requires out { HasOut book.old ticket }
     ensures task { book.new.state.task ≡ book.old.state.task }
     ensures running { IsOpen book.new }
     ensures waiting { OnOk result (IsOfTask book.old.state.task frontier.new) }
-    ensures told { IfErr result (Tells book.old.state.task) }
+    ensures told { IfErr result (λ r. r ≡ Refusal.NoMemory) }
 {
     let Redeemed::Released(receipt, parcels) = book.redeem(ticket)?;
     book.present(receipt)?;
@@ -104,10 +110,11 @@ fn settle<'t>(
 /// duplicate, else as bounded, else expanded.
 ///
 /// # Errors
-/// Why the book refuses, or `NoMemory`: `Full` only where as many plans are expanded as there may be entries, and `Halted`
-/// never. That no other refusal comes is tested, and not proved.
+/// Why the book refuses, or `NoMemory`: `Full` only where as many plans are expanded as there may be entries, `Halted` and
+/// `NotOut` never, and each other only where the book refuses an outcome for it. That none of these comes is tested, and not proved.
 pub fn searched<'t>(alloc: Global, task: &'t Task) -> Result<Book<'t>, Refusal>
     ensures task { IfOk result (λ b. b.state.task ≡ task.now) }
+    ensures running { IfOk result IsOpen }
     ensures told { IfErr result (Tells task.now) }
 {
     let mut book = Book::new(alloc, task, MOST_ENTRIES)?;
@@ -126,9 +133,9 @@ pub fn searched<'t>(alloc: Global, task: &'t Task) -> Result<Book<'t>, Refusal>
 /// Searches a task to the end, and answers its verdict.
 ///
 /// # Errors
-/// Why the book refuses, or `NoMemory`: `Full` only where as many plans are expanded as there may be entries, and `Halted`
-/// never. That no other refusal comes is tested, and not proved; it would be `NotOut` where the search ended before all was
-/// settled.
+/// Why the book refuses, or `NoMemory`: `Full` only where as many plans are expanded as there may be entries, `Halted` never,
+/// `NotOut` only where the book has kids that are not settled, and each other only where it refuses an outcome for it. That none of
+/// these comes is tested, and not proved.
 pub fn run(alloc: Global, task: &Task) -> Result<Verdict, Refusal>
     ensures answer { IfOk result (IsAnswer task.now) }
     ensures truth { IfOk result (IsTrueAnswer task.now) }

@@ -5,7 +5,7 @@ mod digest;
 mod fault;
 mod tasks;
 
-pub use digest::digest_of;
+pub use digest::{digest_of, seed_of};
 pub use fault::TaskFault;
 pub use hd_check::Source;
 pub use tasks::{checked_of, task_of};

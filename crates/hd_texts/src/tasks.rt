@@ -2,7 +2,7 @@
 ghost use Rattle.std.specs.Prelude.{IfOk, IfErr};
 ghost use Rattle.hd_texts.specs.Tasks.{SayTrees, IsLiftedOf, IsTaskOf, ExplainsTexts, Explains};
 
-use crate::digest::digest_of;
+use crate::digest::seed_of;
 use crate::fault::{TaskFault, checked_in, grounded_in, read_in};
 use hd_base::Seed;
 use hd_check::{Checked, Source, check};
@@ -56,7 +56,7 @@ pub fn task_of(alloc: Global, domain: &[u8], problem: &[u8]) -> Result<Task, Tas
     ensures found { IfOk result (IsTaskOf domain.now problem.now) }
     ensures refusal { IfErr result (Explains domain.now problem.now) }
 {
-    let seed = Seed::of(digest_of(domain, problem));
+    let seed = seed_of(domain, problem);
     let checked = checked_of(alloc, seed, domain, problem)?;
     match ground(alloc, seed, &checked) {
         Ok(task) => Ok(task),

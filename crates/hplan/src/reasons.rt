@@ -5,7 +5,7 @@ ghost use Rattle.hplan.specs.Reasons.{TellsReasonIn, TellsReasonOf, NeedsNoReaso
 use hd_base::{NoMemory, Seed};
 use hd_check::Checked;
 use hd_plan::{PlanTextError, read_plan};
-use hd_texts::{TaskFault, checked_of, digest_of};
+use hd_texts::{TaskFault, checked_of, seed_of};
 use std::alloc::{AllocError, Global};
 
 /// Why the plan that a text says is not valid in a checked task.
@@ -60,7 +60,7 @@ pub fn explain(
     ensures none { IfOk result (λ found. IfNone found
         (NeedsNoReasonOf domain.now problem.now plan.now)) }
 {
-    let seed = Seed::of(digest_of(domain, problem));
+    let seed = seed_of(domain, problem);
     match checked_of(alloc, seed, domain, problem) {
         Ok(checked) => {
             let reason = reason_in(alloc, seed, &checked, plan);

@@ -9,7 +9,7 @@ use crate::text::valid_text;
 use hd_base::Seed;
 use hd_check::Checked;
 use hd_plan::{Watched, read_plan};
-use hd_texts::{checked_of, digest_of};
+use hd_texts::{checked_of, seed_of};
 use std::alloc::Global;
 use std::io::Write;
 
@@ -37,7 +37,7 @@ fn cost_of_texts(alloc: Global, domain: &[u8], problem: &[u8], plan: &[u8]) -> R
     ensures valid { IfOk result (AreValid domain.now problem.now plan.now) }
     ensures refusal { IfErr result (HasNoVerdictYet domain.now problem.now plan.now) }
 {
-    let seed = Seed::of(digest_of(domain, problem));
+    let seed = seed_of(domain, problem);
     match checked_of(alloc, seed, domain, problem) {
         Ok(checked) => {
             let cost = cost_in(alloc, seed, &checked, plan);

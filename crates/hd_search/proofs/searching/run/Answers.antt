@@ -1,5 +1,5 @@
-use Rattle.std.proofs.Common.{subst}
-use Rattle.std.specs.Prelude.{IfSome}
+use Rattle.std.proofs.Common.{sym, ap, subst, ◌∙◌}
+use Rattle.std.specs.Prelude.{IfSome, is_some}
 use Rattle.hd_task.specs.Covers.{IsCovered, zero_estimate}
 use Rattle.hd_book.specs.Settling.{expansions}
 use Rattle.hd_book.specs.Answers as book
@@ -17,3 +17,12 @@ returns-in-Some-clause-answer c =
       covered = subst (λ o. IfSome o (λ _. IsCovered s.task zero_estimate (expansions s))) c.in-Some.is said.covered;
       answers = subst (λ o. IfSome o (book.IsAnswer s.task (expansions s))) c.in-Some.is said.answer;
     })
+
+pub returns-clause-told : goal.returns-clause-told
+returns-clause-told c =
+    let b = c.in_ok-book.book in
+    let said = c.in_ok-verdict.ensures in (
+      b,
+      record { same = c.in_ok-book.ensures.task; kept = said.kept; running = c.in_ok-book.ensures.running },
+      sym (ap is_some (sym c.in-None.is) ∙ said.over),
+    )
