@@ -1,8 +1,8 @@
 #!/bin/sh
 # Times the words, the reading and the check of a domain and a problem: bench/read.sh [ATOMS], 100000 if ATOMS is not given.
 # The problem has 10000 objects, ATOMS initial atoms, and a value for every ten of these. Then the same is done with 8000 objects of
-# ordinary names, and with 8000 of names that all collide in a table that hashes with a seed known beforehand (std's default): their
-# check should take no more than twice the time. The crate `bench` is built and proved as the gate does it.
+# ordinary names, and with 8000 of names that all collide in a table that hashes with a seed known beforehand (std's default), which
+# bench/check.sh compares. The crate `bench` is built and proved as the gate does it.
 set -e
 folder=$(mktemp -d)
 trap 'rm -rf "$folder"' EXIT
@@ -34,17 +34,11 @@ awk -v atoms="${1:-100000}" '
             printf "  (= (length city-%d depot-%d) %d)\n", i % 2000, int(i / 2000), i % 100 + 1
         print ")\n (:goal (at parcel-0 city-0)) (:metric minimize (total-cost)))"
     }' >"$folder/problem.pddl"
+here=$(cd "$(dirname "$0")/.." && pwd)
 for kind in ordinary colliding; do
-    awk -v kind="$kind" '
-        BEGIN {
-            front = kind == "colliding" ? "aye92aaaaaaaaaaal6y22sbt" : "anordinarynameofa-place-"
-            back = kind == "colliding" ? "zzzzzzzzzzzzzzzz" : "-of-the-roadmap-"
-            print "(define (problem names) (:domain roads)\n (:objects"
-            for (i = 0; i < 8000; i++) printf "  %s%08d%s\n", front, i, back
-            print ")\n (:init) (:goal (and)))"
-        }' >"$folder/$kind.pddl"
+    awk -v kind="$kind" -f "$here/bench/names.awk" >"$folder/$kind.pddl"
 done
-cd "$(dirname "$0")/../crates/bench"
+cd "$here/crates/bench"
 for name in problem ordinary colliding; do
     echo "$name:"
     rt run -- "$folder/domain.pddl" "$folder/$name.pddl" | tail -n 3

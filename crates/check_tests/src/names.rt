@@ -1,6 +1,6 @@
 //! Names by number, types and scopes of a small domain, worked out by hand.
 use crate::texts::{name, seed, trees};
-use hd_base::Name;
+use hd_base::{Name, Seed};
 use hd_forms::NameAt;
 use hd_names::{
     Fault, Names, Scope, Stop, declare, duplicate, hierarchy_of, known, number_of_type,
@@ -140,18 +140,23 @@ const DOMAIN: &str = "(define (domain d) (:types b - a) (:constants k - a m)
 
 const PROBLEM: &str = "(define (problem q) (:domain d) (:objects l - b) (:init) (:goal ()))";
 
-/// The scope of a domain, and of a problem's objects.
-fn scope(alloc: Global, domain: &DomainAst, problem: &ProblemAst) -> Result<Scope, Stop> {
-    let types = types_of(alloc, seed(), domain.types.as_slice())?;
+/// The scope of a domain, and of a problem's objects, in tables that hash by this seed.
+fn scope(
+    alloc: Global,
+    seed: Seed,
+    domain: &DomainAst,
+    problem: &ProblemAst,
+) -> Result<Scope, Stop> {
+    let types = types_of(alloc, seed, domain.types.as_slice())?;
     let hierarchy = hierarchy_of(alloc, &types, domain.types.as_slice())?;
     let scope = scope_of(alloc, types, hierarchy, domain, &problem.metric)?;
     with_objects(alloc, scope, problem.objects.as_slice())
 }
 
-/// The scope of the two texts.
-fn whole_scope(alloc: Global) -> Option<Scope> {
+/// The scope of the two texts, in tables that hash by this seed.
+pub fn whole_scope(alloc: Global, seed: Seed) -> Option<Scope> {
     let (domain, problem) = trees(alloc, DOMAIN, PROBLEM).ok()?;
-    let scope = scope(alloc, &domain, &problem).ok();
+    let scope = scope(alloc, seed, &domain, &problem).ok();
     drop(domain);
     drop(problem);
     scope
@@ -184,7 +189,7 @@ fn a_scope_has_types_objects_predicates_and_functions(rt: HostRuntime) -> Result
     let alloc = rt.alloc();
     let (a, b) = (name(alloc, "a")?, name(alloc, "b")?);
     let (k, l, m) = (name(alloc, "k")?, name(alloc, "l")?, name(alloc, "m")?);
-    match whole_scope(alloc) {
+    match whole_scope(alloc, seed()) {
         Some(scope) => assert!(rt;
             has_types(&scope, &b, &a) && has_items(&scope) && has_objects(&scope, &k, &m, &l)
         ),

@@ -1,6 +1,8 @@
-//! Tables whose names were chosen to collide.
+//! What tables of names hash by, and tables whose names were chosen to collide.
+use crate::names::whole_scope;
 use crate::texts::{name, seed};
-use hd_names::Names;
+use hd_base::Seed;
+use hd_names::{Names, Scope};
 use std::alloc::Global;
 use std::hash::{BuildHasher, BuildHasherDefault, FoldHasher};
 use std::process::Abort;
@@ -42,6 +44,40 @@ fn colliding_names_are_numbered(rt: HostRuntime) -> Result<(), Fail> {
     let mut names = Names::none(rt.alloc(), seed());
     for (number, text) in COLLIDING.iter().enumerate() {
         assert_added(&rt, rt.alloc(), &mut names, text, number)?;
+    }
+    Ok(())
+}
+
+/// Whether a table hashes names by this seed, and not by the other one.
+fn is_hashed_by(names: &Names, seed: Seed, other: Seed) -> bool {
+    let by = names.seed();
+    COLLIDING.iter().all(|text| by.hash_one(text) == seed.hash_one(text)
+        && by.hash_one(text) != other.hash_one(text))
+}
+
+/// Whether each table of a scope hashes names by this seed, and not by the other one.
+fn scope_is_hashed_by(scope: &Scope, seed: Seed, other: Seed) -> bool {
+    is_hashed_by(&scope.types, seed, other)
+        && is_hashed_by(&scope.objects.names, seed, other)
+        && is_hashed_by(&scope.predicates.names, seed, other)
+        && is_hashed_by(&scope.functions.names, seed, other)
+}
+
+/// An empty table, one made alike, and the four of a scope.
+#[test]
+fn tables_hash_by_the_seed_that_they_get(rt: HostRuntime) -> Result<(), Fail> {
+    let alloc = rt.alloc();
+    let (first, second) = (Seed::of([1; 32]), Seed::of([2; 32]));
+    for (seed, other) in [(first, second), (second, first)] {
+        let mut names = Names::none(alloc, seed);
+        assert!(rt; is_hashed_by(&names, seed, other));
+        assert_added(&rt, alloc, &mut names, "a", 0)?;
+        assert!(rt; is_hashed_by(&names, seed, other));
+        assert!(rt; is_hashed_by(&names.none_alike(alloc), seed, other));
+        match whole_scope(alloc, seed) {
+            Some(scope) => assert!(rt; scope_is_hashed_by(&scope, seed, other)),
+            None => assert!(rt; false),
+        }
     }
     Ok(())
 }
