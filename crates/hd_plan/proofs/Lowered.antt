@@ -58,7 +58,7 @@ lower_name bytes name is = subst IsLowerName (sym is.folded) (lower_folded bytes
 -- ---- the names among words
 
 -- a word that is a name is one in lower case
-abbrev IsLowerWord : Word → Type 0
+abbrev pub IsLowerWord : Word → Type 0
 IsLowerWord words.OpenParenthesis = Unit {0}
 IsLowerWord words.CloseParenthesis = Unit {0}
 IsLowerWord (words.Name name) = IsLowerName name
@@ -89,7 +89,7 @@ word-lower (table.IsWord.keyword is) = tt
 word-lower (table.IsWord.number is) = tt
 word-lower (table.IsWord.signed_number is) = tt
 
-tokens-lower : (ws : List Placed) (ts : List Token) → AllZip IsTokenOf ws ts → AllByRecursion IsLowerWord (words_of ts)
+pub tokens-lower : (ws : List Placed) (ts : List Token) → AllZip IsTokenOf ws ts → AllByRecursion IsLowerWord (words_of ts)
 tokens-lower [] [] each = tt
 tokens-lower [] (t ∷ ts) each = absurd each
 tokens-lower (w ∷ ws) [] each = absurd each

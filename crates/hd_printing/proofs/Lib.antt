@@ -1,2 +1,4 @@
+pub mod LowerForms
 pub mod Named
+pub mod TextNames
 pub mod Valid

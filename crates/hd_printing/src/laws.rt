@@ -7,6 +7,7 @@ ghost use Rattle.hd_task.specs.Departures.{goal_departs};
 ghost use Rattle.hd_grounding.specs.Grounding.{IsGrounding};
 ghost use Rattle.hd_plan.specs.PlanText.{plan_text};
 ghost use Rattle.hd_plan.specs.Text.{ReadsAs};
+ghost use Rattle.hd_texts.specs.Tasks.{IsLiftedOf};
 ghost use Rattle.hd_validate.specs.Plans.{IsValidatedBy};
 ghost use Rattle.hd_printing.specs.Printing.{HasTextNames, steps_of, GoesThrough, GoalStays};
 
@@ -23,4 +24,10 @@ pub fn printed_plans_are_read_back()
     ensures { (t : LiftedTask) (u : Task) (p : List ℕ) (cost : ℕ)
         → IsGrounding t u → HasTextNames t → IsValidAt u p cost → cost < 2 ^ 64
         → ReadsAs (plan_text (steps_of u p) cost) (steps_of u p) }
+{}
+
+/// The names of the schemas and objects that two texts declare are names of texts, in lower case, as the reader folds them.
+pub fn names_are_of_texts()
+    ensures { (domain problem : List ℕ) (t : LiftedTask) → IsLiftedOf domain problem t
+        → HasTextNames t }
 {}
