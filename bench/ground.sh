@@ -3,7 +3,7 @@
 # FOLDER, which has domain.pddl and problem.pddl: bench/ground.sh [FOLDER..]
 # The first has 200 packages, 10 trucks and 50 places with a road map that never changes; each of its packages can be loaded and
 # unloaded everywhere, so that it has some 200,000 actions. Of the others each is a schema over 1000 objects whose conditions bind
-# its parameters; two have no instance at all. The greatest size of the process is printed beside each, in kilobytes.
+# its parameters; three have no instance at all. The greatest size of the process is printed beside each, in kilobytes.
 # The crate `bench` is built and proved as the gate does it.
 set -e
 folder=$(mktemp -d)
@@ -49,7 +49,7 @@ objects() {
 
 # A domain of one schema of parameters $1 with condition $2, where t is a type without objects.
 schema() {
-    printf '(define (domain d) (:requirements :typing :negative-preconditions :equality) (:types t) (:predicates (s ?x) (r ?x ?y) (q))\n'
+    printf '(define (domain d) (:requirements :typing :negative-preconditions :equality) (:types t) (:predicates (s ?x) (u ?x) (r ?x ?y) (q))\n'
     printf ' (:action a :parameters (%s) :precondition (and %s) :effect (q)))\n' "$1" "$2"
 }
 schema '?a ?b ?c ?d ?e' '(= ?a ?b) (= ?b ?c) (= ?c ?d) (= ?d ?e)' >"$folder/equal-domain"
@@ -58,6 +58,8 @@ schema '?a ?b ?c ?d ?e ?f' '(not (s ?f))' >"$folder/static-domain"
 objects '(s @)' >"$folder/static-problem"
 schema '?a ?b ?c ?d ?e ?f - t' '' | sed 's/?e ?f - t/?e - object ?f - t/' >"$folder/empty-domain"
 objects '' >"$folder/empty-problem"
+schema '?a ?b ?c ?d' '(s ?a) (s ?b) (s ?c) (u ?d)' >"$folder/unreached-domain"
+objects '(s @)' >"$folder/unreached-problem"
 schema '?a ?b' '(r ?a ?b) (r ?b ?a)' >"$folder/mutual-domain"
 objects '(r @ o0) (r o0 @)' >"$folder/mutual-problem"
 
@@ -69,7 +71,7 @@ row() {
 here=$(cd "$(dirname "$0")/.." && pwd)
 program=$here/crates/bench/out/bench
 (cd "$here/crates/bench" && rt run) >/dev/null
-for name in logistics equal static empty mutual; do
+for name in logistics equal static empty unreached mutual; do
     row "$name" "$folder/$name-domain" "$folder/$name-problem"
 done
 for task in "$@"; do

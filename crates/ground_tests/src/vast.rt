@@ -46,6 +46,20 @@ fn a_last_parameter_without_objects_leaves_no_action(rt: HostRuntime) -> Result<
 }
 
 #[test]
+fn a_predicate_without_atoms_leaves_no_action(rt: HostRuntime) -> Result<(), Fail> {
+    let frame = "(define (domain d) (:predicates (s ?x) (u ?x))
+      (:action go :parameters (?a ?b ?c ?d) :precondition (and (s ?a) (s ?b) (s ?c) (u ?d))))|
+      (define (problem p) (:domain d) (:objects #) (:init %) (:goal ()))";
+    assert_with_objects(
+        &rt,
+        rt.alloc(),
+        frame,
+        (1_000, "(s @)"),
+        "actions 0\natoms 1000\nfluents 0",
+    )
+}
+
+#[test]
 fn as_many_actions_as_there_may_be(rt: HostRuntime) -> Result<(), Fail> {
     // 16^5 is 2^20.
     let frame = "(define (domain d) (:action go :parameters (?a ?b ?c ?d ?e)))|
