@@ -47,6 +47,7 @@ use Rattle.hd_book.specs.Holding.{node_at}
 use Rattle.hd_book.specs.Growing.{entered, entered_by, kids_in}
 use Rattle.hd_book.proofs.Adding.{entered_nothing, no_kids, entered_by-push, kids_in-push}
 use Rattle.hd_book.proofs.Marking.{apart, expanded_marks, settled_marks, none_marked}
+use Rattle.hd_book.proofs.Same.{same_state-true}
 use Rattle.hd_book.proofs.Naming.{plans_of-push, posted_named, posted_by-append, generated-append, posted_count, length-plans_of}
 
 -- ---- tests
@@ -58,13 +59,6 @@ same_kid-true k q e =
 
 pub same_kid-refl : (k : Kid) → same_kid k k ≡ true
 same_kid-refl k = and_from (k.parent == k.parent) (k.action == k.action) (eq-eqb k.parent k.parent refl) (eq-eqb k.action k.action refl)
-
-same_state-true : (s u : State) → same_state s u ≡ true → s ≡ u
-same_state-true s u e =
-    let parts = and_parts (pointwise beq s.atoms u.atoms) (pointwise int_eq s.fluents u.fluents) e in
-    let atoms : s.atoms ≡ u.atoms = (slice_eq-Decides {E = beq} booleans_Decides s.atoms u.atoms (pointwise beq s.atoms u.atoms) refl).0 parts.0 in
-    let fluents : s.fluents ≡ u.fluents = (slice_eq-Decides {E = int_eq} Decides-int_eq s.fluents u.fluents (pointwise int_eq s.fluents u.fluents) refl).0 parts.1 in
-    ap₂ (λ (a : List Bool) (f : List ℤ). let x : State = record { atoms = a; fluents = f } in x) atoms fluents
 
 -- what a node test says
 is_node-true : (o : Option Node) (s : State) (cost : ℕ) → is_node o s cost ≡ true → o ≡ Some (node s cost)

@@ -30,7 +30,8 @@ use Rattle.hd_book.specs.declared.content.Content.{Content}
 use Rattle.hd_book.specs.Refusing.{has_room, refusal_to}
 use Rattle.hd_book.specs.Growing.{entered_by, best_by, departure_by, kids_in, Releases}
 use Rattle.hd_book.proofs.Adding.{entered-count}
-use Rattle.hd_book.proofs.Children.{few_actions, few_applicable}
+use Rattle.hd_node.proofs.Steps.{few_actions}
+use Rattle.hd_book.proofs.Children.{few_applicable}
 use Rattle.hd_book.proofs.Naming.{length-plans_of, posted_by-append, posted_count}
 use Rattle.hd_book.proofs.Held.{none_below, none_above}
 use Rattle.hd_book.proofs.Accepting.{same_kid-true, same_kid-refl, accepted_kept, all_entries, Follows, at_first, batch_follows, batch_task}

@@ -1,39 +1,22 @@
--- The children of an expansion: their states, and how many there are.
-use Rattle.std.proofs.Common.{◌≡◌, ◌*◌, ◌^◌, ◌<◌, ◌≤◌, nat_le, ◌&&◌, Option, Some, List, [], ◌∷◌, length, sym, ap, subst, arith}
-use Rattle.std.specs.List.{range_with_len, AllByRecursion}
-use Rattle.std.proofs.lemmas.Bool.{and_parts, leb-true}
+-- The children of an expansion: how many there are.
+use Rattle.std.proofs.Common.{◌≡◌, ◌*◌, ◌^◌, ◌<◌, ◌≤◌, nat_le, ◌&&◌, Option, Some, List, [], ◌∷◌, length, ap, arith}
+use Rattle.std.specs.List.{range_with_len}
 use Rattle.std.proofs.lemmas.List.{length-map}
 use Rattle.std.proofs.lemmas.List.Sums.{length-filter, count_by-le-length}
 use Rattle.std.proofs.lemmas.List.FromFn.{length-range_with_len}
-use Rattle.hd_base.proofs.Members.{AllByRecursion-from_contains}
 use Rattle.hd_task.specs.declared.task.Task.{Task}
-use Rattle.hd_task.specs.Plans.{Node, IsStateOf, node}
+use Rattle.hd_task.specs.Plans.{Node, node}
 use Rattle.hd_task.specs.Expansions.{is_applicable, applicable_at}
-use Rattle.hd_task.proofs.Runs.{exec_from-state}
 use Rattle.hd_node.specs.Children.{ChildView}
 use Rattle.hd_node.specs.Expansion.{ExpansionView}
 use Rattle.hd_node.specs.declared.batch.TheConstants.{MAX_OUTCOMES}
 use Rattle.hd_node.specs.declared.batch.Outcome.{Outcome}
 use Rattle.hd_node.specs.declared.batch.Outcome.TheVariants.{Expanded, Duplicate, Bounded}
 use Rattle.hd_node.specs.Children.{children_at}
-use Rattle.hd_node.proofs.Steps.{children-actions, children_step}
+use Rattle.hd_node.proofs.Steps.{children-actions, few_actions}
 use Rattle.hd_book.specs.Growing.{kids_in}
 
--- the children of a node with a state of the task have states of the task
-pub children_states : (e : ExpansionView) → AllByRecursion (λ (c : ChildView). IsStateOf e.task c.state) e.children
-children_states e =
-    let t = e.task in
-    let r = node e.state e.cost in
-    subst (λ cs. AllByRecursion (λ (c : ChildView). IsStateOf t c.state) cs) (sym e.all_children)
-    (AllByRecursion-from_contains (λ (c : ChildView). IsStateOf t c.state) (children_at t r)
-    (λ c k. exec_from-state t (c.action ∷ []) r (node c.state c.cost) e.of_task (children_step t r c k).leads))
-
 -- ---- how many
-
-pub few_actions : (t : Task) → length t.actions ≤ 2 ^ 20
-few_actions t =
-    let parts = and_parts (nat_le (length t.atoms) (2 ^ 20) && nat_le (length t.fluents) (2 ^ 16)) (nat_le (length t.actions) (2 ^ 20)) t.limits in
-    leb-true (length t.actions) (2 ^ 20) parts.1
 
 pub few_applicable : (t : Task) (r : Option Node) → length (applicable_at t r) ≤ length t.actions
 unfolding applicable_at

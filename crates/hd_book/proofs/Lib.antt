@@ -8,5 +8,6 @@ pub mod Deciding
 pub mod Held
 pub mod Marking
 pub mod Naming
+pub mod Same
 pub mod Spending
 pub mod Walking

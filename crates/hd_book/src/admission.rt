@@ -2,7 +2,7 @@
 ghost use Rattle.std.specs.Prelude.{◌≡◌, ◌||◌, true, Some, is_some, [], IfOk, IfSome};
 ghost use Rattle.hd_task.specs.Plans.{IsStateOf, node, step_by};
 ghost use Rattle.hd_node.specs.Outcome.{kid_of};
-ghost use Rattle.hd_book.specs.Settling.{expansions, knows_parent, is_posted, is_marked, node_of, node_by, dominates, reaches, refusal_by, is_settled_by, refusal_of, first_refusal};
+ghost use Rattle.hd_book.specs.Settling.{expansions, knows_parent, is_posted, is_marked, node_of, node_by, same_state, dominates, reaches, refusal_by, is_settled_by, refusal_of, first_refusal};
 ghost use Rattle.hd_task.specs.Expansions.{is_applicable, bound_of};
 ghost use Rattle.hd_task.specs.declared.plan.Kid.{Kid};
 ghost use Rattle.hd_node.specs.EstimateValue.{estimated};
@@ -12,7 +12,9 @@ use crate::Refusal;
 use crate::content::Content;
 use crate::entry::{Best, Entry, Place};
 use hd_node::{By, EstimateValue, Outcome};
-use hd_task::{ActionId, Kid, NoMemory, ROOT_ACTION, ROOT_PARENT, Reached, State, Task, step};
+use hd_pack::{Layout, Led, Packed, leads, pack};
+use hd_task::{ActionId, Kid, NoMemory, ROOT_ACTION, ROOT_PARENT, Task};
+use hd_zobrist::Words;
 use std::alloc::Global;
 use std::collections::HashSet;
 
@@ -20,6 +22,7 @@ use std::collections::HashSet;
 fn step_from(
     alloc: Global,
     task: &Task,
+    words: &Words,
     entry: &Entry,
     action: u32,
 ) -> Result<Option<Place>, NoMemory>
@@ -32,19 +35,35 @@ fn step_from(
     if action as usize >= task.actions.len() {
         return Ok(None);
     }
-    match step(alloc, task, &entry.state, entry.cost, ActionId(action))? {
-        Reached::No => Ok(None),
-        Reached::Departs => Ok(None),
-        Reached::Next(state, cost) => Ok(Some(Place { state, cost })),
+    let (state, hash) = (entry.state.state(), entry.state.hash());
+    match leads(
+        alloc,
+        task,
+        words,
+        state,
+        hash,
+        entry.cost,
+        ActionId(action),
+    )? {
+        Led::No => Ok(None),
+        Led::Departs => Ok(None),
+        Led::Next(state, _, cost) => Ok(Some(Place { state, cost })),
     }
 }
 
+/// Whether two packed states are equal.
+fn is_same(one: &Packed, other: &Packed) -> bool
+    ensures { result ≡ same_state one.now other.now }
+{
+    *one == *other
+}
+
 /// Whether a node has a place's state at no greater cost.
-fn is_no_dearer(state: &State, cost: u64, reached: &Place) -> bool
+fn is_no_dearer(state: &Packed, cost: u64, reached: &Place) -> bool
     ensures { result ≡ dominates (Some (node state.now cost))
         (Some (node reached.now.state reached.now.cost)) }
 {
-    *state == reached.state && cost <= reached.cost
+    is_same(state, &reached.state) && cost <= reached.cost
 }
 
 impl<'t> Content<'t> {
@@ -65,11 +84,11 @@ impl<'t> Content<'t> {
             ≡ Some (node c.state c.cost))) }
     {
         if kid.parent == ROOT_PARENT {
-            let state = self.task.initial.copied(self.alloc)?;
+            let state = pack(self.alloc, &Layout::new(self.task), &self.task.initial)?;
             return Ok(Some(Place { state, cost: 0 }));
         }
         let parent = &self.entries[kid.parent as usize];
-        step_from(self.alloc, self.task, parent, kid.action)
+        step_from(self.alloc, self.task, &self.words, parent, kid.action)
     }
 
     /// Whether what a duplicate names has a state at no greater cost.
@@ -80,7 +99,7 @@ impl<'t> Content<'t> {
     {
         match by {
             By::Entry(number) => match self.entries.get(number as usize) {
-                Some(entry) => is_no_dearer(&entry.state, entry.cost, reached),
+                Some(entry) => is_no_dearer(entry.state.state(), entry.cost, reached),
                 None => false,
             },
             By::Here(place) => match earlier.get(place) {
@@ -123,7 +142,7 @@ impl<'t> Content<'t> {
     {
         match outcome {
             Outcome::Expanded(expansion) => {
-                if reached.state == *expansion.state() && reached.cost == expansion.cost() {
+                if is_same(&reached.state, expansion.state()) && reached.cost == expansion.cost() {
                     None
                 } else {
                     Some(Refusal::StateDiffers)
@@ -137,7 +156,7 @@ impl<'t> Content<'t> {
                 }
             }
             Outcome::Bounded(_, estimate) => {
-                if reached.state != *estimate.state() {
+                if !is_same(&reached.state, estimate.state()) {
                     Some(Refusal::StateDiffers)
                 } else if self.reaches(reached, estimate.value()) {
                     None

@@ -3,6 +3,7 @@ use crate::content::Content;
 use crate::{Counts, Receipt, Redeemed, Refusal, Ticket, Verdict};
 use hd_node::Batch;
 use hd_task::{Kid, NoMemory, Task};
+use hd_zobrist::Words;
 use std::alloc::Global;
 use std::marker::Model;
 use std::ops::Range;
@@ -49,8 +50,9 @@ impl<'t> Book<'t> {
         requires { most < ROOT_PARENT }
         ensures { IfOk result (λ b. b ≡ empty_book task.now most) }
     {
+        let words = Words::new(alloc, task)?;
         Ok(Book {
-            content: Box::new(alloc, Content::new(alloc, task, most))?,
+            content: Box::new(alloc, Content::new(alloc, task, words, most))?,
         })
     }
 

@@ -1,6 +1,7 @@
 //! The parts of a book.
 use crate::entry::{Best, Entry, Outgoing};
 use hd_task::{Departure, Kid, Task};
+use hd_zobrist::Words;
 use std::alloc::Global;
 use std::collections::HashSet;
 
@@ -9,6 +10,8 @@ use std::collections::HashSet;
 pub(crate) struct Content<'t> {
     pub(crate) task: &'t Task,
     pub(crate) alloc: Global,
+    /// Of the task, for the book's own application.
+    pub(crate) words: Words,
     /// How many entries there may be.
     pub(crate) most: u64,
     pub(crate) entries: Vec<Entry>,
@@ -28,7 +31,7 @@ impl<'t> Content<'t> {
     ghost use Rattle.std.specs.Prelude.{◌≡◌, [], None, false};
 
     /// The parts of a book without entries.
-    pub(crate) fn new(alloc: Global, task: &'t Task, most: u64) -> Content<'t>
+    pub(crate) fn new(alloc: Global, task: &'t Task, words: Words, most: u64) -> Content<'t>
         ensures task { result.task.now ≡ task.now }
         ensures most { result.most ≡ most }
         ensures entries { result.entries.items ≡ [] }
@@ -42,6 +45,7 @@ impl<'t> Content<'t> {
         Content {
             task,
             alloc,
+            words,
             most,
             entries: Vec::new(alloc),
             settled: HashSet::new(alloc),

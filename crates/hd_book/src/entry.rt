@@ -1,19 +1,20 @@
 //! Expanded plans.
-use hd_node::Parcel;
-use hd_task::{Kid, Sequence, State};
+use hd_node::{Hashed, Parcel};
+use hd_pack::Packed;
+use hd_task::{Kid, Sequence};
 
 /// An expanded plan: the kid that names it, and where it leads.
 #[derive(Debug, Drop)]
 pub(crate) struct Entry {
     pub(crate) kid: Kid,
-    pub(crate) state: State,
+    pub(crate) state: Hashed,
     pub(crate) cost: u64,
 }
 
 /// Where a kid leads, and what its plan costs.
 #[derive(Debug, Drop)]
 pub(crate) struct Place {
-    pub(crate) state: State,
+    pub(crate) state: Packed,
     pub(crate) cost: u64,
 }
 

@@ -25,10 +25,10 @@ record Finds (t : Task) (r : Node) (n : ℕ) (child : Option ChildView) (departs
   pub child_is : child_at t r n ≡ child
   pub departs_is : departing_by t r n ≡ departs
 
-stops : (t : Task) (r : Node) (n : ℕ) → is_applicable t (Some r) n ≡ false → child_at t r n ≡ None
+pub stops : (t : Task) (r : Node) (n : ℕ) → is_applicable t (Some r) n ≡ false → child_at t r n ≡ None
 stops t r n e = cond-false (is_applicable t (Some r) n) (child_to n (step_by t r n)) None e
 
-stays : (t : Task) (r : Node) (n : ℕ) → action_departs t r n ≡ false → departing_by t r n ≡ []
+pub stays : (t : Task) (r : Node) (n : ℕ) → action_departs t r n ≡ false → departing_by t r n ≡ []
 stays t r n e = cond-false (action_departs t r n) (Action n ∷ []) [] e
 
 leaves : (t : Task) (r : Node) (n : ℕ) → action_departs t r n ≡ true → departing_by t r n ≡ Action n ∷ []
@@ -61,7 +61,7 @@ one_child : (o : Option ChildView) (f : ℕ → Option ChildView) (n : ℕ) → 
 one_child None f n e = ap (λ o. cons_option o []) e
 one_child (Some c) f n e = ap (λ o. cons_option o []) e
 
-children_more : (t : Task) (r : Node) (n : ℕ) → filter_map (child_at t r) (range_with_len 0 (n + 1)) ≡ filter_map (child_at t r) (range_with_len 0 n) ++ option_to_list (child_at t r n)
+pub children_more : (t : Task) (r : Node) (n : ℕ) → filter_map (child_at t r) (range_with_len 0 (n + 1)) ≡ filter_map (child_at t r) (range_with_len 0 n) ++ option_to_list (child_at t r n)
 children_more t r n =
     ap (filter_map (child_at t r)) (range_with_len_more 0 n n (omega arith))
     ∙ (filter_map-append (child_at t r) (range_with_len 0 n) (n ∷ [])
@@ -92,6 +92,11 @@ children_below t r n = filter_map (child_at t r) (range_with_len 0 n)
 abbrev pub found_below : Task → Node → ℕ → List DepartsBy
 found_below t r n = departing_by_goal t r.state ++ departing_below t r n
 
+pub found_more : (t : Task) (r : Node) (n : ℕ) → found_below t r (n + 1) ≡ found_below t r n ++ departing_by t r n
+found_more t r n =
+    ap (λ xs. departing_by_goal t r.state ++ xs) (departing_more t r n)
+    ∙ sym (append_assoc (departing_by_goal t r.state) (departing_below t r n) (departing_by t r n))
+
 children_next :
     (t : Task) (r : Node) (n : ℕ) (child : Option ChildView) (departs : List DepartsBy) (old new : List ChildView)
     → Finds t r n child departs → old ≡ children_below t r n → new ≡ old ++ option_to_list child → new ≡ children_below t r (n + 1)
@@ -106,9 +111,7 @@ found_next :
 found_next t r n child departs old new f eo en =
     en
     ∙ (ap (λ ds. old ++ ds) (sym f.departs_is)
-    ∙ (ap (λ xs. xs ++ departing_by t r n) eo
-    ∙ (append_assoc (departing_by_goal t r.state) (departing_below t r n) (departing_by t r n)
-    ∙ ap (λ xs. departing_by_goal t r.state ++ xs) (sym (departing_more t r n)))))
+    ∙ (ap (λ xs. xs ++ departing_by t r n) eo ∙ sym (found_more t r n)))
 
 -- both lists after one action more, by the answer of `step`
 pub found_by_step :

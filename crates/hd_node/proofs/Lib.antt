@@ -1,2 +1,5 @@
 pub mod Finding
+pub mod Keys
+pub mod Leading
+pub mod Skipping
 pub mod Steps

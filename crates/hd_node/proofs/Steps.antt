@@ -1,9 +1,9 @@
 -- The children of a node are its steps.
-use Rattle.std.proofs.Common.{◌≡◌, ℕ, ◌≤◌, nat_le, Bool, true, false, cond, not, ◌&&◌, ◌||◌, List, [], ◌∷◌, map, filter, length, Option, Some, None, is_some, Contains, ◌⊎◌, inl, inr, refl, sym, ap, ◌∙◌, subst, slice_get}
-use Rattle.std.specs.List.{filter_map, cons_option, range_with_len}
+use Rattle.std.proofs.Common.{◌≡◌, ℕ, ◌^◌, ◌≤◌, nat_le, Bool, true, false, cond, not, ◌&&◌, ◌||◌, List, [], ◌∷◌, map, filter, length, Option, Some, None, is_some, Contains, ◌⊎◌, inl, inr, refl, sym, ap, ◌∙◌, subst, slice_get}
+use Rattle.std.specs.List.{filter_map, cons_option, range_with_len, AllByRecursion}
 use Rattle.std.proofs.lemmas.Bool.{true≢false, and_parts, leb-true}
 use Rattle.std.proofs.lemmas.Option.{none-some, same_Some}
-use Rattle.hd_base.proofs.Members.{Contains-cons_cases, Contains-nil}
+use Rattle.hd_base.proofs.Members.{Contains-cons_cases, Contains-nil, AllByRecursion-from_contains}
 use Rattle.hd_base.specs.declared.range.TheConstants.{RANGE_END}
 use Rattle.hd_base.proofs.Truth.{not-not}
 use Rattle.hd_base.proofs.Options.{cond_then_some}
@@ -11,10 +11,12 @@ use Rattle.hd_task.specs.declared.action.Action.{Action}
 use Rattle.hd_task.specs.declared.task.Task.{Task}
 use Rattle.hd_task.specs.Conditions.{holds, condition_departs}
 use Rattle.hd_task.specs.Effects.{effects_stay, step_cost}
-use Rattle.hd_task.specs.Plans.{Node, node, after_step, step, step_of, step_by}
+use Rattle.hd_task.specs.Plans.{IsStateOf, Node, node, after_step, step, step_of, step_by}
+use Rattle.hd_task.proofs.Runs.{exec_from-state}
 use Rattle.hd_task.specs.Departures.{cost_stays, departs_by, action_departs}
 use Rattle.hd_task.specs.Expansions.{is_applicable, applicable_at}
 use Rattle.hd_node.specs.Children.{ChildView, child_to, child_at, children_at}
+use Rattle.hd_node.specs.Expansion.{ExpansionView}
 
 abbrev action_of : ChildView → ℕ
 action_of c = c.action
@@ -67,6 +69,15 @@ pub children_step : (t : Task) (r : Node) (c : ChildView) → Contains (children
 unfolding children_at
 children_step t r c k = steps_among t r (range_with_len 0 (length t.actions)) c k
 
+-- the children of an expansion have states of the task
+pub children_states : (e : ExpansionView) → AllByRecursion (λ (c : ChildView). IsStateOf e.task c.state) e.children
+children_states e =
+    let t = e.task in
+    let r = node e.state e.cost in
+    subst (λ cs. AllByRecursion (λ (c : ChildView). IsStateOf t c.state) cs) (sym e.all_children)
+    (AllByRecursion-from_contains (λ (c : ChildView). IsStateOf t c.state) (children_at t r)
+    (λ c k. exec_from-state t (c.action ∷ []) r (node c.state c.cost) e.of_task (children_step t r c k).leads))
+
 -- ---- a step that does not depart costs no more than the range
 
 within : (d h es : Bool) (o : Option Node) (to : Node) → h ≡ true → o ≡ Some to → not (d || (h && not (es && cost_stays o))) ≡ true → nat_le to.cost RANGE_END ≡ true
@@ -91,3 +102,10 @@ unfolding step_by action_departs
 step_in_range t r n to e applies =
     leb-true to.cost RANGE_END
     (in_range_of t r (slice_get t.actions n) to e (and_parts (is_some (step_by t r n)) (not (action_departs t r n)) applies).1)
+
+-- ---- how many actions there are
+
+pub few_actions : (t : Task) → length t.actions ≤ 2 ^ 20
+few_actions t =
+    let parts = and_parts (nat_le (length t.atoms) (2 ^ 20) && nat_le (length t.fluents) (2 ^ 16)) (nat_le (length t.actions) (2 ^ 20)) t.limits in
+    leb-true (length t.actions) (2 ^ 20) parts.1

@@ -1,12 +1,13 @@
 //! Where the actions of an expanded plan lead.
-use hd_task::State;
+use crate::Hashed;
+use hd_pack::Packed;
 use std::marker::Model;
 
 /// Where an applicable action leads from an expanded plan.
 #[derive(Debug, Drop)]
 pub struct Child {
     action: u32,
-    state: State,
+    state: Hashed,
     cost: u64,
 }
 
@@ -20,9 +21,10 @@ impl Model for Child {
 
 impl Child {
     ghost use Rattle.std.specs.Prelude.{◌≡◌};
+    ghost use Rattle.hd_zobrist.specs.Hash.{state_hash};
 
     /// The child of an action that leads to a state, at the cost of the plan with it.
-    pub(crate) fn of(action: u32, state: State, cost: u64) -> Child
+    pub(crate) fn of(action: u32, state: Hashed, cost: u64) -> Child
         ensures { result ≡ record { action = action; state = state; cost = cost } }
     {
         Child {
@@ -40,10 +42,17 @@ impl Child {
     }
 
     /// The state after it.
-    pub fn state(&self) -> &State
+    pub fn state(&self) -> &Packed
         ensures { result.now ≡ self.now.state }
     {
-        &self.state
+        self.state.state()
+    }
+
+    /// The hash of the state after it.
+    pub fn hash(&self) -> u64
+        ensures { result ≡ state_hash self.now.state }
+    {
+        self.state.hash()
     }
 
     /// The cost of the plan with it.
@@ -54,7 +63,7 @@ impl Child {
     }
 
     /// The action, the state and the cost.
-    pub(crate) fn into_parts(self) -> (u32, State, u64)
+    pub(crate) fn into_parts(self) -> (u32, Hashed, u64)
         ensures action { result.0 ≡ self.action }
         ensures state { result.1 ≡ self.state }
         ensures cost { result.2 ≡ self.cost }

@@ -4,7 +4,8 @@ ghost use Rattle.hd_task.specs.Plans.{IsStateOf};
 ghost use Rattle.hd_task.specs.Covers.{zero_estimate};
 ghost use Rattle.hd_node.specs.EstimateValue.{estimated};
 
-use hd_task::{State, Task};
+use hd_pack::Packed;
+use hd_task::Task;
 use std::marker::Model;
 
 /// A lower bound on the cost from a state to the goal.
@@ -21,7 +22,7 @@ pub enum EstimateValue {
 #[derive(Debug, Drop)]
 pub struct Estimate<'t> {
     task: &'t Task,
-    state: State,
+    state: Packed,
     value: EstimateValue,
     // The state has the task's widths.
     ghost of_task: { IsStateOf task.now state },
@@ -49,7 +50,7 @@ impl<'t> Model for Estimate<'t> {
 
 impl<'t> Estimate<'t> {
     /// The estimate of a state.
-    pub fn of(task: &'t Task, state: State) -> Estimate<'t>
+    pub fn of(task: &'t Task, state: Packed) -> Estimate<'t>
         requires { IsStateOf task.now state }
         ensures task { result.task ≡ task.now }
         ensures state { result.state ≡ state }
@@ -62,7 +63,7 @@ impl<'t> Estimate<'t> {
     }
 
     /// The state that it is of.
-    pub fn state(&self) -> &State
+    pub fn state(&self) -> &Packed
         ensures { result.now ≡ self.now.state }
     {
         &self.state

@@ -1,13 +1,19 @@
 //! Expansions: the children and the departures of a plan.
 ghost use Rattle.std.specs.Prelude.{◌≡◌, Some, IfOk, IfErr};
+ghost use Rattle.std.specs.List.{AllByRecursion};
 ghost use Rattle.hd_task.specs.Plans.{IsStateOf, node};
 ghost use Rattle.hd_task.specs.Applying.{goal_of};
 ghost use Rattle.hd_task.specs.Expansions.{departing_at};
-ghost use Rattle.hd_node.specs.Children.{children_at, departing_by_goal};
+ghost use Rattle.hd_zobrist.specs.Hash.{state_hash};
+ghost use Rattle.hd_node.specs.Children.{ChildView, children_at};
 
-use crate::{Child, Parcel};
+use crate::exploring::explore;
+use crate::{Child, Hashed, Parcel};
 use hd_base::{NoMemory, Sequence};
-use hd_task::{ActionId, DepartsBy, GoalTest, Kid, Reached, State, Task, goal, step};
+use hd_pack::Packed;
+use hd_successors::Successors;
+use hd_task::{DepartsBy, GoalTest, Kid, Task, test_of};
+use hd_zobrist::Words;
 use std::alloc::Global;
 use std::marker::Model;
 
@@ -16,7 +22,7 @@ use std::marker::Model;
 pub struct Expansion<'t> {
     task: &'t Task,
     kid: Kid,
-    state: State,
+    state: Hashed,
     cost: u64,
     /// One for each applicable action, in order.
     children: Sequence<Child>,
@@ -61,74 +67,37 @@ impl<'t> Model for Expansion<'t> {
 #[derive(Debug, Drop)]
 pub struct ExpansionParts {
     pub kid: Kid,
-    pub state: State,
+    pub state: Hashed,
     pub cost: u64,
     /// One for each applicable action, in order.
     pub children: Sequence<Child>,
 }
 
-/// What departs at a node before any action: the goal, if its test says so.
-#[tactic(auto, unfolding(hd_task::specs::Applying::test_of))]
-fn goal_departure(
-    alloc: Global,
-    task: &Task,
-    state: &State,
-    test: GoalTest,
-) -> Result<Vec<DepartsBy>, NoMemory>
-    requires { test ≡ goal_of task.now state.now }
-    ensures { IfOk result (λ v. v.items ≡ departing_by_goal task.now state.now) }
-{
-    let mut departures = Vec::new(alloc);
-    if let GoalTest::Departs = test {
-        departures.push(DepartsBy::Goal)?;
-    }
-    Ok(departures)
-}
-
-/// What a node leads to, and what departs there, where the goal's test is known.
-fn explore(
-    alloc: Global,
-    task: &Task,
-    state: &State,
-    cost: u64,
-    test: GoalTest,
-) -> Result<(Sequence<Child>, Sequence<DepartsBy>), NoMemory>
-    requires of_task { IsStateOf task.now state.now }
-    requires is_goal { test ≡ goal_of task.now state.now }
-    ensures children { IfOk result (λ r. r.0 ≡ children_at task.now (node state.now cost)) }
-    ensures departs { IfOk result (λ r. r.1 ≡ departing_at task.now (Some (node state.now cost))) }
-{
-    let mut children = Vec::new(alloc);
-    let mut departures = goal_departure(alloc, task, state, test)?;
-    for action in 0..task.actions.len() as u32 {
-        match step(alloc, task, state, cost, ActionId(action))? {
-            Reached::No => {}
-            Reached::Departs => departures.push(DepartsBy::Action(action))?,
-            Reached::Next(state, cost) => children.push(Child::of(action, state, cost))?,
-        }
-    }
-    Ok((Sequence::from_vec(children), Sequence::from_vec(departures)))
-}
-
 impl<'t> Expansion<'t> {
-    /// The expansion of a parcel of a task: applies each action, and tests the goal, at the parcel's state and cost.
+    /// The expansion of a parcel of a task: tries the actions that may apply, by an index of the task, and tests the goal, at the parcel's
+    /// state and cost. It takes memory for the children's packed states and the two lists alone.
     ///
     /// # Errors
-    /// The parcel and `NoMemory` where there is no room for the children's states.
+    /// The parcel and `NoMemory` where there is no room for them.
     pub fn of(
         alloc: Global,
         task: &'t Task,
+        words: &Words,
+        successors: &mut Successors<'t>,
         parcel: Parcel<'t>,
     ) -> Result<Expansion<'t>, (Parcel<'t>, NoMemory)>
-        requires { parcel.task ≡ task.now }
+        requires of_task { parcel.task ≡ task.now }
+        requires index { successors.old.task ≡ task.now }
+        ensures index { successors.new.task ≡ successors.old.task }
         ensures task { IfOk result (λ e. e.task ≡ task.now) }
         ensures kid { IfOk result (λ e. e.kid ≡ parcel.entry.kid) }
         ensures state { IfOk result (λ e. e.state ≡ parcel.entry.state) }
         ensures cost { IfOk result (λ e. e.cost ≡ parcel.entry.cost) }
         ensures err { IfErr result (λ e. e.0 ≡ parcel.entry) }
     {
-        let test = goal(task, parcel.state());
-        match explore(alloc, task, parcel.state(), parcel.cost(), test) {
+        let state = parcel.hashed();
+        let test = test_of(state.state(), &task.goal);
+        match explore(alloc, task, words, successors, state, parcel.cost(), test) {
             Ok((children, departures)) => {
                 let (kid, state, cost) = parcel.into_parts();
                 Ok(Expansion {
@@ -153,7 +122,21 @@ impl<'t> Expansion<'t> {
     }
 
     /// The state that the plan leads to.
-    pub fn state(&self) -> &State
+    pub fn state(&self) -> &Packed
+        ensures { result.now ≡ self.now.state }
+    {
+        self.state.state()
+    }
+
+    /// The hash of that state.
+    pub fn hash(&self) -> u64
+        ensures { result ≡ state_hash self.now.state }
+    {
+        self.state.hash()
+    }
+
+    /// That state with its hash.
+    pub fn hashed(&self) -> &Hashed
         ensures { result.now ≡ self.now.state }
     {
         &self.state
@@ -193,6 +176,9 @@ impl<'t> Expansion<'t> {
         ensures state { result.state ≡ self.entry.state }
         ensures cost { result.cost ≡ self.entry.cost }
         ensures children { result.children ≡ self.entry.children }
+        // Each child's state is one of the task.
+        ensures of_task { AllByRecursion (λ (c : ChildView). IsStateOf self.entry.task c.state)
+            result.children }
     {
         let Expansion {
             kid,

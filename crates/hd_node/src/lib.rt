@@ -6,6 +6,8 @@ mod batch;
 mod child;
 mod estimate;
 mod expansion;
+mod exploring;
+mod hashed;
 pub mod laws;
 mod parcel;
 
@@ -13,4 +15,5 @@ pub use batch::{Batch, By, MAX_OUTCOMES, Outcome};
 pub use child::Child;
 pub use estimate::{Estimate, EstimateValue};
 pub use expansion::{Expansion, ExpansionParts};
+pub use hashed::Hashed;
 pub use parcel::Parcel;

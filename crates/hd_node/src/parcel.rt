@@ -1,10 +1,13 @@
 //! Generated plans that wait to be expanded.
 ghost use Rattle.std.specs.Prelude.{◌≡◌, IfOk};
 ghost use Rattle.hd_task.specs.Plans.{IsStateOf};
+ghost use Rattle.hd_zobrist.specs.Hash.{state_hash};
 
-use crate::Child;
+use crate::{Child, Hashed};
 use hd_base::NoMemory;
+use hd_pack::Packed;
 use hd_task::{Kid, State, Task};
+use hd_zobrist::Words;
 use std::alloc::Global;
 use std::marker::Model;
 
@@ -16,7 +19,7 @@ use std::marker::Model;
 pub struct Parcel<'t> {
     pub(crate) task: &'t Task,
     pub(crate) kid: Kid,
-    pub(crate) state: State,
+    pub(crate) state: Hashed,
     pub(crate) cost: u64,
     // The state has the task's widths.
     ghost of_task: { IsStateOf task.now state },
@@ -41,13 +44,14 @@ impl<'t> Model for Parcel<'t> {
 }
 
 impl<'t> Parcel<'t> {
-    /// The parcel that says of a kid where it leads.
+    /// The parcel that says of a kid where it leads. The state is packed and hashed.
     ///
     /// # Errors
-    /// `NoMemory` where there is no room for it.
+    /// `NoMemory` where there is no room for the packed state.
     pub fn of(
-        _alloc: Global,
+        alloc: Global,
         task: &'t Task,
+        words: &Words,
         kid: Kid,
         state: State,
         cost: u64,
@@ -61,7 +65,7 @@ impl<'t> Parcel<'t> {
         Ok(Parcel {
             task,
             kid,
-            state,
+            state: Hashed::of(alloc, task, words, &state)?,
             cost,
         })
     }
@@ -92,9 +96,23 @@ impl<'t> Parcel<'t> {
     }
 
     /// The state that the plan leads to.
-    pub fn state(&self) -> &State
+    pub fn state(&self) -> &Packed
         ensures state { result.now ≡ self.now.state }
         ensures of_task { IsStateOf self.now.task result.now }
+    {
+        self.state.state()
+    }
+
+    /// The hash of that state.
+    pub fn hash(&self) -> u64
+        ensures { result ≡ state_hash self.now.state }
+    {
+        self.state.hash()
+    }
+
+    /// That state with its hash.
+    pub fn hashed(&self) -> &Hashed
+        ensures { result.now ≡ self.now.state }
     {
         &self.state
     }
@@ -106,8 +124,8 @@ impl<'t> Parcel<'t> {
         self.cost
     }
 
-    /// The kid, the state and the cost.
-    pub fn into_parts(self) -> (Kid, State, u64)
+    /// The kid, the state with its hash, and the cost.
+    pub fn into_parts(self) -> (Kid, Hashed, u64)
         ensures kid { result.0 ≡ self.entry.kid }
         ensures state { result.1 ≡ self.entry.state }
         ensures cost { result.2 ≡ self.entry.cost }

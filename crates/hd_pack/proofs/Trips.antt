@@ -8,6 +8,8 @@ use Rattle.std.proofs.lemmas.List.{append_assoc, length-append}
 use Rattle.std.specs.List.{flat_map, range_with_len, AllByRecursion}
 use Rattle.std.proofs.Math.Facts.{Fits-of_z, Fits-lt-pow}
 use Rattle.std.proofs.lemmas.Bool.{eqb-true}
+use Rattle.std.proofs.lemmas.Bool.Decides.{Decides-eqb}
+use Rattle.std.proofs.lemmas.Slice.Eq.{slice_eq-Decides}
 use Rattle.std.proofs.lemmas.Int.{to_z-of_z}
 use Rattle.std.proofs.lemmas.Nat.{from_le_bytes-to_le_bytes_8}
 use Rattle.std.proofs.lemmas.List.FromFn.{length-map-range_with_len}
@@ -91,6 +93,9 @@ unfolding same_packing
 same_is n m xs ys s t es et ex ey =
     ap₂ (λ (u v : State). nat_eq (length u.atoms) (length v.atoms) && pointwise nat_eq (packed_bytes u) (packed_bytes v)) (sym es) (sym et)
     ∙ ap₂ (λ (a b : Bool). a && b) (ap₂ nat_eq (length-unpacked n xs) (length-unpacked m ys)) (ap₂ (pointwise nat_eq) (sym ex) (sym ey))
+
+pub same_states : (n m : ℕ) (xs ys : List ℕ) (s t : State) → unpacked n xs ≡ s → unpacked m ys ≡ t → n ≡ m → pointwise nat_eq xs ys ≡ true → s ≡ t
+same_states n m xs ys s t es et en same = sym es ∙ (ap₂ unpacked en ((slice_eq-Decides Decides-eqb xs ys (pointwise nat_eq xs ys) refl).0 same) ∙ et)
 
 -- a state's bytes, made one part after the other
 pub packed_whole : (s : State) (none atoms all packed : List ℕ) (bs : List Bool) (vs : List ℤ) → none ≡ [] → atoms ≡ none ++ atom_bytes bs → all ≡ atoms ++ flat_map value_bytes vs → packed ≡ all → bs ≡ s.atoms → vs ≡ s.fluents

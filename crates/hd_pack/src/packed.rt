@@ -1,5 +1,5 @@
 //! Packed states.
-ghost use Rattle.std.specs.Prelude.{◌≡◌, ◌<◌, IfOk, length, nat_eq, slice_get};
+ghost use Rattle.std.specs.Prelude.{◌≡◌, ◌<◌, true, IfOk, length, nat_eq, slice_get};
 ghost use Rattle.std.specs.Hash as fed;
 ghost use Rattle.std.specs.Cmp.{partial_equiv_from_equiv};
 ghost use Rattle.hd_pack.specs.Packing.{packed_bytes, same_packing};
@@ -158,7 +158,11 @@ impl PartialEq for Packed {
 
     ghost laws = { partial_equiv_from_equiv same_equiv };
 
-    fn eq(&self, other: &Self) -> bool {
+    fn eq(&self, other: &Self) -> bool
+        ensures same { result ≡ same_packing self.now other.now }
+        // The same packing is of the same state.
+        ensures states { result ≡ true → self.now ≡ other.now }
+    {
         self.atoms == other.atoms && self.bytes.as_slice() == other.bytes.as_slice()
     }
 }

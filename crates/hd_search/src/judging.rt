@@ -3,8 +3,9 @@ ghost use Rattle.std.specs.Prelude.{◌≡◌, [], ◌∷◌, IfOk};
 ghost use Rattle.hd_book.specs.Settling.{IsOf};
 
 use crate::closed::Closed;
+use crate::expanding::Expanding;
 use hd_base::NoMemory;
-use hd_node::{Batch, By, Estimate, Expansion, Outcome, Parcel};
+use hd_node::{Batch, By, Estimate, Hashed, Outcome, Parcel};
 use hd_task::Task;
 use std::alloc::Global;
 
@@ -14,14 +15,16 @@ pub fn outcome_of<'t>(
     alloc: Global,
     task: &'t Task,
     closed: &Closed,
-    key: &[u8],
+    expanding: &mut Expanding<'t>,
     bound: Option<u64>,
     parcel: Parcel<'t>,
 ) -> Result<Outcome<'t>, NoMemory>
-    requires { parcel.task ≡ task.now }
-    ensures { IfOk result (IsOf task.now) }
+    requires of_task { parcel.task ≡ task.now }
+    requires index { expanding.old.successors.task ≡ task.now }
+    ensures of_task { IfOk result (IsOf task.now) }
+    ensures index { expanding.new.successors.task ≡ expanding.old.successors.task }
 {
-    if let Some(known) = closed.find(key) {
+    if let Some(known) = closed.find(parcel.hashed()) {
         if known.cost <= parcel.cost() {
             return Ok(Outcome::Duplicate(parcel.kid(), By::Entry(known.entry)));
         }
@@ -29,12 +32,18 @@ pub fn outcome_of<'t>(
     if let Some(limit) = bound {
         if limit <= parcel.cost() {
             let (kid, state, _) = parcel.into_parts();
-            return Ok(Outcome::Bounded(kid, Estimate::of(task, state)));
+            return Ok(Outcome::Bounded(kid, Estimate::of(task, state.into_state())));
         }
     }
-    match Expansion::of(alloc, task, parcel) {
-        Ok(expansion) => Ok(Outcome::Expanded(expansion)),
-        Err((_, error)) => Err(error),
+    Ok(Outcome::Expanded(expanding.expand(alloc, task, parcel)?))
+}
+
+/// A copy of the state that an outcome closes, if it is an expansion.
+pub fn closed_by(alloc: Global, outcome: &Outcome) -> Result<Option<Hashed>, NoMemory> {
+    match outcome {
+        Outcome::Expanded(expansion) => Ok(Some(expansion.hashed().copied(alloc)?)),
+        Outcome::Duplicate(_, _) => Ok(None),
+        Outcome::Bounded(_, _) => Ok(None),
     }
 }
 

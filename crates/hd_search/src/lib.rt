@@ -2,6 +2,7 @@
 #![tactic(auto)]
 
 mod closed;
+mod expanding;
 mod frontier;
 mod judging;
 mod searching;

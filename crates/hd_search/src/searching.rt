@@ -7,27 +7,30 @@ ghost use Rattle.hd_book.specs.declared.refusal.Refusal.TheVariants as Refusal;
 ghost use Rattle.hd_search.specs.Frontier.{IsOfTask};
 ghost use Rattle.hd_search.specs.Refused.{HasOut, IsOpen, Tells};
 
-use crate::closed::{Closed, Known, key_of};
+use crate::closed::{Closed, Known};
+use crate::expanding::Expanding;
 use crate::frontier::Frontier;
-use crate::judging::{batch_of, outcome_of};
+use crate::judging::{batch_of, closed_by, outcome_of};
 use hd_base::NoMemory;
 use hd_book::{Book, Redeemed, Refusal, Ticket, Verdict};
 use hd_node::{Outcome, Parcel};
 use hd_task::{Kid, ROOT_ACTION, ROOT_PARENT, Task};
+use hd_zobrist::Words;
 use std::alloc::Global;
 
 /// How many entries a search may make: each has a number below that of the root's parent.
 pub const MOST_ENTRIES: u64 = ROOT_PARENT - 1;
 
 /// The parcel of the root.
-fn root<'t>(alloc: Global, task: &'t Task) -> Result<Parcel<'t>, NoMemory>
+fn root<'t>(alloc: Global, task: &'t Task, words: &Words) -> Result<Parcel<'t>, NoMemory>
     ensures { IfOk result (λ p. p.task ≡ task.now) }
 {
     let kid = Kid {
         parent: ROOT_PARENT,
         action: ROOT_ACTION,
     };
-    Parcel::of(alloc, task, kid, task.initial.copied(alloc)?, 0)
+    let state = task.initial.copied(alloc)?;
+    Parcel::of(alloc, task, words, kid, state, 0)
 }
 
 /// Commits an outcome alone: the number of its entry, if it is an expansion, and the ticket.
@@ -81,25 +84,27 @@ fn settle<'t>(
     book: &mut Book<'t>,
     frontier: &mut Frontier<'t>,
     closed: &mut Closed,
+    expanding: &mut Expanding<'t>,
     parcel: Parcel<'t>,
 ) -> Result<(), Refusal>
     requires task { book.old.state.task ≡ task.now }
     requires running { IsOpen book.old }
     requires parcel { parcel.task ≡ task.now }
     requires waiting { IsOfTask task.now frontier.old }
+    requires index { expanding.old.successors.task ≡ task.now }
     ensures task { book.new.state.task ≡ task.now }
     ensures running { IsOpen book.new }
     ensures waiting { OnOk result (IsOfTask task.now frontier.new) }
+    ensures index { expanding.new.successors.task ≡ task.now }
     ensures told { IfErr result (Tells task.now) }
 {
     let cost = parcel.cost();
-    let key = key_of(alloc, parcel.state())?;
-    let outcome = outcome_of(alloc, task, closed, &key, book.bound(), parcel)?;
-    let is_entry = matches!(&outcome, Outcome::Expanded(_));
+    let outcome = outcome_of(alloc, task, closed, expanding, book.bound(), parcel)?;
+    let state = closed_by(alloc, &outcome)?;
     let (entry, ticket) = commit_alone(alloc, book, outcome)?;
     release(book, frontier, ticket)?;
-    if is_entry {
-        closed.close(key, Known { entry, cost })?;
+    if let Some(state) = state {
+        closed.close(state, Known { entry, cost })?;
     }
     Ok(())
 }
@@ -120,12 +125,21 @@ pub fn searched<'t>(alloc: Global, task: &'t Task) -> Result<Book<'t>, Refusal>
     let mut book = Book::new(alloc, task, MOST_ENTRIES)?;
     let mut frontier = Frontier::empty(alloc);
     let mut closed = Closed::empty(alloc);
-    frontier.push(root(alloc, task)?)?;
+    let mut expanding = Expanding::of(alloc, task)?;
+    frontier.push(root(alloc, task, &expanding.words)?)?;
     for _turn in 0..u64::MAX {
         let Some(parcel) = frontier.pop() else {
             break;
         };
-        settle(alloc, task, &mut book, &mut frontier, &mut closed, parcel)?;
+        settle(
+            alloc,
+            task,
+            &mut book,
+            &mut frontier,
+            &mut closed,
+            &mut expanding,
+            parcel,
+        )?;
     }
     Ok(book)
 }

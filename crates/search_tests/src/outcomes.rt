@@ -6,7 +6,10 @@ ghost use Rattle.hd_book.specs.Settling.{IsOf};
 
 use crate::tasks::state;
 use hd_node::{Batch, By, Estimate, Expansion, MAX_OUTCOMES, Outcome, Parcel};
+use hd_pack::{Layout, pack};
+use hd_successors::Successors;
 use hd_task::{Kid, ROOT_ACTION, ROOT_PARENT, State, Task};
+use hd_zobrist::Words;
 use std::alloc::Global;
 use std::process::Abort;
 use std::test::Fail;
@@ -53,6 +56,39 @@ pub fn assert_sizes(rt: &impl Abort, task: &Task, state: &State)
     assert!(rt; state.fluents.len() == task.fluents.len());
 }
 
+/// A parcel that says of a kid where it leads.
+pub fn parcel<'t>(
+    rt: &impl Abort,
+    alloc: Global,
+    task: &'t Task,
+    words: &Words,
+    pair: Pair,
+    state: State,
+    cost: u64,
+) -> Result<Parcel<'t>, Fail>
+    ensures { IfOk result (λ p. p.task ≡ task.now) }
+{
+    assert_sizes(rt, task, &state);
+    Ok(Parcel::of(alloc, task, words, kid(pair), state, cost)?)
+}
+
+/// The expansion of a parcel, by an index of its own.
+fn expanded<'t>(
+    alloc: Global,
+    task: &'t Task,
+    words: &Words,
+    parcel: Parcel<'t>,
+) -> Result<Expansion<'t>, Fail>
+    requires { parcel.task ≡ task.now }
+    ensures { IfOk result (λ e. e.task ≡ task.now) }
+{
+    let mut successors = Successors::new(alloc, task)?;
+    match Expansion::of(alloc, task, words, &mut successors, parcel) {
+        Ok(expansion) => Ok(expansion),
+        Err((_, error)) => Err(Fail::from(error)),
+    }
+}
+
 /// The expansion of a parcel that says of a kid where it leads.
 pub fn expansion<'t>(
     rt: &impl Abort,
@@ -64,20 +100,22 @@ pub fn expansion<'t>(
 ) -> Result<Expansion<'t>, Fail>
     ensures { IfOk result (λ e. e.task ≡ task.now) }
 {
-    assert_sizes(rt, task, &state);
-    let parcel = Parcel::of(alloc, task, kid(pair), state, cost)?;
-    match Expansion::of(alloc, task, parcel) {
-        Ok(expansion) => Ok(expansion),
-        Err((_, error)) => Err(Fail::from(error)),
-    }
+    let words = Words::new(alloc, task)?;
+    let parcel = parcel(rt, alloc, task, &words, pair, state, cost)?;
+    expanded(alloc, task, &words, parcel)
 }
 
 /// The estimate of a state.
-pub fn estimate<'t>(rt: &impl Abort, task: &'t Task, state: State) -> Estimate<'t>
-    ensures { result.task ≡ task.now }
+pub fn estimate<'t>(
+    rt: &impl Abort,
+    alloc: Global,
+    task: &'t Task,
+    state: &State,
+) -> Result<Estimate<'t>, Fail>
+    ensures { IfOk result (λ h. h.task ≡ task.now) }
 {
-    assert_sizes(rt, task, &state);
-    Estimate::of(task, state)
+    assert_sizes(rt, task, state);
+    Ok(Estimate::of(task, pack(alloc, &Layout::new(task), state)?))
 }
 
 /// The outcome of a row.
@@ -101,7 +139,8 @@ pub fn outcome_of<'t>(
         Row::Duplicate(pair, by) => Ok(Outcome::Duplicate(kid(pair), by)),
         Row::Bounded(pair, atoms) => {
             let state = state(alloc, atoms, &[])?;
-            Ok(Outcome::Bounded(kid(pair), estimate(rt, task, state)))
+            let estimate = estimate(rt, alloc, task, &state)?;
+            Ok(Outcome::Bounded(kid(pair), estimate))
         }
     }
 }

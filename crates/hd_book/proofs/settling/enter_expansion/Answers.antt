@@ -2,7 +2,7 @@ use Rattle.std.proofs.Common.{◌∙◌, sym, subst}
 use Rattle.std.specs.List.{AllByRecursion}
 use Rattle.hd_task.specs.Plans.{IsStateOf}
 use Rattle.hd_node.specs.Children.{ChildView}
-use Rattle.hd_book.proofs.Children.{children_states}
+use Rattle.hd_node.proofs.Steps.{children_states}
 use Rattle.hd_book.proofs.settling.enter_expansion.Goals as goal
 
 pub release-requires-clause-of_task : goal.release-requires-clause-of_task

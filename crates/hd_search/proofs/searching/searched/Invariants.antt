@@ -8,4 +8,5 @@ invariant-loop-turn l = record {
   same : l.book.state.task ≡ l.task;
   running : IsOpen l.book;
   waiting : IsOfTask l.task l.frontier;
+  index : l.expanding.successors.task ≡ l.task;
 }

@@ -1,6 +1,7 @@
 use Rattle.std.proofs.Common.{◌<◌, ◌≤◌, ◌∙◌, sym, ap, ap₂, refl, subst, length, get_or, Some}
 use Rattle.std.proofs.lemmas.Bool.{ltb-true, ltb-false}
 use Rattle.std.proofs.lemmas.Option.{slice_get_past, slice_get_read}
+use Rattle.hd_task.specs.declared.state.State.{State}
 use Rattle.hd_task.specs.Plans.{node}
 use Rattle.hd_book.specs.Settling.{node_by, dominates, expanded_node}
 use Rattle.hd_book.specs.Holding.{state_of}
@@ -14,6 +15,7 @@ returns-in-Some c =
     let lt : n < length entries = subst (λ xs. n < length xs) c.deref.ensures.value (ltb-true n (length c.deref.result.now) (sym c.in-Some.ensures.lookup.0)) in
     let found = c.in-Some.ensures.lookup.1 in
     c.is_no_dearer.ensures
+    ∙ ap (λ (s : State). dominates (Some (node s c.in-Some.entry.now.cost)) (Some (node c.args.reached.now.state c.args.reached.now.cost))) c.state.ensures
     ∙ ap (λ o. dominates o (Some (node c.args.reached.now.state c.args.reached.now.cost)))
     (sym (ap (node_by (state_of c.args.self.now) c.args.earlier.now) c.in-Entry.is
     ∙ entry_node c.args.self.now c.requires.held n c.in-Some.entry.now c.in-Some.entry.now lt (found ∙ ap (λ xs. get_or xs n c.in-Some.entry.now) c.deref.ensures.value)))
@@ -31,7 +33,7 @@ returns-in-Some-Expanded c =
     let o = c.in-Some-Expanded.field-0.now in
     let found = c.in-Some-Expanded.ensures.lookup.1 in
     c.is_no_dearer-in-Some-Expanded.ensures
-    ∙ ap₂ (λ s k. dominates (Some (node s k)) (Some (node c.args.reached.now.state c.args.reached.now.cost))) c.state.ensures c.cost.ensures
+    ∙ ap₂ (λ s k. dominates (Some (node s k)) (Some (node c.args.reached.now.state c.args.reached.now.cost))) c.state-in-Some-Expanded.ensures c.cost.ensures
     ∙ ap (λ o. dominates o (Some (node c.args.reached.now.state c.args.reached.now.cost)))
     (sym (ap (node_by (state_of c.args.self.now) c.args.earlier.now) c.in-Here.is
     ∙ (ap expanded_node (slice_get_read c.args.earlier.now _ n o refl (ltb-true n (length c.args.earlier.now) (sym c.in-Some-Expanded.ensures.lookup.0)) found)

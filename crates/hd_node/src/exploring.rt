@@ -1,0 +1,95 @@
+//! What a node leads to, and what departs there.
+ghost use Rattle.std.specs.Prelude.{◌≡◌, IfOk};
+ghost use Rattle.hd_task.specs.Plans.{IsStateOf, node};
+ghost use Rattle.hd_task.specs.Applying.{goal_of};
+ghost use Rattle.hd_task.specs.Expansions.{departing_at};
+ghost use Rattle.hd_successors.specs.Watching.{candidates};
+ghost use Rattle.hd_node.specs.Children.{children_at, departing_by_goal};
+
+use crate::{Child, Hashed};
+use hd_base::{NoMemory, Sequence};
+use hd_pack::{Led, leads};
+use hd_successors::Successors;
+use hd_task::{ActionId, DepartsBy, GoalTest, Task};
+use hd_zobrist::Words;
+use std::alloc::Global;
+
+/// What departs at a node before any action: the goal, if its test says so.
+#[tactic(auto, unfolding(hd_task::specs::Applying::test_of))]
+fn goal_departure(
+    alloc: Global,
+    task: &Task,
+    state: &Hashed,
+    test: GoalTest,
+) -> Result<Vec<DepartsBy>, NoMemory>
+    requires { test ≡ goal_of task.now state.now }
+    ensures { IfOk result (λ v. v.items ≡ departing_by_goal task.now state.now) }
+{
+    let mut departures = Vec::new(alloc);
+    if let GoalTest::Departs = test {
+        departures.push(DepartsBy::Goal)?;
+    }
+    Ok(departures)
+}
+
+/// What a node leads to, and what departs there, where the goal's test is known and the candidates at its state are marked.
+fn walk(
+    alloc: Global,
+    task: &Task,
+    words: &Words,
+    successors: &Successors<'_>,
+    state: &Hashed,
+    cost: u64,
+    test: GoalTest,
+) -> Result<(Sequence<Child>, Sequence<DepartsBy>), NoMemory>
+    requires of_task { IsStateOf task.now state.now }
+    requires index { successors.now.task ≡ task.now }
+    requires marked { successors.now.marked ≡ candidates successors.now.watched state.now }
+    requires is_goal { test ≡ goal_of task.now state.now }
+    ensures children { IfOk result (λ r. r.0 ≡ children_at task.now (node state.now cost)) }
+    ensures departs { IfOk result (λ r. r.1 ≡ departing_at task.now (Some (node state.now cost))) }
+{
+    let mut children = Vec::new(alloc);
+    let mut departures = goal_departure(alloc, task, state, test)?;
+    let mut from = 0;
+    while let Some(action) = successors.next(from) {
+        match leads(
+            alloc,
+            task,
+            words,
+            state.state(),
+            state.hash(),
+            cost,
+            ActionId(action),
+        )? {
+            Led::No => {}
+            Led::Departs => departures.push(DepartsBy::Action(action))?,
+            Led::Next(next, hash, cost) => {
+                children.push(Child::of(action, Hashed::known(next, hash), cost))?;
+            }
+        }
+        from = action + 1;
+    }
+    Ok((Sequence::from_vec(children), Sequence::from_vec(departures)))
+}
+
+/// What a node leads to, and what departs there, where the goal's test is known. The index marks the candidates at its state.
+pub(crate) fn explore<'t>(
+    alloc: Global,
+    task: &'t Task,
+    words: &Words,
+    successors: &mut Successors<'t>,
+    state: &Hashed,
+    cost: u64,
+    test: GoalTest,
+) -> Result<(Sequence<Child>, Sequence<DepartsBy>), NoMemory>
+    requires of_task { IsStateOf task.now state.now }
+    requires index { successors.old.task ≡ task.now }
+    requires is_goal { test ≡ goal_of task.now state.now }
+    ensures children { IfOk result (λ r. r.0 ≡ children_at task.now (node state.now cost)) }
+    ensures departs { IfOk result (λ r. r.1 ≡ departing_at task.now (Some (node state.now cost))) }
+    ensures index { successors.new.task ≡ successors.old.task }
+{
+    successors.mark(state.state());
+    walk(alloc, task, words, successors, state, cost, test)
+}
