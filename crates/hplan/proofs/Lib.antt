@@ -1,7 +1,10 @@
 pub mod Costs
 pub mod Explaining
+pub mod Files
+pub mod Going
 pub mod Legal
 pub mod Solving
 pub mod StepTexts
 pub mod TaskLines
 pub mod TextReasons
+pub mod Writing

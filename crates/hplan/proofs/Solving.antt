@@ -1,11 +1,9 @@
 -- From the answer of a search to what is written.
-use Rattle.std.proofs.Common.{◌≡◌, ℕ, true, List, [], Contains, Option, Some, None, Ok, Err, IfSome, refl, subst, sym}
+use Rattle.std.proofs.Common.{◌≡◌, ℕ, true, List, Option, Some, None, Ok, Err, IfSome, subst, sym}
 use Rattle.std.specs.Prelude.{Result, IfOk, IfErr}
-use Rattle.std.proofs.lemmas.List.Elements.{Contains-get_or}
-use Rattle.hd_task.specs.Expansions.{IsLegal}
 use Rattle.hd_book.specs.declared.verdict.Verdict.TheVariants.{Optimal, NoPlan, RangeLeft}
 use Rattle.hplan.specs.PlanText.{goes_through}
-use Rattle.hplan.proofs.Legal.{legal_goes}
+use Rattle.hplan.proofs.Going.{bound_plan_goes}
 use Rattle.hd_task.specs.declared.task.Task.{Task}
 use Rattle.hd_book.specs.declared.verdict.Verdict.{Verdict}
 use Rattle.hplan.specs.declared.fault.Fault.{Fault}
@@ -14,22 +12,18 @@ use Rattle.hd_search.specs.Answer.{IsAnswer}
 use Rattle.std.specs.declared.io.ErrorKind.{ErrorKind}
 use Rattle.hd_plan.specs.declared.output.WriteError.{WriteError}
 use Rattle.hd_plan.specs.declared.output.WriteError.TheVariants as unwritten
-use Rattle.hd_plan.specs.Output.{IsNoted}
+use Rattle.hd_plan.specs.Output.{AppendsShort, KeepsFor, IsNoted}
 use Rattle.hd_texts.specs.declared.fault.TaskFault.{TaskFault}
 use Rattle.hd_texts.specs.declared.fault.TaskFault.TheVariants as texts
 use Rattle.hd_texts.specs.Tasks.{Explains, Unlifted, Memory}
 use Rattle.hplan.specs.Fault.{task_in, TellsUnwritten}
-use Rattle.hplan.specs.Answer.{plan_in, IsTrueOfDomain, IsSolved, HasNoAnswer, HasNoAnswerYet, OfTexts, OfOutput}
-use Rattle.hd_book.specs.Answers.{IsBoundPlan, IsTrueAnswer}
+use Rattle.hplan.specs.Answer.{plan_in, IsTrueOfDomain, IsSolved, IsAnswerText, HasNoAnswer, HasNoAnswerYet, OfTexts, OfOutput}
+use Rattle.hplan.proofs.Writing.{untouched, failed}
+use Rattle.hd_book.specs.Answers.{IsTrueAnswer}
 use Rattle.hd_lifted.specs.declared.task.LiftedTask.{LiftedTask}
 use Rattle.hd_grounding.specs.Grounding.{IsGrounding}
 use Rattle.hd_transfer.proofs.Runs.{valid_there}
 use Rattle.hd_transfer.proofs.Telling.{optimal_there, none_there}
-
--- the plan of the bound goes through
-bound_plan_goes : (t : Task) (expanded : List (List ℕ)) (p : List ℕ) → IsLegal t expanded → IsBoundPlan t expanded p → goes_through t p ≡ true
-bound_plan_goes t expanded p legal b =
-    legal_goes t expanded p legal (subst (Contains expanded) b.plan (Contains-get_or expanded b.number [] b.among))
 
 -- the plan of an answer goes through, if there is one
 pub answer_goes : (t : Task) (v : Verdict) → IsAnswer t v → IfSome (plan_in v) (λ p. goes_through t p ≡ true)
@@ -58,12 +52,18 @@ err_weaker (Err e) f p = f e p
 
 pub task_unanswered : (domain problem : List ℕ) (f : TaskFault) (fault : Fault) → fault ≡ task_in f → Explains domain problem f
     → HasNoAnswerYet domain problem fault
-task_unanswered domain problem f fault is told noted = subst (HasNoAnswer domain problem noted noted) (sym is) (OfTexts refl f told)
+task_unanswered domain problem f fault is told bytes noted =
+    subst (HasNoAnswer domain problem bytes bytes noted noted) (sym is) (OfTexts (untouched bytes noted) f told)
 
 -- why an answer is not written: memory ran out, or the writer has answered an error
-pub answer_unwritten : (domain problem : List ℕ) (ending : Ending) (text : List ℕ) (old new : Option ErrorKind) (error : WriteError) (f : Fault)
-    → IsSolved domain problem ending text → IsNoted old new error → TellsUnwritten error f → HasNoAnswer domain problem old new f
-answer_unwritten domain problem ending text old new unwritten.NoMemory f s noted told =
-    subst (HasNoAnswer domain problem old new) (sym told) (OfTexts noted texts.NoMemory (Unlifted texts.NoMemory Memory))
-answer_unwritten domain problem ending text old new (unwritten.Device kind) f s noted told =
-    OfOutput s.task f s.is_task (record { kind = kind; is_noted = noted; told = told })
+pub answer_unwritten : (domain problem : List ℕ) (ending : Ending) (text : List ℕ) (old new : Option (List ℕ)) (before noted : Option ErrorKind)
+    (error : WriteError) (f : Fault)
+    → IsSolved domain problem ending text → AppendsShort old new text → KeepsFor old new error → IsNoted before noted error
+    → TellsUnwritten error f → HasNoAnswer domain problem old new before noted f
+answer_unwritten domain problem ending text old new before noted unwritten.NoMemory f s short kept same told =
+    subst (HasNoAnswer domain problem old new before noted) (sym told)
+    (OfTexts (record { bytes = kept; fault = same }) texts.NoMemory (Unlifted texts.NoMemory Memory))
+answer_unwritten domain problem ending text old new before noted (unwritten.Device kind) f s short kept same told =
+    OfOutput f
+    (failed (IsAnswerText domain problem) text old new noted f (record { ending = ending; solved = s }) short
+    (record { kind = kind; is_noted = same; told = told }))

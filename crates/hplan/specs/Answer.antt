@@ -1,5 +1,5 @@
 -- What the answer to two texts is, and what is written of it. (Our own.)
-use Rattle.std.specs.Prelude.{◌≡◌, ℕ, ◌<◌, List, [], Option, Some, None, length, take, pos}
+use Rattle.std.specs.Prelude.{◌≡◌, ℕ, List, [], Option, Some, None, pos}
 use Rattle.std.specs.declared.io.ErrorKind.{ErrorKind}
 use Rattle.std.specs.Io.KnownBytes.{Appends}
 use Rattle.hd_lifted.specs.declared.task.LiftedTask.{LiftedTask}
@@ -17,9 +17,10 @@ use Rattle.hd_search.specs.Answer.{IsAnswer}
 use Rattle.hd_search.specs.Refused.{Tells}
 use Rattle.hd_texts.specs.declared.fault.TaskFault.{TaskFault}
 use Rattle.hd_texts.specs.Tasks.{IsTaskOf, Explains}
-use Rattle.hplan.specs.Fault.{task_in, AnswersFault}
+use Rattle.hplan.specs.Fault.{task_in}
 use Rattle.hplan.specs.PlanText.{plan_text}
 use Rattle.hplan.specs.TaskText.{departure_text}
+use Rattle.hplan.specs.Written.{IsUntouched, FailsToWrite}
 
 -- the instances of a plan are a valid plan of the domain, if there is a plan
 abbrev pub IsValidInDomain : LiftedTask → Task → Option (List ℕ) → Type 0
@@ -75,27 +76,26 @@ pub record Writes (domain problem : List ℕ) (old new : Option (List ℕ)) (end
   pub solved : IsSolved domain problem ending text
   pub bytes : Appends old new text
 
--- a beginning of the text of an answer is written, which may be nothing, and is not all of it
-pub record WritesFront (domain problem : List ℕ) (old new : Option (List ℕ)) : Type 0 where
+-- a text is all that is to be written of the answer to two texts, however that ends
+pub record IsAnswerText (domain problem : List ℕ) (text : List ℕ) : Type 0 where
   pub ending : Ending
-  pub text : List ℕ
-  pub count : ℕ
-  pub within : count < length text
   pub solved : IsSolved domain problem ending text
-  pub bytes : Appends old new (take count text)
 
 -- why the search of a task has no answer: memory ran out, or the book refuses so
 pub data HasNoSolution (task : Task) : Fault → Type 0 where
   OfMemory : HasNoSolution task NoMemory
   OfBook : (r : Refusal) → Tells task r → HasNoSolution task (Refused r)
 
--- why two texts have no answer: what is told of the texts; or they say a task, and its search has none; or there is an answer to write,
--- and what is told of the error that the writer has answered. What was noted of the writer before is noted still where it is not to blame
-pub data HasNoAnswer (domain problem : List ℕ) (old new : Option ErrorKind) : Fault → Type 0 where
-  OfTexts : new ≡ old → (f : TaskFault) → Explains domain problem f → HasNoAnswer domain problem old new (task_in f)
-  OfSearch : new ≡ old → (t : Task) (f : Fault) → IsTaskOf domain problem t → HasNoSolution t f → HasNoAnswer domain problem old new f
-  OfOutput : (t : Task) (f : Fault) → IsTaskOf domain problem t → AnswersFault new f → HasNoAnswer domain problem old new f
+-- why two texts have no answer: what is told of the texts; or they say a task, and its search has none; or they have one, of whose text a
+-- beginning is written, and what is told of the error that the writer has answered. The writer is untouched where it is not to blame
+pub data HasNoAnswer (domain problem : List ℕ) (old new : Option (List ℕ)) (before noted : Option ErrorKind) : Fault → Type 0 where
+  OfTexts : IsUntouched old new before noted → (f : TaskFault) → Explains domain problem f
+      → HasNoAnswer domain problem old new before noted (task_in f)
+  OfSearch : IsUntouched old new before noted → (t : Task) (f : Fault) → IsTaskOf domain problem t → HasNoSolution t f
+      → HasNoAnswer domain problem old new before noted f
+  OfOutput : (f : Fault) → FailsToWrite (IsAnswerText domain problem) old new noted f → HasNoAnswer domain problem old new before noted f
 
--- the same, where nothing was to be written yet: whatever is noted of a writer
+-- the same, where nothing was to be written yet: whatever a writer holds, and is noted of it
 abbrev pub HasNoAnswerYet : List ℕ → List ℕ → Fault → Type 0
-HasNoAnswerYet domain problem f = (noted : Option ErrorKind) → HasNoAnswer domain problem noted noted f
+HasNoAnswerYet domain problem f =
+    (bytes : Option (List ℕ)) (noted : Option ErrorKind) → HasNoAnswer domain problem bytes bytes noted noted f

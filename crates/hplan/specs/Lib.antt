@@ -1,6 +1,7 @@
 pub mod Answer
 pub mod Fault
 pub mod Places
+pub mod PlanFiles
 pub mod PlanText
 pub mod Printing
 pub mod Reasons

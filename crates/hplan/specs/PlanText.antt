@@ -1,32 +1,15 @@
 -- The text of a plan of a task: that of its steps, by their names, at the cost that it has by the task. (Our own.)
-use Rattle.std.specs.Prelude.{ℕ, Bool, true, ◌&&◌, List, [], ◌∷◌, map, Option, Some, None, slice_get, option_and_then}
-use Rattle.hd_plan.specs.declared.step.Step.{Step}
+use Rattle.std.specs.Prelude.{ℕ, Bool, true, ◌&&◌, List, [], ◌∷◌, Option, Some, None, option_and_then}
 use Rattle.hd_plan.specs.PlanText as plans
-use Rattle.hd_task.specs.declared.form.GroundForm.{GroundForm}
-use Rattle.hd_task.specs.declared.form.Names.{Names}
-use Rattle.hd_task.specs.declared.action.Action.{Action}
 use Rattle.hd_task.specs.declared.task.Task.{Task}
-use Rattle.hd_task.specs.FormText.{name_at}
 use Rattle.hd_task.specs.Plans.{Node, start, step_by, exec}
 use Rattle.hd_task.specs.Expansions.{is_applicable}
+use Rattle.hd_printing.specs.Printing.{steps_of}
 use Rattle.hplan.specs.declared.naming.NamedPlan.{NamedPlan}
-
--- the step that a ground form of an action is: its names
-abbrev pub step_of : Names → GroundForm → Step
-step_of names g = record { name = name_at names.schemas g.symbol; args = map (name_at names.objects) g.objects }
-
--- the step of an action that may not be there: without one it has no name
-abbrev pub step_by_action : Task → Option Action → Step
-step_by_action t None = record { name = []; args = [] }
-step_by_action t (Some a) = step_of t.names a.form
-
--- the step of the action with this number
-abbrev pub step_at : Task → ℕ → Step
-step_at t n = step_by_action t (slice_get t.actions n)
 
 -- a plan's text at a cost
 abbrev pub plan_at : Task → List ℕ → ℕ → List ℕ
-plan_at t p cost = plans.plan_text (map (step_at t) p) cost
+plan_at t p cost = plans.plan_text (steps_of t p) cost
 
 -- the text of a plan that leads to this node
 abbrev pub plan_to : Task → List ℕ → Option Node → List ℕ

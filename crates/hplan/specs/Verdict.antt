@@ -13,7 +13,8 @@ use Rattle.hd_texts.specs.declared.fault.TaskFault.{TaskFault}
 use Rattle.hd_texts.specs.Tasks.{IsLiftedOf, ExplainsTexts}
 use Rattle.hplan.specs.declared.fault.Fault.{Fault}
 use Rattle.hplan.specs.declared.fault.Fault.TheVariants.{NoMemory}
-use Rattle.hplan.specs.Fault.{task_in, plan_read_in, judged_in, AnswersFault}
+use Rattle.hplan.specs.Fault.{task_in, plan_read_in, judged_in}
+use Rattle.hplan.specs.Written.{IsUntouched, FailsToWrite}
 
 -- how it is told that a plan is valid
 abbrev pub valid_text : ℕ → List ℕ
@@ -46,13 +47,17 @@ pub record IsVerdictOf (domain problem plan : List ℕ) (text : List ℕ) : Type
   pub is : text ≡ valid_text cost
 
 -- why no verdict is written: what is told of the first two texts; or they say a lifted task, and what is told of the third in it; or the
--- plan is valid, and what is told of the error that the writer has answered. What was noted of the writer before is noted still where it is
--- not to blame
-pub data HasNoVerdict (domain problem plan : List ℕ) (old new : Option ErrorKind) : Fault → Type 0 where
-  InTexts : new ≡ old → (f : TaskFault) → ExplainsTexts domain problem f → HasNoVerdict domain problem plan old new (task_in f)
-  InPlan : new ≡ old → (l : LiftedTask) (f : Fault) → IsLiftedOf domain problem l → ExplainsPlan l plan f → HasNoVerdict domain problem plan old new f
-  InOutput : (cost : ℕ) (f : Fault) → AreValid domain problem plan cost → AnswersFault new f → HasNoVerdict domain problem plan old new f
+-- plan is valid, a beginning of the verdict is written, and what is told of the error that the writer has answered. The writer is untouched
+-- where it is not to blame
+pub data HasNoVerdict (domain problem plan : List ℕ) (old new : Option (List ℕ)) (before noted : Option ErrorKind) : Fault → Type 0 where
+  InTexts : IsUntouched old new before noted → (f : TaskFault) → ExplainsTexts domain problem f
+      → HasNoVerdict domain problem plan old new before noted (task_in f)
+  InPlan : IsUntouched old new before noted → (l : LiftedTask) (f : Fault) → IsLiftedOf domain problem l → ExplainsPlan l plan f
+      → HasNoVerdict domain problem plan old new before noted f
+  InOutput : (f : Fault) → FailsToWrite (IsVerdictOf domain problem plan) old new noted f
+      → HasNoVerdict domain problem plan old new before noted f
 
--- the same, where nothing was to be written yet: whatever is noted of a writer
+-- the same, where nothing was to be written yet: whatever a writer holds, and is noted of it
 abbrev pub HasNoVerdictYet : List ℕ → List ℕ → List ℕ → Fault → Type 0
-HasNoVerdictYet domain problem plan f = (noted : Option ErrorKind) → HasNoVerdict domain problem plan noted noted f
+HasNoVerdictYet domain problem plan f =
+    (bytes : Option (List ℕ)) (noted : Option ErrorKind) → HasNoVerdict domain problem plan bytes bytes noted noted f

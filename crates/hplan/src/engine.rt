@@ -1,10 +1,11 @@
 //! From the bytes of two texts to the bytes of a plan.
 ghost use Rattle.std.specs.Prelude.{◌≡◌, ◌⊎◌, true, IfOk, IfErr, IfSome, OnOk, OnErr};
 ghost use Rattle.std.specs.Io.KnownBytes.{Appends};
-ghost use Rattle.hd_plan.specs.Output.{AppendsShort, NotesError};
+ghost use Rattle.hd_plan.specs.Output.{AppendsShort, KeepsFor, NotesError};
 ghost use Rattle.hd_plan.specs.PlanText as plans;
-ghost use Rattle.hplan.specs.Answer.{plan_in, written_of, ending_of, IsSolved, Writes, WritesFront, IsSolution, HasNoSolution, HasNoAnswer, HasNoAnswerYet};
+ghost use Rattle.hplan.specs.Answer.{plan_in, written_of, ending_of, IsSolved, IsAnswerText, Writes, IsSolution, HasNoSolution, HasNoAnswer, HasNoAnswerYet};
 ghost use Rattle.hplan.specs.PlanText.{printed, plan_text, goes_through};
+ghost use Rattle.hplan.specs.Written.{WritesFrontOfA};
 
 use crate::fault::{Fault, unwritten};
 use crate::naming::{NamedPlan, named_plan};
@@ -111,6 +112,8 @@ fn write_found<W: Write>(
         (W.contents out.new.writer.now) (printed plan.now)) }
     ensures short { OnErr result (AppendsShort (W.contents out.old.writer.now)
         (W.contents out.new.writer.now) (printed plan.now)) }
+    ensures no_memory { IfErr result (KeepsFor (W.contents out.old.writer.now)
+        (W.contents out.new.writer.now)) }
     ensures fault { NotesError out.old.fault out.new.fault result }
 {
     match plan {
@@ -135,12 +138,14 @@ pub fn solve<W: Write>(
         (W.contents out.new.writer.now)) }
     ensures front { OnErr result
         ((W.contents out.new.writer.now ≡ W.contents out.old.writer.now)
-        ⊎ WritesFront domain.now problem.now (W.contents out.old.writer.now)
-        (W.contents out.new.writer.now)) }
+        ⊎ WritesFrontOfA (IsAnswerText domain.now problem.now)
+        (W.contents out.old.writer.now) (W.contents out.new.writer.now)) }
 
-    // Why there is no answer. `Device` is told only of an error that the writer has answered, and none that it answers is passed over.
-    ensures refusal { IfErr result
-        (HasNoAnswer domain.now problem.now out.old.fault out.new.fault) }
+    // Why there is no answer, and what is written then. `Device` is told only of an error that the writer has answered, after which a
+    // beginning of the answer's text is written; none that it answers is passed over.
+    ensures refusal { IfErr result (HasNoAnswer domain.now problem.now
+        (W.contents out.old.writer.now) (W.contents out.new.writer.now)
+        out.old.fault out.new.fault) }
     ensures no_fault { OnOk result (out.new.fault ≡ out.old.fault) }
 {
     let (ending, plan) = answer_of(alloc, domain, problem)?;

@@ -50,9 +50,11 @@ pub fn ground<W: Write>(
         ⊎ WritesFrontOfA (IsPrintOf domain.now problem.now)
         (W.contents out.old.writer.now) (W.contents out.new.writer.now)) }
 
-    // Why nothing is written, or not all. `Device` is told only of an error that the writer has answered, and none is passed over.
-    ensures refusal { IfErr result
-        (IsNotPrinted domain.now problem.now out.old.fault out.new.fault) }
+    // Why nothing is written, or not all. `Device` is told only of an error that the writer has answered, after which a beginning of
+    // the task's text is written; none that it answers is passed over.
+    ensures refusal { IfErr result (IsNotPrinted domain.now problem.now
+        (W.contents out.old.writer.now) (W.contents out.new.writer.now)
+        out.old.fault out.new.fault) }
     ensures no_fault { OnOk result (out.new.fault ≡ out.old.fault) }
 {
     let text = print_of(alloc, domain, problem)?;

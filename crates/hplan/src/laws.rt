@@ -1,13 +1,37 @@
 //! Laws over the definitions. Each function does nothing: its contract is the law.
-ghost use Rattle.std.specs.Prelude.{◌≡◌};
+ghost use Rattle.std.specs.Prelude.{◌≡◌, ◌⊎◌, ℕ, List, []};
 ghost use Rattle.hd_plan.specs.PlanText.{step_text};
 ghost use Rattle.hd_task.specs.FormText.{form_text};
 ghost use Rattle.hd_task.specs.declared.form.GroundForm.{GroundForm};
 ghost use Rattle.hd_task.specs.declared.form.Names.{Names};
-ghost use Rattle.hplan.specs.PlanText.{step_of};
+ghost use Rattle.hd_printing.specs.Printing.{step_of};
+ghost use Rattle.hplan.specs.declared.engine.Ending.{Ending};
+ghost use Rattle.hplan.specs.declared.engine.Ending.TheVariants.{Optimal};
+ghost use Rattle.hplan.specs.Answer.{IsSolved};
+ghost use Rattle.hplan.specs.PlanFiles.{IsValidatedFile, IsFileOfValid, IsFileOfOptimal};
 
 /// A step of a plan is printed as the ground form of its action: so a plan's lines are actions as `ground` prints them.
 pub fn steps_are_printed_as_ground_forms()
     ensures form { (names : Names) (g : GroundForm)
         → step_text (step_of names g) ≡ form_text names.schemas names.objects g }
+{}
+
+/// What is written of an answer is a plan file: it is valid in the task of the same two texts, as `validate` judges it, at the cost that stands
+/// in it. Nothing is written only where there is no plan, and so not of an answer that ends with an optimal one.
+pub fn answers_are_validated()
+    ensures optimal { (domain problem text : List ℕ) → IsSolved domain problem Optimal text
+        → IsValidatedFile domain problem text }
+    ensures given { (domain problem text : List ℕ) (ending : Ending)
+        → IsSolved domain problem ending text
+        → (text ≡ []) ⊎ IsValidatedFile domain problem text }
+{}
+
+/// The steps that such a file says, read back, name the instances of a plan that is valid in the domain and problem, at that cost; where the
+/// answer ends with an optimal plan, no valid plan costs less.
+pub fn written_plans_are_valid()
+    ensures optimal { (domain problem text : List ℕ) → IsSolved domain problem Optimal text
+        → IsFileOfOptimal domain problem text }
+    ensures given { (domain problem text : List ℕ) (ending : Ending)
+        → IsSolved domain problem ending text
+        → (text ≡ []) ⊎ IsFileOfValid domain problem text }
 {}

@@ -2,7 +2,8 @@
 ghost use Rattle.std.specs.Prelude.{◌≡◌, false, IfOk, MatchOption, map};
 ghost use Rattle.hd_plan.specs.PlanText as plans;
 ghost use Rattle.hd_task.specs.FormText.{name_at};
-ghost use Rattle.hplan.specs.PlanText.{step_of, step_at, plan_text, goes_through};
+ghost use Rattle.hd_printing.specs.Printing.{step_of, step_at, steps_of};
+ghost use Rattle.hplan.specs.PlanText.{plan_text, goes_through};
 
 use crate::cost::cost_of;
 use hd_base::{Name, NoMemory, Sequence};
@@ -63,7 +64,7 @@ fn step_at(alloc: Global, task: &Task, action: ActionId) -> Result<Step, NoMemor
 
 /// The steps of a plan.
 fn steps_of(alloc: Global, task: &Task, plan: &Plan) -> Result<Sequence<Step>, NoMemory>
-    ensures { IfOk result (λ steps. steps ≡ map (step_at task.now) plan.now) }
+    ensures { IfOk result (λ steps. steps ≡ steps_of task.now plan.now) }
 {
     let mut steps = Vec::new(alloc);
     for action in plan.as_slice() {

@@ -73,9 +73,11 @@ pub fn validate<W: Write>(
         ⊎ WritesFrontOfA (IsVerdictOf domain.now problem.now plan.now)
         (W.contents out.old.writer.now) (W.contents out.new.writer.now)) }
 
-    // Why nothing is written, or not all. `Device` is told only of an error that the writer has answered, and none is passed over.
-    ensures refusal { IfErr result
-        (HasNoVerdict domain.now problem.now plan.now out.old.fault out.new.fault) }
+    // Why nothing is written, or not all. `Device` is told only of an error that the writer has answered, after which a beginning of
+    // the verdict is written; none that it answers is passed over.
+    ensures refusal { IfErr result (HasNoVerdict domain.now problem.now plan.now
+        (W.contents out.old.writer.now) (W.contents out.new.writer.now)
+        out.old.fault out.new.fault) }
     ensures no_fault { OnOk result (out.new.fault ≡ out.old.fault) }
 {
     let cost = cost_of_texts(alloc, domain, problem, plan)?;

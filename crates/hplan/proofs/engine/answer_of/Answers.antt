@@ -1,6 +1,6 @@
-use Rattle.std.proofs.Common.{refl}
 use Rattle.hplan.specs.Answer.{OfSearch}
 use Rattle.hplan.proofs.Solving.{true_of_domain, ok_weaker, err_weaker, task_unanswered}
+use Rattle.hplan.proofs.Writing.{untouched}
 use Rattle.hplan.proofs.engine.answer_of.Goals as goal
 
 pub returns-in-Ok-clause-found : goal.returns-in-Ok-clause-found
@@ -14,7 +14,7 @@ returns-in-Ok-clause-found c =
 
 pub returns-in-Ok-clause-refusal : goal.returns-in-Ok-clause-refusal
 returns-in-Ok-clause-refusal c =
-    err_weaker c.solution_of-answer.result (λ f s noted. OfSearch refl c.in-Ok.task f c.in-Ok.ensures.found s) c.solution_of-answer.ensures.refusal
+    err_weaker c.solution_of-answer.result (λ f s bytes noted. OfSearch (untouched bytes noted) c.in-Ok.task f c.in-Ok.ensures.found s) c.solution_of-answer.ensures.refusal
 
 pub returns-in-Err-clause-refusal : goal.returns-in-Err-clause-refusal
 returns-in-Err-clause-refusal c =
