@@ -120,7 +120,8 @@ fn change_value(
         → new_value_in changes.old (ground_form_of objects.now effect.now.fluent) ≡ None }
     requires near { AreNear (2 ^ 126) changes.old }
     ensures values { OnOk result ((g : Ground) → new_value_in changes.new g
-        ≡ with_change (value_in numbers.now) objects.now effect.now g (new_value_in changes.old g)) }
+        ≡ with_change (value_in numbers.now) objects.now effect.now g
+        (new_value_in changes.old g)) }
     ensures cost { changes.new.cost ≡ changes.old.cost }
     ensures near { OnOk result ((n : ℕ) → 2 ^ 114 ≤ n → AreNear n changes.old
         → AreNear (n + RANGE_END) changes.new) }
@@ -151,7 +152,8 @@ fn add_effect(
         → new_value_in changes.old (ground_form_of objects.now effect.now.fluent) ≡ None }
     requires near { AreNear (2 ^ 126) changes.old }
     ensures values { OnOk result ((g : Ground) → new_value_in changes.new g
-        ≡ with_change (value_in numbers.now) objects.now effect.now g (new_value_in changes.old g)) }
+        ≡ with_change (value_in numbers.now) objects.now effect.now g
+        (new_value_in changes.old g)) }
     ensures cost { OnOk result (with_cost (value_in numbers.now) objects.now
         (Some changes.old.cost) effect.now ≡ Some changes.new.cost) }
     ensures near { OnOk result ((n : ℕ) → 2 ^ 114 ≤ n → AreNear n changes.old
