@@ -2,8 +2,8 @@
 //!
 //! The arguments are their two files; the times of a plain pass over the problem's bytes, of its words, of reading both texts
 //! and of checking them are then printed, in microseconds. With a third argument, `ground`, only the grounding of the checked task is
-//! timed, and with `search` all that it takes to search the task to its end. Without arguments the texts are small, and no times are printed,
-//! only counts.
+//! timed, with `search` all that it takes to search the task to its end, and with `stages` reading, checking, grounding and searching one
+//! after the other, each by itself. Without arguments the texts are small, and no times are printed, only counts.
 #![tactic(auto)]
 
 use hd_base::Seed;
@@ -12,6 +12,7 @@ use hd_ground::ground;
 use hd_lex::tokens;
 use hd_pddl::{DomainAst, ProblemAst, read_domain, read_problem};
 use hd_search::searched;
+use hd_task::Task;
 use hd_texts::{digest_of, task_of};
 use std::alloc::Global;
 use std::time::Instant;
@@ -49,10 +50,17 @@ fn checked_facts(
 }
 
 /// How many plans the search of a task expands.
+fn entries_in(alloc: Global, task: &Task) -> anyhow::Result<u64> {
+    let book = searched(alloc, task)?;
+    Ok(book.counts().entries)
+}
+
+/// How many plans the search of two texts' task expands.
 fn entries_of(alloc: Global, domain: &[u8], problem: &[u8]) -> anyhow::Result<u64> {
     let task = task_of(alloc, domain, problem)?;
-    let book = searched(alloc, &task)?;
-    Ok(book.counts().entries)
+    let entries = entries_in(alloc, &task);
+    drop(task);
+    entries
 }
 
 /// Prints counts of the small texts.
@@ -136,6 +144,52 @@ fn time_search(rt: &HostRuntime, domain: &[u8], problem: &[u8]) -> anyhow::Resul
     Ok(())
 }
 
+/// Prints how long a task is searched, and how many plans are expanded.
+fn time_searched(rt: &HostRuntime, task: &Task) -> anyhow::Result<()> {
+    let start = Instant::now(rt)?;
+    let entries = entries_in(rt.alloc(), task)?;
+    let taken = start.elapsed(rt)?.as_micros();
+    println!(rt; "searching {taken} us, {entries} entries")?;
+    Ok(())
+}
+
+/// Prints how long the grounding took that began at this time, and then the same of the search of its task.
+fn time_grounded(rt: &HostRuntime, task: &Task, start: Instant) -> anyhow::Result<()> {
+    let taken = start.elapsed(rt)?.as_micros();
+    println!(rt; "grounding {taken} us, {} actions", task.actions.len())?;
+    time_searched(rt, task)
+}
+
+/// Prints how long the check took that began at this time, and then the same of the stages after it.
+fn time_checked(
+    rt: &HostRuntime,
+    seed: Seed,
+    checked: &Checked,
+    start: Instant,
+) -> anyhow::Result<()> {
+    let taken = start.elapsed(rt)?.as_micros();
+    println!(rt; "checking {taken} us")?;
+    let start = Instant::now(rt)?;
+    let task = ground(rt.alloc(), seed, checked)?;
+    let told = time_grounded(rt, &task, start);
+    drop(task);
+    told
+}
+
+/// Prints for each stage of a task, from its texts to the end of its search, how long it takes.
+fn time_stages(rt: &HostRuntime, domain: &[u8], problem: &[u8]) -> anyhow::Result<()> {
+    let seed = Seed::of(digest_of(domain, problem));
+    let start = Instant::now(rt)?;
+    let (domain, problem) = read(rt.alloc(), domain, problem)?;
+    let taken = start.elapsed(rt)?.as_micros();
+    println!(rt; "reading {taken} us")?;
+    let start = Instant::now(rt)?;
+    let checked = check(rt.alloc(), seed, domain, problem)?;
+    let told = time_checked(rt, seed, &checked, start);
+    drop(checked);
+    told
+}
+
 fn main(rt: HostRuntime) -> anyhow::Result<()> {
     let mut words = env::args(&rt)?.skip(1);
     let (Some(domain), Some(problem)) = (words.next(), words.next()) else {
@@ -145,6 +199,7 @@ fn main(rt: HostRuntime) -> anyhow::Result<()> {
     let problem = fs::read(&rt, problem)?;
     match words.next() {
         Some(word) if word.as_str() == "ground" => time_grounding(&rt, &domain, &problem),
+        Some(word) if word.as_str() == "stages" => time_stages(&rt, &domain, &problem),
         Some(_) => time_search(&rt, &domain, &problem),
         None => {
             time_words(&rt, &problem)?;
