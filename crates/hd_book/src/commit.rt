@@ -50,7 +50,8 @@ fn make_room<'t>(
         length (flat_map entry_of outcomes.now) ≤ vec_capacity entries.new) }
     ensures room_tickets { OnOk result (vec_len tickets.new < vec_capacity tickets.new) }
     ensures room_settled { OnOk result (length outcomes.now ≤ spare settled.new) }
-    ensures parcels { IfOk result (λ ps. (ps.items ≡ []) × (kids_in outcomes.now ≤ vec_capacity ps)) }
+    ensures parcels { IfOk result (λ ps.
+        (ps.items ≡ []) × (kids_in outcomes.now ≤ vec_capacity ps)) }
 {
     entries.reserve(count_entries(outcomes))?;
     tickets.reserve(1)?;
@@ -97,9 +98,11 @@ impl<'t> Content<'t> {
         ensures refused { IfErr result (IsRefusalTo (view_of self.old) outcomes.now) }
         ensures room_entries { OnOk result (vec_len self.new.entries +
             length (flat_map entry_of outcomes.now) ≤ vec_capacity self.new.entries) }
-        ensures room_tickets { OnOk result (vec_len self.new.tickets < vec_capacity self.new.tickets) }
+        ensures room_tickets { OnOk result (vec_len self.new.tickets
+            < vec_capacity self.new.tickets) }
         ensures room_settled { OnOk result (length outcomes.now ≤ spare self.new.settled) }
-        ensures parcels { IfOk result (λ ps. (ps.items ≡ []) × (kids_in outcomes.now ≤ vec_capacity ps)) }
+        ensures parcels { IfOk result (λ ps.
+            (ps.items ≡ []) × (kids_in outcomes.now ≤ vec_capacity ps)) }
     {
         if let Some(refusal) = self.refusal_to(outcomes)? {
             return Err(refusal);
@@ -188,7 +191,8 @@ impl<'t> Content<'t> {
               first = length self.old.entries.items;
               end = length self.new.entries.items;
             }) }
-        ensures refused { IfErr result (λ e. IsRefusalTo (view_of self.old) batch.entry.outcomes e.1) }
+        ensures refused { IfErr result (λ e.
+            IsRefusalTo (view_of self.old) batch.entry.outcomes e.1) }
         ensures batch { IfErr result (λ e. e.0 ≡ batch.entry) }
         ensures err { OnErr result (view_of self.new ≡ view_of self.old) }
     {

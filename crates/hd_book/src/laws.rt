@@ -18,7 +18,8 @@ pub fn kids_name_plans()
         → length expanded < ROOT_PARENT
         → map (plan_of expanded) (posted_by t expanded) ≡ map Some (generated t expanded) }
     ensures count { (t : Task) (expanded : List (List ℕ))
-        → length expanded < ROOT_PARENT → length (posted_by t expanded) ≡ length (generated t expanded) }
+        → length expanded < ROOT_PARENT
+        → length (posted_by t expanded) ≡ length (generated t expanded) }
 {}
 
 /// A book without entries is kept, and so is each book after a batch that is not refused: no batch can make a book hold what

@@ -137,7 +137,8 @@ pub(crate) fn push_reserved<T: Drop>(items: &mut Vec<T>, item: T)
 /// Pushes the kids of an entry as parcels.
 fn release<'t>(parcels: &mut Vec<Parcel<'t>>, task: &'t Task, entry: u64, children: Vec<Child>)
     requires room { vec_len parcels.old + length children.items ≤ vec_capacity parcels.old }
-    requires of_task { AllByRecursion (λ (c : ChildView). IsStateOf task.now c.state) children.items }
+    requires of_task { AllByRecursion (λ (c : ChildView).
+        IsStateOf task.now c.state) children.items }
     requires tasks { AllByRecursion (IsParcelOf task.now) parcels.old.items }
     ensures released { map parcel_of parcels.new.items ≡ map parcel_of parcels.old.items
         ++ map (released_from entry) children.items }

@@ -33,7 +33,8 @@ impl Model for Hierarchy {
 }
 
 impl Hierarchy {
-    /// The hierarchy of these parents, or the least type that lies on a cycle, in time linear in the number of parents.
+    /// The hierarchy of these parents, or a type that lies on a cycle, in time linear in the number of parents. Of several such
+    /// types the first listed one is told, which is tested and not proved.
     ///
     /// # Errors
     ///

@@ -94,7 +94,8 @@ pub fn read_plan(alloc: Global, text: &[u8]) -> Result<Sequence<Step>, PlanTextE
     ensures good_text { (steps : List Step) → ReadsAs text.now steps
         → MatchResult result (λ found. found ≡ steps) (λ error. error ≡ PlanTextError.NoMemory) }
     ensures bad_text { (fault : PlanTextError) → IsFault text.now fault
-        → MatchResult result (λ _. ⊥) (λ error. (error ≡ PlanTextError.NoMemory) ⊎ (error ≡ fault)) }
+        → MatchResult result (λ _. ⊥)
+        (λ error. (error ≡ PlanTextError.NoMemory) ⊎ (error ≡ fault)) }
 {
     match steps_of(alloc, text) {
         Ok(steps) => Ok(Sequence::from_vec(steps)),
