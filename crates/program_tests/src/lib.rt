@@ -1,4 +1,6 @@
 //! Tests of the program: of the words of its command line (hd_words), and of what a command prints (hplan).
+//!
+//! Other tests take from here the runs of [`running`].
 #![tactic(auto)]
 
 #[cfg(test)]
@@ -11,12 +13,10 @@ mod digests;
 mod explained;
 #[cfg(test)]
 mod grounded;
-#[cfg(test)]
 mod line;
 #[cfg(test)]
 mod numeric;
-#[cfg(test)]
-mod running;
+pub mod running;
 #[cfg(test)]
 mod validated;
 #[cfg(test)]

@@ -34,6 +34,14 @@ pub fn run(alloc: Global, words: &[&str], files: &[(&str, &[u8])]) -> Result<Vec
     shown(alloc, status, &out, &err)
 }
 
+/// What stands between the first and the second bar of a run of status 0, whose standard error is empty.
+pub fn output_in(run: &[u8]) -> &[u8] {
+    let Some(behind) = run.strip_prefix(b"0|") else {
+        return b"";
+    };
+    behind.strip_suffix(b"|").unwrap_or(b"")
+}
+
 /// The run of `solve` on two texts.
 pub fn solved(alloc: Global, domain: &str, problem: &str) -> Result<Vec<u8>, AllocError> {
     let files = [("d", domain.as_bytes()), ("p", problem.as_bytes())];

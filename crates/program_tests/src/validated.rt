@@ -1,5 +1,5 @@
 //! What `validate` prints of plans in a third file. The answers were worked out by hand.
-use crate::running::{cut_short, run, solved, validated};
+use crate::running::{cut_short, output_in, run, solved, validated};
 use std::alloc::{AllocError, Global};
 use std::test::Fail;
 use text_tests::samples::{L, L_PROBLEM, N, N_PROBLEM, U, U_PROBLEM, V, V_PROBLEM};
@@ -123,14 +123,6 @@ fn texts_are_looked_at_in_order(rt: HostRuntime) -> Result<(), Fail> {
     let found = run(alloc, &["validate", "d", "p", "s"], &files)?;
     assert_eq!(rt; found.as_slice(), b"1||hplan: 35 Device\n".as_slice());
     Ok(())
-}
-
-/// What stands between the first and the second bar of a run of status 0.
-fn output_in(run: &[u8]) -> &[u8] {
-    let Some(behind) = run.strip_prefix(b"0|") else {
-        return b"";
-    };
-    behind.strip_suffix(b"|").unwrap_or(b"")
 }
 
 #[test]
