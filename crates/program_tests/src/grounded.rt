@@ -49,6 +49,8 @@ fn a_task_that_has_no_actions_to_print_is_refused(rt: HostRuntime) -> Result<(),
     let alloc = rt.alloc();
     let lacking = V_PROBLEM.replace(alloc, "(= (need b c) 5)", "")?;
     let negative = V_PROBLEM.replace(alloc, "(need a b) 4", "(need a b) -1")?;
+    let paid = "(total-cost) (need ?p ?q)";
+    let read = V.replace(alloc, paid, "(total-cost) (+ (total-cost) 1)")?;
     for (domain, problem, want) in [
         (V, lacking.as_str(), "1||hplan: 15 Undefined((need b c))\n"),
         (
@@ -57,6 +59,11 @@ fn a_task_that_has_no_actions_to_print_is_refused(rt: HostRuntime) -> Result<(),
             "1||hplan: 16 NegativeCost((go a b))\n",
         ),
         (MANY, MANY_PROBLEM, "1||hplan: 17 TooMany\n"),
+        (
+            read.as_str(),
+            V_PROBLEM,
+            "1||hplan: domain: 13 BadMetric(411)\n",
+        ),
         (
             MANY,
             V_PROBLEM,
