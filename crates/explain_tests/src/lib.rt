@@ -2,6 +2,8 @@
 #![tactic(auto)]
 
 #[cfg(test)]
+mod mixed;
+#[cfg(test)]
 mod plans;
 #[cfg(test)]
 mod steps;

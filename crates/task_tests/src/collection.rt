@@ -1,0 +1,43 @@
+//! What is printed of the tasks of a collection. Their costs were computed with a program that shares no code with this one.
+use crate::tasks::{
+    BLOCKS, BLOCKS_PROBLEM, GRIPPER, GRIPPER_PROBLEM, LOGISTICS, LOGISTICS_PROBLEM, PLANTS,
+    PLANTS_PROBLEM,
+};
+use program_tests::running::{output_in, solved, validated};
+use std::alloc::Global;
+use std::process::Abort;
+use std::test::Fail;
+use text_tests::samples::{COUNTERS, COUNTERS_PROBLEM, HANOI, HANOI_PROBLEM};
+
+/// Asserts that a plan of this cost is printed, and that it is valid at this cost.
+fn assert_solved(
+    rt: &impl Abort,
+    alloc: Global,
+    (domain, problem): (&str, &str),
+    cost: &str,
+) -> Result<(), Fail> {
+    let printed = solved(alloc, domain, problem)?;
+    let end = format!(in alloc; ")\n; cost = {cost}\n|")?;
+    assert!(rt; printed.starts_with(b"0|("), "at {cost}");
+    assert!(rt; printed.ends_with(end.as_bytes()), "at {cost}");
+    let found = validated(alloc, domain, problem, output_in(&printed))?;
+    let want = format!(in alloc; "0|valid; cost = {cost}\n|")?;
+    assert_eq!(rt; found.as_slice(), want.as_bytes());
+    Ok(())
+}
+
+#[test]
+fn atoms(rt: HostRuntime) -> Result<(), Fail> {
+    let alloc = rt.alloc();
+    assert_solved(&rt, alloc, (HANOI, HANOI_PROBLEM), "7")?;
+    assert_solved(&rt, alloc, (BLOCKS, BLOCKS_PROBLEM), "10")?;
+    assert_solved(&rt, alloc, (GRIPPER, GRIPPER_PROBLEM), "9")
+}
+
+#[test]
+fn numbers(rt: HostRuntime) -> Result<(), Fail> {
+    let alloc = rt.alloc();
+    assert_solved(&rt, alloc, (COUNTERS, COUNTERS_PROBLEM), "5")?;
+    assert_solved(&rt, alloc, (PLANTS, PLANTS_PROBLEM), "5")?;
+    assert_solved(&rt, alloc, (LOGISTICS, LOGISTICS_PROBLEM), "17")
+}
