@@ -1,0 +1,13 @@
+-- Costs that may be infinite: none stands for infinite. (Our own.)
+use Rattle.std.specs.Prelude.{ℕ, ◌+◌, Option, Some, None, max}
+
+-- the greater of two costs
+abbrev pub greater : Option ℕ → Option ℕ → Option ℕ
+greater None b = None
+greater (Some a) None = None
+greater (Some a) (Some b) = Some (max a b)
+
+-- a cost and a price
+abbrev pub plus_price : ℕ → Option ℕ → Option ℕ
+plus_price p None = None
+plus_price p (Some c) = Some (p + c)
