@@ -1,12 +1,12 @@
 -- Each content has an answer.
-use Rattle.std.proofs.Common.{◌≡◌, ◌≢◌, ◌⊎◌, inl, inr, ℕ, zero, suc, ◌+◌, ◌-◌, ◌*◌, ◌^◌, ◌<◌, ◌≤◌, ◌==◌, Bool, true, false, List, [], ◌∷◌, ◌++◌, length, get_or, take, drop, slice_index, slice_range, Result, Ok, Err, refl, sym, ap, ap₂, ◌∙◌, subst, append_assoc, arith}
+use Rattle.std.proofs.Common.{◌≡◌, ◌≢◌, ◌⊎◌, inl, inr, ℕ, zero, suc, ◌+◌, ◌-◌, ◌*◌, ◌^◌, ◌<◌, ◌≤◌, ◌==◌, Bool, true, false, List, [], ◌∷◌, ◌++◌, length, take, drop, slice_index, slice_range, Result, Ok, Err, refl, sym, ap, ap₂, ◌∙◌, arith}
 use Rattle.std.specs.Prelude.{codes}
 use Rattle.std.specs.Bool.{Decides}
 use Rattle.std.specs.Str.{bytes_eq}
 use Rattle.std.specs.List.{flat_map, AllByRecursion}
 use Rattle.std.proofs.lemmas.Bool.{cases_lt, eqb-true, eqb-false}
 use Rattle.std.proofs.lemmas.Slice.Eq.{bytes_eq-Decides}
-use Rattle.std.proofs.lemmas.List.{length-append, length-take, length-drop, append-nil, nil_from_length, take-append-drop}
+use Rattle.std.proofs.lemmas.List.{length-append, length-take, length-drop, nil_from_length, take-append-drop}
 use Rattle.std.proofs.Math.Nat.{mul-suc}
 use Rattle.byteorder.specs.Endian.{little_number}
 use Rattle.byteorder.specs.Numbers.{little_from-lt}
@@ -22,12 +22,11 @@ use Rattle.hd_image.specs.declared.contents.Found.{Found}
 use Rattle.hd_image.specs.declared.contents.Found.TheVariants.{Unmade, HalfMade, Journal}
 use Rattle.hd_image.specs.declared.error.ImageError.{ImageError}
 use Rattle.hd_image.specs.declared.error.ImageError.TheVariants.{NotAJournal, OtherTask, Damaged, NoMemory}
-use Rattle.hd_image.specs.Image.{version_byte, parent_width, entry_width, root_number, parent_number, HasNumber, IsHeld, entry_bytes, IsGroup, counted, opened, entries_of}
+use Rattle.hd_image.specs.Image.{version_byte, parent_width, entry_width, root_number, IsHeld, entry_bytes, opened, entries_of}
 use Rattle.hd_image.specs.Reading.{IsHalfMade, IsHead, IsHeaded, IsNoJournal, HasGroup, IsAnswer}
 use Rattle.hd_image.specs.Walking.{IsGroupLen, HasWalked, IsTorn}
 use Rattle.hd_image.proofs.Digits.{IsBytes, bytes-take, bytes-drop, bytes-behind}
 use Rattle.hd_image.proofs.Numbering.{no_version, number_told}
-use Rattle.hd_image.proofs.Pairs.{length-entry}
 use Rattle.hd_image.proofs.Heads.{half_made, not_half_long, half_closed, head_bytes, no_head_short, no_head_letters, no_head_version, no_head_gate, is_headed}
 use Rattle.hd_image.proofs.Strides.{TellsKid, tells_kid, count_least, count_most, not_within, first_behind, StandsFirst, walked_none, walked_by, split_first, torn_here, refused_by, found_journal}
 

@@ -1,11 +1,11 @@
 -- Headers: where one stands, and that it is the only one.
-use Rattle.std.proofs.Common.{◌≡◌, ◌≢◌, ◌⊎◌, inl, inr, ℕ, zero, suc, ◌+◌, ◌-◌, ◌<◌, ◌≤◌, ◌==◌, ◌↔◌, Bool, true, false, true≢false, List, [], ◌∷◌, ◌++◌, length, get_or, take, drop, slice_index, slice_range, refl, sym, ap, ap₂, ◌∙◌, subst, append_assoc, arith}
+use Rattle.std.proofs.Common.{◌≡◌, ◌≢◌, inl, inr, ℕ, ◌+◌, ◌-◌, ◌<◌, ◌≤◌, ◌==◌, ◌↔◌, true, false, true≢false, List, [], ◌∷◌, ◌++◌, length, drop, slice_index, slice_range, refl, sym, ap, ap₂, ◌∙◌, subst, arith}
 use Rattle.std.specs.Prelude.{codes}
 use Rattle.std.proofs.lemmas.Bool.{eqb-true}
 use Rattle.std.proofs.lemmas.List.{length-append, length-take, length-drop, take-append-drop, take_at, drop_at}
 use Rattle.hd_image.specs.declared.version.Version.{Version}
-use Rattle.hd_image.specs.declared.header.TheConstants.{FIRST_GATE, DIGEST_LEN}
-use Rattle.hd_image.specs.Image.{version_byte, header}
+use Rattle.hd_image.specs.declared.header.TheConstants.{FIRST_GATE}
+use Rattle.hd_image.specs.Image.{version_byte}
 use Rattle.hd_image.specs.Reading.{IsHalfMade, IsHead, IsHeaded}
 use Rattle.hd_image.proofs.Numbering.{version_one}
 

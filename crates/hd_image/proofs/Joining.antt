@@ -1,16 +1,15 @@
 -- Groups as bytes: they tell one list of groups, up to where no group stands.
-use Rattle.std.proofs.Common.{◌≡◌, ◌≢◌, ℕ, ◌+◌, ◌*◌, ◌^◌, ◌<◌, ◌≤◌, List, [], ◌∷◌, ◌++◌, length, get_or, drop, refl, sym, ap, ap₂, ◌∙◌, subst, append_assoc, arith}
+use Rattle.std.proofs.Common.{◌≡◌, ◌≢◌, ℕ, ◌+◌, ◌*◌, ◌^◌, ◌<◌, List, [], ◌∷◌, ◌++◌, length, get_or, drop, refl, sym, ap, ap₂, ◌∙◌, append_assoc, arith}
 use Rattle.std.specs.List.{flat_map, AllByRecursion}
 use Rattle.std.proofs.lemmas.List.{length-append, append-nil}
 use Rattle.std.proofs.lemmas.Grind.{flat_map-append}
-use Rattle.byteorder.specs.Endian.{little_bytes, little_number}
+use Rattle.byteorder.specs.Endian.{little_bytes}
 use Rattle.hd_task.specs.declared.plan.Kid.{Kid}
 use Rattle.hd_image.specs.declared.version.Version.{Version}
 use Rattle.hd_image.specs.declared.entry.Entry.{Entry}
-use Rattle.hd_image.specs.declared.entry.TheConstants.{MAX_GROUP}
-use Rattle.hd_image.specs.Image.{entry_width, IsHeld, entry_bytes, IsGroup, counted, opened, entries_of, entries_in}
+use Rattle.hd_image.specs.Image.{entry_width, entry_bytes, IsGroup, counted, opened, entries_of, entries_in}
 use Rattle.hd_image.specs.Reading.{HasGroup}
-use Rattle.hd_image.proofs.Digits.{length-little, number_back, number_one}
+use Rattle.hd_image.proofs.Digits.{length-little, number_one}
 use Rattle.hd_image.proofs.Pairs.{length-entries, entries_one}
 
 -- ---- a group

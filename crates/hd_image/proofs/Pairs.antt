@@ -1,14 +1,14 @@
 -- Entries as bytes: how many there are, and that they tell one list of pairs.
-use Rattle.std.proofs.Common.{◌≡◌, ◌≢◌, ℕ, zero, suc, ◌+◌, ◌*◌, ◌^◌, ◌<◌, ◌≤◌, List, [], ◌∷◌, ◌++◌, length, take, drop, refl, sym, ap, ap₂, ◌∙◌, subst, append_assoc, arith}
+use Rattle.std.proofs.Common.{◌≡◌, ℕ, ◌+◌, ◌*◌, List, [], ◌∷◌, ◌++◌, length, refl, sym, ap, ap₂, ◌∙◌, append_assoc, arith}
 use Rattle.std.specs.List.{flat_map, AllByRecursion}
-use Rattle.std.proofs.lemmas.List.{length-append, append-nil, take_all, take-append-drop, length-take, length-drop}
+use Rattle.std.proofs.lemmas.List.{length-append}
 use Rattle.std.proofs.Math.Nat.{mul-suc}
-use Rattle.byteorder.specs.Endian.{little_bytes, little_number}
+use Rattle.byteorder.specs.Endian.{little_bytes}
 use Rattle.hd_task.specs.declared.plan.Kid.{Kid}
 use Rattle.hd_image.specs.declared.version.Version.{Version}
 use Rattle.hd_image.specs.declared.entry.Entry.{Entry}
-use Rattle.hd_image.specs.Image.{parent_width, entry_width, HasNumber, parent_number, IsHeld, entry_bytes, entry_at, entries_of}
-use Rattle.hd_image.proofs.Digits.{IsBytes, bytes_again, length-little, number_one}
+use Rattle.hd_image.specs.Image.{parent_width, entry_width, parent_number, IsHeld, entry_bytes, entry_at, entries_of}
+use Rattle.hd_image.proofs.Digits.{length-little, number_one}
 use Rattle.hd_image.proofs.Numbering.{number_fits, parent_one}
 
 -- ---- how many bytes

@@ -1,18 +1,18 @@
 -- What was written is read, and what a stop leaves.
-use Rattle.std.proofs.Common.{◌≡◌, ◌≢◌, ◌⊎◌, inl, inr, ℕ, zero, suc, ◌+◌, ◌-◌, ◌<◌, ◌≤◌, ◌==◌, true, false, List, [], ◌∷◌, ◌++◌, length, take, drop, refl, sym, ap, ap₂, ◌∙◌, subst, append_assoc, arith}
+use Rattle.std.proofs.Common.{◌≡◌, ◌≢◌, ◌⊎◌, inl, inr, ℕ, suc, ◌+◌, ◌≤◌, ◌==◌, true, false, List, [], ◌∷◌, ◌++◌, length, take, drop, refl, sym, ap, ◌∙◌, subst, append_assoc, arith}
 use Rattle.std.specs.List.{flat_map, AllByRecursion}
-use Rattle.std.proofs.lemmas.List.{length-append, take_at}
+use Rattle.std.proofs.lemmas.List.{length-append, append-nil, take_at}
 use Rattle.std.proofs.lemmas.Bool.{eqb-true, eqb-false}
 use Rattle.hd_base.proofs.Lists.{AllByRecursion-push}
 use Rattle.hd_task.specs.declared.plan.Kid.{Kid}
 use Rattle.hd_image.specs.declared.version.Version.{Version}
 use Rattle.hd_image.specs.declared.header.TheConstants.{FIRST_GATE, DIGEST_LEN}
 use Rattle.hd_image.specs.declared.contents.Contents.{Contents}
-use Rattle.hd_image.specs.declared.contents.Found.TheVariants.{Unmade, HalfMade, Journal}
-use Rattle.hd_image.specs.Image.{IsGroup, counted, opened, header, front, image, entries_in}
+use Rattle.hd_image.specs.declared.contents.Found.TheVariants.{Journal}
+use Rattle.hd_image.specs.Image.{IsGroup, counted, opened, header, front, image, entries_of, entries_in}
 use Rattle.hd_image.specs.Reading.{IsHalfMade, IsHead, IsHeaded, IsJournal, IsFound, contents_of}
-use Rattle.hd_image.specs.Stops.{IsClosed, IsOpening, IsBeforeOrAfter, IsOpeningHeader, IsMaking, ReadsAs, IsAfter, ReadsAsNone, IsMended}
-use Rattle.hd_image.proofs.Joining.{opened-append}
+use Rattle.hd_image.specs.Stops.{IsBeforeOrAfter, IsMaking, ReadsAs, IsAfter, ReadsAsNone, IsMended}
+use Rattle.hd_image.proofs.Joining.{opened-append, entries_in-append}
 
 -- ---- journals that are read
 
@@ -56,7 +56,7 @@ reads v digest groups gate behind content len sound ends whole = record { head =
 -- ---- while a group is appended
 
 -- the group stands behind its gate, which is open
-joined : (v : Version) (digest : List ℕ) (groups : List (List Kid)) (next : List Kid) → front v digest groups ++ 1 ∷ (counted v next ++ 0 ∷ []) ≡ image v digest (groups ++ next ∷ [])
+pub joined : (v : Version) (digest : List ℕ) (groups : List (List Kid)) (next : List Kid) → front v digest groups ++ 1 ∷ (counted v next ++ 0 ∷ []) ≡ image v digest (groups ++ next ∷ [])
 joined v digest groups next =
     let all = flat_map (opened v) groups in
     let body : (digest ++ all) ++ 1 ∷ (counted v next ++ 0 ∷ []) ≡ (digest ++ flat_map (opened v) (groups ++ next ∷ [])) ++ 0 ∷ [] =
@@ -82,6 +82,19 @@ before_or_after v digest groups next content len sound group left =
       | inl closed ↦ inl (reads v digest groups 0 closed.behind content len sound zero_not_one closed.whole)
       | inr opening ↦ opening_read v digest groups next content len sound group opening.gate opening.whole
     ]
+
+-- ---- what is written
+
+pub made : (v : Version) (digest : List ℕ) → 1 ∷ header v digest ++ 0 ∷ [] ≡ image v digest []
+made v digest = ap (λ (xs : List ℕ). 1 ∷ header v (xs ++ 0 ∷ [])) (sym (append-nil digest))
+
+pub length-front : (v : Version) (digest : List ℕ) (groups : List (List Kid)) → length digest ≡ DIGEST_LEN → length (front v digest groups) ≡ FIRST_GATE + length (flat_map (opened v) groups)
+length-front v digest groups len = let parts = length-append digest (flat_map (opened v) groups) in omega (arith, parts, len)
+
+pub appended_entries : (v : Version) (digest : List ℕ) (groups : List (List Kid)) (next : List Kid) → length digest ≡ DIGEST_LEN
+    → entries_in v FIRST_GATE (groups ++ next ∷ []) ≡ entries_in v FIRST_GATE groups ++ entries_of v (length (front v digest groups) + 5) next
+appended_entries v digest groups next len =
+    entries_in-append v FIRST_GATE groups next ∙ ap (λ (n : ℕ). entries_in v FIRST_GATE groups ++ entries_of v (n + 5) next) (sym (length-front v digest groups len))
 
 -- ---- while a header is made
 

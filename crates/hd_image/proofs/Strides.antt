@@ -1,5 +1,5 @@
 -- The reader's steps, from entry to entry and from gate to gate.
-use Rattle.std.proofs.Common.{◌≡◌, ◌≢◌, ◌⊎◌, inl, inr, ℕ, zero, suc, ◌+◌, ◌-◌, ◌*◌, ◌^◌, ◌<◌, ◌≤◌, ◌==◌, Bool, true, false, not, true≢false, List, [], ◌∷◌, ◌++◌, length, get_or, take, drop, slice_index, slice_range, refl, sym, ap, ap₂, ◌∙◌, subst, append_assoc, arith}
+use Rattle.std.proofs.Common.{◌≡◌, ◌≢◌, inl, inr, ℕ, zero, suc, ◌+◌, ◌-◌, ◌*◌, ◌^◌, ◌<◌, ◌≤◌, ◌==◌, Bool, true, false, not, true≢false, List, [], ◌∷◌, ◌++◌, length, take, drop, slice_index, refl, sym, ap, ap₂, ◌∙◌, subst, append_assoc, arith}
 use Rattle.std.specs.List.{flat_map, AllByRecursion}
 use Rattle.std.proofs.lemmas.List.{length-append, length-take, length-drop, append-nil, take-append-drop, take-append-le, take_all, nil_from_length, get_or-drop}
 use Rattle.std.specs.Str.{bytes_eq}
@@ -11,7 +11,6 @@ use Rattle.byteorder.specs.Endian.{little_bytes, little_number}
 use Rattle.byteorder.specs.Numbers.{little_from-lt}
 use Rattle.hd_base.proofs.Lists.{AllByRecursion-push}
 use Rattle.hd_task.specs.declared.plan.Kid.{Kid}
-use Rattle.hd_task.specs.declared.plan.TheConstants.{ROOT_PARENT}
 use Rattle.hd_image.specs.declared.version.Version.{Version}
 use Rattle.hd_image.specs.declared.version.Version.TheVariants.{One, Two}
 use Rattle.hd_image.specs.declared.entry.Entry.{Entry}
@@ -20,12 +19,11 @@ use Rattle.hd_image.specs.declared.header.TheConstants.{FIRST_GATE}
 use Rattle.hd_image.specs.declared.contents.Contents.{Contents}
 use Rattle.hd_image.specs.declared.error.ImageError.{ImageError}
 use Rattle.hd_image.specs.declared.error.ImageError.TheVariants.{NotAJournal, OtherTask, Damaged, NoMemory}
-use Rattle.hd_image.specs.Image.{parent_width, entry_width, root_number, parent_number, HasNumber, IsHeld, entry_bytes, IsGroup, counted, opened, entry_at, entries_of, entries_in}
-use Rattle.hd_image.specs.Reading.{IsHeaded, HasGroup, IsDamaged, IsJournal, IsRefused, contents_of}
+use Rattle.hd_image.specs.Image.{parent_width, entry_width, parent_number, HasNumber, IsHeld, entry_bytes, IsGroup, counted, opened, entry_at, entries_of, entries_in}
+use Rattle.hd_image.specs.Reading.{IsHeaded, HasGroup, IsJournal, IsRefused}
 use Rattle.hd_image.specs.Walking.{AreWhole, IsGroupLen, HasAdded, HasWalked, IsTorn, Stumbles}
-use Rattle.hd_image.proofs.Digits.{IsBytes, bytes-drop, bytes-behind, bytes_again, length-little, number_back}
-use Rattle.hd_image.proofs.Numbering.{number_told, root_fits}
-use Rattle.hd_image.proofs.Pairs.{pair, length-entry, length-entries, entries_of-append}
+use Rattle.hd_image.proofs.Digits.{IsBytes, bytes-drop, bytes-behind, bytes_again, number_back}
+use Rattle.hd_image.proofs.Pairs.{pair, length-entries, entries_of-append}
 use Rattle.hd_image.proofs.Joining.{length-counted, count_fits, opened-append, entries_in-append}
 
 -- ---- ranges

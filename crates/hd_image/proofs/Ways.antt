@@ -1,16 +1,16 @@
 -- A content is read in one way.
-use Rattle.std.proofs.Common.{◌≡◌, ◌≢◌, ◌⊎◌, inl, inr, ℕ, ◌+◌, ◌<◌, ◌≤◌, ◌==◌, List, [], ◌∷◌, ◌++◌, length, get_or, drop, Result, Ok, Err, refl, sym, ap, ap₂, ◌∙◌, subst, arith}
+use Rattle.std.proofs.Common.{◌≡◌, ◌≢◌, inl, inr, ℕ, ◌+◌, ◌<◌, ◌≤◌, List, ◌∷◌, ◌++◌, length, get_or, drop, Result, Ok, Err, refl, sym, ap, ap₂, ◌∙◌, subst, arith}
 use Rattle.std.specs.List.{flat_map, AllByRecursion}
 use Rattle.hd_task.specs.declared.plan.Kid.{Kid}
 use Rattle.hd_image.specs.declared.version.Version.{Version}
-use Rattle.hd_image.specs.declared.header.TheConstants.{FIRST_GATE, DIGEST_LEN}
+use Rattle.hd_image.specs.declared.header.TheConstants.{FIRST_GATE}
 use Rattle.hd_image.specs.declared.contents.Contents.{Contents}
 use Rattle.hd_image.specs.declared.contents.Found.{Found}
 use Rattle.hd_image.specs.declared.contents.Found.TheVariants.{Unmade, HalfMade, Journal}
 use Rattle.hd_image.specs.declared.error.ImageError.{ImageError}
 use Rattle.hd_image.specs.declared.error.ImageError.TheVariants.{NotAJournal, OtherTask, Damaged, NoMemory}
 use Rattle.hd_image.specs.Image.{IsGroup, opened}
-use Rattle.hd_image.specs.Reading.{IsHalfMade, IsHead, IsHeaded, IsNoJournal, IsOtherTask, IsDamaged, IsJournal, contents_of, IsFound, IsRefused, IsAnswer}
+use Rattle.hd_image.specs.Reading.{IsHalfMade, IsHeaded, IsNoJournal, IsOtherTask, IsDamaged, IsJournal, contents_of, IsAnswer}
 use Rattle.hd_image.proofs.Heads.{head_bytes, headed_one}
 use Rattle.hd_image.proofs.Joining.{IsEnd, closed_end, torn_end, groups_one}
 

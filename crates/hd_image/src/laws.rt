@@ -1,6 +1,6 @@
 //! Laws over the definitions.
-ghost use Rattle.std.specs.Prelude.{◌≡◌, ◌≢◌, ◌<◌, ◌⊎◌, ◌∷◌, ◌++◌, ℕ, List, [], length, slice_index, Result, Ok, Err};
-ghost use Rattle.std.specs.List.{AllByRecursion};
+ghost use Rattle.std.specs.Prelude.{◌≡◌, ◌≢◌, ◌+◌, ◌<◌, ◌⊎◌, ◌∷◌, ◌++◌, ℕ, List, [], length, slice_index, Result, Ok, Err};
+ghost use Rattle.std.specs.List.{flat_map, AllByRecursion};
 ghost use Rattle.hd_task.specs.declared.plan.Kid.{Kid};
 ghost use Rattle.hd_image.specs.declared.version.Version.{Version};
 ghost use Rattle.hd_image.specs.declared.contents.Contents.{Contents};
@@ -8,8 +8,8 @@ ghost use Rattle.hd_image.specs.declared.contents.Found.{Found};
 ghost use Rattle.hd_image.specs.declared.contents.Found.TheVariants.{Journal};
 ghost use Rattle.hd_image.specs.declared.error.ImageError.{ImageError};
 ghost use Rattle.hd_image.specs.declared.error.ImageError.TheVariants.{NoMemory};
-ghost use Rattle.hd_image.specs.declared.header.TheConstants.{DIGEST_LEN};
-ghost use Rattle.hd_image.specs.Image.{IsGroup, image};
+ghost use Rattle.hd_image.specs.declared.header.TheConstants.{DIGEST_LEN, FIRST_GATE};
+ghost use Rattle.hd_image.specs.Image.{IsGroup, counted, opened, header, front, image, entries_of, entries_in};
 ghost use Rattle.hd_image.specs.Reading.{IsFound, IsAnswer, contents_of};
 ghost use Rattle.hd_image.specs.Stops.{IsBeforeOrAfter, IsMaking, ReadsAs, IsAfter, ReadsAsNone, IsMended};
 
@@ -52,4 +52,22 @@ pub fn stops_leave_a_header_to_make_or_no_groups()
 pub fn what_is_mended_is_an_image()
     ensures { (digest content : List ℕ) (found : Contents)
         → IsFound digest content (Journal found) → IsMended digest content found }
+{}
+
+/// What is written is the image of groups: a header that was made has none, and a group that was opened is the last of them. Its
+/// entries stand behind the others, five bytes behind what was the last gate.
+pub fn what_is_written_is_an_image()
+    ensures made { (v : Version) (digest : List ℕ)
+        → 1 ∷ header v digest ++ 0 ∷ [] ≡ image v digest [] }
+    ensures appended { (v : Version) (digest : List ℕ) (groups : List (List Kid))
+        (next : List Kid) → front v digest groups ++ 1 ∷ (counted v next ++ 0 ∷ [])
+        ≡ image v digest (groups ++ next ∷ []) }
+    ensures last_gate { (v : Version) (digest : List ℕ) (groups : List (List Kid))
+        → length digest ≡ DIGEST_LEN
+        → length (front v digest groups) ≡ FIRST_GATE + length (flat_map (opened v) groups) }
+    ensures entries { (v : Version) (digest : List ℕ) (groups : List (List Kid))
+        (next : List Kid) → length digest ≡ DIGEST_LEN
+        → entries_in v FIRST_GATE (groups ++ next ∷ [])
+        ≡ entries_in v FIRST_GATE groups
+        ++ entries_of v (length (front v digest groups) + 5) next }
 {}

@@ -1,4 +1,4 @@
-use Rattle.std.proofs.Common.{rules, ◌≡◌, true, slice_index, slice_range, ◌∙◌}
+use Rattle.std.proofs.Common.{rules, ◌≡◌, true, slice_range, ◌∙◌}
 use Rattle.std.specs.Prelude.{codes}
 use Rattle.std.proofs.lemmas.Option.{IfSome_then}
 use Rattle.hd_image.proofs.Heads.{is_headed}
