@@ -81,7 +81,8 @@ group_from v behind len fits is =
     let taken = length-take len behind in
     let size = length-drop 4 (take len behind) in
     let rest = length-drop len behind in
-    let tells = kids_from v (little_number 4 behind) (drop 4 (take len behind)) (bytes-drop 4 (take len behind) (bytes-take len behind fits)) (omega (arith, len_is, within, taken, size)) in
+    let tells = kids_from v (little_number 4 behind) (drop 4 (take len behind)) (bytes-drop 4 (take len behind) (bytes-take len behind fits))
+    (omega (arith, len_is, within, taken, size)) in
     let first = first_behind v behind len tells.kids fits is tells.held tells.bytes_are in
     record { kids = tells.kids; next = drop len behind; group = first.0; gate = omega (arith, rest, within); whole = first.1 }
 
@@ -109,22 +110,29 @@ record Ends (v : Version) (body : List ℕ) : Type 0 where
   walked : HasWalked v body rest entries
   ended : slice_index rest 0 ≢ 1
 
-walks : (fuel : ℕ) (v : Version) (body rest : List ℕ) (entries : List Entry) → IsBytes rest → HasWalked v body rest entries → length rest ≤ fuel → Ends v body ⊎ ((at : ℕ) × IsTorn v body at)
+walks : (fuel : ℕ) (v : Version) (body rest : List ℕ) (entries : List Entry) → IsBytes rest → HasWalked v body rest entries → length rest ≤ fuel
+    → Ends v body ⊎ ((at : ℕ) × IsTorn v body at)
 walks zero v body rest entries fits w le = absurd (let some = w.some in omega (arith, some, le))
 walks (suc fuel) v body rest entries fits w le =
     let some = w.some in
-    let size : length body ≡ length (flat_map (opened v) w.groups) + length rest = ap length w.whole ∙ length-append (flat_map (opened v) w.groups) rest in
+    let size : length body ≡ length (flat_map (opened v) w.groups) + length rest = ap length w.whole
+    ∙ length-append (flat_map (opened v) w.groups) rest in
     elim (slice_index rest 0 == 1) as (λ b. (slice_index rest 0 == 1) ≡ b → Ends v body ⊎ ((at : ℕ) × IsTorn v body at)) [
       | false ↦ λ e. inl (record { rest = rest; entries = entries; walked = w; ended = eqb-false (slice_index rest 0) 1 e })
       | true ↦ λ e.
           let at_gate = eqb-true (slice_index rest 0) 1 e in
           elim (group_or_none v (drop 1 rest) (bytes-drop 1 rest fits)) [
-            | inr torn ↦ inr (FIRST_GATE + (length body - length rest), torn_here v body rest (FIRST_GATE + (length body - length rest)) entries w at_gate torn (omega (arith, size)))
+            | inr torn ↦ inr (
+              FIRST_GATE + (length body - length rest),
+              torn_here v body rest (FIRST_GATE + (length body - length rest)) entries w at_gate torn
+                  (omega (arith, size)),
+            )
             | inl has ↦
                 let split : rest ≡ opened v has.kids ++ has.next = split_first rest some ∙ ap₂ (λ (g : ℕ) (xs : List ℕ). g ∷ xs) at_gate has.whole in
                 let at = FIRST_GATE + (length body - length rest) + 5 in
                 let first : StandsFirst v rest has.next has.kids = record { group = has.group; whole = split } in
-                let lens : length rest ≡ length (opened v has.kids) + length has.next = ap length split ∙ length-append (opened v has.kids) has.next in
+                let lens : length rest ≡ length (opened v has.kids) + length has.next = ap length split
+                ∙ length-append (opened v has.kids) has.next in
                 walks fuel v body has.next (entries ++ entries_of v at has.kids) (bytes-behind rest (opened v has.kids) has.next fits split)
                 (walked_by v body rest has.next at entries (entries ++ entries_of v at has.kids) has.kids w first has.gate refl (omega (arith, size)))
                 (omega (arith, lens, le))
@@ -205,13 +213,26 @@ of_headed digest content fits stands =
     let long = (head_bytes content (slice_index content 0) v (slice_range content 6 FIRST_GATE) body stands.1).long in
     let size = length-drop FIRST_GATE content in
     elim (decided (bytes_eq (slice_range content 6 FIRST_GATE) digest) (bytes_eq-Decides (slice_range content 6 FIRST_GATE) digest)) [
-      | inr other ↦ (Err OtherTask, (λ e. cc), record { head = slice_index content 0; v = v; other = slice_range content 6 FIRST_GATE; body = body; headed = stands.1; differs = other })
+      | inr other ↦ (
+        Err OtherTask,
+        (λ e. cc),
+        record {
+          head = slice_index content 0;
+          v = v;
+          other = slice_range content 6 FIRST_GATE;
+          body = body;
+          headed = stands.1;
+          differs = other;
+        },
+      )
       | inl same ↦
-          elim (walks (length body) v body body [] (bytes-drop FIRST_GATE content fits) (walked_none v body (omega (arith, long, size))) (omega arith)) [
+          elim (walks (length body) v body body [] (bytes-drop FIRST_GATE content fits) (walked_none v body (omega (arith, long, size)))
+          (omega arith)) [
             | inl ends ↦
                 let w = ends.walked in
                 let some = w.some in
-                let parts : length body ≡ length (flat_map (opened v) w.groups) + length ends.rest = ap length w.whole ∙ length-append (flat_map (opened v) w.groups) ends.rest in
+                let parts : length body ≡ length (flat_map (opened v) w.groups) + length ends.rest = ap length w.whole
+                ∙ length-append (flat_map (opened v) w.groups) ends.rest in
                 let last = FIRST_GATE + (length body - length ends.rest) in
                 let found : Contents = record {
                   version = v;
@@ -223,11 +244,16 @@ of_headed digest content fits stands =
                 } in (
                   Ok (Journal found),
                   found_not (Journal found),
-                  found_journal content (slice_index content 0) v (slice_range content 6 FIRST_GATE) digest body ends.rest ends.entries last (length ends.rest - 1) stands.1 same w ends.ended
+                  found_journal content (slice_index content 0) v (slice_range content 6 FIRST_GATE) digest body ends.rest ends.entries last
+                      (length ends.rest - 1) stands.1 same w ends.ended
                       (omega (arith, parts)) (omega (arith, some)),
                 )
-            | inr torn ↦
-                (Err (Damaged torn.0), (λ e. cc), refused_by content (slice_index content 0) v (slice_range content 6 FIRST_GATE) digest body (Damaged torn.0) stands.1 same torn.1)
+            | inr torn ↦ (
+              Err (Damaged torn.0),
+              (λ e. cc),
+              refused_by content (slice_index content 0) v (slice_range content 6 FIRST_GATE) digest body
+                  (Damaged torn.0) stands.1 same torn.1,
+            )
           ]
     ]
 

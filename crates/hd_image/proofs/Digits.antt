@@ -51,7 +51,8 @@ bytes_again (suc n) (b ∷ xs) fits le =
     let moved : little_from 1 n (b ∷ xs) ≡ y = little_from-cons 0 n b xs in
     let again : bytes_low_first 0 n y ≡ take n xs = bytes_again n xs (λ i. fits (suc i)) (omega (arith, le)) in
     ap (λ (z : ℕ). bytes_low_first 0 (suc n) (b + 256 * z)) moved
-    ∙ ap₂ (λ (c : ℕ) (cs : List ℕ). c ∷ cs) (low_digit b y (fits 0)) (bytes_next 0 n (b + 256 * y) ∙ (ap (bytes_low_first 0 n) (high_digits b y (fits 0)) ∙ again))
+    ∙ ap₂ (λ (c : ℕ) (cs : List ℕ). c ∷ cs) (low_digit b y (fits 0)) (bytes_next 0 n (b + 256 * y)
+    ∙ (ap (bytes_low_first 0 n) (high_digits b y (fits 0)) ∙ again))
 
 -- ---- bytes tell one number
 

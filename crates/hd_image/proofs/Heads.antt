@@ -13,7 +13,8 @@ use Rattle.hd_image.proofs.Numbering.{version_one}
 
 pub half_made : (content : List ℕ) → 1 < length content → length content ≤ 39 → slice_index content 0 ≡ 0 → IsHalfMade content
 half_made [] some short closed = absurd (omega (arith, some))
-half_made (b ∷ rest) some short closed = record { rest = rest; closed = ap (λ (c : ℕ). c ∷ rest) closed; some = omega (arith, some); short = omega (arith, short) }
+half_made (b ∷ rest) some short closed =
+    record { rest = rest; closed = ap (λ (c : ℕ). c ∷ rest) closed; some = omega (arith, some); short = omega (arith, short) }
 
 pub not_half_short : (content : List ℕ) → length content < 2 → ¬ IsHalfMade content
 not_half_short content short h = let size = ap length h.closed in let some = h.some in omega (arith, short, size, some)
@@ -60,7 +61,8 @@ pub record HeadBytes (content : List ℕ) (head : ℕ) (v : Version) (digest bod
   pub digest_is : slice_range content 6 FIRST_GATE ≡ digest
   pub body_is : drop FIRST_GATE content ≡ body
 
-pub head_bytes : (content : List ℕ) (head : ℕ) (v : Version) (digest body : List ℕ) → IsHeaded content head v digest body → HeadBytes content head v digest body
+pub head_bytes : (content : List ℕ) (head : ℕ) (v : Version) (digest body : List ℕ) → IsHeaded content head v digest body
+    → HeadBytes content head v digest body
 head_bytes content head v digest body h =
     let whole = h.whole in
     let len = h.digest_len in
@@ -102,7 +104,8 @@ no_head_gate content none head v digest body h =
 
 -- content in the parts of a header
 pub split_head : (content : List ℕ) → FIRST_GATE < length content
-    → content ≡ slice_index content 0 ∷ (slice_range content 1 5 ++ slice_index content 5 ∷ (slice_range content 6 FIRST_GATE ++ drop FIRST_GATE content))
+    → content ≡ slice_index content 0
+    ∷ (slice_range content 1 5 ++ slice_index content 5 ∷ (slice_range content 6 FIRST_GATE ++ drop FIRST_GATE content))
 split_head [] long = absurd (omega (arith, long))
 split_head (a ∷ []) long = absurd (omega (arith, long))
 split_head (a ∷ b ∷ []) long = absurd (omega (arith, long))
@@ -111,11 +114,14 @@ split_head (a ∷ b ∷ c ∷ d ∷ []) long = absurd (omega (arith, long))
 split_head (a ∷ b ∷ c ∷ d ∷ e ∷ []) long = absurd (omega (arith, long))
 split_head (a ∷ b ∷ c ∷ d ∷ e ∷ f ∷ rest) long = ap (λ (xs : List ℕ). a ∷ b ∷ c ∷ d ∷ e ∷ f ∷ xs) (sym (take-append-drop 32 rest))
 
-pub is_headed : (content : List ℕ) (v : Version) → FIRST_GATE < length content → slice_range content 1 5 ≡ codes "HDPJ" → slice_index content 5 ≡ version_byte v
-    → IsHead (slice_index content 0) (length content - FIRST_GATE) → IsHeaded content (slice_index content 0) v (slice_range content 6 FIRST_GATE) (drop FIRST_GATE content)
+pub is_headed : (content : List ℕ) (v : Version) → FIRST_GATE < length content → slice_range content 1 5 ≡ codes "HDPJ"
+    → slice_index content 5 ≡ version_byte v
+    → IsHead (slice_index content 0) (length content - FIRST_GATE)
+    → IsHeaded content (slice_index content 0) v (slice_range content 6 FIRST_GATE) (drop FIRST_GATE content)
 is_headed content v long letters version gate = record {
   whole = split_head content long
-      ∙ ap₂ (λ (xs : List ℕ) (b : ℕ). slice_index content 0 ∷ (xs ++ b ∷ (slice_range content 6 FIRST_GATE ++ drop FIRST_GATE content))) letters version;
+      ∙ ap₂ (λ (xs : List ℕ) (b : ℕ). slice_index content 0 ∷
+      (xs ++ b ∷ (slice_range content 6 FIRST_GATE ++ drop FIRST_GATE content))) letters version;
   digest_len = let behind = length-drop 6 content in let size = length-take 32 (drop 6 content) in omega (arith, behind, size, long);
   gate = subst (λ (n : ℕ). IsHead (slice_index content 0) n) (sym (length-drop FIRST_GATE content)) gate;
 }
@@ -128,7 +134,8 @@ pub record SameHead (head : ℕ) (v : Version) (digest body : List ℕ) (head' :
   pub digests : digest ≡ digest'
   pub bodies : body ≡ body'
 
-pub headed_one : (content : List ℕ) (head head' : ℕ) (v v' : Version) (digest digest' body body' : List ℕ) → IsHeaded content head v digest body → IsHeaded content head' v' digest' body'
+pub headed_one : (content : List ℕ) (head head' : ℕ) (v v' : Version) (digest digest' body body' : List ℕ) → IsHeaded content head v digest body
+    → IsHeaded content head' v' digest' body'
     → SameHead head v digest body head' v' digest' body'
 headed_one content head head' v v' digest digest' body body' h h' =
     let a = head_bytes content head v digest body h in

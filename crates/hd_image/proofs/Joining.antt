@@ -25,12 +25,15 @@ length-counted v kids =
 pub count_fits : (v : Version) (kids : List Kid) → IsGroup v kids → length kids < 256 ^ 4
 count_fits v kids group = let most = group.most in omega (arith, most)
 
-pub group_one : (v : Version) (ks ls : List Kid) (r s : List ℕ) → IsGroup v ks → IsGroup v ls → counted v ks ++ r ≡ counted v ls ++ s → (ks ≡ ls) × (r ≡ s)
+pub group_one : (v : Version) (ks ls : List Kid) (r s : List ℕ) → IsGroup v ks → IsGroup v ls → counted v ks ++ r ≡ counted v ls ++ s
+    → (ks ≡ ls) × (r ≡ s)
 unfolding counted
 group_one v ks ls r s gk gl e =
     let apart : little_bytes 4 (length ks) ++ (flat_map (entry_bytes v) ks ++ r) ≡ little_bytes 4 (length ls) ++ (flat_map (entry_bytes v) ls ++ s) =
-    sym (append_assoc (little_bytes 4 (length ks)) (flat_map (entry_bytes v) ks) r) ∙ (e ∙ append_assoc (little_bytes 4 (length ls)) (flat_map (entry_bytes v) ls) s) in
-    let counts = number_one 4 (length ks) (length ls) (flat_map (entry_bytes v) ks ++ r) (flat_map (entry_bytes v) ls ++ s) (count_fits v ks gk) (count_fits v ls gl) apart in
+    sym (append_assoc (little_bytes 4 (length ks)) (flat_map (entry_bytes v) ks) r)
+    ∙ (e ∙ append_assoc (little_bytes 4 (length ls)) (flat_map (entry_bytes v) ls) s) in
+    let counts = number_one 4 (length ks) (length ls) (flat_map (entry_bytes v) ks ++ r) (flat_map (entry_bytes v) ls ++ s) (count_fits v ks gk)
+    (count_fits v ls gl) apart in
     entries_one v ks ls r s gk.held gl.held counts.0 counts.1
 
 -- ---- groups
@@ -57,7 +60,8 @@ torn_end v behind torn = record {
 more_behind : (v : Version) (gs : List (List Kid)) (t : List ℕ) → 0 < length t → 0 < length (flat_map (opened v) gs ++ t)
 more_behind v gs t some = let whole = length-append (flat_map (opened v) gs) t in omega (arith, whole, some)
 
-pub groups_one : (v : Version) (gs hs : List (List Kid)) (t u : List ℕ) → AllByRecursion (IsGroup v) gs → AllByRecursion (IsGroup v) hs → IsEnd v t → IsEnd v u
+pub groups_one : (v : Version) (gs hs : List (List Kid)) (t u : List ℕ) → AllByRecursion (IsGroup v) gs → AllByRecursion (IsGroup v) hs → IsEnd v t
+    → IsEnd v u
     → flat_map (opened v) gs ++ t ≡ flat_map (opened v) hs ++ u → (gs ≡ hs) × (t ≡ u)
 groups_one v [] [] t u sg sh et eu e = (refl, e)
 groups_one v [] (h ∷ hs) t u sg sh et eu e =
@@ -73,7 +77,8 @@ groups_one v (g ∷ gs) (h ∷ hs) t u sg sh et eu e =
 
 -- ---- one group more
 
-pub opened-append : (v : Version) (gs : List (List Kid)) (next : List Kid) → flat_map (opened v) (gs ++ next ∷ []) ≡ flat_map (opened v) gs ++ opened v next
+pub opened-append : (v : Version) (gs : List (List Kid)) (next : List Kid)
+    → flat_map (opened v) (gs ++ next ∷ []) ≡ flat_map (opened v) gs ++ opened v next
 opened-append v gs next = flat_map-append (opened v) gs (next ∷ []) ∙ ap (λ (xs : List ℕ). flat_map (opened v) gs ++ xs) (append-nil (opened v next))
 
 pub entries_in-append : (v : Version) (gate : ℕ) (gs : List (List Kid)) (next : List Kid)
@@ -84,6 +89,9 @@ entries_in-append v gate [] next =
 entries_in-append v gate (g ∷ gs) next =
     let rest = entries_in-append v (gate + length (opened v g)) gs next in
     let whole = length-append (opened v g) (flat_map (opened v) gs) in
-    let place : gate + length (opened v g) + length (flat_map (opened v) gs) + 5 ≡ gate + length (opened v g ++ flat_map (opened v) gs) + 5 = omega (arith, whole) in
-    ap (λ (es : List Entry). entries_of v (gate + 5) g ++ es) (rest ∙ ap (λ (n : ℕ). entries_in v (gate + length (opened v g)) gs ++ entries_of v n next) place)
-    ∙ sym (append_assoc (entries_of v (gate + 5) g) (entries_in v (gate + length (opened v g)) gs) (entries_of v (gate + length (flat_map (opened v) (g ∷ gs)) + 5) next))
+    let place : gate + length (opened v g) + length (flat_map (opened v) gs) + 5 ≡ gate + length (opened v g ++ flat_map (opened v) gs) + 5 =
+    omega (arith, whole) in
+    ap (λ (es : List Entry). entries_of v (gate + 5) g ++ es) (rest
+    ∙ ap (λ (n : ℕ). entries_in v (gate + length (opened v g)) gs ++ entries_of v n next) place)
+    ∙ sym (append_assoc (entries_of v (gate + 5) g) (entries_in v (gate + length (opened v g)) gs)
+    (entries_of v (gate + length (flat_map (opened v) (g ∷ gs)) + 5) next))

@@ -59,7 +59,8 @@ pub number_fits : (v : Version) (p : ℕ) → HasNumber v p → parent_number v 
 number_fits v p has =
     elim (parent_cases v p has) [
       | inl root ↦ subst (λ (n : ℕ). n < 256 ^ parent_width v) (sym root.told) (root_fits v)
-      | inr own ↦ subst (λ (n : ℕ). n < 256 ^ parent_width v) (sym own.told) (let fits = root_fits v in let below = own.below in omega (arith, fits, below))
+      | inr own ↦ subst (λ (n : ℕ). n < 256 ^ parent_width v) (sym own.told) (let fits = root_fits v in let below = own.below in
+          omega (arith, fits, below))
     ]
 
 -- two parents have two numbers
@@ -96,7 +97,8 @@ fits_told v p fits =
       | false ↦ λ e f. let below : p < most_of v = ltb-true p (most_of v) f in inr (omega (arith, below))
     ] refl fits
 
-pub all_told : (v : Version) (kids : List Kid) → list_all (λ kid. fits_parent v kid.parent) kids ≡ true → AllByRecursion (λ kid. HasNumber v kid.parent) kids
+pub all_told : (v : Version) (kids : List Kid) → list_all (λ kid. fits_parent v kid.parent) kids ≡ true
+    → AllByRecursion (λ kid. HasNumber v kid.parent) kids
 all_told v [] fit = tt
 all_told v (kid ∷ kids) fit =
     let parts = and_parts (fits_parent v kid.parent) (list_all (λ kid. fits_parent v kid.parent) kids) fit in

@@ -43,12 +43,15 @@ entry_one v k l r s hk hl e =
     let n = parent_number v l.parent in
     let apart : little_bytes width m ++ (little_bytes 4 k.action ++ r) ≡ little_bytes width n ++ (little_bytes 4 l.action ++ s) =
     sym (append_assoc (little_bytes width m) (little_bytes 4 k.action) r) ∙ (e ∙ append_assoc (little_bytes width n) (little_bytes 4 l.action) s) in
-    let parents = number_one width m n (little_bytes 4 k.action ++ r) (little_bytes 4 l.action ++ s) (number_fits v k.parent hk.parent) (number_fits v l.parent hl.parent) apart in
+    let parents =
+    number_one width m n (little_bytes 4 k.action ++ r) (little_bytes 4 l.action ++ s) (number_fits v k.parent hk.parent)
+    (number_fits v l.parent hl.parent) apart in
     let actions = number_one 4 k.action l.action r s (let lt = hk.action in omega (arith, lt)) (let lt = hl.action in omega (arith, lt)) parents.1 in
     let parent = parent_one v k.parent l.parent hk.parent hl.parent parents.0 in
     (ap₂ pair parent actions.0, actions.1)
 
-pub entries_one : (v : Version) (ks ls : List Kid) (r s : List ℕ) → AllByRecursion (IsHeld v) ks → AllByRecursion (IsHeld v) ls → length ks ≡ length ls
+pub entries_one : (v : Version) (ks ls : List Kid) (r s : List ℕ) → AllByRecursion (IsHeld v) ks → AllByRecursion (IsHeld v) ls
+    → length ks ≡ length ls
     → flat_map (entry_bytes v) ks ++ r ≡ flat_map (entry_bytes v) ls ++ s → (ks ≡ ls) × (r ≡ s)
 entries_one v [] [] r s hk hl len e = (refl, e)
 entries_one v [] (l ∷ ls) r s hk hl len e = absurd (omega (arith, len))
@@ -62,11 +65,13 @@ entries_one v (k ∷ ks) (l ∷ ls) r s hk hl len e =
 
 -- ---- the places of entries
 
-pub entries_of-append : (v : Version) (at : ℕ) (ks ls : List Kid) → entries_of v at (ks ++ ls) ≡ entries_of v at ks ++ entries_of v (at + length (flat_map (entry_bytes v) ks)) ls
+pub entries_of-append : (v : Version) (at : ℕ) (ks ls : List Kid)
+    → entries_of v at (ks ++ ls) ≡ entries_of v at ks ++ entries_of v (at + length (flat_map (entry_bytes v) ks)) ls
 entries_of-append v at [] ls = let same : at ≡ at + 0 = omega arith in ap (λ (n : ℕ). entries_of v n ls) same
 entries_of-append v at (k ∷ ks) ls =
     let rest = entries_of-append v (at + entry_width v) ks ls in
     let whole = length-append (entry_bytes v k) (flat_map (entry_bytes v) ks) in
     let first = length-entry v k in
-    let place : at + entry_width v + length (flat_map (entry_bytes v) ks) ≡ at + length (entry_bytes v k ++ flat_map (entry_bytes v) ks) = omega (arith, whole, first) in
+    let place : at + entry_width v + length (flat_map (entry_bytes v) ks) ≡ at + length (entry_bytes v k ++ flat_map (entry_bytes v) ks) =
+    omega (arith, whole, first) in
     ap (λ (es : List Entry). entry_at k at ∷ es) (rest ∙ ap (λ (n : ℕ). entries_of v (at + entry_width v) ks ++ entries_of v n ls) place)

@@ -24,7 +24,8 @@ body_some : (groups : List ℕ) (gate : ℕ) (behind : List ℕ) → 1 ≤ lengt
 body_some groups gate behind = let whole = length-append groups (gate ∷ behind) in omega (arith, whole)
 
 -- a content with an open header, groups, and then a gate that is not open
-pub is_journal : (v : Version) (digest : List ℕ) (groups : List (List Kid)) (gate : ℕ) (behind content : List ℕ) → length digest ≡ DIGEST_LEN → AllByRecursion (IsGroup v) groups
+pub is_journal : (v : Version) (digest : List ℕ) (groups : List (List Kid)) (gate : ℕ) (behind content : List ℕ) → length digest ≡ DIGEST_LEN
+    → AllByRecursion (IsGroup v) groups
     → gate ≢ 1 → content ≡ front v digest groups ++ gate ∷ behind → IsJournal digest content (contents_of v 1 groups gate behind)
 is_journal v digest groups gate behind content len sound ends whole = record {
   head = 1;
@@ -49,33 +50,46 @@ pub image_read : (v : Version) (digest : List ℕ) (groups : List (List Kid)) �
     → IsFound digest (image v digest groups) (Journal (contents_of v 1 groups 0 []))
 image_read v digest groups len sound = is_journal v digest groups 0 [] (image v digest groups) len sound zero_not_one refl
 
-reads : (v : Version) (digest : List ℕ) (groups : List (List Kid)) (gate : ℕ) (behind content : List ℕ) → length digest ≡ DIGEST_LEN → AllByRecursion (IsGroup v) groups
+reads : (v : Version) (digest : List ℕ) (groups : List (List Kid)) (gate : ℕ) (behind content : List ℕ) → length digest ≡ DIGEST_LEN
+    → AllByRecursion (IsGroup v) groups
     → gate ≢ 1 → content ≡ front v digest groups ++ gate ∷ behind → ReadsAs digest content v groups
-reads v digest groups gate behind content len sound ends whole = record { head = 1; gate = gate; behind = behind; found = is_journal v digest groups gate behind content len sound ends whole }
+reads v digest groups gate behind content len sound ends whole =
+    record { head = 1; gate = gate; behind = behind; found = is_journal v digest groups gate behind content len sound ends whole }
 
 -- ---- while a group is appended
 
 -- the group stands behind its gate, which is open
-pub joined : (v : Version) (digest : List ℕ) (groups : List (List Kid)) (next : List Kid) → front v digest groups ++ 1 ∷ (counted v next ++ 0 ∷ []) ≡ image v digest (groups ++ next ∷ [])
+pub joined : (v : Version) (digest : List ℕ) (groups : List (List Kid)) (next : List Kid)
+    → front v digest groups ++ 1 ∷ (counted v next ++ 0 ∷ []) ≡ image v digest (groups ++ next ∷ [])
 joined v digest groups next =
     let all = flat_map (opened v) groups in
     let body : (digest ++ all) ++ 1 ∷ (counted v next ++ 0 ∷ []) ≡ (digest ++ flat_map (opened v) (groups ++ next ∷ [])) ++ 0 ∷ [] =
     sym (append_assoc (digest ++ all) (opened v next) (0 ∷ []))
-    ∙ ap (λ (xs : List ℕ). xs ++ 0 ∷ []) (append_assoc digest all (opened v next) ∙ ap (λ (xs : List ℕ). digest ++ xs) (sym (opened-append v groups next))) in
+    ∙ ap (λ (xs : List ℕ). xs ++ 0 ∷ []) (append_assoc digest all (opened v next)
+    ∙ ap (λ (xs : List ℕ). digest ++ xs) (sym (opened-append v groups next))) in
     ap (λ (xs : List ℕ). 1 ∷ header v xs) body
 
-opening_read : (v : Version) (digest : List ℕ) (groups : List (List Kid)) (next : List Kid) (content : List ℕ) → length digest ≡ DIGEST_LEN → AllByRecursion (IsGroup v) groups → IsGroup v next
-    → (gate : ℕ) → content ≡ front v digest groups ++ gate ∷ (counted v next ++ 0 ∷ []) → ReadsAs digest content v groups ⊎ IsAfter digest content v groups next
+opening_read : (v : Version) (digest : List ℕ) (groups : List (List Kid)) (next : List Kid) (content : List ℕ) → length digest ≡ DIGEST_LEN
+    → AllByRecursion (IsGroup v) groups → IsGroup v next
+    → (gate : ℕ) → content ≡ front v digest groups ++ gate ∷ (counted v next ++ 0 ∷ [])
+    → ReadsAs digest content v groups ⊎ IsAfter digest content v groups next
 opening_read v digest groups next content len sound group gate whole =
     elim (gate == 1) as (λ b. (gate == 1) ≡ b → ReadsAs digest content v groups ⊎ IsAfter digest content v groups next) [
       | true ↦ λ e.
           let one : gate ≡ 1 = eqb-true gate 1 e in
-          let is : content ≡ image v digest (groups ++ next ∷ []) = whole ∙ (ap (λ (g : ℕ). front v digest groups ++ g ∷ (counted v next ++ 0 ∷ [])) one ∙ joined v digest groups next) in
-          inr (record { reads = reads v digest (groups ++ next ∷ []) 0 [] content len (AllByRecursion-push (IsGroup v) groups next sound group) zero_not_one is; whole = is })
+          let is : content ≡ image v digest (groups ++ next ∷ []) = whole
+          ∙ (ap (λ (g : ℕ). front v digest groups ++ g ∷ (counted v next ++ 0 ∷ [])) one ∙ joined v digest groups next) in
+          inr (record {
+            reads =
+                reads v digest (groups ++ next ∷ []) 0 [] content len (AllByRecursion-push (IsGroup v) groups next sound group) zero_not_one is;
+            whole =
+                is;
+          })
       | false ↦ λ e. inl (reads v digest groups gate (counted v next ++ 0 ∷ []) content len sound (eqb-false gate 1 e) whole)
     ] refl
 
-pub before_or_after : (v : Version) (digest : List ℕ) (groups : List (List Kid)) (next : List Kid) (content : List ℕ) → length digest ≡ DIGEST_LEN → AllByRecursion (IsGroup v) groups → IsGroup v next
+pub before_or_after : (v : Version) (digest : List ℕ) (groups : List (List Kid)) (next : List Kid) (content : List ℕ) → length digest ≡ DIGEST_LEN
+    → AllByRecursion (IsGroup v) groups → IsGroup v next
     → IsBeforeOrAfter v digest groups next content → ReadsAs digest content v groups ⊎ IsAfter digest content v groups next
 before_or_after v digest groups next content len sound group left =
     elim left [
@@ -88,24 +102,29 @@ before_or_after v digest groups next content len sound group left =
 pub made : (v : Version) (digest : List ℕ) → 1 ∷ header v digest ++ 0 ∷ [] ≡ image v digest []
 made v digest = ap (λ (xs : List ℕ). 1 ∷ header v (xs ++ 0 ∷ [])) (sym (append-nil digest))
 
-pub length-front : (v : Version) (digest : List ℕ) (groups : List (List Kid)) → length digest ≡ DIGEST_LEN → length (front v digest groups) ≡ FIRST_GATE + length (flat_map (opened v) groups)
+pub length-front : (v : Version) (digest : List ℕ) (groups : List (List Kid)) → length digest ≡ DIGEST_LEN
+    → length (front v digest groups) ≡ FIRST_GATE + length (flat_map (opened v) groups)
 length-front v digest groups len = let parts = length-append digest (flat_map (opened v) groups) in omega (arith, parts, len)
 
 pub appended_entries : (v : Version) (digest : List ℕ) (groups : List (List Kid)) (next : List Kid) → length digest ≡ DIGEST_LEN
     → entries_in v FIRST_GATE (groups ++ next ∷ []) ≡ entries_in v FIRST_GATE groups ++ entries_of v (length (front v digest groups) + 5) next
 appended_entries v digest groups next len =
-    entries_in-append v FIRST_GATE groups next ∙ ap (λ (n : ℕ). entries_in v FIRST_GATE groups ++ entries_of v (n + 5) next) (sym (length-front v digest groups len))
+    entries_in-append v FIRST_GATE groups next
+    ∙ ap (λ (n : ℕ). entries_in v FIRST_GATE groups ++ entries_of v (n + 5) next) (sym (length-front v digest groups len))
 
 -- ---- while a header is made
 
 half : (rest content : List ℕ) (gate : ℕ) → gate ≡ 0 → content ≡ gate ∷ rest → 1 ≤ length rest → length rest ≤ FIRST_GATE → IsHalfMade content
-half rest content gate zero_gate whole some short = record { rest = rest; closed = whole ∙ ap (λ (g : ℕ). g ∷ rest) zero_gate; some = some; short = short }
+half rest content gate zero_gate whole some short =
+    record { rest = rest; closed = whole ∙ ap (λ (g : ℕ). g ∷ rest) zero_gate; some = some; short = short }
 
-opening_none : (v : Version) (digest content : List ℕ) → length digest ≡ DIGEST_LEN → (gate : ℕ) → content ≡ gate ∷ header v digest ++ 0 ∷ [] → ReadsAsNone digest content v
+opening_none : (v : Version) (digest content : List ℕ) → length digest ≡ DIGEST_LEN → (gate : ℕ) → content ≡ gate ∷ header v digest ++ 0 ∷ []
+    → ReadsAsNone digest content v
 opening_none v digest content len gate whole =
     let size = length-append digest (0 ∷ []) in
     elim (gate == 0) as (λ b. (gate == 0) ≡ b → ReadsAsNone digest content v) [
-      | true ↦ λ e. inr (inl (half (header v digest ++ 0 ∷ []) content gate (eqb-true gate 0 e) whole (omega (arith, size, len)) (omega (arith, size, len))))
+      | true ↦ λ e. inr
+          (inl (half (header v digest ++ 0 ∷ []) content gate (eqb-true gate 0 e) whole (omega (arith, size, len)) (omega (arith, size, len))))
       | false ↦ λ e.
           let not_zero = eqb-false gate 0 e in
           let is_head : IsHead gate 1 = elim (gate == 1) as (λ b. (gate == 1) ≡ b → IsHead gate 1) [
@@ -148,9 +167,11 @@ mended_front v head digest groups rest len =
     let parts = length-append digest groups in
     let size : FIRST_GATE + length groups ≡ suc (suc (suc (suc (suc (suc (length (digest ++ groups))))))) = omega (arith, parts, len) in
     ap (λ (n : ℕ). drop 1 (take n (head ∷ header v digest ++ (groups ++ rest)))) size
-    ∙ ap (λ (xs : List ℕ). header v xs) (ap (take (length (digest ++ groups))) (sym (append_assoc digest groups rest)) ∙ take_at (digest ++ groups) rest (length (digest ++ groups)) refl)
+    ∙ ap (λ (xs : List ℕ). header v xs) (ap (take (length (digest ++ groups))) (sym (append_assoc digest groups rest))
+    ∙ take_at (digest ++ groups) rest (length (digest ++ groups)) refl)
 
-mended_as : (digest content : List ℕ) (head : ℕ) (v : Version) (groups : List (List Kid)) (gate : ℕ) (behind : List ℕ) → IsHeaded content head v digest (flat_map (opened v) groups ++ gate ∷ behind)
+mended_as : (digest content : List ℕ) (head : ℕ) (v : Version) (groups : List (List Kid)) (gate : ℕ) (behind : List ℕ)
+    → IsHeaded content head v digest (flat_map (opened v) groups ++ gate ∷ behind)
     → AllByRecursion (IsGroup v) groups → IsMended digest content (contents_of v head groups gate behind)
 mended_as digest content head v groups gate behind headed sound = record {
   groups = groups;

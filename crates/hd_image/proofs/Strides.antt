@@ -48,28 +48,35 @@ pub record TellsKid (v : Version) (bytes : List ℕ) (kid : Kid) : Type 0 where
   pub bytes_are : entry_bytes v kid ≡ bytes
 
 -- a parent and an action that the bytes of an entry tell
-pub tells_kid : (v : Version) (bytes : List ℕ) (kid : Kid) (n : ℕ) → IsBytes bytes → length bytes ≡ entry_width v → n ≡ little_number (parent_width v) bytes → n < 256 ^ parent_width v
-    → HasNumber v kid.parent → parent_number v kid.parent ≡ n → kid.action ≡ little_number 4 (drop (parent_width v) bytes) → kid.action < 2 ^ 32 → TellsKid v bytes kid
+pub tells_kid : (v : Version) (bytes : List ℕ) (kid : Kid) (n : ℕ) → IsBytes bytes → length bytes ≡ entry_width v
+    → n ≡ little_number (parent_width v) bytes → n < 256 ^ parent_width v
+    → HasNumber v kid.parent → parent_number v kid.parent ≡ n → kid.action ≡ little_number 4 (drop (parent_width v) bytes) → kid.action < 2 ^ 32
+    → TellsKid v bytes kid
 unfolding entry_bytes
 tells_kid v bytes kid n fits len is lt has told action small =
     let width = parent_width v in
     let rest = length-drop width bytes in
     let rest_fits : IsBytes (drop width bytes) = λ i. rw get_or-drop (fits (width + i)) in
-    let parent : little_bytes width (parent_number v kid.parent) ≡ take width bytes = ap (little_bytes width) (told ∙ is) ∙ bytes_again width bytes fits (omega (arith, len)) in
+    let parent : little_bytes width (parent_number v kid.parent) ≡ take width bytes = ap (little_bytes width) (told ∙ is)
+    ∙ bytes_again width bytes fits (omega (arith, len)) in
     let act : little_bytes 4 kid.action ≡ drop width bytes =
-    ap (little_bytes 4) action ∙ (bytes_again 4 (drop width bytes) rest_fits (omega (arith, len, rest)) ∙ take_all 4 (drop width bytes) (omega (arith, len, rest))) in
+    ap (little_bytes 4) action
+    ∙ (bytes_again 4 (drop width bytes) rest_fits (omega (arith, len, rest)) ∙ take_all 4 (drop width bytes) (omega (arith, len, rest))) in
     record {
       held = record { parent = has; action = small };
       bytes_are = ap₂ (λ (xs ys : List ℕ). xs ++ ys) parent act ∙ take-append-drop width bytes;
     }
 
 -- the same, as the numbers and bytes come up when an entry is read
-pub kid_told : (v : Version) (bytes : List ℕ) (parent number action width : ℕ) → IsBytes bytes → length bytes ≡ entry_width v → width ≡ parent_width v → number ≡ little_number width bytes
-    → HasNumber v parent → parent_number v parent ≡ number → action ≡ little_number 4 (take (length bytes - width) (drop width bytes)) → entry_bytes v (pair parent action) ≡ bytes
+pub kid_told : (v : Version) (bytes : List ℕ) (parent number action width : ℕ) → IsBytes bytes → length bytes ≡ entry_width v
+    → width ≡ parent_width v → number ≡ little_number width bytes
+    → HasNumber v parent → parent_number v parent ≡ number → action ≡ little_number 4 (take (length bytes - width) (drop width bytes))
+    → entry_bytes v (pair parent action) ≡ bytes
 kid_told v bytes parent number action width fits len width_is number_is has told action_is =
     let w = parent_width v in
     let n : number ≡ little_number w bytes = number_is ∙ ap (λ (k : ℕ). little_number k bytes) width_is in
-    let a : action ≡ little_number 4 (drop w bytes) = action_is ∙ (ap (λ (k : ℕ). little_number 4 (take (length bytes - k) (drop k bytes))) width_is ∙ ap (little_number 4) (range_from w bytes)) in
+    let a : action ≡ little_number 4 (drop w bytes) = action_is
+    ∙ (ap (λ (k : ℕ). little_number 4 (take (length bytes - k) (drop k bytes))) width_is ∙ ap (little_number 4) (range_from w bytes)) in
     let below : number < 256 ^ w = subst (λ (k : ℕ). k < 256 ^ w) (sym n) (little_from-lt 0 w bytes fits) in
     let small : action < 256 ^ 4 = subst (λ (k : ℕ). k < 256 ^ 4) (sym a) (little_from-lt 0 4 (drop w bytes) (bytes-drop w bytes fits)) in
     (tells_kid v bytes (pair parent action) number fits len n below has told a (omega (arith, small))).bytes_are
@@ -79,7 +86,8 @@ kid_told v bytes parent number action width fits len width_is number_is has told
 pub added_none : (v : Version) (at : ℕ) (bytes : List ℕ) (old : List Entry) → HasAdded v at bytes bytes old old
 added_none v at bytes old = record { kids = []; held = tt; bytes_are = refl; added = sym (append-nil old) }
 
-pub added_more : (v : Version) (at : ℕ) (bytes rest front after : List ℕ) (old mid : List Entry) (kid : Kid) (place : ℕ) → HasAdded v at bytes rest old mid → rest ≡ front ++ after
+pub added_more : (v : Version) (at : ℕ) (bytes rest front after : List ℕ) (old mid : List Entry) (kid : Kid) (place : ℕ)
+    → HasAdded v at bytes rest old mid → rest ≡ front ++ after
     → entry_bytes v kid ≡ front → IsHeld v kid → place + length rest ≡ at + length bytes
     → HasAdded v at bytes after old (mid ++ entry_at kid place ∷ [])
 added_more v at bytes rest front after old mid kid place a split told held there =
@@ -100,7 +108,8 @@ added_more v at bytes rest front after old mid kid place a split told held there
           ∙ (append_assoc old (entries_of v at a.kids) (entry_at kid place ∷ []) ∙ ap (λ (es : List Entry). old ++ es) entries);
     }
 
-whole_by : (v : Version) (n : ℕ) (rest : List ℕ) → length rest ≡ entry_width v * n → 0 < length rest → (m : ℕ) × (length rest ≡ entry_width v * m + entry_width v)
+whole_by : (v : Version) (n : ℕ) (rest : List ℕ) → length rest ≡ entry_width v * n → 0 < length rest
+    → (m : ℕ) × (length rest ≡ entry_width v * m + entry_width v)
 whole_by v zero rest is some = absurd (omega (arith, is, some))
 whole_by v (suc m) rest is some = (m, is ∙ mul-suc (entry_width v) m)
 
@@ -154,7 +163,8 @@ count_least v behind few has = let some = (group_len v behind has).some in omega
 pub count_most : (v : Version) (behind : List ℕ) → MAX_GROUP < little_number 4 behind → ¬ HasGroup v behind
 count_most v behind many has = let most = (group_len v behind has).most in omega (arith, many, most)
 
-pub not_within : (v : Version) (behind : List ℕ) (len : ℕ) → len ≡ 4 + entry_width v * little_number 4 behind → length behind ≤ len → ¬ HasGroup v behind
+pub not_within : (v : Version) (behind : List ℕ) (len : ℕ) → len ≡ 4 + entry_width v * little_number 4 behind → length behind ≤ len
+    → ¬ HasGroup v behind
 not_within v behind len is le has =
     let within : len < length behind = subst (λ (n : ℕ). n < length behind) (sym is) (group_len v behind has).within in
     omega (arith, le, within)
@@ -164,7 +174,8 @@ pub record StandsFirst (v : Version) (rest next : List ℕ) (kids : List Kid) : 
   pub group : IsGroup v kids
   pub whole : rest ≡ opened v kids ++ next
 
-pub first_behind : (v : Version) (behind : List ℕ) (len : ℕ) (kids : List Kid) → IsBytes behind → IsGroupLen v behind len → AllByRecursion (IsHeld v) kids
+pub first_behind : (v : Version) (behind : List ℕ) (len : ℕ) (kids : List Kid) → IsBytes behind → IsGroupLen v behind len
+    → AllByRecursion (IsHeld v) kids
     → drop 4 (take len behind) ≡ flat_map (entry_bytes v) kids → IsGroup v kids × (behind ≡ counted v kids ++ drop len behind)
 unfolding counted
 first_behind v behind len kids fits is held entries =
@@ -180,7 +191,8 @@ first_behind v behind len kids fits is held entries =
     let counts : length kids ≡ count = same_count v (length kids) count len (length (drop 4 (take len behind))) size len_is left in
     let number : little_bytes 4 (length kids) ≡ take 4 (take len behind) =
     ap (little_bytes 4) counts ∙ (bytes_again 4 behind fits (omega (arith, within, len_is))
-    ∙ (ap (take 4) (sym (take-append-drop len behind)) ∙ take-append-le 4 (take len behind) (drop len behind) (omega (arith, taken, within, len_is)))) in
+    ∙ (ap (take 4) (sym (take-append-drop len behind))
+    ∙ take-append-le 4 (take len behind) (drop len behind) (omega (arith, taken, within, len_is)))) in
     let group : counted v kids ≡ take len behind = ap₂ (λ (xs ys : List ℕ). xs ++ ys) number (sym entries) ∙ take-append-drop 4 (take len behind) in (
       record { some = omega (arith, counts, some); most = omega (arith, counts, most); held = held },
       sym (take-append-drop len behind) ∙ ap (λ (xs : List ℕ). xs ++ drop len behind) (sym group),
@@ -189,7 +201,8 @@ first_behind v behind len kids fits is held entries =
 IsBytes-behind : (b : ℕ) (behind : List ℕ) → IsBytes (b ∷ behind) → IsBytes behind
 IsBytes-behind b behind fits i = fits (suc i)
 
-pub stands_first : (v : Version) (rest : List ℕ) (len : ℕ) (kids : List Kid) → 0 < length rest → slice_index rest 0 ≡ 1 → IsBytes rest → IsGroupLen v (drop 1 rest) len → AllByRecursion (IsHeld v) kids
+pub stands_first : (v : Version) (rest : List ℕ) (len : ℕ) (kids : List Kid) → 0 < length rest → slice_index rest 0 ≡ 1 → IsBytes rest
+    → IsGroupLen v (drop 1 rest) len → AllByRecursion (IsHeld v) kids
     → drop 5 (take (suc len) rest) ≡ flat_map (entry_bytes v) kids → StandsFirst v rest (drop (suc len) rest) kids
 stands_first v [] len kids some at_gate fits is held entries = absurd (omega (arith, some))
 stands_first v (gate ∷ behind) len kids some at_gate fits is held entries =
@@ -212,7 +225,8 @@ whole_group v rest len is =
 pub walked_none : (v : Version) (body : List ℕ) → 0 < length body → HasWalked v body body []
 walked_none v body some = record { groups = []; sound = tt; whole = refl; some = some; told = refl }
 
-pub walked_by : (v : Version) (body rest next : List ℕ) (at : ℕ) (old new : List Entry) (kids : List Kid) → HasWalked v body rest old → StandsFirst v rest next kids → 0 < length next
+pub walked_by : (v : Version) (body rest next : List ℕ) (at : ℕ) (old new : List Entry) (kids : List Kid) → HasWalked v body rest old
+    → StandsFirst v rest next kids → 0 < length next
     → new ≡ old ++ entries_of v at kids → at + length rest ≡ FIRST_GATE + length body + 5 → HasWalked v body next new
 walked_by v body rest next at old new kids w first some added there =
     let flat = flat_map (opened v) w.groups in
@@ -233,9 +247,11 @@ walked_by v body rest next at old new kids w first some added there =
 one_more : (n : ℕ) → 1 + n ≡ suc n
 one_more n = omega arith
 
-pub walked_more : (v : Version) (body rest : List ℕ) (len at : ℕ) (old new : List Entry) → HasWalked v body rest old → slice_index rest 0 ≡ 1 → IsBytes rest → IsGroupLen v (drop 1 rest) len
+pub walked_more : (v : Version) (body rest : List ℕ) (len at : ℕ) (old new : List Entry) → HasWalked v body rest old → slice_index rest 0 ≡ 1
+    → IsBytes rest → IsGroupLen v (drop 1 rest) len
     → HasAdded v at (drop 5 (take (1 + len) rest)) [] old new
-    → at + (length (drop 5 (take (1 + len) rest)) + length (drop (1 + len) rest)) ≡ FIRST_GATE + length body → HasWalked v body (drop (1 + len) rest) new
+    → at + (length (drop 5 (take (1 + len) rest)) + length (drop (1 + len) rest)) ≡ FIRST_GATE + length body
+    → HasWalked v body (drop (1 + len) rest) new
 walked_more v body rest len at old new w at_gate fits is a there =
     let some = w.some in
     let len_is = is.is in
@@ -247,12 +263,14 @@ walked_more v body rest len at old new w at_gate fits is a there =
     let entries : drop 5 (take (suc len) rest) ≡ flat_map (entry_bytes v) a.kids =
     ap (λ (n : ℕ). drop 5 (take n rest)) (sym (one_more len)) ∙ (a.bytes_are ∙ append-nil (flat_map (entry_bytes v) a.kids)) in
     let first = stands_first v rest len a.kids some at_gate fits is a.held entries in
-    let placed : StandsFirst v rest (drop (1 + len) rest) a.kids = subst (λ (n : ℕ). StandsFirst v rest (drop n rest) a.kids) (sym (one_more len)) first in
+    let placed : StandsFirst v rest (drop (1 + len) rest) a.kids =
+    subst (λ (n : ℕ). StandsFirst v rest (drop n rest) a.kids) (sym (one_more len)) first in
     walked_by v body rest (drop (1 + len) rest) at old new a.kids w placed (omega (arith, next, behind, within)) a.added
     (omega (arith, there, next, behind, within, group, inside, len_is))
 
 -- the same, as the bytes and places come up when a group is read
-pub stride : (v : Version) (body rest group next : List ℕ) (len end : ℕ) (old new : List Entry) → HasWalked v body rest old → slice_index rest 0 ≡ 1 → IsBytes body
+pub stride : (v : Version) (body rest group next : List ℕ) (len end : ℕ) (old new : List Entry) → HasWalked v body rest old → slice_index rest 0 ≡ 1
+    → IsBytes body
     → IsGroupLen v (take (length rest - 1) (drop 1 rest)) len → group ≡ take (1 + len) rest → next ≡ drop (1 + len) rest
     → HasAdded v (end - length (take (length group - 5) (drop 5 group))) (take (length group - 5) (drop 5 group)) [] old new
     → end + length next ≡ FIRST_GATE + length body → HasWalked v body next new
@@ -271,8 +289,10 @@ stride v body rest group next len end old new w at_gate fits is group_is next_is
     let inside = length-drop 5 (take (1 + len) rest) in
     let taken = length-take (1 + len) rest in
     let within = len_of.within in
-    let place : end - length entries + (length entries + length (drop (1 + len) rest)) ≡ FIRST_GATE + length body = omega (arith, size, next_len, behind, one, inside, taken, within, there) in
-    subst (λ (xs : List ℕ). HasWalked v body xs new) (sym next_is) (walked_more v body rest len (end - length entries) old new w at_gate rest_fits len_of all place)
+    let place : end - length entries + (length entries + length (drop (1 + len) rest)) ≡ FIRST_GATE + length body =
+    omega (arith, size, next_len, behind, one, inside, taken, within, there) in
+    subst (λ (xs : List ℕ). HasWalked v body xs new) (sym next_is)
+    (walked_more v body rest len (end - length entries) old new w at_gate rest_fits len_of all place)
 
 -- ---- where the walk ends
 
@@ -280,7 +300,8 @@ pub split_first : (rest : List ℕ) → 0 < length rest → rest ≡ slice_index
 split_first [] some = absurd (omega (arith, some))
 split_first (b ∷ rest) some = refl
 
-pub torn_here : (v : Version) (body rest : List ℕ) (at : ℕ) (entries : List Entry) → HasWalked v body rest entries → slice_index rest 0 ≡ 1 → ¬ HasGroup v (drop 1 rest)
+pub torn_here : (v : Version) (body rest : List ℕ) (at : ℕ) (entries : List Entry) → HasWalked v body rest entries → slice_index rest 0 ≡ 1
+    → ¬ HasGroup v (drop 1 rest)
     → at + length rest ≡ FIRST_GATE + length body → IsTorn v body at
 torn_here v body rest at entries w at_gate torn there =
     let flat = flat_map (opened v) w.groups in
@@ -295,11 +316,13 @@ torn_here v body rest at entries w at_gate torn there =
     }
 
 -- the header of the task, with its digest
-of_task : (content : List ℕ) (head : ℕ) (v : Version) (found digest body other : List ℕ) → IsHeaded content head v found body → found ≡ digest → body ≡ other → IsHeaded content head v digest other
+of_task : (content : List ℕ) (head : ℕ) (v : Version) (found digest body other : List ℕ) → IsHeaded content head v found body → found ≡ digest
+    → body ≡ other → IsHeaded content head v digest other
 of_task content head v found digest body other h same is =
     subst (λ (b : List ℕ). IsHeaded content head v digest b) is (subst (λ (d : List ℕ). IsHeaded content head v d body) same h)
 
-pub refused_by : (content : List ℕ) (head : ℕ) (v : Version) (found digest body : List ℕ) (error : ImageError) → IsHeaded content head v found body → found ≡ digest → Stumbles v body error
+pub refused_by : (content : List ℕ) (head : ℕ) (v : Version) (found digest body : List ℕ) (error : ImageError) → IsHeaded content head v found body
+    → found ≡ digest → Stumbles v body error
     → IsRefused digest content error
 refused_by content head v found digest body NotAJournal h same why = absurd why
 refused_by content head v found digest body OtherTask h same why = absurd why
@@ -319,9 +342,11 @@ contents : Version → List Entry → ℕ → Bool → Bool → ℕ → Contents
 contents v entries last_gate header_open gate_closed behind =
     record { version = v; entries = entries; last_gate = last_gate; header_open = header_open; gate_closed = gate_closed; behind = behind }
 
-pub found_journal : (content : List ℕ) (head : ℕ) (v : Version) (found digest body rest : List ℕ) (entries : List Entry) (last_gate behind : ℕ) → IsHeaded content head v found body → found ≡ digest
+pub found_journal : (content : List ℕ) (head : ℕ) (v : Version) (found digest body rest : List ℕ) (entries : List Entry) (last_gate behind : ℕ)
+    → IsHeaded content head v found body → found ≡ digest
     → HasWalked v body rest entries → slice_index rest 0 ≢ 1 → last_gate + length rest ≡ FIRST_GATE + length body → behind + 1 ≡ length rest
-    → IsJournal digest content (record { version = v; entries = entries; last_gate = last_gate; header_open = head == 1; gate_closed = slice_index rest 0 == 0; behind = behind })
+    → IsJournal digest content
+    (record { version = v; entries = entries; last_gate = last_gate; header_open = head == 1; gate_closed = slice_index rest 0 == 0; behind = behind })
 unfolding contents
 found_journal content head v found digest body rest entries last_gate behind h same w ends there tail =
     let flat = flat_map (opened v) w.groups in
@@ -336,7 +361,8 @@ found_journal content head v found digest body rest entries last_gate behind h s
       groups = w.groups;
       gate = gate;
       behind = drop 1 rest;
-      headed = of_task content head v found digest body (flat ++ gate ∷ drop 1 rest) h same (w.whole ∙ ap (λ (xs : List ℕ). flat ++ xs) (split_first rest w.some));
+      headed = of_task content head v found digest body (flat ++ gate ∷ drop 1 rest) h same (w.whole
+          ∙ ap (λ (xs : List ℕ). flat ++ xs) (split_first rest w.some));
       sound = w.sound;
       ends = ends;
       told = ap₂ (λ (es : List Entry) (n : ℕ). contents v es n (head == 1) (gate == 0) behind) w.told place

@@ -52,7 +52,8 @@ other_not digest content head v body a h = a.differs ((headed_one content a.head
 -- ---- groups
 
 -- the parts of a body are the same
-record SameParts (head : ℕ) (v : Version) (gs : List (List Kid)) (t : List ℕ) (head' : ℕ) (v' : Version) (hs : List (List Kid)) (u : List ℕ) : Type 0 where
+record SameParts (head : ℕ) (v : Version) (gs : List (List Kid)) (t : List ℕ) (head' : ℕ) (v' : Version) (hs : List (List Kid))
+    (u : List ℕ) : Type 0 where
   heads : head ≡ head'
   versions : v ≡ v'
   groups : gs ≡ hs
@@ -65,7 +66,8 @@ same_parts digest content head head' v v' gs hs t u h h' sg sh et eu =
     let one = headed_one content head head' v v' digest digest (flat_map (opened v) gs ++ t) (flat_map (opened v') hs ++ u) h h' in
     let back = sym one.versions in
     let bodies : flat_map (opened v) gs ++ t ≡ flat_map (opened v) hs ++ u = one.bodies ∙ ap (λ (w : Version). flat_map (opened w) hs ++ u) back in
-    let both = groups_one v gs hs t u sg (subst (λ (w : Version). AllByRecursion (IsGroup w) hs) back sh) et (subst (λ (w : Version). IsEnd w u) back eu) bodies in
+    let both = groups_one v gs hs t u sg (subst (λ (w : Version). AllByRecursion (IsGroup w) hs) back sh) et
+    (subst (λ (w : Version). IsEnd w u) back eu) bodies in
     record { heads = one.heads; versions = one.versions; groups = both.0; tails = both.1 }
 
 gate_of : (b c : ℕ) (xs ys : List ℕ) → b ∷ xs ≡ c ∷ ys → b ≡ c
@@ -82,10 +84,12 @@ told_one head head' v v' gs hs gate gate' behind behind' a b c d e =
 
 journal_one : (digest content : List ℕ) (f g : Contents) → IsJournal digest content f → IsJournal digest content g → f ≡ g
 journal_one digest content f g a b =
-    let same = same_parts digest content a.head b.head a.v b.v a.groups b.groups (a.gate ∷ a.behind) (b.gate ∷ b.behind) a.headed b.headed a.sound b.sound
+    let same = same_parts digest content a.head b.head a.v b.v a.groups b.groups (a.gate ∷ a.behind)
+    (b.gate ∷ b.behind) a.headed b.headed a.sound b.sound
     (closed_end a.v a.gate a.behind a.ends) (closed_end b.v b.gate b.behind b.ends) in
     a.told
-    ∙ (told_one a.head b.head a.v b.v a.groups b.groups a.gate b.gate a.behind b.behind same.heads same.versions same.groups (gate_of a.gate b.gate a.behind b.behind same.tails) (behind_of a.gate b.gate a.behind b.behind same.tails)
+    ∙ (told_one a.head b.head a.v b.v a.groups b.groups a.gate b.gate a.behind b.behind same.heads same.versions same.groups
+    (gate_of a.gate b.gate a.behind b.behind same.tails) (behind_of a.gate b.gate a.behind b.behind same.tails)
     ∙ sym b.told)
 
 damaged_one : (digest content : List ℕ) (m n : ℕ) → IsDamaged digest content m → IsDamaged digest content n → m ≡ n
@@ -111,7 +115,8 @@ found f = Ok f
 abbrev refused : ImageError → Result Found ImageError
 refused e = Err e
 
-pub one_answer : (digest content : List ℕ) (a b : Result Found ImageError) → a ≢ Err NoMemory → b ≢ Err NoMemory → IsAnswer digest content a → IsAnswer digest content b → a ≡ b
+pub one_answer : (digest content : List ℕ) (a b : Result Found ImageError) → a ≢ Err NoMemory → b ≢ Err NoMemory → IsAnswer digest content a
+    → IsAnswer digest content b → a ≡ b
 one_answer d c (Err NoMemory) b na nb x y = absurd (na refl)
 one_answer d c (Ok Unmade) (Err NoMemory) na nb x y = absurd (nb refl)
 one_answer d c (Ok HalfMade) (Err NoMemory) na nb x y = absurd (nb refl)
@@ -135,7 +140,8 @@ one_answer d c (Ok (Journal f)) (Ok Unmade) na nb x y = absurd (short_not c y (h
 one_answer d c (Ok (Journal f)) (Ok HalfMade) na nb x y = absurd (half_not_headed c y (journal_headed d c f x))
 one_answer d c (Ok (Journal f)) (Ok (Journal g)) na nb x y = ap (λ (h : Contents). found (Journal h)) (journal_one d c f g x y)
 one_answer d c (Ok (Journal f)) (Err NotAJournal) na nb x y = absurd (not_headed c y (journal_headed d c f x))
-one_answer d c (Ok (Journal f)) (Err OtherTask) na nb x y = absurd (other_not d c x.head x.v (flat_map (opened x.v) x.groups ++ x.gate ∷ x.behind) y x.headed)
+one_answer d c (Ok (Journal f)) (Err OtherTask) na nb x y =
+    absurd (other_not d c x.head x.v (flat_map (opened x.v) x.groups ++ x.gate ∷ x.behind) y x.headed)
 one_answer d c (Ok (Journal f)) (Err (Damaged n)) na nb x y = absurd (journal_not_damaged d c f n x y)
 one_answer d c (Err NotAJournal) (Ok Unmade) na nb x y = absurd (short_not c y x.some)
 one_answer d c (Err NotAJournal) (Ok HalfMade) na nb x y = absurd (x.not_half y)
@@ -145,13 +151,16 @@ one_answer d c (Err NotAJournal) (Err OtherTask) na nb x y = absurd (not_headed 
 one_answer d c (Err NotAJournal) (Err (Damaged n)) na nb x y = absurd (not_headed c x (damaged_headed d c n y))
 one_answer d c (Err OtherTask) (Ok Unmade) na nb x y = absurd (short_not c y (headed_long c (other_headed d c x)))
 one_answer d c (Err OtherTask) (Ok HalfMade) na nb x y = absurd (half_not_headed c y (other_headed d c x))
-one_answer d c (Err OtherTask) (Ok (Journal g)) na nb x y = absurd (other_not d c y.head y.v (flat_map (opened y.v) y.groups ++ y.gate ∷ y.behind) x y.headed)
+one_answer d c (Err OtherTask) (Ok (Journal g)) na nb x y =
+    absurd (other_not d c y.head y.v (flat_map (opened y.v) y.groups ++ y.gate ∷ y.behind) x y.headed)
 one_answer d c (Err OtherTask) (Err NotAJournal) na nb x y = absurd (not_headed c y (other_headed d c x))
 one_answer d c (Err OtherTask) (Err OtherTask) na nb x y = refl
-one_answer d c (Err OtherTask) (Err (Damaged n)) na nb x y = absurd (other_not d c y.head y.v (flat_map (opened y.v) y.groups ++ 1 ∷ y.behind) x y.headed)
+one_answer d c (Err OtherTask) (Err (Damaged n)) na nb x y =
+    absurd (other_not d c y.head y.v (flat_map (opened y.v) y.groups ++ 1 ∷ y.behind) x y.headed)
 one_answer d c (Err (Damaged m)) (Ok Unmade) na nb x y = absurd (short_not c y (headed_long c (damaged_headed d c m x)))
 one_answer d c (Err (Damaged m)) (Ok HalfMade) na nb x y = absurd (half_not_headed c y (damaged_headed d c m x))
 one_answer d c (Err (Damaged m)) (Ok (Journal g)) na nb x y = absurd (journal_not_damaged d c g m y x)
 one_answer d c (Err (Damaged m)) (Err NotAJournal) na nb x y = absurd (not_headed c y (damaged_headed d c m x))
-one_answer d c (Err (Damaged m)) (Err OtherTask) na nb x y = absurd (other_not d c x.head x.v (flat_map (opened x.v) x.groups ++ 1 ∷ x.behind) y x.headed)
+one_answer d c (Err (Damaged m)) (Err OtherTask) na nb x y =
+    absurd (other_not d c x.head x.v (flat_map (opened x.v) x.groups ++ 1 ∷ x.behind) y x.headed)
 one_answer d c (Err (Damaged m)) (Err (Damaged n)) na nb x y = ap (λ (k : ℕ). refused (Damaged k)) (damaged_one d c m n x y)

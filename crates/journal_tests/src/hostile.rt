@@ -92,13 +92,14 @@ fn version_changed(rt: HostRuntime) -> Result<(), Fail> {
     Ok(())
 }
 
-/// Asserts what is told where the gate at a place reads another byte.
+/// Asserts what is told where the gate at a place reads another byte: so many entries stand before it, and so many bytes behind it.
 fn assert_gate(
     rt: &impl Abort,
     alloc: Global,
     content: &[u8],
     at: usize,
     entries: usize,
+    behind: u64,
 ) -> Result<(), Fail> {
     for byte in [0, 0x37, 0xFF] {
         let shut = changed(alloc, content, at, byte)?;
@@ -107,7 +108,7 @@ fn assert_gate(
             last_gate: at as u64,
             header_open: true,
             gate_closed: byte == 0,
-            behind: content.len().saturating_sub(at + 1) as u64,
+            behind,
         };
         assert_told(rt, alloc, &shut, &wanted)?;
     }
@@ -117,14 +118,14 @@ fn assert_gate(
 #[test]
 fn gates_changed(rt: HostRuntime) -> Result<(), Fail> {
     let alloc = rt.alloc();
-    assert_gate(&rt, alloc, &ONE, 38, 0)?;
-    assert_gate(&rt, alloc, &ONE, 51, 1)?;
-    assert_gate(&rt, alloc, &ONE, 64, 2)?;
-    assert_gate(&rt, alloc, &ONE, 77, 3)?;
-    assert_gate(&rt, alloc, &TWO, 38, 0)?;
-    assert_gate(&rt, alloc, &TWO, 52, 1)?;
-    assert_gate(&rt, alloc, &TWO, 66, 2)?;
-    assert_gate(&rt, alloc, &TWO, 80, 3)?;
+    assert_gate(&rt, alloc, &ONE, 38, 0, 39)?;
+    assert_gate(&rt, alloc, &ONE, 51, 1, 26)?;
+    assert_gate(&rt, alloc, &ONE, 64, 2, 13)?;
+    assert_gate(&rt, alloc, &ONE, 77, 3, 0)?;
+    assert_gate(&rt, alloc, &TWO, 38, 0, 42)?;
+    assert_gate(&rt, alloc, &TWO, 52, 1, 28)?;
+    assert_gate(&rt, alloc, &TWO, 66, 2, 14)?;
+    assert_gate(&rt, alloc, &TWO, 80, 3, 0)?;
     Ok(())
 }
 

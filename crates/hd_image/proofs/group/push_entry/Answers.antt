@@ -10,5 +10,6 @@ returns-clause-bytes c =
     let kid = c.args.kid.now in
     let action = little_bytes 4 kid.action in
     c.in_ok-push_number-2.ensures
-    ∙ (ap (λ (xs : List ℕ). xs ++ action) (c.in_ok-push_number.ensures ∙ ap₂ (λ (w n : ℕ). c.args.bytes.now.items ++ little_bytes w n) c.parent_width.ensures c.number_of-number.ensures)
+    ∙ (ap (λ (xs : List ℕ). xs ++ action) (c.in_ok-push_number.ensures
+    ∙ ap₂ (λ (w n : ℕ). c.args.bytes.now.items ++ little_bytes w n) c.parent_width.ensures c.number_of-number.ensures)
     ∙ append_assoc c.args.bytes.now.items (little_bytes (parent_width v) (parent_number v kid.parent)) action)

@@ -18,16 +18,20 @@ returns-in-Ok-clause-found c =
     let some = w.some in
     let long = c.in-Some.ensures.long in
     let left = length-drop 38 content in
-    let size : length body ≡ length (flat_map (opened v) w.groups) + length rest = ap length w.whole ∙ length-append (flat_map (opened v) w.groups) rest in
+    let size : length body ≡ length (flat_map (opened v) w.groups) + length rest = ap length w.whole
+    ∙ length-append (flat_map (opened v) w.groups) rest in
     let same : slice_range content 6 FIRST_GATE ≡ c.args.digest.now =
     same_slices (slice_range content 6 FIRST_GATE) c.as_slice.result.now c.ne.result c.ne.ensures c.if-ne.false ∙ c.as_slice.ensures in
-    found_journal content (slice_index content 0) v (slice_range content 6 FIRST_GATE) c.args.digest.now body rest c.from_vec.result (length content - length rest) (length rest - 1)
-    c.in-Some.ensures.some same (subst (λ (es : List Entry). HasWalked v body rest es) (sym c.from_vec.ensures) w) c.in-Ok.ensures.ended (omega (arith, size, left, long)) (omega (arith, some))
+    found_journal content (slice_index content 0) v (slice_range content 6 FIRST_GATE) c.args.digest.now body rest c.from_vec.result
+    (length content - length rest) (length rest - 1)
+    c.in-Some.ensures.some same (subst (λ (es : List Entry). HasWalked v body rest es) (sym c.from_vec.ensures) w) c.in-Ok.ensures.ended
+    (omega (arith, size, left, long)) (omega (arith, some))
 
 pub returns-in-Err-clause-refused : goal.returns-in-Err-clause-refused
 returns-in-Err-clause-refused c =
     let content = c.args.content.now in
     let same : slice_range content 6 FIRST_GATE ≡ c.args.digest.now =
     same_slices (slice_range content 6 FIRST_GATE) c.as_slice.result.now c.ne.result c.ne.ensures c.if-ne.false ∙ c.as_slice.ensures in
-    refused_by content (slice_index content 0) c.in-Some.version (slice_range content 6 FIRST_GATE) c.args.digest.now (drop FIRST_GATE content) c.in-Err.error
+    refused_by content (slice_index content 0) c.in-Some.version (slice_range content 6 FIRST_GATE) c.args.digest.now
+    (drop FIRST_GATE content) c.in-Err.error
     c.in-Some.ensures.some same c.in-Err.ensures.refused

@@ -11,7 +11,8 @@ returns-then-behind-lt4-clause-none c = no_count c.args.version c.args.behind.no
 pub returns-then-count-lt1-clause-none : goal.returns-then-count-lt1-clause-none
 returns-then-count-lt1-clause-none c =
     elim c.then-count-lt1.branch [
-      | then-count-lt1-via-then-count-lt1 w ↦ count_least c.args.version c.args.behind.now (subst (λ (n : ℕ). n < 1) c.read_u32-count.ensures w.if-count-lt1.true)
+      | then-count-lt1-via-then-count-lt1 w ↦
+          count_least c.args.version c.args.behind.now (subst (λ (n : ℕ). n < 1) c.read_u32-count.ensures w.if-count-lt1.true)
       | then-count-lt1-via-else-count-lt1+then-count-gt-MAX_GROUP w ↦
           count_most c.args.version c.args.behind.now (subst (λ (n : ℕ). MAX_GROUP < n) c.read_u32-count.ensures w.if-count-gt-MAX_GROUP.true)
     ]

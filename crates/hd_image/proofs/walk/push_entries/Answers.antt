@@ -27,7 +27,9 @@ loop-rest-preserved c =
     record {
       whole = subst (AreWhole v) (sym back) (whole_rest v rest c.loop-rest.invariant.whole some);
       within = omega (arith, back_len, left, shorter);
-      added = subst (λ (es : List Entry). HasAdded v (c.args.end - length bytes) bytes after c.args.entries.now.items es) (sym c.in_ok-push.ensures.items)
-          (added_more v (c.args.end - length bytes) bytes rest front after c.args.entries.now.items c.loop-rest.entries.items c.kid_in-parent.result (c.args.end - length rest)
+      added = subst (λ (es : List Entry). HasAdded v (c.args.end - length bytes) bytes after c.args.entries.now.items es)
+          (sym c.in_ok-push.ensures.items)
+          (added_more v (c.args.end - length bytes) bytes rest front after c.args.entries.now.items c.loop-rest.entries.items c.kid_in-parent.result
+          (c.args.end - length rest)
           c.loop-rest.invariant.added split c.kid_in-parent.ensures.bytes c.kid_in-parent.ensures.held (omega (arith, shorter, within)));
     }

@@ -20,7 +20,8 @@ loop-rest-init c =
     record {
       within = omega (arith, len, size);
       walked = subst (λ (es : List Entry). HasWalked v (drop FIRST_GATE content) rest es) (sym c.in-Ok.ensures.items)
-          (subst (λ (xs : List ℕ). HasWalked v (drop FIRST_GATE content) xs []) (sym same) (walked_none v (drop FIRST_GATE content) (omega (arith, size, long))));
+          (subst (λ (xs : List ℕ). HasWalked v (drop FIRST_GATE content) xs []) (sym same)
+          (walked_none v (drop FIRST_GATE content) (omega (arith, size, long))));
     }
 
 pub returns-in_default-group_len-clause-refused : goal.returns-in_default-group_len-clause-refused
@@ -50,7 +51,10 @@ loop-rest-preserved c =
     let fewer : length next ≤ length content = omega (arith, next_len, left, within) in
     record {
       within = fewer;
-      walked = stride v (drop FIRST_GATE content) rest c.split_at.result.0.now next c.in-Some.len (length content - length next) c.loop-rest.entries.items c.push_entries.new.entries.items
-          c.loop-rest.invariant.walked at_gate (bytes-drop 38 content (λ i. omega (arith, c.type_inv.content i))) c.in-Some.ensures.some c.split_at.ensures.front c.split_at.ensures.back
+      walked = stride v (drop FIRST_GATE content) rest c.split_at.result.0.now next c.in-Some.len
+          (length content - length next) c.loop-rest.entries.items c.push_entries.new.entries.items
+          c.loop-rest.invariant.walked at_gate
+          (bytes-drop 38 content
+          (λ i. omega (arith, c.type_inv.content i))) c.in-Some.ensures.some c.split_at.ensures.front c.split_at.ensures.back
           c.in-Ok-push_entries.ensures (omega (arith, size, long, fewer));
     }
