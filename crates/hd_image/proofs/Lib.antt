@@ -1,0 +1,9 @@
+pub mod Answering
+pub mod Digits
+pub mod Heads
+pub mod Joining
+pub mod Numbering
+pub mod Pairs
+pub mod Stopping
+pub mod Strides
+pub mod Ways
