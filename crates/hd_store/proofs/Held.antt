@@ -1,0 +1,94 @@
+-- How what a disk in memory keeps follows its steps.
+use Rattle.std.proofs.Common.{◌≡◌, ℕ, ◌+◌, ◌<◌, ◌≤◌, List, [], ◌∷◌, length, take, get_or, max, min, Bool, true, false, refl, sym, ap, ◌∙◌, arith}
+use Rattle.std.specs.Prelude.{◌||◌}
+use Rattle.std.proofs.lemmas.List.{take_all}
+use Rattle.hd_store.specs.declared.change.Change.{Change}
+use Rattle.hd_store.specs.declared.change.Change.TheVariants.{Write, Cut, Sync, FailedSync}
+use Rattle.hd_store.specs.declared.platter.Platter.{Platter}
+use Rattle.hd_store.specs.Bytes.{is_in_range}
+use Rattle.hd_store.specs.Past.{Step, content_after, synced_after, is_written}
+use Rattle.hd_store.specs.Platter.{content_of, IsAllSure}
+use Rattle.hd_store.specs.Holding.{Holds}
+
+-- a step: this change was begun, and a read gives this now
+abbrev pub step : Change → List ℕ → Step
+step change now = record { change = change; now = now }
+
+neither : (a b : Bool) → (a || b) ≡ false → (a ≡ false) × (b ≡ false)
+neither true b e = cc
+neither false b e = (refl, e)
+
+-- where all is sure, it is what a start is
+pub starts : (held : Platter) → IsAllSure held
+    → Holds (content_of held) [] held.bytes.items held.len held.written.items held.least held.greatest
+starts held sure =
+    let whole : take held.len held.bytes.items ≡ held.bytes.items = take_all held.len held.bytes.items (omega (arith, sure.whole)) in
+    record {
+      read = refl;
+      count = sure.count ∙ sym (ap length whole ∙ sure.whole);
+      marked = λ place below. sure.marks place (omega (arith, sure.count));
+      kept = λ place below clean. ap (λ bytes. get_or bytes place 0) (sym whole);
+      least = sure.least ∙ sym (ap length whole ∙ sure.whole);
+      greatest = sure.greatest ∙ sym (ap length whole ∙ sure.whole);
+    }
+
+-- where all is sure, it is what a sync leaves
+pub syncs : (start : List ℕ) (steps : List Step) (held : Platter) → IsAllSure held
+    → Holds start (step Sync (content_of held) ∷ steps) held.bytes.items held.len held.written.items held.least held.greatest
+syncs start steps held sure =
+    let whole : take held.len held.bytes.items ≡ held.bytes.items = take_all held.len held.bytes.items (omega (arith, sure.whole)) in
+    record {
+      read = refl;
+      count = sure.count ∙ sym (ap length whole ∙ sure.whole);
+      marked = λ place below. sure.marks place (omega (arith, sure.count));
+      kept = λ place below clean. ap (λ bytes. get_or bytes place 0) (sym whole);
+      least = sure.least ∙ sym (ap length whole ∙ sure.whole);
+      greatest = sure.greatest ∙ sym (ap length whole ∙ sure.whole);
+    }
+
+-- a write: its range is marked, and outside of it the bytes stand as they did
+pub writes :
+    (start : List ℕ) (steps : List Step) (at count : ℕ) (bytes bytes' : List ℕ) (len len' : ℕ) (marks marks' : List Bool)
+    (least least' greatest greatest' : ℕ)
+    → Holds start steps bytes len marks least greatest
+    → length marks ≤ length bytes
+    → ((place : ℕ) → place < length bytes → is_in_range at count place ≡ false → get_or bytes' place 0 ≡ get_or bytes place 0)
+    → length marks' ≡ length marks
+    → ((place : ℕ) → place < length marks → get_or marks' place false ≡ (is_in_range at count place || get_or marks place false))
+    → least' ≡ least → greatest' ≡ max greatest (at + count)
+    → Holds start (step (Write at count) (take len' bytes') ∷ steps) bytes' len' marks' least' greatest'
+writes start steps at count bytes bytes' len len' marks marks' least least' greatest greatest' h covered others same marked l g =
+    record {
+      read = refl;
+      count = same ∙ h.count;
+      marked = λ place below. let low : place < length marks = omega (arith, same) in
+          marked place low ∙ ap (λ b. is_in_range at count place || b) (h.marked place low);
+      kept = λ place below clean. let low : place < length marks = omega (arith, same) in
+          let parts = neither (is_in_range at count place) (is_written steps place) clean in
+          others place (omega arith) parts.0 ∙ h.kept place low parts.1;
+      least = l ∙ h.least;
+      greatest = g ∙ ap (λ n. max n (at + count)) h.greatest;
+    }
+
+-- a cut
+pub cuts :
+    (start : List ℕ) (steps : List Step) (to : ℕ) (bytes : List ℕ) (len len' : ℕ) (marks : List Bool) (least least' greatest : ℕ)
+    → Holds start steps bytes len marks least greatest → least' ≡ min least to
+    → Holds start (step (Cut to) (take len' bytes) ∷ steps) bytes len' marks least' greatest
+cuts start steps to bytes len len' marks least least' greatest h l =
+    record {
+      read = refl;
+      count = h.count;
+      marked = h.marked;
+      kept = h.kept;
+      least = l ∙ ap (λ n. min n to) h.least;
+      greatest = h.greatest;
+    }
+
+-- a sync that failed
+pub fails :
+    (start : List ℕ) (steps : List Step) (bytes : List ℕ) (len : ℕ) (marks : List Bool) (least greatest : ℕ)
+    → Holds start steps bytes len marks least greatest
+    → Holds start (step FailedSync (take len bytes) ∷ steps) bytes len marks least greatest
+fails start steps bytes len marks least greatest h =
+    record { read = refl; count = h.count; marked = h.marked; kept = h.kept; least = h.least; greatest = h.greatest }

@@ -1,0 +1,11 @@
+//! Tests of the public calls of hd_store.
+#![tactic(auto)]
+
+#[cfg(test)]
+mod failing;
+#[cfg(test)]
+mod memory;
+#[cfg(test)]
+mod scripts;
+#[cfg(test)]
+mod stops;
