@@ -1,18 +1,16 @@
 -- How what a disk in memory keeps follows its steps.
-use Rattle.std.proofs.Common.{◌≡◌, ℕ, ◌+◌, ◌<◌, ◌≤◌, List, [], ◌∷◌, length, take, get_or, max, min, Bool, true, false, refl, sym, ap, ◌∙◌, arith}
-use Rattle.std.specs.Prelude.{◌||◌}
+use Rattle.std.proofs.Common.{◌≡◌, ℕ, ◌+◌, ◌<◌, ◌≤◌, List, [], ◌∷◌, length, take, get_or, max, min, Bool, true, false, not, refl, sym, ap, ◌∙◌, inl, inr, arith}
+use Rattle.std.specs.Prelude.{◌&&◌, ◌||◌, nat_lt}
+use Rattle.std.proofs.lemmas.Bool.{cases_lt, le-ltb}
 use Rattle.std.proofs.lemmas.List.{take_all}
 use Rattle.hd_store.specs.declared.change.Change.{Change}
 use Rattle.hd_store.specs.declared.change.Change.TheVariants.{Write, Cut, Sync, FailedSync}
 use Rattle.hd_store.specs.declared.platter.Platter.{Platter}
 use Rattle.hd_store.specs.Bytes.{is_in_range}
-use Rattle.hd_store.specs.Past.{Step, content_after, synced_after, is_written}
-use Rattle.hd_store.specs.Platter.{content_of, IsAllSure}
+use Rattle.hd_store.specs.Past.{Step, step, content_after, synced_after, is_written}
+use Rattle.hd_store.specs.Platter.{content_of, IsAllSure, IsFilledUp}
+use Rattle.hd_store.specs.Stop.{IsFilled, is_sure}
 use Rattle.hd_store.specs.Holding.{Holds}
-
--- a step: this change was begun, and a read gives this now
-abbrev pub step : Change → List ℕ → Step
-step change now = record { change = change; now = now }
 
 neither : (a b : Bool) → (a || b) ≡ false → (a ≡ false) × (b ≡ false)
 neither true b e = cc
@@ -30,6 +28,7 @@ starts held sure =
       kept = λ place below clean. ap (λ bytes. get_or bytes place 0) (sym whole);
       least = sure.least ∙ sym (ap length whole ∙ sure.whole);
       greatest = sure.greatest ∙ sym (ap length whole ∙ sure.whole);
+      order = omega (arith, sure.least, sure.greatest);
     }
 
 -- where all is sure, it is what a sync leaves
@@ -44,6 +43,7 @@ syncs start steps held sure =
       kept = λ place below clean. ap (λ bytes. get_or bytes place 0) (sym whole);
       least = sure.least ∙ sym (ap length whole ∙ sure.whole);
       greatest = sure.greatest ∙ sym (ap length whole ∙ sure.whole);
+      order = omega (arith, sure.least, sure.greatest);
     }
 
 -- a write: its range is marked, and outside of it the bytes stand as they did
@@ -68,6 +68,7 @@ writes start steps at count bytes bytes' len len' marks marks' least least' grea
           others place (omega arith) parts.0 ∙ h.kept place low parts.1;
       least = l ∙ h.least;
       greatest = g ∙ ap (λ n. max n (at + count)) h.greatest;
+      order = omega (arith, l, g, h.order);
     }
 
 -- a cut
@@ -83,6 +84,7 @@ cuts start steps to bytes len len' marks least least' greatest h l =
       kept = h.kept;
       least = l ∙ ap (λ n. min n to) h.least;
       greatest = h.greatest;
+      order = omega (arith, l, h.order);
     }
 
 -- a sync that failed
@@ -91,4 +93,39 @@ pub fails :
     → Holds start steps bytes len marks least greatest
     → Holds start (step FailedSync (take len bytes) ∷ steps) bytes len marks least greatest
 fails start steps bytes len marks least greatest h =
-    record { read = refl; count = h.count; marked = h.marked; kept = h.kept; least = h.least; greatest = h.greatest }
+    record { read = refl; count = h.count; marked = h.marked; kept = h.kept; least = h.least; greatest = h.greatest; order = h.order }
+
+-- a test of a place, by the marks and by the steps
+same_test :
+    (start : List ℕ) (steps : List Step) (bytes : List ℕ) (len : ℕ) (marks : List Bool) (least greatest : ℕ) (place : ℕ)
+    → Holds start steps bytes len marks least greatest
+    → (nat_lt place (length marks) && not (get_or marks place false)) ≡ is_sure start steps place
+same_test start steps bytes len marks least greatest place h =
+    elim (cases_lt place (length marks)) [
+      | inl below ↦ ap (λ n. nat_lt place n && not (get_or marks place false)) h.count
+          ∙ ap (λ b. nat_lt place (length (synced_after start steps)) && not b) (h.marked place below)
+      | inr above ↦ let outside : nat_lt place (length marks) ≡ false = le-ltb place (length marks) above in
+          ap (λ b. b && not (get_or marks place false)) outside
+          ∙ sym (ap (λ b. b && not (is_written steps place)) (ap (λ n. nat_lt place n) (sym h.count) ∙ outside))
+    ]
+
+-- a stop
+pub stopped :
+    (start : List ℕ) (steps : List Step) (old new : Platter) (fill : ℕ)
+    → Holds start steps old.bytes.items old.len old.written.items old.least old.greatest → IsFilledUp old fill new
+    → IsFilled start steps fill (content_of new)
+stopped start steps old new fill h f =
+    let whole : take new.len new.bytes.items ≡ new.bytes.items = take_all new.len new.bytes.items (omega (arith, f.all.whole)) in
+    let size : length (content_of new) ≡ old.greatest = ap length whole ∙ f.all.whole ∙ f.len in
+    let at = λ (place : ℕ). ap (λ (xs : List ℕ). get_or xs place 0) whole in
+    record {
+      left = record {
+        long_enough = omega (arith, size, h.least, h.order);
+        short_enough = omega (arith, size, h.greatest);
+        sure = λ place below old_place clean. let low : place < length old.written.items = omega (arith, h.count) in
+            at place ∙ f.sure place (omega (arith, size)) low (h.marked place low ∙ clean) ∙ h.kept place low clean;
+      };
+      longest = size ∙ h.greatest;
+      filled = λ place below unsure. at place ∙ f.filled place (omega (arith, size))
+          (same_test start steps old.bytes.items old.len old.written.items old.least old.greatest place h ∙ unsure);
+    }

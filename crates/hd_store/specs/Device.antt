@@ -4,7 +4,7 @@ use Rattle.hd_store.specs.declared.ahead.Ahead.{Ahead}
 use Rattle.hd_store.specs.declared.change.Change.{Change}
 use Rattle.hd_store.specs.declared.error.TheConstants.{MOST_FAILURES}
 use Rattle.hd_store.specs.Ahead.{later, is_next, reads_behind}
-use Rattle.hd_store.specs.Past.{Step, content_after}
+use Rattle.hd_store.specs.Past.{Step, step, content_after}
 
 -- what it held for sure at its start, the steps since then, the last one first, how many calls have failed, and what is known of the changes
 -- and the reads to come
@@ -30,14 +30,14 @@ is_due device = is_next device.changes && not (device.failures == MOST_FAILURES)
 -- behind a change that was done
 abbrev pub done : Device → Change → List ℕ → Device
 done device change now = record device {
-  steps = record { change = change; now = now } ∷ device.steps;
+  steps = step change now ∷ device.steps;
   changes = later device.changes;
 }
 
 -- behind a change that was begun and failed
 abbrev pub broken : Device → Change → List ℕ → Device
 broken device change now = record device {
-  steps = record { change = change; now = now } ∷ device.steps;
+  steps = step change now ∷ device.steps;
   failures = one_more device.failures;
   changes = later device.changes;
   reads = reads_behind device.changes device.reads;

@@ -13,3 +13,4 @@ pub record Holds (start : List ℕ) (steps : List Step) (bytes : List ℕ) (len 
       → slice_index bytes place ≡ slice_index (synced_after start steps) place
   pub least : least ≡ least_after start steps
   pub greatest : greatest ≡ greatest_after start steps
+  pub order : least ≤ greatest

@@ -6,4 +6,5 @@ pub mod Stop
 pub mod Calls
 pub mod Platter
 pub mod Holding
+pub mod Image
 pub mod MemoryDisk

@@ -10,10 +10,14 @@ pub record Step : Type 0 where
   pub change : Change
   pub now : List ℕ
 
+-- this change, behind which a read gives this
+abbrev pub step : Change → List ℕ → Step
+step change now = record { change = change; now = now }
+
 -- what a read gives, of a device that held these bytes at its start
 abbrev pub content_after : List ℕ → List Step → List ℕ
 content_after start [] = start
-content_after start (step ∷ before) = step.now
+content_after start (s ∷ before) = s.now
 
 -- ---- by a change, behind which a read gives `now`, from what was so before it
 
@@ -50,19 +54,19 @@ greatest_by FailedSync now before = before
 -- what was read at the last sync
 abbrev pub synced_after : List ℕ → List Step → List ℕ
 synced_after start [] = start
-synced_after start (step ∷ before) = synced_by step.change step.now (synced_after start before)
+synced_after start (s ∷ before) = synced_by s.change s.now (synced_after start before)
 
 -- whether a place was written since then
 abbrev pub is_written : List Step → ℕ → Bool
 is_written [] place = false
-is_written (step ∷ before) place = written_by step.change place (is_written before place)
+is_written (s ∷ before) place = written_by s.change place (is_written before place)
 
 -- the least length since then
 abbrev pub least_after : List ℕ → List Step → ℕ
 least_after start [] = length start
-least_after start (step ∷ before) = least_by step.change step.now (least_after start before)
+least_after start (s ∷ before) = least_by s.change s.now (least_after start before)
 
 -- the greatest length since then
 abbrev pub greatest_after : List ℕ → List Step → ℕ
 greatest_after start [] = length start
-greatest_after start (step ∷ before) = greatest_by step.change step.now (greatest_after start before)
+greatest_after start (s ∷ before) = greatest_by s.change s.now (greatest_after start before)

@@ -1,10 +1,15 @@
 -- What the bytes that a disk in memory keeps stand for, and what becomes of them. (Our own.)
-use Rattle.std.specs.Prelude.{◌≡◌, ℕ, ◌<◌, Bool, false, not, ◌&&◌, nat_lt, List, length, take, slice_index, slice_index_or}
+use Rattle.std.specs.Prelude.{◌≡◌, ℕ, ◌<◌, ◌≤◌, Bool, false, not, ◌&&◌, nat_lt, List, length, take, slice_index, slice_index_or}
+use Rattle.std.specs.Vec.{vec_capacity}
 use Rattle.hd_store.specs.declared.platter.Platter.{Platter}
 
 -- what a read gives: the bytes up to the length
 abbrev pub content_of : Platter → List ℕ
 content_of platter = take platter.len platter.bytes.items
+
+-- there is room for so many bytes, where there are not so many
+abbrev pub HasRoom : Platter → ℕ → Type 0
+HasRoom held end = held.len < end → (end ≤ vec_capacity held.bytes) × (end ≤ vec_capacity held.written)
 
 -- all that is held is read and sure
 pub record IsAllSure (held : Platter) : Type 0 where

@@ -9,6 +9,7 @@ mod ahead;
 mod change;
 mod error;
 mod history;
+mod image;
 pub mod laws;
 mod memory;
 mod plan;

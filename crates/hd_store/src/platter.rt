@@ -4,10 +4,7 @@ ghost use Rattle.std.specs.Vec.{vec_capacity};
 ghost use Rattle.hd_store.specs.Bytes.{written_over, is_in_range};
 
 use hd_base::NoMemory;
-use std::alloc::{AllocError, Global};
-
-/// The greatest length.
-pub(crate) const MOST_BYTES: usize = 0x7fff_ffff_ffff_ffff;
+use std::alloc::Global;
 
 /// How many bytes there is room for at least, once there is any.
 const LEAST_ROOM: usize = 64;
@@ -38,7 +35,8 @@ pub(crate) struct Platter {
 /// Writes bytes over what is held, and past its end, where there is room for them.
 fn write_over(held: &mut Vec<u8>, at: usize, bytes: &[u8])
     requires within { at ≤ length held.old.items }
-    requires room { at + length bytes.now ≤ vec_capacity held.old }
+    requires room { length held.old.items < at + length bytes.now
+        → at + length bytes.now ≤ vec_capacity held.old }
     ensures { held.new.items ≡ written_over held.old.items at bytes.now }
 {
     let inside = bytes.len().min(held.len() - at);
@@ -74,7 +72,7 @@ fn fill_marked(bytes: &mut [u8], marks: &[bool], fill: u8)
 }
 
 impl Platter {
-    ghost use Rattle.hd_store.specs.Platter.{content_of, IsAllSure, IsFilledUp, IsUnchanged};
+    ghost use Rattle.hd_store.specs.Platter.{content_of, HasRoom, IsAllSure, IsFilledUp, IsUnchanged};
 
     /// Nothing is held, and no memory is taken.
     pub(crate) fn new(alloc: Global) -> Platter
@@ -97,9 +95,6 @@ impl Platter {
         ensures bytes { IfOk result (λ platter. platter.bytes.items ≡ bytes.items) }
     {
         let len = bytes.len();
-        if len > MOST_BYTES {
-            return Err(AllocError);
-        }
         let mut written = Vec::new(alloc);
         written.resize(len, false)?;
         Ok(Platter {
@@ -112,16 +107,15 @@ impl Platter {
         })
     }
 
-    /// Makes room for so many bytes; what is held stays.
+    /// Makes room for so many bytes, where there are not so many; what is held stays.
     pub(crate) fn make_room(&mut self, end: usize) -> Result<(), NoMemory>
-        ensures bytes { self.new.bytes.items ≡ self.old.bytes.items }
-        ensures marks { self.new.written.items ≡ self.old.written.items }
-        ensures len { self.new.len ≡ self.old.len }
-        ensures least { self.new.least ≡ self.old.least }
-        ensures greatest { self.new.greatest ≡ self.old.greatest }
-        ensures room { OnOk result (end ≤ vec_capacity self.new.bytes) }
-        ensures room_to_mark { OnOk result (end ≤ vec_capacity self.new.written) }
+        ensures same { IsUnchanged self.old self.new }
+        ensures room { OnOk result (HasRoom self.new end) }
+        ensures grows { OnErr result (self.old.len < end) }
     {
+        if end <= self.len {
+            return Ok(());
+        }
         let wanted = end.max(LEAST_ROOM);
         self.bytes.reserve(wanted.saturating_sub(self.bytes.len()))?;
         self.written
@@ -152,8 +146,7 @@ impl Platter {
     pub(crate) fn write(&mut self, at: usize, bytes: &[u8])
         requires within { at ≤ self.old.len }
         requires small { at + length bytes.now < 2 ^ 63 }
-        requires room { at + length bytes.now ≤ vec_capacity self.old.bytes }
-        requires room_to_mark { at + length bytes.now ≤ vec_capacity self.old.written }
+        requires room { HasRoom self.old (at + length bytes.now) }
         ensures content { content_of self.new ≡ written_over (content_of self.old) at bytes.now }
         ensures others { (place : ℕ) → place < length self.old.bytes.items
             → is_in_range at (length bytes.now) place ≡ false
@@ -213,8 +206,7 @@ impl Platter {
 
     /// Each byte that is not sure is this one, up to the greatest length, for which there is room; all of it is sure.
     fn fill_up(&mut self, fill: u8)
-        requires room { self.old.greatest ≤ vec_capacity self.old.bytes }
-        requires room_to_mark { self.old.greatest ≤ vec_capacity self.old.written }
+        requires room { HasRoom self.old self.old.greatest }
         ensures { IsFilledUp self.old fill self.new }
     {
         let sure = self.written.len();
