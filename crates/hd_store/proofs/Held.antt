@@ -26,8 +26,8 @@ starts held sure =
       count = sure.count ∙ sym (ap length whole ∙ sure.whole);
       marked = λ place below. sure.marks place (omega (arith, sure.count));
       kept = λ place below clean. ap (λ bytes. get_or bytes place 0) (sym whole);
-      least = sure.least ∙ sym (ap length whole ∙ sure.whole);
-      greatest = sure.greatest ∙ sym (ap length whole ∙ sure.whole);
+      shortest = sure.least ∙ sym (ap length whole ∙ sure.whole);
+      longest = sure.greatest ∙ sym (ap length whole ∙ sure.whole);
       order = omega (arith, sure.least, sure.greatest);
     }
 
@@ -41,8 +41,8 @@ syncs start steps held sure =
       count = sure.count ∙ sym (ap length whole ∙ sure.whole);
       marked = λ place below. sure.marks place (omega (arith, sure.count));
       kept = λ place below clean. ap (λ bytes. get_or bytes place 0) (sym whole);
-      least = sure.least ∙ sym (ap length whole ∙ sure.whole);
-      greatest = sure.greatest ∙ sym (ap length whole ∙ sure.whole);
+      shortest = sure.least ∙ sym (ap length whole ∙ sure.whole);
+      longest = sure.greatest ∙ sym (ap length whole ∙ sure.whole);
       order = omega (arith, sure.least, sure.greatest);
     }
 
@@ -66,8 +66,8 @@ writes start steps at count bytes bytes' len len' marks marks' least least' grea
       kept = λ place below clean. let low : place < length marks = omega (arith, same) in
           let parts = neither (is_in_range at count place) (is_written steps place) clean in
           others place (omega arith) parts.0 ∙ h.kept place low parts.1;
-      least = l ∙ h.least;
-      greatest = g ∙ ap (λ n. max n (at + count)) h.greatest;
+      shortest = l ∙ h.shortest;
+      longest = g ∙ ap (λ n. max n (at + count)) h.longest;
       order = omega (arith, l, g, h.order);
     }
 
@@ -82,8 +82,8 @@ cuts start steps to bytes len len' marks least least' greatest h l =
       count = h.count;
       marked = h.marked;
       kept = h.kept;
-      least = l ∙ ap (λ n. min n to) h.least;
-      greatest = h.greatest;
+      shortest = l ∙ ap (λ n. min n to) h.shortest;
+      longest = h.longest;
       order = omega (arith, l, h.order);
     }
 
@@ -93,7 +93,7 @@ pub fails :
     → Holds start steps bytes len marks least greatest
     → Holds start (step FailedSync (take len bytes) ∷ steps) bytes len marks least greatest
 fails start steps bytes len marks least greatest h =
-    record { read = refl; count = h.count; marked = h.marked; kept = h.kept; least = h.least; greatest = h.greatest; order = h.order }
+    record { read = refl; count = h.count; marked = h.marked; kept = h.kept; shortest = h.shortest; longest = h.longest; order = h.order }
 
 -- a test of a place, by the marks and by the steps
 same_test :
@@ -120,12 +120,12 @@ stopped start steps old new fill h f =
     let at = λ (place : ℕ). ap (λ (xs : List ℕ). get_or xs place 0) whole in
     record {
       left = record {
-        long_enough = omega (arith, size, h.least, h.order);
-        short_enough = omega (arith, size, h.greatest);
+        long_enough = omega (arith, size, h.shortest, h.order);
+        short_enough = omega (arith, size, h.longest);
         sure = λ place below old_place clean. let low : place < length old.written.items = omega (arith, h.count) in
             at place ∙ f.sure place (omega (arith, size)) low (h.marked place low ∙ clean) ∙ h.kept place low clean;
       };
-      longest = size ∙ h.greatest;
+      longest = size ∙ h.longest;
       filled = λ place below unsure. at place ∙ f.filled place (omega (arith, size))
           (same_test start steps old.bytes.items old.len old.written.items old.least old.greatest place h ∙ unsure);
     }

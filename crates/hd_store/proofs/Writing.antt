@@ -1,11 +1,10 @@
 -- What bytes written over a content make of it, place by place.
-use Rattle.std.proofs.Common.{◌≡◌, ℕ, ◌+◌, ◌-◌, ◌<◌, ◌≤◌, ◌⊎◌, inl, inr, List, ◌++◌, length, take, drop, get_or, max, min, Bool, true, false, [], arith, sym, ◌∙◌, ap, append_assoc}
+use Rattle.std.proofs.Common.{◌≡◌, ℕ, ◌+◌, ◌-◌, ◌<◌, ◌≤◌, ◌⊎◌, inl, inr, List, length, take, get_or, max, true, false, arith, sym, ◌∙◌}
 use Rattle.std.specs.Prelude.{◌&&◌, nat_le, nat_lt}
 use Rattle.std.proofs.lemmas.Grind.{common_steps, same_number_lists}
 use Rattle.std.proofs.lemmas.Bool.{cases_lt}
 use Rattle.std.proofs.lemmas.Bool.Decides.{nat_tests}
-use Rattle.std.proofs.lemmas.List.{append-nil, length-append, length-take, length-take-le, get_or-take, get_or-drop, take-append-le, take-append-drop, take_all, drop-drop, drop_at}
-use Rattle.std.proofs.Math.ListN.{drop_of_length-le}
+use Rattle.std.proofs.lemmas.List.{length-take, length-take-le, get_or-take}
 use Rattle.hd_store.specs.Bytes.{written_over, is_in_range}
 
 pub length-written_over : (content : List ℕ) (at : ℕ) (bytes : List ℕ) → at ≤ length content
@@ -68,25 +67,7 @@ take-written_over held len at bytes within covered =
       ]
     ])
 
--- a write in two parts: what ends past the end is put there first, and then the rest in its place
-pub written_in_parts : (held : List ℕ) (at inside : ℕ) (bytes : List ℕ) → at ≤ length held → inside ≡ min (length bytes) (length held - at)
-    → take at (held ++ drop inside bytes) ++ (take inside bytes ++ drop inside (drop at (held ++ drop inside bytes))) ≡ written_over held at bytes
-written_in_parts held at inside bytes within e =
-    let past_end = drop inside bytes in
-    elim (cases_lt (length held - at) (length bytes)) [
-      | inl past ↦ let front : take at (held ++ past_end) ≡ take at held = take-append-le at held past_end within in
-          let rest : drop inside (drop at (held ++ past_end)) ≡ past_end =
-          drop-drop inside at (held ++ past_end) ∙ drop_at held past_end (at + inside) (omega (arith, e)) in
-          let nothing : drop (at + length bytes) held ≡ [] = drop_of_length-le held (omega arith) in
-          ap (λ (xs : List ℕ). xs ++ (take inside bytes ++ drop inside (drop at (held ++ past_end)))) front
-          ∙ ap (λ (xs : List ℕ). take at held ++ (take inside bytes ++ xs)) rest ∙ ap (λ (xs : List ℕ). take at held ++ xs) (take-append-drop inside bytes)
-          ∙ sym (ap (λ (xs : List ℕ). (take at held ++ bytes) ++ xs) nothing ∙ append-nil (take at held ++ bytes))
-      | inr fits ↦ let all : inside ≡ length bytes = omega (arith, e) in
-          let nothing : past_end ≡ [] = drop_of_length-le bytes (omega (arith, all)) in
-          let whole : take inside bytes ≡ bytes = take_all inside bytes (omega (arith, all)) in
-          ap (λ (xs : List ℕ). take at (held ++ xs) ++ (take inside bytes ++ drop inside (drop at (held ++ xs)))) nothing
-          ∙ ap (λ (xs : List ℕ). take at xs ++ (take inside bytes ++ drop inside (drop at xs))) (append-nil held)
-          ∙ ap (λ (xs : List ℕ). take at held ++ (xs ++ drop inside (drop at held))) whole
-          ∙ ap (λ (xs : List ℕ). take at held ++ (bytes ++ xs)) (drop-drop inside at held ∙ ap (λ (k : ℕ). drop (at + k) held) all)
-          ∙ sym (append_assoc (take at held) bytes (drop (at + length bytes) held))
-    ]
+-- the places from one on, and below an end that was reached or passed at once
+pub same_places : (from to reached k : ℕ) → to ≤ reached → reached ≤ max from to
+    → (nat_le from k && nat_lt k reached) ≡ (nat_le from k && nat_lt k to)
+same_places from to reached k ended bound = grind (arith, nat_tests)

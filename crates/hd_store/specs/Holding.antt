@@ -11,6 +11,6 @@ pub record Holds (start : List ℕ) (steps : List Step) (bytes : List ℕ) (len 
   pub kept :
       (place : ℕ) → place < length marks → is_written steps place ≡ false
       → slice_index bytes place ≡ slice_index (synced_after start steps) place
-  pub least : least ≡ least_after start steps
-  pub greatest : greatest ≡ greatest_after start steps
+  pub shortest : least ≡ least_after start steps
+  pub longest : greatest ≡ greatest_after start steps
   pub order : least ≤ greatest

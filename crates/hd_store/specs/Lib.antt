@@ -8,3 +8,4 @@ pub mod Platter
 pub mod Holding
 pub mod Image
 pub mod MemoryDisk
+pub mod FileStore

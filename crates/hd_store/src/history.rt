@@ -1,7 +1,7 @@
 //! What was done to a disk, as proofs see it. It takes no memory, and its calls do nothing when they run.
 ghost use Rattle.std.specs.Prelude.{◌≡◌, ℕ, List, [], ◌∷◌};
 ghost use Rattle.std.specs.Borrow.{ftrue};
-ghost use Rattle.hd_store.specs.Past.{Step};
+ghost use Rattle.hd_store.specs.Past.{Step, step};
 ghost use Rattle.hd_store.specs.Platter.{content_of};
 
 use crate::change::Change;
@@ -22,17 +22,15 @@ impl Model for History {
 impl History {
     /// Of a disk that holds this for sure.
     pub(crate) fn of(_held: &Platter) -> History
-        ensures start { result.start ≡ content_of _held.now }
-        ensures steps { result.steps ≡ [] }
+        ensures { (result.start ≡ content_of _held.now) × (result.steps ≡ []) }
     {
         History {}
     }
 
     /// One step more: this change was begun, and this is held behind it.
     pub(crate) fn and(_before: &History, _change: &Change, _held: &Platter) -> History
-        ensures start { result.start ≡ _before.now.start }
-        ensures steps { result.steps
-            ≡ record { change = _change.now; now = content_of _held.now } ∷ _before.now.steps }
+        ensures { (result.start ≡ _before.now.start)
+            × (result.steps ≡ step _change.now (content_of _held.now) ∷ _before.now.steps) }
     {
         History {}
     }

@@ -8,6 +8,7 @@
 mod ahead;
 mod change;
 mod error;
+mod file;
 mod history;
 mod image;
 pub mod laws;
@@ -19,5 +20,6 @@ mod store;
 pub use ahead::Ahead;
 pub use change::Change;
 pub use error::{MOST_FAILURES, StoreError};
+pub use file::FileStore;
 pub use memory::MemoryDisk;
 pub use store::Store;

@@ -1,5 +1,5 @@
 -- A value of no bytes is made. What it shows is chosen here, as the contract says it: one step more than the history before it.
-use Rattle.std.proofs.Common.{[], ◌∷◌, refl, take}
+use Rattle.std.proofs.Common.{◌≡◌, [], ◌∷◌, refl, take}
 use Rattle.std.proofs.raw_atomic.Walks.{proved}
 use mir.Syntax.{named}
 use mir.Val.{vstruct, vnil}
@@ -43,10 +43,11 @@ and_spec 𝓤 𝓛 𝓜 𝓡 wired =
     let y : (walk_of 𝓛 f.ended stayed c).Ghost = ((κs, qs, bounds, a, (shr_vals a.0, (shr_vals a.1.0, (shr_vals a.1.1.0, tt)))), g) in
     let now = take a.1.1.0.now.len a.1.1.0.now.bytes.items in
     let made : History = record { start = a.0.now.start; steps = record { change = a.1.0.now; now = now } ∷ a.0.now.steps } in
+    let shown : (made.start ≡ a.0.now.start) × (made.steps ≡ record { change = a.1.0.now; now = now } ∷ a.0.now.steps) = (refl, refl) in
     via 𝓤 _ (fst∗ 𝓤 _ (emp 𝓤)) (qed 𝓛 (raw (alive 𝓛 f.signature κs qs) ∷ ‵ (owns (types_at f.signature.params κs) a y.0.4) ∷ []) ∵
     enter ! _ _ _ _ _ $ alloc_all ! (λ l. pass_all ! refl ((tt, tt), ((tt, tt), ((tt, tt), tt))) $ sets ! (agg ! (no_more !)) refl (tt, tt) $
     returns ! (look_at ! 0 refl) $ free_all ! refl $
     suffices ! _ (ends_at 𝓛 f.ended stayed c y (vstruct vnil) made (tt, (tt, (tt, tt))) (tt, (tt, (tt, tt)))) $
-    says ! (record { start = refl; steps = refl }) $
+    says ! shown $
     pure_i ! (history.the_row.own_val made (vstruct vnil ∷ [])) ((λ vss. (tt, tt)), tt) ((tt, (refl, tt)), tt) $
     move ! (1 ∷ 2 ∷ 0 ∷ []) $ done !)))

@@ -1,5 +1,5 @@
 -- A value of no bytes is made. What it shows is chosen here, as the contract says it: the history begins with what is held.
-use Rattle.std.proofs.Common.{[], ◌∷◌, refl, take}
+use Rattle.std.proofs.Common.{◌≡◌, [], ◌∷◌, refl, take}
 use Rattle.std.proofs.raw_atomic.Walks.{proved}
 use mir.Syntax.{named}
 use mir.Val.{vstruct, vnil}
@@ -33,9 +33,10 @@ of_spec 𝓤 𝓛 𝓜 𝓡 wired =
     (λ κs. (shr_vals, tt)) (λ κs. (shr_Tells (named 0) κs.0 platter.the_row, tt)) (λ κs qs bounds a g are.
     let y : (walk_of 𝓛 f.ended stayed c).Ghost = ((κs, qs, bounds, a, (shr_vals a.0, tt)), g) in
     let made : History = record { start = take a.0.now.len a.0.now.bytes.items; steps = [] } in
+    let shown : (made.start ≡ take a.0.now.len a.0.now.bytes.items) × (made.steps ≡ []) = (refl, refl) in
     via 𝓤 _ (fst∗ 𝓤 _ (emp 𝓤)) (qed 𝓛 (raw (alive 𝓛 f.signature κs qs) ∷ ‵ (owns (types_at f.signature.params κs) a y.0.4) ∷ []) ∵
     enter ! _ _ _ _ _ $ alloc_all ! (λ l. pass_all ! refl ((tt, tt), tt) $ sets ! (agg ! (no_more !)) refl (tt, tt) $
     returns ! (look_at ! 0 refl) $ free_all ! refl $
-    suffices ! _ (ends_at 𝓛 f.ended stayed c y (vstruct vnil) made (tt, tt) (tt, tt)) $ says ! (record { start = refl; steps = refl }) $
+    suffices ! _ (ends_at 𝓛 f.ended stayed c y (vstruct vnil) made (tt, tt) (tt, tt)) $ says ! shown $
     pure_i ! (history.the_row.own_val made (vstruct vnil ∷ [])) ((λ vss. (tt, tt)), tt) ((tt, (refl, tt)), tt) $
     move ! (1 ∷ 2 ∷ 0 ∷ []) $ done !)))
