@@ -1,11 +1,12 @@
 -- How what a disk in memory keeps follows its steps.
-use Rattle.std.proofs.Common.{◌≡◌, ℕ, ◌+◌, ◌<◌, ◌≤◌, List, [], ◌∷◌, length, take, get_or, max, min, Bool, true, false, not, refl, sym, ap, ◌∙◌, inl, inr, arith}
+use Rattle.std.proofs.Common.{◌≡◌, ℕ, ◌+◌, ◌^◌, ◌<◌, ◌≤◌, List, [], ◌∷◌, length, take, get_or, max, min, Bool, true, false, not, refl, sym, ap, ◌∙◌, inl, inr, arith}
 use Rattle.std.specs.Prelude.{◌&&◌, ◌||◌, nat_lt}
 use Rattle.std.proofs.lemmas.Bool.{cases_lt, le-ltb}
-use Rattle.std.proofs.lemmas.List.{take_all}
+use Rattle.std.proofs.lemmas.List.{take_all, length-take}
 use Rattle.hd_store.specs.declared.change.Change.{Change}
 use Rattle.hd_store.specs.declared.change.Change.TheVariants.{Write, Cut, Sync, FailedSync}
 use Rattle.hd_store.specs.declared.platter.Platter.{Platter}
+use Rattle.hd_store.specs.declared.history.History.{History}
 use Rattle.hd_store.specs.Bytes.{is_in_range}
 use Rattle.hd_store.specs.Past.{Step, step, content_after, synced_after, is_written}
 use Rattle.hd_store.specs.Platter.{content_of, IsAllSure, IsFilledUp}
@@ -129,3 +130,52 @@ stopped start steps old new fill h f =
       filled = λ place below unsure. at place ∙ f.filled place (omega (arith, size))
           (same_test start steps old.bytes.items old.len old.written.items old.least old.greatest place h ∙ unsure);
     }
+
+-- ---- the same of a disk with its past
+
+-- the past of a disk behind a change is one step longer
+abbrev pub IsNext : History → Change → Platter → History → Type 0
+IsNext before change held after = (after.start ≡ before.start) × (after.steps ≡ step change (content_of held) ∷ before.steps)
+
+-- what is held is what the past says
+abbrev pub IsHeld : Platter → History → Type 0
+IsHeld held past = Holds past.start past.steps held.bytes.items held.len held.written.items held.least held.greatest
+
+pub held_at_start : (past : History) (held : Platter) → IsAllSure held → (past.start ≡ content_of held) × (past.steps ≡ []) → IsHeld held past
+held_at_start past held sure is = rw (is.0, is.1) (starts held sure)
+
+pub held_behind_sync : (before after : History) (held : Platter) → IsAllSure held → IsNext before Sync held after → IsHeld held after
+held_behind_sync before after held sure next = rw (next.0, next.1) (syncs before.start before.steps held sure)
+
+pub held_behind_write :
+    (before after : History) (old new : Platter) (at count : ℕ)
+    → IsHeld old before → IsNext before (Write at count) new after
+    → length old.written.items ≤ length old.bytes.items
+    → ((place : ℕ) → place < length old.bytes.items → is_in_range at count place ≡ false → get_or new.bytes.items place 0 ≡ get_or old.bytes.items place 0)
+    → length new.written.items ≡ length old.written.items
+    → ((place : ℕ) → place < length old.written.items
+    → get_or new.written.items place false ≡ (is_in_range at count place || get_or old.written.items place false))
+    → new.least ≡ old.least → new.greatest ≡ max old.greatest (at + count)
+    → IsHeld new after
+held_behind_write before after old new at count h next covered others same marked l g =
+    rw (next.0, next.1) (writes before.start before.steps at count old.bytes.items new.bytes.items old.len new.len old.written.items new.written.items
+    old.least new.least old.greatest new.greatest h covered others same marked l g)
+
+pub held_behind_cut :
+    (before after : History) (old new : Platter) (to : ℕ)
+    → IsHeld old before → IsNext before (Cut to) new after
+    → new.bytes.items ≡ old.bytes.items → new.written.items ≡ old.written.items → new.least ≡ min old.least to → new.greatest ≡ old.greatest
+    → IsHeld new after
+held_behind_cut before after old new to h next same_bytes same_marks l g =
+    rw (next.0, next.1, same_bytes, same_marks, g) (cuts before.start before.steps to old.bytes.items old.len new.len old.written.items
+    old.least new.least old.greatest h l)
+
+pub held_behind_failure : (before after : History) (held : Platter) → IsHeld held before → IsNext before FailedSync held after → IsHeld held after
+held_behind_failure before after held h next =
+    rw (next.0, next.1) (fails before.start before.steps held.bytes.items held.len held.written.items held.least held.greatest h)
+
+-- what is read is never too long
+pub short : (before after : History) (change : Change) (held : Platter) → IsNext before change held after
+    → length held.bytes.items < 2 ^ 63 → length (content_after after.start after.steps) < 2 ^ 63
+short before after change held next small =
+    rw (next.0, next.1) (omega (arith, small, length-take held.len held.bytes.items))

@@ -155,20 +155,14 @@ const STOPS: [&[Option<u8>]; 4] = [
 
 #[test]
 fn a_machine_stops_in_each_call(rt: HostRuntime) -> Result<(), Fail> {
-    let mut n = 0;
-    for left in STOPS {
-        n += 1;
+    for (nth, left) in STOPS.iter().enumerate() {
         for fill in FILLS {
             let mut disk = MemoryDisk::of(rt.alloc(), list(rt.alloc(), b"abcd")?)?;
-            disk.stop_at(n);
-            let mut made = 0;
-            for what in SCRIPT {
-                if change(&mut disk, what) != Some(Ok(())) {
-                    break;
-                }
-                made += 1;
+            disk.stop_at(nth as u64 + 1);
+            for what in &SCRIPT[..nth] {
+                assert!(rt; change(&mut disk, *what) == Some(Ok(())));
             }
-            assert_eq!(rt; made + 1, n);
+            assert!(rt; change(&mut disk, SCRIPT[nth]) == Some(Err(StoreError::Failed)));
             assert_eq!(rt; disk.failures(), 1);
             // Each call fails now, and none is begun.
             assert!(rt; disk.sync() == Err(StoreError::Failed));
