@@ -82,7 +82,8 @@ cut_torn start steps len now found is =
             omega arith,
             same_number_lists found (take kept content) same (λ place below.
                 left.sure place below (omega (arith, same, length-take kept content, ap length k.synced)) (k.clean place)
-                ∙ ap (λ (xs : List ℕ). get_or xs place 0) k.synced ∙ sym (get_or-take kept content place 0 (omega (arith, same, length-take kept content)))),
+                ∙ ap (λ (xs : List ℕ). get_or xs place 0) k.synced
+                ∙ sym (get_or-take kept content place 0 (omega (arith, same, length-take kept content)))),
           ),
       λ (kept, enough, is_front).
           let content = content_after start steps in
@@ -111,7 +112,8 @@ cut_widens start steps len now found left = record {
   sure = left.sure;
 }
 
-pub as_before : (start : List ℕ) (steps : List Step) (now found : List ℕ) → MayLeave start (step FailedSync now ∷ steps) found ↔ MayLeave start steps found
+pub as_before : (start : List ℕ) (steps : List Step) (now found : List ℕ)
+    → MayLeave start (step FailedSync now ∷ steps) found ↔ MayLeave start steps found
 as_before start steps now found = (
   λ left. record { long_enough = left.long_enough; short_enough = left.short_enough; sure = left.sure },
   λ left. record { long_enough = left.long_enough; short_enough = left.short_enough; sure = left.sure },
@@ -125,7 +127,8 @@ not_true : (b : Bool) → not b ≡ true → b ≡ false
 not_true true e = sym e
 not_true false e = refl
 
-same_byte : (start : List ℕ) (steps : List Step) (fill : ℕ) (one other : List ℕ) (place : ℕ) → IsFilled start steps fill one → IsFilled start steps fill other
+same_byte : (start : List ℕ) (steps : List Step) (fill : ℕ) (one other : List ℕ) (place : ℕ)
+    → IsFilled start steps fill one → IsFilled start steps fill other
     → place < length one → (sure : Bool) → is_sure start steps place ≡ sure → get_or one place 0 ≡ get_or other place 0
 same_byte start steps fill one other place p q below false e =
     p.filled place below e ∙ sym (q.filled place (omega (arith, p.longest, q.longest)) e)
@@ -136,6 +139,8 @@ same_byte start steps fill one other place p q below true e =
     let clean : is_written steps place ≡ false = not_true (is_written steps place) parts.1 in
     p.left.sure place below old clean ∙ sym (q.left.sure place (omega (arith, p.longest, q.longest)) old clean)
 
-pub filled_once : (start : List ℕ) (steps : List Step) (fill : ℕ) (one other : List ℕ) → IsFilled start steps fill one → IsFilled start steps fill other → one ≡ other
+pub filled_once : (start : List ℕ) (steps : List Step) (fill : ℕ) (one other : List ℕ)
+    → IsFilled start steps fill one → IsFilled start steps fill other → one ≡ other
 filled_once start steps fill one other p q =
-    same_number_lists one other (p.longest ∙ sym q.longest) (λ place below. same_byte start steps fill one other place p q below (is_sure start steps place) refl)
+    same_number_lists one other (p.longest ∙ sym q.longest) (λ place below.
+    same_byte start steps fill one other place p q below (is_sure start steps place) refl)

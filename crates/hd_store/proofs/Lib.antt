@@ -1,3 +1,2 @@
-pub mod Writing
-pub mod Held
 pub mod Leaving
+pub mod Marking

@@ -1,5 +1,5 @@
 -- Which of the calls to come fail, as far as it is known. (Our own.)
-use Rattle.std.specs.Prelude.{◌≡◌, ℕ, zero, suc, Bool, true, false, ◌==◌, ◌||◌, Option, Some, None, MatchOption, if◌then◌else◌, Result, Ok, Err}
+use Rattle.std.specs.Prelude.{◌≡◌, ℕ, zero, suc, Bool, true, false, ◌==◌, ◌||◌, Option, Some, None, MatchOption, MatchBool, Result, Ok, Err}
 use Rattle.hd_store.specs.declared.ahead.Ahead.{Ahead}
 use Rattle.hd_store.specs.declared.ahead.Ahead.TheVariants.{Unknown, Well, Fails, Stops, Down}
 use Rattle.hd_store.specs.declared.error.TheConstants.{MOST_FAILURES}
@@ -48,19 +48,16 @@ foretold_of_length (Fails n) = Some false
 foretold_of_length (Stops n) = Some false
 foretold_of_length Down = Some true
 
--- the same with the count of failures: at its greatest value each call fails
-abbrev pub foretold : ℕ → Option Bool → Option Bool
-foretold failures known = if failures == MOST_FAILURES then Some true else known
-
--- the call fails or goes well as it is foretold; want of memory comes before either
+-- the call fails or goes well, as it is foretold; want of memory comes before either
 abbrev pub GoesAs : {X : Type 0} → Result X StoreError → Bool → Type 0
 GoesAs (Ok x) fails = fails ≡ false
 GoesAs (Err NoMemory) fails = Unit {0}
 GoesAs (Err Failed) fails = fails ≡ true
 
--- the same, where it is known
-abbrev pub GoesAsForetold : {X : Type 0} → Result X StoreError → Option Bool → Type 0
-GoesAsForetold result known = MatchOption known (Unit {0}) (GoesAs result)
+-- a call goes as it is foretold, where that is known; where the count of failures stands at its greatest value, it fails
+abbrev pub GoesAsForetold : {X : Type 0} → Result X StoreError → ℕ → Option Bool → Type 0
+GoesAsForetold result failures known =
+    MatchBool (failures == MOST_FAILURES) (result ≡ Err Failed) (MatchOption known (Unit {0}) (GoesAs result))
 
 -- whether the machine has stopped
 abbrev pub is_down : Ahead → Bool

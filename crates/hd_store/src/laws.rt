@@ -1,14 +1,17 @@
 //! Laws of what a stop leaves. Each function does nothing: its contract is the law.
-ghost use Rattle.std.specs.Prelude.{◌≡◌, ℕ, ◌↔◌, List, [], ◌∷◌};
+ghost use Rattle.std.specs.Prelude.{◌≡◌, ℕ, ◌+◌, ◌<◌, ◌↔◌, List, [], ◌∷◌};
 ghost use Rattle.hd_store.specs.declared.change.Change.TheVariants.{Write, Cut, Sync, FailedSync};
 ghost use Rattle.hd_store.specs.Bytes.{IsPartOfWrite, IsPartOfCut};
 ghost use Rattle.hd_store.specs.Past.{Step, content_after, step};
+ghost use Rattle.hd_store.specs.Device.{one_more};
+ghost use Rattle.hd_store.specs.declared.error.TheConstants.{MOST_FAILURES};
 ghost use Rattle.hd_store.specs.Stop.{MayLeave, IsAtRest, IsSynced, IsFilled};
 
 /// At its start, and behind a sync that succeeded, a stop leaves what a read gives, and nothing else.
 pub fn a_sync_leaves_one_content()
     ensures start { (start : List ℕ) → IsAtRest start [] }
-    ensures sync { (start now : List ℕ) (steps : List Step) → IsAtRest start (step Sync now ∷ steps) }
+    ensures sync { (start now : List ℕ) (steps : List Step)
+        → IsAtRest start (step Sync now ∷ steps) }
     ensures left { (start : List ℕ) (steps : List Step)
         → IsSynced steps → MayLeave start steps (content_after start steps) }
 {}
@@ -42,4 +45,10 @@ pub fn a_failed_sync_changes_nothing()
 pub fn a_filled_content_is_one()
     ensures { (start : List ℕ) (steps : List Step) (fill : ℕ) (one other : List ℕ)
         → IsFilled start steps fill one → IsFilled start steps fill other → one ≡ other }
+{}
+
+/// A call that fails counts one failure, up to the greatest count.
+pub fn failures_are_counted()
+    ensures below { (failures : ℕ) → failures < MOST_FAILURES → one_more failures ≡ failures + 1 }
+    ensures greatest { one_more MOST_FAILURES ≡ MOST_FAILURES }
 {}

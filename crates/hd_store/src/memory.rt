@@ -93,7 +93,8 @@ impl MemoryDisk {
 
     /// Plans that no call fails.
     pub fn go_on(&mut self)
-        ensures { device_of self.new ≡ record (device_of self.old) { changes = Well; reads = Well } }
+        ensures { device_of self.new
+            ≡ record (device_of self.old) { changes = Well; reads = Well } }
     {
         self.plan = Plan::well(self.plan.failures);
     }

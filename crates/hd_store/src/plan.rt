@@ -18,7 +18,8 @@ pub(crate) struct Plan {
 impl Plan {
     /// Each call goes well.
     pub(crate) fn well(failures: u64) -> Plan
-        ensures { result ≡ record { failures = failures; changes = Ahead.Well; reads = Ahead.Well } }
+        ensures { result
+            ≡ record { failures = failures; changes = Ahead.Well; reads = Ahead.Well } }
     {
         Plan {
             failures,

@@ -29,7 +29,8 @@ pub(crate) struct Platter {
     ghost room: { len ≤ vec_capacity written },
     ghost low_within: { low ≤ len },
     ghost low_covered: { low ≤ length written.items },
-    ghost untouched: { (place : ℕ) → place < low → slice_index_or written.items place false ≡ false },
+    ghost untouched: { (place : ℕ) → place < low
+        → slice_index_or written.items place false ≡ false },
 }
 
 /// Writes bytes over what is held, and past its end, where there is room for them.
@@ -132,7 +133,8 @@ impl Platter {
         ensures count { length self.new.written.items ≡ length self.old.written.items }
         ensures marks { (place : ℕ) → place < length self.old.written.items
             → slice_index_or self.new.written.items place false
-            ≡ (nat_le at place && nat_lt place end) || slice_index_or self.old.written.items place false }
+            ≡ (nat_le at place && nat_lt place end)
+            || slice_index_or self.old.written.items place false }
         ensures least { self.new.least ≡ self.old.least }
         ensures greatest { self.new.greatest ≡ max self.old.greatest end }
     {
@@ -154,7 +156,8 @@ impl Platter {
         ensures count { length self.new.written.items ≡ length self.old.written.items }
         ensures marks { (place : ℕ) → place < length self.old.written.items
             → slice_index_or self.new.written.items place false
-            ≡ is_in_range at (length bytes.now) place || slice_index_or self.old.written.items place false }
+            ≡ is_in_range at (length bytes.now) place
+            || slice_index_or self.old.written.items place false }
         ensures least { self.new.least ≡ self.old.least }
         ensures greatest { self.new.greatest ≡ max self.old.greatest (at + length bytes.now) }
     {

@@ -1,7 +1,7 @@
 //! What a journal is written by.
 ghost use Rattle.std.specs.Prelude.{◌≡◌, ◌<◌, ◌≤◌, ◌+◌, ◌^◌, length, take, OnOk, IfOk, slice_range};
 ghost use Rattle.hd_store.specs.declared.change.Change.TheVariants.{Write, Cut, Sync, FailedSync};
-ghost use Rattle.hd_store.specs.Ahead.{foretold, foretold_by, foretold_of_length, GoesAsForetold};
+ghost use Rattle.hd_store.specs.Ahead.{foretold_by, foretold_of_length, GoesAsForetold};
 ghost use Rattle.hd_store.specs.Bytes.{written_over, IsPartOfWrite, IsPartOfCut};
 ghost use Rattle.hd_store.specs.Device.{Device, content_of, done, looked_at, refused};
 ghost use Rattle.hd_store.specs.Calls.{OnFailed, OnNoMemory, BreaksOff};
@@ -25,8 +25,8 @@ pub trait Store {
         ensures ok { OnOk result (device self.new ≡ device self.old) }
         ensures failed { OnFailed result (device self.new ≡ refused (device self.old)) }
         ensures no_memory { OnNoMemory result ⊥ }
-        ensures foretold { GoesAsForetold result (foretold (device self.old).failures
-            (foretold_of_length (device self.old).reads)) };
+        ensures foretold { GoesAsForetold result (device self.old).failures
+            (foretold_of_length (device self.old).reads) };
 
     /// Reads so many bytes from a place on, all of them within the length.
     ///
@@ -39,8 +39,8 @@ pub trait Store {
         ensures ok { OnOk result (device self.new ≡ looked_at (device self.old)) }
         ensures failed { OnFailed result (device self.new ≡ looked_at (refused (device self.old))) }
         ensures no_memory { OnNoMemory result ⊥ }
-        ensures foretold { GoesAsForetold result (foretold (device self.old).failures
-            (foretold_by (device self.old).reads)) };
+        ensures foretold { GoesAsForetold result (device self.old).failures
+            (foretold_by (device self.old).reads) };
 
     /// Writes these bytes from a place within the length on, over what is there and past the end.
     ///
@@ -48,14 +48,17 @@ pub trait Store {
     /// A failure of the device. Want of memory, where the store grows: then nothing was begun.
     fn write_at(&mut self, at: u64, bytes: &[u8]) -> Result<(), StoreError>
         requires { at ≤ length (content_of (device self.old)) }
-        ensures ok { OnOk result (device self.new ≡ done (device self.old)
-            (Write at (length bytes.now)) (written_over (content_of (device self.old)) at bytes.now)) }
-        ensures failed { OnFailed result (BreaksOff (device self.old) (Write at (length bytes.now))
-            (IsPartOfWrite (content_of (device self.old)) at (length bytes.now)) (device self.new)) }
+        ensures ok { OnOk result (device self.new
+            ≡ done (device self.old) (Write at (length bytes.now))
+            (written_over (content_of (device self.old)) at bytes.now)) }
+        ensures failed { OnFailed result (BreaksOff (device self.old)
+            (Write at (length bytes.now))
+            (IsPartOfWrite (content_of (device self.old)) at (length bytes.now))
+            (device self.new)) }
         ensures no_memory { OnNoMemory result ((device self.new ≡ device self.old)
             × (length (content_of (device self.old)) < at + length bytes.now)) }
-        ensures foretold { GoesAsForetold result (foretold (device self.old).failures
-            (foretold_by (device self.old).changes)) };
+        ensures foretold { GoesAsForetold result (device self.old).failures
+            (foretold_by (device self.old).changes) };
 
     /// Makes sure of what a read gives.
     ///
@@ -67,8 +70,8 @@ pub trait Store {
         ensures failed { OnFailed result (BreaksOff (device self.old) FailedSync
             (λ now. now ≡ content_of (device self.old)) (device self.new)) }
         ensures no_memory { OnNoMemory result ⊥ }
-        ensures foretold { GoesAsForetold result (foretold (device self.old).failures
-            (foretold_by (device self.old).changes)) };
+        ensures foretold { GoesAsForetold result (device self.old).failures
+            (foretold_by (device self.old).changes) };
 
     /// Cuts what there is to a length within it.
     ///
@@ -81,8 +84,8 @@ pub trait Store {
         ensures failed { OnFailed result (BreaksOff (device self.old) (Cut len)
             (IsPartOfCut (content_of (device self.old)) len) (device self.new)) }
         ensures no_memory { OnNoMemory result ⊥ }
-        ensures foretold { GoesAsForetold result (foretold (device self.old).failures
-            (foretold_by (device self.old).changes)) };
+        ensures foretold { GoesAsForetold result (device self.old).failures
+            (foretold_by (device self.old).changes) };
 
     /// How many calls have failed.
     fn failures(&self) -> u64

@@ -1,6 +1,6 @@
 use Rattle.std.proofs.Common.{◌∙◌, ap, arith, get_or, false, ◌≤◌, max}
 use Rattle.std.specs.Prelude.{◌||◌}
-use Rattle.hd_store.proofs.Writing.{same_places}
+use Rattle.hd_store.proofs.Marking.{same_places}
 use Rattle.hd_store.proofs.platter.mark.Goals as goal
 
 pub returns : goal.returns
