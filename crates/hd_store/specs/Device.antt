@@ -1,0 +1,52 @@
+-- A device as contracts see it, and what calls make of it. (Our own.)
+use Rattle.std.specs.Prelude.{ℕ, ◌+◌, Bool, true, false, not, ◌&&◌, ◌==◌, List, ◌∷◌, min}
+use Rattle.hd_store.specs.declared.ahead.Ahead.{Ahead}
+use Rattle.hd_store.specs.declared.change.Change.{Change}
+use Rattle.hd_store.specs.declared.error.TheConstants.{MOST_FAILURES}
+use Rattle.hd_store.specs.Ahead.{later, is_next, reads_behind}
+use Rattle.hd_store.specs.Past.{Step, step, content_after}
+
+-- what it held for sure at its start, the steps since then, the last one first, how many calls have failed, and what is known of the changes
+-- and the reads to come
+pub record Device : Type 0 where
+  pub start : List ℕ
+  pub steps : List Step
+  pub failures : ℕ
+  pub changes : Ahead
+  pub reads : Ahead
+
+-- what a read gives
+abbrev pub content_of : Device → List ℕ
+content_of device = content_after device.start device.steps
+
+-- one failure more, up to the greatest count
+abbrev pub one_more : ℕ → ℕ
+one_more failures = min (failures + 1) MOST_FAILURES
+
+-- whether the next change is begun and fails: one is due, and the count can still rise
+abbrev pub is_due : Device → Bool
+is_due device = is_next device.changes && not (device.failures == MOST_FAILURES)
+
+-- behind a change that was done
+abbrev pub done : Device → Change → List ℕ → Device
+done device change now = record device {
+  steps = step change now ∷ device.steps;
+  changes = later device.changes;
+}
+
+-- behind a change that was begun and failed
+abbrev pub broken : Device → Change → List ℕ → Device
+broken device change now = record device {
+  steps = step change now ∷ device.steps;
+  failures = one_more device.failures;
+  changes = later device.changes;
+  reads = reads_behind device.changes device.reads;
+}
+
+-- behind a call that failed and began nothing
+abbrev pub refused : Device → Device
+refused device = record device { failures = one_more device.failures }
+
+-- behind a read that was done
+abbrev pub looked_at : Device → Device
+looked_at device = record device { reads = later device.reads }

@@ -1,0 +1,11 @@
+pub mod Ahead
+pub mod Bytes
+pub mod Past
+pub mod Device
+pub mod Stop
+pub mod Calls
+pub mod Platter
+pub mod Holding
+pub mod Image
+pub mod MemoryDisk
+pub mod FileStore

@@ -1,0 +1,57 @@
+//! Which calls are to fail.
+ghost use Rattle.std.specs.Prelude.{◌≡◌};
+ghost use Rattle.hd_store.specs.Ahead.{later, is_next, is_down, reads_behind};
+
+/// What is known of the calls to come, of one kind.
+#[derive(Clone, Copy, Debug, PartialEq, Eq)]
+pub enum Ahead {
+    /// Nothing: it is a real device.
+    Unknown,
+    /// Each goes well.
+    Well,
+    /// So many go well, the next one fails, and behind it each goes well.
+    Fails(u64),
+    /// So many go well, and in the next one the machine stops.
+    Stops(u64),
+    /// The machine has stopped: each fails, and none is begun.
+    Down,
+}
+
+impl Ahead {
+    /// What is known behind the next call.
+    pub(crate) fn later(self) -> Ahead
+        ensures { result ≡ later self }
+    {
+        match self {
+            Ahead::Fails(0) => Ahead::Well,
+            Ahead::Fails(n) => Ahead::Fails(n - 1),
+            Ahead::Stops(0) => Ahead::Down,
+            Ahead::Stops(n) => Ahead::Stops(n - 1),
+            same => same,
+        }
+    }
+
+    /// Whether the next call is one that fails although the device still runs.
+    pub(crate) fn is_next(self) -> bool
+        ensures { result ≡ is_next self }
+    {
+        matches!(self, Ahead::Fails(0) | Ahead::Stops(0))
+    }
+
+    /// Whether the machine has stopped.
+    pub(crate) fn is_down(self) -> bool
+        ensures { result ≡ is_down self }
+    {
+        matches!(self, Ahead::Down)
+    }
+
+    /// What becomes of the reads to come where this is what is known of changes, and one is begun and fails.
+    pub(crate) fn reads_behind(self, reads: Ahead) -> Ahead
+        ensures { result ≡ reads_behind self reads }
+    {
+        match self {
+            Ahead::Stops(_) => Ahead::Down,
+            _ => reads,
+        }
+    }
+}

@@ -1,0 +1,37 @@
+//! What was done to a disk, as proofs see it. It takes no memory, and its calls do nothing when they run.
+ghost use Rattle.std.specs.Prelude.{◌≡◌, ℕ, List, [], ◌∷◌};
+ghost use Rattle.std.specs.Borrow.{ftrue};
+ghost use Rattle.hd_store.specs.Past.{Step, step};
+ghost use Rattle.hd_store.specs.Platter.{content_of};
+
+use crate::change::Change;
+use crate::platter::Platter;
+use std::marker::Model;
+
+/// What a disk held for sure at its start, and the steps since then, the last one first.
+#[derive(Drop)]
+pub(crate) struct History {
+    pub(crate) ghost start: { List ℕ },
+    pub(crate) ghost steps: { List Step },
+}
+
+impl Model for History {
+    ghost also_owns = { λ _. ftrue };
+}
+
+impl History {
+    /// Of a disk that holds this for sure.
+    pub(crate) fn of(_held: &Platter) -> History
+        ensures { (result.start ≡ content_of _held.now) × (result.steps ≡ []) }
+    {
+        History {}
+    }
+
+    /// One step more: this change was begun, and this is held behind it.
+    pub(crate) fn and(_before: &History, _change: &Change, _held: &Platter) -> History
+        ensures { (result.start ≡ _before.now.start)
+            × (result.steps ≡ step _change.now (content_of _held.now) ∷ _before.now.steps) }
+    {
+        History {}
+    }
+}
