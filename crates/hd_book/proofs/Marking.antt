@@ -62,9 +62,10 @@ module _ (t : Task) (h : Estimate) (expanded : List (List ℕ)) (marks : List Bo
       → (get_or marks_after j true ≡ get_or (set marks k true) j true) × (get_or (generated t longer) j [] ≡ get_or (generated t expanded) j [])
   old_place j lt =
       let in_plans : j < length (generated t expanded) = omega (arith, m.one_each, lt) in
-      let in_marks : j < length (set marks k true) = omega (arith, kept_len, lt) in
-      (get_or_append_left (set marks k true) fresh true j in_marks,
-      ap (λ plans. get_or plans j []) (generated-push t expanded p) ∙ get_or_append_left (generated t expanded) (children t p) [] j in_plans)
+      let in_marks : j < length (set marks k true) = omega (arith, kept_len, lt) in (
+        get_or_append_left (set marks k true) fresh true j in_marks,
+        ap (λ plans. get_or plans j []) (generated-push t expanded p) ∙ get_or_append_left (generated t expanded) (children t p) [] j in_plans,
+      )
 
   -- a place behind them: no mark is set there, and a child of the plan stands there
   new_place : (j : ℕ) → length marks ≤ j → j < length marks_after
@@ -75,10 +76,11 @@ module _ (t : Task) (h : Estimate) (expanded : List (List ℕ)) (marks : List Bo
       let at : get_or (generated t longer) j [] ≡ get_or (children t p) i [] =
       ap (λ plans. get_or plans j []) (generated-push t expanded p)
       ∙ get_or-append_right (generated t expanded) (children t p) (length marks) j [] (sym m.one_each) past
-      in
-      (get_or-append_right (set marks k true) fresh (length marks) j true kept_len past ∙ get_or-replicate (length (children t p)) i false true inside,
-      subst (IsFrom (followed_by p) (applicable_at t (exec t p))) (sym at)
-      (IsFrom-from_map (followed_by p) (applicable_at t (exec t p)) (get_or (children t p) i []) (Contains-get_or (children t p) i [] inside)))
+      in (
+        get_or-append_right (set marks k true) fresh (length marks) j true kept_len past ∙ get_or-replicate (length (children t p)) i false true inside,
+        subst (IsFrom (followed_by p) (applicable_at t (exec t p))) (sym at)
+            (IsFrom-from_map (followed_by p) (applicable_at t (exec t p)) (get_or (children t p) i []) (Contains-get_or (children t p) i [] inside)),
+      )
 
   becomes : (j : ℕ) → j < length marks_after
       → Becomes k j (length marks) p (get_or marks j true) (get_or marks_after j true) (get_or (generated t expanded) j []) (get_or (generated t longer) j [])
