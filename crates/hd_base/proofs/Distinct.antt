@@ -1,56 +1,62 @@
 -- Lists in which no element stands twice, and how long they are.
-use Rattle.std.proofs.Common.{◌≡◌, ◌≢◌, ℕ, zero, suc, ◌+◌, ◌<◌, ◌≤◌, Bool, true, false, cond, List, [], ◌∷◌, ◌++◌, map, filter, length, get_or, Contains, ◌⊎◌, inl, inr, refl, sym, ap, ◌∙◌, subst, arith}
+use Rattle.std.proofs.Common.{◌≡◌, ◌≢◌, ℕ, zero, suc, ◌+◌, ◌-◌, ◌<◌, ◌≤◌, List, [], ◌∷◌, ◌++◌, map, length, get_or, Contains, inl, inr, refl, sym, ap, ◌∙◌, subst, arith, length-append}
 use Rattle.std.specs.List.{range_with_len, AllPairs}
-use Rattle.std.proofs.lemmas.List.Elements.{Contains-append_cases, Contains-get_or}
-use Rattle.hd_base.proofs.Members.{Contains-first, Contains-later, Contains-cons_cases, Contains-nil, Contains-map, IsFrom-from_map, Contains-from_filter}
+use Rattle.std.proofs.lemmas.Bool.{cases_lt}
+use Rattle.std.proofs.lemmas.List.{length-map, get_or-map, get_or_append_left, get_or-append_right}
+use Rattle.std.proofs.lemmas.List.Elements.{Contains-get_or}
+use Rattle.std.proofs.lemmas.List.FromFn.{length-range_with_len, get_or-range_with_len}
+use Rattle.hd_base.proofs.Members.{Contains-first, Contains-later, Contains-cons_cases, Contains-nil}
 
--- no element stands again after it
-abbrev pub IsDistinct : {X : Type 0} → List X → Type 0
-IsDistinct [] = Unit {0}
-IsDistinct (x ∷ xs) = (Contains xs x → ⊥) × IsDistinct xs
+-- no two places have the same element
+abbrev pub AreApart : {X : Type 0} → List X → Type 0
+AreApart {X} xs = AllPairs (λ (x y : X). x ≢ y) xs
 
-pub IsDistinct-append : {X : Type 0} (xs ys : List X) → IsDistinct xs → IsDistinct ys → ((x : X) → Contains xs x → Contains ys x → ⊥) → IsDistinct (xs ++ ys)
-IsDistinct-append [] ys dx dy apart = dy
-IsDistinct-append (x ∷ xs) ys dx dy apart =
-    (λ c. either (Contains-append_cases xs ys x c), IsDistinct-append xs ys dx.1 dy (λ z cx cy. apart z (Contains-later x xs z cx) cy)) where
-      either : Contains xs x ⊎ Contains ys x → ⊥
-      either (inl c) = dx.0 c
-      either (inr c) = apart x (Contains-first x xs) c
-
-pub IsDistinct-map : {X Y : Type 0} (f : X → Y) → ((a b : X) → f a ≡ f b → a ≡ b) → (xs : List X) → IsDistinct xs → IsDistinct (map f xs)
-IsDistinct-map f one [] d = tt
-IsDistinct-map f one (x ∷ xs) d =
-    (λ c. let k = IsFrom-from_map f xs (f x) c in d.0 (subst (Contains xs) (one k.source x k.is) k.among), IsDistinct-map f one xs d.1)
-
-pub IsDistinct-from_map : {X Y : Type 0} (f : X → Y) (xs : List X) → IsDistinct (map f xs) → IsDistinct xs
-IsDistinct-from_map f [] d = tt
-IsDistinct-from_map f (x ∷ xs) d = (λ c. d.0 (Contains-map f xs x c), IsDistinct-from_map f xs d.1)
-
-pub IsDistinct-filter : {X : Type 0} (p : X → Bool) (xs : List X) → IsDistinct xs → IsDistinct (filter p xs)
-IsDistinct-filter p [] d = tt
-IsDistinct-filter p (y ∷ xs) d =
-    elim (p y) as (λ b. IsDistinct (cond b (y ∷ filter p xs) (filter p xs))) [
-      | true ↦ (λ c. d.0 (Contains-from_filter p xs y c), IsDistinct-filter p xs d.1)
-      | false ↦ IsDistinct-filter p xs d.1
+-- two lists that have no element in common, one after the other
+pub AreApart-append : {X : Type 0} (xs ys : List X) → AreApart xs → AreApart ys → ((x : X) → Contains xs x → Contains ys x → ⊥) → AreApart (xs ++ ys)
+AreApart-append xs ys apart_x apart_y disjoint i j d lt within same =
+    let n = length xs in
+    let len : length (xs ++ ys) ≡ n + length ys = length-append xs ys in
+    elim (cases_lt j n) [
+      | inl j_left ↦
+          let i_left : i < n = omega (arith, lt, j_left) in
+          apart_x i j d lt j_left (sym (get_or_append_left xs ys d i i_left) ∙ same ∙ get_or_append_left xs ys d j j_left)
+      | inr j_right ↦
+          let inside : j - n < length ys = omega (arith, len, within, j_right) in
+          let at_j : get_or (xs ++ ys) j d ≡ get_or ys (j - n) d = get_or-append_right xs ys n j d refl j_right in
+          elim (cases_lt i n) [
+            | inl i_left ↦
+                let at_i : get_or (xs ++ ys) i d ≡ get_or xs i d = get_or_append_left xs ys d i i_left in
+                let both : get_or ys (j - n) d ≡ get_or xs i d = sym at_j ∙ sym same ∙ at_i in
+                disjoint (get_or xs i d) (Contains-get_or xs i d i_left) (subst (Contains ys) both (Contains-get_or ys (j - n) d inside))
+            | inr i_right ↦
+                let before : i - n < j - n = omega (arith, lt, i_right) in
+                let at_i : get_or (xs ++ ys) i d ≡ get_or ys (i - n) d = get_or-append_right xs ys n i d refl i_right in
+                apart_y (i - n) (j - n) d before inside (sym at_i ∙ same ∙ at_j)
+          ]
     ]
 
-range_from : (a n k : ℕ) → Contains (range_with_len a n) k → a ≤ k
-range_from a zero k c = absurd (Contains-nil k c)
-range_from a (suc n) k c =
-    elim (Contains-cons_cases a (range_with_len (a + 1) n) k c) [ inl e ↦ omega arith | inr c ↦ omega (arith, range_from (a + 1) n k c) ]
+-- what different elements are mapped to, where that differs too
+pub AreApart-map : {X Y : Type 0} (f : X → Y) → ((a b : X) → f a ≡ f b → a ≡ b) → (xs : List X) → AreApart xs → AreApart (map f xs)
+AreApart-map f one [] apart i j d lt within same = absurd (omega (arith, within))
+AreApart-map f one (x ∷ xs) apart i j d lt within same =
+    let j_in : j < length (x ∷ xs) = omega (arith, within, length-map (x ∷ xs) f) in
+    let i_in : i < length (x ∷ xs) = omega (arith, lt, j_in) in
+    apart i j x lt j_in
+    (one (get_or (x ∷ xs) i x) (get_or (x ∷ xs) j x) (sym (get_or-map f (x ∷ xs) i x d i_in) ∙ same ∙ get_or-map f (x ∷ xs) j x d j_in))
 
-pub IsDistinct-range_with_len : (a n : ℕ) → IsDistinct (range_with_len a n)
-IsDistinct-range_with_len a zero = tt
-IsDistinct-range_with_len a (suc n) = (λ c. omega (arith, range_from (a + 1) n a c), IsDistinct-range_with_len (a + 1) n)
+pub AreApart-from_map : {X Y : Type 0} (f : X → Y) (xs : List X) → AreApart (map f xs) → AreApart xs
+AreApart-from_map f xs apart i j d lt within same =
+    let i_in : i < length xs = omega (arith, lt, within) in
+    apart i j (f d) lt (omega (arith, within, length-map xs f))
+    (get_or-map f xs i d (f d) i_in ∙ ap f same ∙ sym (get_or-map f xs j d (f d) within))
 
-apart_at : {X : Type 0} (xs : List X) (i j : ℕ) (d : X) → IsDistinct xs → i < j → j < length xs → get_or xs i d ≢ get_or xs j d
-apart_at [] i j d dis lt h e = omega arith
-apart_at (x ∷ xs) i zero d dis lt h e = omega arith
-apart_at (x ∷ xs) zero (suc j) d dis lt h e = dis.0 (subst (Contains xs) (sym e) (Contains-get_or xs j d (omega arith)))
-apart_at (x ∷ xs) (suc i) (suc j) d dis lt h e = apart_at xs i j d dis.1 (omega arith) (omega arith) e
-
-pub AllPairs-from_distinct : {X : Type 0} (xs : List X) → IsDistinct xs → AllPairs (λ x y. x ≢ y) xs
-AllPairs-from_distinct xs dis i j d lt h = apart_at xs i j d dis lt h
+-- numbers in a row
+pub AreApart-range_with_len : (a n : ℕ) → AreApart (range_with_len a n)
+AreApart-range_with_len a n i j d lt within same =
+    let j_in : j < n = omega (arith, within, length-range_with_len a n) in
+    let i_in : i < n = omega (arith, lt, j_in) in
+    let numbers : a + i ≡ a + j = sym (get_or-range_with_len a n i d i_in) ∙ same ∙ get_or-range_with_len a n j d j_in in
+    omega (arith, lt, numbers)
 
 -- ---- how long they are
 

@@ -433,7 +433,7 @@ module _ (t : Task) (entries0 : List Kid) (marks0 : List Bool) (kept0 : IsKept (
         record {
           end = d.at;
           executes = sym leads ∙ d.is_at;
-          why = inr (Reaches grown.value 0 (ap (bound_of t) f.tail ∙ grown.is) refl (omega (arith, grown.least, d.reached)));
+          why = inr (Reaches grown.0 0 (ap (bound_of t) f.tail ∙ grown.1) refl (omega (arith, grown.2, d.reached)));
         }
 
     -- ---- the kid is expanded

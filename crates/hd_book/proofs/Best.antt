@@ -1,10 +1,10 @@
 -- The bound with its first entry, and the first departure, after further entries.
-use Rattle.std.proofs.Common.{◌≡◌, ◌≢◌, ℕ, ◌+◌, ◌<◌, ◌≤◌, nat_lt, true, false, cond, Option, Some, None, List, [], ◌∷◌, ◌++◌, map, length, get_or, slice_get, min, refl, sym, ap, ap₂, ◌∙◌, subst, arith, length-append, append_assoc, append-nil}
+use Rattle.std.proofs.Common.{◌≡◌, ◌≢◌, ℕ, ◌+◌, ◌<◌, ◌≤◌, nat_lt, true, false, cond, Option, Some, None, List, [], ◌∷◌, ◌++◌, map, length, get_or, slice_get, min, refl, sym, ap, ap₂, ◌∙◌, subst, subst₂, arith, length-append, append_assoc, append-nil}
 use Rattle.std.specs.Prelude.{option_map}
 use Rattle.std.specs.Option.{option_or}
 use Rattle.std.specs.List.{AllByRecursion}
 use Rattle.std.proofs.lemmas.Bool.{ltb-true, ltb-false}
-use Rattle.std.proofs.lemmas.Option.{none-some, same_Some, slice_get-map}
+use Rattle.std.proofs.lemmas.Option.{slice_get-map}
 use Rattle.std.proofs.lemmas.List.{get_or_append_left, get_or_at}
 use Rattle.std.proofs.lemmas.List.Elements.{Contains-get_or}
 use Rattle.hd_base.proofs.Lists.{cons_parts, slice_get-append_zero}
@@ -13,7 +13,7 @@ use Rattle.hd_task.specs.declared.departure.DepartsBy.{DepartsBy}
 use Rattle.hd_task.specs.declared.departure.Departure.{Departure}
 use Rattle.hd_task.specs.Plans.{Node, exec, node}
 use Rattle.hd_task.specs.Expansions.{lesser, goal_cost, bound_of, departing_at, departure_at, departures_from, departures_of}
-use Rattle.hd_task.proofs.Bounds.{bound_up_to}
+use Rattle.hd_task.proofs.Bounds.{AtMost, bound_at_most}
 use Rattle.hd_task.proofs.Growing.{departures_stay}
 use Rattle.hd_node.specs.declared.batch.Outcome.{Outcome}
 use Rattle.hd_node.specs.declared.batch.Outcome.TheVariants.{Expanded, Duplicate, Bounded}
@@ -53,9 +53,7 @@ module _ (t : Task) (expanded : List (List ℕ)) (p : List ℕ) where
   -- no entry is cheaper than the bound
   cheapest : (n c b : ℕ) → n < length expanded → bound_of t expanded ≡ Some b → goal_cost t (exec t (get_or expanded n [])) ≡ Some c → b ≤ c
   cheapest n c b lt is e =
-      let up = bound_up_to t expanded (get_or expanded n []) c (Contains-get_or expanded n [] lt) e in
-      let same : b ≡ up.value = same_Some b up.value (sym is ∙ up.is) in
-      omega (arith, up.least)
+      subst₂ AtMost is e (bound_at_most t expanded (get_or expanded n []) (Contains-get_or expanded n [] lt))
 
   -- an entry of the list stays the best
   stays : (b : Best) (c : Option ℕ) → goal_cost t (exec t p) ≡ c → lesser (Some b.cost) c ≡ Some b.cost → IsAt t expanded b → IsAt t longer b
@@ -80,7 +78,7 @@ module _ (t : Task) (expanded : List (List ℕ)) (p : List ℕ) where
   best_step (Some b) None is at = stays b None is refl at
   best_step None (Some c) is at =
       comes c is (ap (λ o. lesser o (Some c)) at)
-      (λ n lt e. let up = bound_up_to t expanded (get_or expanded n []) c (Contains-get_or expanded n [] lt) e in none-some up.value (sym at ∙ up.is))
+      (λ n lt e. subst₂ AtMost at e (bound_at_most t expanded (get_or expanded n []) (Contains-get_or expanded n [] lt)))
   best_step (Some b) (Some c) is at =
       elim (nat_lt c b.cost) as (λ x. nat_lt c b.cost ≡ x → IsBestOf t longer (cond x (Some (best_at (length expanded) c)) (Some b))) [
         | true ↦ λ x.

@@ -1,12 +1,14 @@
 -- As many kids are settled as marks are set.
-use Rattle.std.proofs.Common.{◌≡◌, ℕ, ◌<◌, ◌&&◌, ◌||◌, Bool, true, false, cond, Option, Some, List, [], ◌∷◌, filter, length, Contains, refl, sym, ap, ap₂, ◌∙◌, subst, arith, true≢false}
+use Rattle.std.proofs.Common.{◌≡◌, ◌≢◌, ℕ, suc, ◌<◌, ◌&&◌, ◌||◌, Bool, true, false, cond, Option, Some, List, [], ◌∷◌, filter, length, Contains, refl, sym, ap, ap₂, ◌∙◌, subst, arith, true≢false}
 use Rattle.std.specs.List.{IsDistinct}
 use Rattle.std.specs.Cmp.{IsEquivalence}
 use Rattle.std.proofs.lemmas.List.Sums.{length-filter}
 use Rattle.std.proofs.lemmas.Option.{same_Some}
+use Rattle.std.proofs.lemmas.List.{get_or_default}
+use Rattle.std.proofs.lemmas.List.Kept.{AllPairs-filter}
 use Rattle.std.proofs.lemmas.Map.Made.{length-le_from_is_member}
 use Rattle.std.proofs.lemmas.Bool.{and_right}
-use Rattle.hd_base.proofs.Distinct as distinct
+use Rattle.hd_base.proofs.Distinct.{AreApart, AreApart-map, AreApart-from_map}
 use Rattle.hd_base.proofs.Members.{AllByRecursion-from_contains}
 use Rattle.hd_base.proofs.Tests.{count_by-map}
 use Rattle.hd_task.specs.declared.task.Task.{Task}
@@ -14,7 +16,7 @@ use Rattle.hd_task.specs.declared.plan.Kid.{Kid}
 use Rattle.hd_task.specs.declared.plan.TheConstants.{ROOT_PARENT}
 use Rattle.hd_task.specs.Expansions.{generated}
 use Rattle.hd_task.specs.Entries.{plan_of}
-use Rattle.hd_task.proofs.Growing.{generated_distinct}
+use Rattle.hd_task.proofs.Growing.{generated_once}
 use Rattle.hd_book.specs.declared.content.Content.{Content}
 use Rattle.hd_book.specs.Kids.{posted_by}
 use Rattle.hd_book.specs.Settling.{expansions, same_kid, is_posted}
@@ -49,23 +51,23 @@ same_kid-laws = record {
 
 -- ---- lists without repetition
 
-as_keys : (kids : List Kid) → distinct.IsDistinct kids → IsDistinct same_kid kids
+as_keys : (kids : List Kid) → AreApart kids → IsDistinct same_kid kids
 unfolding IsDistinct
-as_keys [] d = tt
-as_keys (k ∷ kids) d = (
+as_keys [] apart = tt
+as_keys (k ∷ kids) apart = (
   AllByRecursion-from_contains (λ q. same_kid k q ≡ false) kids
-      (λ q c.
+      (λ q among.
       elim (same_kid k q) as (λ b. same_kid k q ≡ b → b ≡ false) [
-        | true ↦ λ e. absurd (d.0 (subst (Contains kids) (sym (same_kid-true k q e)) c))
+        | true ↦ λ e. absurd (apart 0 (suc among.0) k (omega arith) (omega (arith, among.1)) (same_kid-true k q e ∙ (sym among.2 ∙ get_or_default kids among.0 q k among.1)))
         | false ↦ λ e. refl
       ] refl),
-  as_keys kids d.1,
+  as_keys kids (λ i j d lt within. apart (suc i) (suc j) d (omega (arith, lt)) (omega (arith, within))),
 )
 
-posted_distinct : (t : Task) (E : List (List ℕ)) → length E < ROOT_PARENT → distinct.IsDistinct (generated t E) → distinct.IsDistinct (posted_by t E)
-posted_distinct t E short d =
-    distinct.IsDistinct-from_map (plan_of E) (posted_by t E)
-    (subst (λ (xs : List (Option (List ℕ))). distinct.IsDistinct xs) (sym (posted_named t E short)) (distinct.IsDistinct-map Some (λ a b e. same_Some a b e) (generated t E) d))
+posted_apart : (t : Task) (E : List (List ℕ)) → length E < ROOT_PARENT → AreApart (generated t E) → AreApart (posted_by t E)
+posted_apart t E short apart =
+    AreApart-from_map (plan_of E) (posted_by t E)
+    (subst (λ (xs : List (Option (List ℕ))). AreApart xs) (sym (posted_named t E short)) (AreApart-map Some (λ a b e. same_Some a b e) (generated t E) apart))
 
 -- ---- the kids of a list that pass a test
 
@@ -101,8 +103,8 @@ settled_len c h unique =
       | false ↦ λ e. sym (has-filter f P q ∙ (ap (λ b. has P q && b) e ∙ and_right (has P q) false refl))
     ] refl
     in
-    let only_once : distinct.IsDistinct (filter f P) =
-    distinct.IsDistinct-filter f P (posted_distinct t E (short c h) (generated_distinct t E h.kept.marked.legal))
+    let only_once : AreApart (filter f P) =
+    AllPairs-filter (λ (k q : Kid). k ≢ q) f P (posted_apart t E (short c h) (generated_once t E h.kept.marked.legal))
     in
     let le = length-le_from_is_member same_kid-laws c.settled.keys (filter f P) unique (λ q e. sym (same q) ∙ e) in
     let ge = length-le_from_is_member same_kid-laws (filter f P) c.settled.keys (as_keys (filter f P) only_once) (λ q e. same q ∙ e) in

@@ -109,16 +109,14 @@ nested-forms text around forms at all none nothing =
     ∙ ap (λ (depth : ℕ). fault_from (length text) depth []) none in
     is_forms text all.tokens (forms_view forms) (says-tokens says) written balanced
 
-open_at_end : (end depth : ℕ) → 0 < depth → fault_from end depth [] ≡ Some (errors.Unbalanced end)
-open_at_end end zero some = absurd (omega arith)
-open_at_end end (suc depth) some = refl
-
 -- a form that is open at the end is the fault
 pub nested-open : (text : List ℕ) (around : Vec OpenForm Global) (forms : List Form) (at : ℕ)
     → IsNested text around forms at [] → 0 < vec_len around → ExplainsForms text (errors.Unbalanced (length text))
 nested-open text around forms at all some =
     let says = all_read 0 text all.tokens at [] all.read refl in
+    let outer = vec_len around - 1 in
+    let is_open : vec_len around ≡ suc outer = omega (arith, some) in
     parentheses_explained text all.tokens (errors.Unbalanced (length text)) (says-tokens says) (
     ap (parenthesis_fault (length text)) (sym (append-nil (marks_from all.tokens))) ∙ sym (all.fault (length text) [])
-    ∙ open_at_end (length text) (vec_len around) some
+    ∙ ap (λ (depth : ℕ). fault_from (length text) depth []) is_open
     )

@@ -1,55 +1,40 @@
--- Marks are those of one list of forms alone.
-use Rattle.std.proofs.Common.{◌≡◌, ℕ, List, [], ◌∷◌, ◌++◌, refl, sym, subst, ap, ◌∙◌, append_assoc}
+-- Marks are those of one list of forms alone: put together again they give the forms back.
+use Rattle.std.proofs.Common.{◌≡◌, ℕ, List, [], ◌∷◌, ◌++◌, Option, Some, None, sym, ap, ◌∙◌, append_assoc}
 use Rattle.std.proofs.lemmas.List.{append-nil}
-use Rattle.hd_forms.specs.Forms.{Mark, opening, closing, symbol, Forms, none, word, list, marks_of}
+use Rattle.std.proofs.lemmas.Option.{same_Some}
+use Rattle.hd_forms.specs.Forms.{Mark, opening, closing, symbol, Forms, none, word, list, append, marks_of}
+use Rattle.hd_forms.proofs.Written.{append-assoc, append-none}
 
--- nothing, or what closes
-abbrev Ends : List Mark → Type 0
-Ends [] = Unit {0}
-Ends (opening at ∷ ms) = ⊥
-Ends (closing at ∷ ms) = Unit {0}
-Ends (symbol at w ∷ ms) = ⊥
+-- a form that is begun: the place of its parenthesis, and the forms before it
+record Begun : Type 0 where
+  from : ℕ
+  before : Forms
 
-abbrev Same : Forms → Forms → List Mark → List Mark → Type 0
-Same f g x y = (f ≡ g) × (x ≡ y)
+-- the forms that marks put together, where these are begun, the innermost first, and these stand in the innermost; none where the
+-- parentheses do not fit
+abbrev together : List Mark → List Begun → Forms → Option Forms
+together [] [] done = Some done
+together [] (begun ∷ around) done = None
+together (symbol at w ∷ marks) around done = together marks around (append done (word at w none))
+together (opening at ∷ marks) around done = together marks (record { from = at; before = done } ∷ around) none
+together (closing at ∷ marks) [] done = None
+together (closing at ∷ marks) (begun ∷ around) done = together marks around (append begun.before (list begun.from done at none))
 
-nested : (a : ℕ) (inside : Forms) (b : ℕ) (rest : Forms) (x : List Mark)
-    → marks_of (list a inside b rest) ++ x ≡ opening a ∷ (marks_of inside ++ (closing b ∷ (marks_of rest ++ x)))
-nested a inside b rest x =
-    ap (λ (ms : List Mark). opening a ∷ ms) (append_assoc (marks_of inside) (closing b ∷ marks_of rest) x)
+-- the marks of forms put these forms behind what is there
+put_behind : (f : Forms) (marks : List Mark) (around : List Begun) (done : Forms)
+    → together (marks_of f ++ marks) around done ≡ together marks around (append done f)
+put_behind none marks around done = ap (together marks around) (sym (append-none done))
+put_behind (word at w rest) marks around done =
+    put_behind rest marks around (append done (word at w none)) ∙ ap (together marks around) (append-assoc done (word at w none) rest)
+put_behind (list from inside to rest) marks around done =
+    let begun : Begun = record { from = from; before = done } in
+    ap (λ (ms : List Mark). together ms (begun ∷ around) none) (append_assoc (marks_of inside) (closing to ∷ marks_of rest) marks)
+    ∙ put_behind inside (closing to ∷ (marks_of rest ++ marks)) (begun ∷ around) none
+    ∙ put_behind rest marks around (append done (list from inside to none))
+    ∙ ap (together marks around) (append-assoc done (list from inside to none) rest)
 
--- forms up to where a form closes are told by their marks
-one_form : (f g : Forms) (x y : List Mark) → Ends x → Ends y → marks_of f ++ x ≡ marks_of g ++ y → Same f g x y
-one_form none none x y hx hy e = (refl, e)
-one_form none (word at w rest) x y hx hy e = absurd (subst Ends e hx)
-one_form none (list a inside b rest) x y hx hy e = absurd (subst Ends e hx)
-one_form (word at w rest) none x y hx hy e = absurd (subst Ends (sym e) hy)
-one_form (word at w rest) (word at' w' rest') x y hx hy e =
-    let tails : marks_of rest ++ x ≡ marks_of rest' ++ y = cc in
-    let same = one_form rest rest' x y hx hy tails in
-    let places : at ≡ at' = cc in
-    let words : w ≡ w' = cc in
-    let forms = same.0 in
-    (cc, same.1)
-one_form (word at w rest) (list a inside b rest') x y hx hy e = absurd cc
-one_form (list a inside b rest) none x y hx hy e = absurd (subst Ends (sym e) hy)
-one_form (list a inside b rest) (word at w rest') x y hx hy e = absurd cc
-one_form (list a inside b rest) (list a' inside' b' rest') x y hx hy e =
-    let behind = closing b ∷ (marks_of rest ++ x) in
-    let behind' = closing b' ∷ (marks_of rest' ++ y) in
-    let whole : opening a ∷ (marks_of inside ++ behind) ≡ opening a' ∷ (marks_of inside' ++ behind') =
-    sym (nested a inside b rest x) ∙ e ∙ nested a' inside' b' rest' y in
-    let within : marks_of inside ++ behind ≡ marks_of inside' ++ behind' = cc in
-    let inner = one_form inside inside' behind behind' tt tt within in
-    let closes : closing b ∷ (marks_of rest ++ x) ≡ closing b' ∷ (marks_of rest' ++ y) = inner.1 in
-    let tails : marks_of rest ++ x ≡ marks_of rest' ++ y = cc in
-    let same = one_form rest rest' x y hx hy tails in
-    let from : a ≡ a' = cc in
-    let to : b ≡ b' = cc in
-    let insides : inside ≡ inside' = inner.0 in
-    let rests : rest ≡ rest' = same.0 in
-    (cc, same.1)
+given_back : (f : Forms) → together (marks_of f) [] none ≡ Some f
+given_back f = ap (λ (ms : List Mark). together ms [] none) (sym (append-nil (marks_of f))) ∙ put_behind f [] [] none
 
 pub same_forms : (f g : Forms) → marks_of f ≡ marks_of g → f ≡ g
-same_forms f g e =
-    (one_form f g [] [] tt tt (append-nil (marks_of f) ∙ e ∙ sym (append-nil (marks_of g)))).0
+same_forms f g same = same_Some f g (sym (given_back f) ∙ ap (λ (ms : List Mark). together ms [] none) same ∙ given_back g)

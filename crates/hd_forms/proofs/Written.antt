@@ -22,12 +22,12 @@ view-list : (from : ℕ) (inside : Vec Form Global) (to : ℕ)
     → form_view (forms.List to from inside) ≡ list from (forms_view inside.items) to none
 view-list from inside to = search (rules, the_lemmas)
 
-append-assoc : (a b c : Forms) → append (append a b) c ≡ append a (append b c)
+pub append-assoc : (a b c : Forms) → append (append a b) c ≡ append a (append b c)
 append-assoc none b c = refl
 append-assoc (word at w rest) b c = ap (word at w) (append-assoc rest b c)
 append-assoc (list from inside to rest) b c = ap (list from inside to) (append-assoc rest b c)
 
-append-none : (a : Forms) → append a none ≡ a
+pub append-none : (a : Forms) → append a none ≡ a
 append-none none = refl
 append-none (word at w rest) = ap (word at w) (append-none rest)
 append-none (list from inside to rest) = ap (list from inside to) (append-none rest)
@@ -57,17 +57,27 @@ marks_written-word os fs at w =
     (marks-push fs (forms.Word at w) ∙ ap (λ (f : Forms). marks_of (forms_view fs) ++ marks_of f) (view-word at w))
     ∙ sym (append_assoc (flat_map open_marks os) (marks_of (forms_view fs)) (symbol at w ∷ []))
 
+-- what an open form adds: what stands before it, its parenthesis, and what stands in it
+written_inside : (os : List OpenForm) (o : OpenForm) (fs : List Form)
+    → marks_written (os ++ o ∷ []) fs ≡ marks_written os o.before.items ++ (opening o.from ∷ marks_of (forms_view fs))
+written_inside os o fs =
+    let around = flat_map open_marks os in
+    let before = marks_of (forms_view o.before.items) in
+    let inside = marks_of (forms_view fs) in
+    ap (λ (ms : List Mark). ms ++ inside) (flat_map-append open_marks os (o ∷ []) ∙ ap (λ (ms : List Mark). around ++ ms) (append-nil (open_marks o)))
+    ∙ append_assoc around (open_marks o) inside
+    ∙ ap (λ (ms : List Mark). around ++ ms) (append_assoc before (opening o.from ∷ []) inside)
+    ∙ sym (append_assoc around before (opening o.from ∷ inside))
+
 -- a form closed behind what was read
 pub marks_written-finish : (os : List OpenForm) (o : OpenForm) (inside : Vec Form Global) (to : ℕ)
     → marks_written os (o.before.items ++ forms.List to o.from inside ∷ []) ≡ marks_written (os ++ o ∷ []) inside.items ++ closing to ∷ []
 marks_written-finish os o inside to =
-    let outer = flat_map open_marks os in
-    let front = marks_of (forms_view o.before.items) in
-    let within = marks_of (forms_view inside.items) in
-    let last = forms.List to o.from inside in
-    let made : marks_of (forms_view (o.before.items ++ last ∷ [])) ≡ front ++ (opening o.from ∷ (within ++ closing to ∷ [])) =
-    marks-push o.before.items (forms.List to o.from inside)
-    ∙ ap (λ (f : Forms). front ++ marks_of f) (view-list o.from inside to) in
-    let opened : flat_map open_marks (os ++ o ∷ []) ≡ outer ++ (front ++ opening o.from ∷ []) =
-    flat_map-append open_marks os (o ∷ []) ∙ ap (λ (ms : List Mark). outer ++ ms) (append-nil (open_marks o)) in
-    rw (made, opened) (simp append_assoc)
+    let around = flat_map open_marks os in
+    let before = marks_of (forms_view o.before.items) in
+    let opened = opening o.from ∷ marks_of (forms_view inside.items) in
+    ap (λ (ms : List Mark). around ++ ms)
+    (marks-push o.before.items (forms.List to o.from inside) ∙ ap (λ (f : Forms). before ++ marks_of f) (view-list o.from inside to))
+    ∙ sym (append_assoc around before (opened ++ closing to ∷ []))
+    ∙ sym (append_assoc (around ++ before) opened (closing to ∷ []))
+    ∙ ap (λ (ms : List Mark). ms ++ closing to ∷ []) (sym (written_inside os o inside.items))

@@ -1,56 +1,80 @@
--- The bound is the cost of some goal plan of the list, and no goal plan of the list costs less.
-use Rattle.std.proofs.Common.{◌≡◌, ℕ, ◌≤◌, List, [], ◌∷◌, Option, Some, None, Contains, inl, inr, refl, ap, ◌∙◌, subst, arith, min}
-use Rattle.std.proofs.lemmas.Option.{none-some, same_Some}
+-- The bound is no greater than the cost of any goal plan of the list, and it is the cost of one of them.
+use Rattle.std.proofs.Common.{◌≡◌, ℕ, ◌≤◌, List, [], ◌∷◌, Option, Some, None, Contains, ◌⊎◌, inl, inr, refl, sym, ap, ◌∙◌, subst, arith, min}
+use Rattle.std.proofs.lemmas.Bool.{cases_lt}
+use Rattle.std.proofs.lemmas.Option.{none-some}
 use Rattle.hd_base.proofs.Members.{Contains-first, Contains-later, Contains-cons_cases, Contains-nil}
-use Rattle.hd_base.proofs.Numbers.{min_both}
 use Rattle.hd_task.specs.declared.task.Task.{Task}
 use Rattle.hd_task.specs.Plans.{exec}
 use Rattle.hd_task.specs.Expansions.{lesser, goal_cost, bound_of}
 
--- a cost that is no more than this one
-pub record IsSomeUpTo (o : Option ℕ) (c : ℕ) : Type 0 where
-  pub value : ℕ
-  pub is : o ≡ Some value
-  pub least : value ≤ c
+-- ---- costs in order, where none is greater than any
 
-lesser_left : (a b : Option ℕ) (c : ℕ) → a ≡ Some c → IsSomeUpTo (lesser a b) c
-lesser_left None b c e = absurd (none-some c e)
-lesser_left (Some a) None c e = record { value = a; is = refl; least = let is : a ≡ c = same_Some a c e in omega arith }
-lesser_left (Some a) (Some b) c e = record { value = min a b; is = refl; least = let is : a ≡ c = same_Some a c e in omega arith }
+abbrev pub AtMost : Option ℕ → Option ℕ → Type 0
+AtMost None None = Unit {0}
+AtMost None (Some c) = ⊥
+AtMost (Some b) None = Unit {0}
+AtMost (Some b) (Some c) = b ≤ c
 
-lesser_right : (a b : Option ℕ) (c : ℕ) → IsSomeUpTo b c → IsSomeUpTo (lesser a b) c
-lesser_right None b c k = k
-lesser_right (Some a) None c k = absurd (none-some k.value k.is)
-lesser_right (Some a) (Some b) c k = record { value = min a b; is = refl; least = let is : b ≡ k.value = same_Some b k.value k.is in omega (arith, k.least) }
+at_most_itself : (a : Option ℕ) → AtMost a a
+at_most_itself None = tt
+at_most_itself (Some a) = omega arith
 
--- a goal plan of the list bounds the bound
-pub bound_up_to : (t : Task) (expanded : List (List ℕ)) (p : List ℕ) (c : ℕ) → Contains expanded p → goal_cost t (exec t p) ≡ Some c → IsSomeUpTo (bound_of t expanded) c
-bound_up_to t [] p c among e = absurd (Contains-nil p among)
-bound_up_to t (q ∷ expanded) p c among e =
-    elim (Contains-cons_cases q expanded p among) [
-      | inl same ↦ lesser_left (goal_cost t (exec t q)) (bound_of t expanded) c (ap (λ p. goal_cost t (exec t p)) same ∙ e)
-      | inr rest ↦ lesser_right (goal_cost t (exec t q)) (bound_of t expanded) c (bound_up_to t expanded p c rest e)
+at_most_both : (a b c : Option ℕ) → AtMost a b → AtMost b c → AtMost a c
+at_most_both None None c ab bc = bc
+at_most_both None (Some b) c ab bc = absurd ab
+at_most_both (Some a) b None ab bc = tt
+at_most_both (Some a) None (Some c) ab bc = absurd bc
+at_most_both (Some a) (Some b) (Some c) ab bc = omega (arith, ab, bc)
+
+-- what is no greater than a cost is one
+pub cost_from_at_most : (o : Option ℕ) (c : ℕ) → AtMost o (Some c) → (b : ℕ) × (o ≡ Some b) × (b ≤ c)
+cost_from_at_most None c least = absurd least
+cost_from_at_most (Some b) c least = (b, refl, least)
+
+-- the lesser of two is no greater than the first
+below_first : (a b : Option ℕ) → AtMost (lesser a b) a
+below_first None None = tt
+below_first None (Some b) = tt
+below_first (Some a) None = omega arith
+below_first (Some a) (Some b) = omega arith
+
+-- nor than the second
+below_second : (a b : Option ℕ) → AtMost (lesser a b) b
+below_second None b = at_most_itself b
+below_second (Some a) None = tt
+below_second (Some a) (Some b) = omega arith
+
+-- and it is one of them
+one_of_both : (a b : Option ℕ) → (lesser a b ≡ a) ⊎ (lesser a b ≡ b)
+one_of_both None b = inr refl
+one_of_both (Some a) None = inl refl
+one_of_both (Some a) (Some b) =
+    elim (cases_lt b a) [
+      | inl lt ↦ let second : min a b ≡ b = omega arith in inr (ap Some second)
+      | inr le ↦ let first : min a b ≡ a = omega arith in inl (ap Some first)
     ]
 
--- the plan that the bound comes from
-pub record IsAtBound (t : Task) (expanded : List (List ℕ)) (c : ℕ) : Type 0 where
-  pub plan : List ℕ
-  pub among : Contains expanded plan
-  pub is : goal_cost t (exec t plan) ≡ Some c
+-- ---- the bound
 
-from_later : (t : Task) (q : List ℕ) (expanded : List (List ℕ)) (c : ℕ) → IsAtBound t expanded c → IsAtBound t (q ∷ expanded) c
-from_later t q expanded c k = record { plan = k.plan; among = Contains-later q expanded k.plan k.among; is = k.is }
+-- it is no greater than what a plan of the list costs where the goal holds
+pub bound_at_most : (t : Task) (expanded : List (List ℕ)) (p : List ℕ) → Contains expanded p → AtMost (bound_of t expanded) (goal_cost t (exec t p))
+bound_at_most t [] p among = absurd (Contains-nil p among)
+bound_at_most t (q ∷ expanded) p among =
+    let first = goal_cost t (exec t q) in
+    let rest = bound_of t expanded in
+    elim (Contains-cons_cases q expanded p among) [
+      | inl same ↦ subst (λ (p : List ℕ). AtMost (lesser first rest) (goal_cost t (exec t p))) same (below_first first rest)
+      | inr later ↦ at_most_both (lesser first rest) rest (goal_cost t (exec t p)) (below_second first rest) (bound_at_most t expanded p later)
+    ]
 
-lesser_from :
-    (t : Task) (q : List ℕ) (expanded : List (List ℕ)) (c : ℕ) (a b : Option ℕ) → goal_cost t (exec t q) ≡ a → bound_of t expanded ≡ b
-    → ((c : ℕ) → bound_of t expanded ≡ Some c → IsAtBound t expanded c)
-    → lesser a b ≡ Some c → IsAtBound t (q ∷ expanded) c
-lesser_from t q expanded c None b ea eb rest e = from_later t q expanded c (rest c (eb ∙ e))
-lesser_from t q expanded c (Some a) None ea eb rest e = record { plan = q; among = Contains-first q expanded; is = ea ∙ e }
-lesser_from t q expanded c (Some a) (Some b) ea eb rest e =
-    subst (IsAtBound t (q ∷ expanded)) (same_Some (min a b) c e)
-    (min_both (IsAtBound t (q ∷ expanded)) a b (record { plan = q; among = Contains-first q expanded; is = ea }) (from_later t q expanded b (rest b eb)))
+-- a plan of the list costs just that
+abbrev pub IsReached : Task → List (List ℕ) → ℕ → Type 0
+IsReached t expanded c = (p : List ℕ) × Contains expanded p × (goal_cost t (exec t p) ≡ Some c)
 
-pub bound_from : (t : Task) (expanded : List (List ℕ)) (c : ℕ) → bound_of t expanded ≡ Some c → IsAtBound t expanded c
-bound_from t [] c e = absurd (none-some c e)
-bound_from t (q ∷ expanded) c e = lesser_from t q expanded c (goal_cost t (exec t q)) (bound_of t expanded) refl refl (bound_from t expanded) e
+pub bound_reached : (t : Task) (expanded : List (List ℕ)) (c : ℕ) → bound_of t expanded ≡ Some c → IsReached t expanded c
+bound_reached t [] c is = absurd (none-some c is)
+bound_reached t (q ∷ expanded) c is =
+    elim (one_of_both (goal_cost t (exec t q)) (bound_of t expanded)) [
+      | inl first ↦ (q, Contains-first q expanded, sym first ∙ is)
+      | inr rest ↦ let later = bound_reached t expanded c (sym rest ∙ is) in (later.0, Contains-later q expanded later.0 later.1, later.2)
+    ]

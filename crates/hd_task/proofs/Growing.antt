@@ -6,17 +6,16 @@ use Rattle.std.proofs.lemmas.Bool.{cases_lt}
 use Rattle.std.proofs.lemmas.List.{take-append-le, get_or_append_left, get_or_at, take_all, length-take, take_at, same_from_push}
 use Rattle.std.proofs.lemmas.List.Concat.{flat_map-append}
 use Rattle.std.proofs.lemmas.List.Elements.{Contains-append_left, Contains-append_cases}
+use Rattle.std.proofs.lemmas.List.Kept.{AllPairs-filter}
 use Rattle.std.proofs.Math.Seq.{take-suc}
 use Rattle.hd_base.proofs.Members.{Contains-first, Contains-later, Contains-cons_cases, Contains-nil, IsFrom-from_map}
-use Rattle.hd_base.proofs.Distinct.{IsDistinct, IsDistinct-append, IsDistinct-map, IsDistinct-filter, IsDistinct-range_with_len, AllPairs-from_distinct}
+use Rattle.hd_base.proofs.Distinct.{AreApart, AreApart-append, AreApart-map, AreApart-range_with_len}
 use Rattle.hd_base.proofs.Lists.{push_not_nil}
 use Rattle.hd_task.specs.declared.task.Task.{Task}
 use Rattle.hd_task.specs.Plans.{exec}
 use Rattle.hd_task.specs.Expansions.{is_applicable, applicable_at, followed_by, children, generated, IsNext, IsLegal, bound_of, departing_at, departure_at, departures_from, departures_of}
 use Rattle.hd_task.specs.Covers.{Estimate, IsBounded, Dead, Reaches, IsJustified}
-use Rattle.hd_task.proofs.Bounds.{IsSomeUpTo, bound_up_to, bound_from}
-
--- ---- a plan and one more action
+use Rattle.hd_task.proofs.Bounds.{AtMost, cost_from_at_most, bound_at_most, bound_reached}
 
 -- ---- what is generated
 
@@ -70,49 +69,52 @@ legal_push t expanded p legal next n d h =
 
 -- ---- no plan is generated twice
 
-IsDistinct-children : (t : Task) (p : List ℕ) → IsDistinct (children t p)
+-- an expansion generates no plan twice
+children_apart : (t : Task) (p : List ℕ) → AreApart (children t p)
 unfolding applicable_at
-IsDistinct-children t p =
-    IsDistinct-map (followed_by p) (λ a b e. (same_from_push p p a b e).1) (applicable_at t (exec t p))
-    (IsDistinct-filter (is_applicable t (exec t p)) (range_with_len 0 (length t.actions)) (IsDistinct-range_with_len 0 (length t.actions)))
+children_apart t p =
+    let numbers = range_with_len 0 (length t.actions) in
+    AreApart-map (followed_by p) (λ a b same. (same_from_push p p a b same).1) (applicable_at t (exec t p))
+    (AllPairs-filter (λ (a b : ℕ). a ≢ b) (is_applicable t (exec t p)) numbers (AreApart-range_with_len 0 (length t.actions)))
 
-IsDistinct-push : (t : Task) (expanded : List (List ℕ)) (p : List ℕ) → IsNext t expanded p → IsDistinct (generated t expanded) → IsDistinct (generated t (expanded ++ p ∷ []))
-IsDistinct-push t expanded p next dis =
-    subst IsDistinct (sym (generated-push t expanded p))
-    (IsDistinct-append (generated t expanded) (children t p) dis (IsDistinct-children t p)
-    (λ x g c.
-    let k = IsFrom-from_map (followed_by p) (applicable_at t (exec t p)) x c in
-    next.is_new (generated_parent t expanded p k.source (subst (Contains (generated t expanded)) (sym k.is) g))))
+-- nor does it generate one that was generated before it
+apart_push : (t : Task) (expanded : List (List ℕ)) (p : List ℕ) → IsNext t expanded p → AreApart (generated t expanded) → AreApart (generated t (expanded ++ p ∷ []))
+apart_push t expanded p next apart =
+    subst (λ (plans : List (List ℕ)). AreApart plans) (sym (generated-push t expanded p))
+    (AreApart-append (generated t expanded) (children t p) apart (children_apart t p) none_again) where
+      none_again : (q : List ℕ) → Contains (generated t expanded) q → Contains (children t p) q → ⊥
+      none_again q before child =
+          let by = IsFrom-from_map (followed_by p) (applicable_at t (exec t p)) q child in
+          next.is_new (generated_parent t expanded p by.source (subst (Contains (generated t expanded)) (sym by.is) before))
 
-distinct_upto : (t : Task) (expanded : List (List ℕ)) → IsLegal t expanded → (n : ℕ) → n ≤ length expanded → IsDistinct (generated t (take n expanded))
-distinct_upto t expanded legal zero h = (λ c. Contains-nil [] c, tt)
-distinct_upto t expanded legal (suc n) h =
-    let lt : n < length expanded = omega arith in
-    subst (λ xs. IsDistinct (generated t xs)) (sym (take-suc expanded n [] lt))
-    (IsDistinct-push t (take n expanded) (get_or expanded n []) (legal n [] lt) (distinct_upto t expanded legal n (omega arith)))
+-- so the first entries of a legal list generate no plan twice
+apart_upto : (t : Task) (expanded : List (List ℕ)) → IsLegal t expanded → (n : ℕ) → n ≤ length expanded → AreApart (generated t (take n expanded))
+apart_upto t expanded legal zero few = λ i j d lt within. absurd (omega (arith, lt, within))
+apart_upto t expanded legal (suc n) few =
+    let lt : n < length expanded = omega (arith, few) in
+    subst (λ plans. AreApart (generated t plans)) (sym (take-suc expanded n [] lt))
+    (apart_push t (take n expanded) (get_or expanded n []) (legal n [] lt) (apart_upto t expanded legal n (omega (arith, few))))
 
 -- what a legal list generates holds no plan twice
-pub generated_distinct : (t : Task) (expanded : List (List ℕ)) → IsLegal t expanded → IsDistinct (generated t expanded)
-generated_distinct t expanded legal =
-    subst (λ xs. IsDistinct (generated t xs)) (take_all (length expanded) expanded (omega arith))
-    (distinct_upto t expanded legal (length expanded) (omega arith))
-
 pub generated_once : (t : Task) (expanded : List (List ℕ)) → IsLegal t expanded → AllPairs (λ (p q : List ℕ). p ≢ q) (generated t expanded)
-generated_once t expanded legal = AllPairs-from_distinct (generated t expanded) (generated_distinct t expanded legal)
+generated_once t expanded legal =
+    subst (λ plans. AreApart (generated t plans)) (take_all (length expanded) expanded (omega arith))
+    (apart_upto t expanded legal (length expanded) (omega arith))
 
 -- ---- what stays when a list grows
 
 -- the bound never rises
-pub bound_grows : (t : Task) (expanded more : List (List ℕ)) (b : ℕ) → bound_of t expanded ≡ Some b → IsSomeUpTo (bound_of t (expanded ++ more)) b
-bound_grows t expanded more b e =
-    let k = bound_from t expanded b e in
-    bound_up_to t (expanded ++ more) k.plan b (Contains-append_left expanded more k.plan k.among) k.is
+pub bound_grows : (t : Task) (expanded more : List (List ℕ)) (b : ℕ) → bound_of t expanded ≡ Some b → (lower : ℕ) × (bound_of t (expanded ++ more) ≡ Some lower) × (lower ≤ b)
+bound_grows t expanded more b is =
+    let best = bound_reached t expanded b is in
+    cost_from_at_most (bound_of t (expanded ++ more)) b
+    (subst (AtMost (bound_of t (expanded ++ more))) best.2 (bound_at_most t (expanded ++ more) best.0 (Contains-append_left expanded more best.0 best.1)))
 
 bounded_grows : (t : Task) (expanded more : List (List ℕ)) (c : ℕ) (v : Option ℕ) → IsBounded (bound_of t expanded) c v → IsBounded (bound_of t (expanded ++ more)) c v
-bounded_grows t expanded more c v (Dead e) = Dead e
-bounded_grows t expanded more c v (Reaches b h is at le) =
-    let k = bound_grows t expanded more b is in
-    Reaches k.value h k.is at (omega (arith, k.least))
+bounded_grows t expanded more c v (Dead dead) = Dead dead
+bounded_grows t expanded more c v (Reaches b estimate is estimated reached) =
+    let lower = bound_grows t expanded more b is in
+    Reaches lower.0 estimate lower.1 estimated (omega (arith, lower.2, reached))
 
 -- what is justified stays justified
 pub justified_grows : (t : Task) (h : Estimate) (expanded more : List (List ℕ)) (p : List ℕ) → IsJustified t h expanded p → IsJustified t h (expanded ++ more) p

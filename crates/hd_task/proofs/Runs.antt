@@ -1,5 +1,5 @@
 -- Executions: their ends are states of the task, costs only rise, and what follows a state is the same at any cost.
-use Rattle.std.proofs.Common.{◌≡◌, ℕ, ◌+◌, ◌<◌, ◌≤◌, Bool, true, false, cond, List, [], ◌∷◌, ◌++◌, length, slice_get, Option, Some, None, refl, sym, ap, ◌∙◌, subst, arith}
+use Rattle.std.proofs.Common.{◌≡◌, ℕ, ◌+◌, ◌-◌, ◌<◌, ◌≤◌, Bool, true, false, cond, List, [], ◌∷◌, ◌++◌, length, slice_get, Option, Some, None, refl, sym, ap, ◌∙◌, subst, arith}
 use Rattle.std.specs.Prelude.{option_and_then}
 use Rattle.std.proofs.lemmas.Option.{none-some, same_Some, slice_get_within}
 use Rattle.std.proofs.lemmas.List.FromFn.{length-map-range_with_len}
@@ -92,56 +92,66 @@ exec_from-dearer t (n ∷ p) r to e =
 
 -- ---- from one state at two costs
 
--- an end with the same state at no greater cost
-pub record IsCheaper (o : Option Node) (than : Node) : Type 0 where
+-- one node has the other's state, and costs so much less
+record IsBelow (d : ℕ) (less more : Node) : Type 0 where
+  state : less.state ≡ more.state
+  cost : less.cost + d ≡ more.cost
+
+-- both are there, and one is so much below the other; or neither is there
+abbrev AreBelow : ℕ → Option Node → Option Node → Type 0
+AreBelow d None None = Unit {0}
+AreBelow d None (Some more) = ⊥
+AreBelow d (Some less) None = ⊥
+AreBelow d (Some less) (Some more) = IsBelow d less more
+
+-- what follows from one state does not depend on the cost so far, and costs the same
+module _ (t : Task) (d : ℕ) where
+  after_below : (less more : Node) (a : Action) (c c' : Option ℕ) → IsBelow d less more → c ≡ c' → AreBelow d (after_step t less a c) (after_step t more a c')
+  after_below less more a None c' k same = subst (λ (o : Option ℕ). AreBelow d None (after_step t more a o)) same tt
+  after_below less more a (Some n) c' k same =
+      let costs : less.cost + n + d ≡ more.cost + n = omega (arith, k.cost) in
+      subst (λ (o : Option ℕ). AreBelow d (after_step t less a (Some n)) (after_step t more a o)) same
+      (record { state = ap (λ s. state_after t s a) k.state; cost = costs })
+
+  if_below : (b b' : Bool) (less more : Option Node) → b ≡ b' → AreBelow d less more → AreBelow d (cond b less None) (cond b' more None)
+  if_below true b' less more same k = subst (λ b. AreBelow d less (cond b more None)) same k
+  if_below false b' less more same k = subst (λ b. AreBelow d None (cond b more None)) same tt
+
+  action_below : (less more : Node) (o : Option Action) → IsBelow d less more → AreBelow d (step_of t less o) (step_of t more o)
+  unfolding step
+  action_below less more None k = tt
+  action_below less more (Some a) k =
+      if_below (holds less.state a.condition) (holds more.state a.condition)
+      (after_step t less a (step_cost t less.state a)) (after_step t more a (step_cost t more.state a))
+      (ap (λ s. holds s a.condition) k.state)
+      (after_below less more a (step_cost t less.state a) (step_cost t more.state a) k (ap (λ s. step_cost t s a) k.state))
+
+  step_below : (less more : Node) (n : ℕ) → IsBelow d less more → AreBelow d (step_by t less n) (step_by t more n)
+  unfolding step_by
+  step_below less more n k = action_below less more (slice_get t.actions n) k
+
+  exec_below : (p : List ℕ) (less more : Option Node) → AreBelow d less more → AreBelow d (exec_from t less p) (exec_from t more p)
+  exec_below [] less more k = k
+  exec_below (n ∷ p) None None k = exec_below p None None tt
+  exec_below (n ∷ p) None (Some more) k = absurd k
+  exec_below (n ∷ p) (Some less) None k = absurd k
+  exec_below (n ∷ p) (Some less) (Some more) k = exec_below p (step_by t less n) (step_by t more n) (step_below less more n k)
+
+-- an end with the same state that costs no more
+pub record EndsNoDearer (o : Option Node) (than : Node) : Type 0 where
   pub end : Node
   pub is : o ≡ Some end
   pub same : end.state ≡ than.state
   pub cost : end.cost ≤ than.cost
 
-after_cheaper :
-    (t : Task) (r r' : Node) (a : Action) (c c' : Option ℕ) (to : Node) → r'.state ≡ r.state → c' ≡ c → r'.cost ≤ r.cost
-    → after_step t r a c ≡ Some to → IsCheaper (after_step t r' a c') to
-after_cheaper t r r' a None c' to es ec h e = absurd (none-some to e)
-after_cheaper t r r' a (Some n) c' to es ec h e =
-    let is : record { state = state_after t r.state a; cost = r.cost + n } ≡ to = same_Some _ _ e in
-    let le : r'.cost + n ≤ to.cost = subst (λ (m : ℕ). r'.cost + n ≤ m) (ap (λ (x : Node). x.cost) is) (omega arith) in
-    subst (λ c. IsCheaper (after_step t r' a c) to) (sym ec)
-    (record {
-      end = record { state = state_after t r'.state a; cost = r'.cost + n };
-      is = refl;
-      same = ap (λ s. state_after t s a) es ∙ ap (λ (x : Node). x.state) is;
-      cost = le;
-    })
-
-tested_cheaper :
-    (t : Task) (r r' : Node) (a : Action) (to : Node) (b b' : Bool) → r'.state ≡ r.state → r'.cost ≤ r.cost → b' ≡ b
-    → cond b (after_step t r a (step_cost t r.state a)) None ≡ Some to
-    → IsCheaper (cond b' (after_step t r' a (step_cost t r'.state a)) None) to
-tested_cheaper t r r' a to false b' same h eb e = absurd (none-some to e)
-tested_cheaper t r r' a to true b' same h eb e =
-    subst (λ b. IsCheaper (cond b (after_step t r' a (step_cost t r'.state a)) None) to) (sym eb)
-    (after_cheaper t r r' a (step_cost t r.state a) (step_cost t r'.state a) to same (ap (λ s. step_cost t s a) same) h e)
-
-action_cheaper : (t : Task) (r r' : Node) (o : Option Action) (to : Node) → r'.state ≡ r.state → r'.cost ≤ r.cost → step_of t r o ≡ Some to → IsCheaper (step_of t r' o) to
-unfolding step
-action_cheaper t r r' None to same h e = absurd (none-some to e)
-action_cheaper t r r' (Some a) to same h e =
-    tested_cheaper t r r' a to (holds r.state a.condition) (holds r'.state a.condition) same h (ap (λ s. holds s a.condition) same) e
-
-step_cheaper : (t : Task) (r r' : Node) (n : ℕ) (to : Node) → r'.state ≡ r.state → r'.cost ≤ r.cost → step_by t r n ≡ Some to → IsCheaper (step_by t r' n) to
-unfolding step_by
-step_cheaper t r r' n to same h e = action_cheaper t r r' (slice_get t.actions n) to same h e
+end_below : (d : ℕ) (o : Option Node) (to : Node) → AreBelow d o (Some to) → EndsNoDearer o to
+end_below d None to k = absurd k
+end_below d (Some end) to k = record { end = end; is = refl; same = k.state; cost = omega (arith, k.cost) }
 
 -- the same steps from the same state at no greater cost end in the same state at no greater cost
-pub exec_from-cheaper : (t : Task) (p : List ℕ) (r r' to : Node) → r'.state ≡ r.state → r'.cost ≤ r.cost → exec_from t (Some r) p ≡ Some to → IsCheaper (exec_from t (Some r') p) to
-exec_from-cheaper t [] r r' to same h e =
-    let is : r ≡ to = same_Some r to e in
-    record { end = r'; is = refl; same = same ∙ ap (λ (x : Node). x.state) is; cost = subst (λ (x : Node). r'.cost ≤ x.cost) is h }
-exec_from-cheaper t (n ∷ p) r r' to same h e =
-    elim (step_by t r n) as (λ o. step_by t r n ≡ o → exec_from t o p ≡ Some to → IsCheaper (exec_from t (step_by t r' n) p) to) [
-      | None ↦ λ _ e. absurd (none-some to (sym (exec_from-none t p) ∙ e))
-      | Some mid ↦ λ is e.
-          let c = step_cheaper t r r' n mid same h is in
-          subst (λ o. IsCheaper (exec_from t o p) to) (sym c.is) (exec_from-cheaper t p mid c.end to c.same c.cost e)
-    ] refl e
+pub exec_from-cheaper : (t : Task) (p : List ℕ) (more less to : Node) → less.state ≡ more.state → less.cost ≤ more.cost → exec_from t (Some more) p ≡ Some to → EndsNoDearer (exec_from t (Some less) p) to
+exec_from-cheaper t p more less to same no_dearer ends =
+    let d = more.cost - less.cost in
+    let costs : less.cost + d ≡ more.cost = omega (arith, no_dearer) in
+    let below = exec_below t d p (Some less) (Some more) (record { state = same; cost = costs }) in
+    end_below d (exec_from t (Some less) p) to (subst (AreBelow d (exec_from t (Some less) p)) ends below)

@@ -4,6 +4,6 @@ use Rattle.hd_task.proofs.laws.expansions_grow.Goals as goal
 pub returns : goal.returns
 returns c = record {
   justified = justified_grows;
-  bound = λ t expanded more b e. let k = bound_grows t expanded more b e in (k.value, k.is, k.least);
+  bound = λ t expanded more b e. bound_grows t expanded more b e;
   departures = departures_stay;
 }
