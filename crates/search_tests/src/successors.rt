@@ -129,7 +129,7 @@ fn literals_hold(atoms: &[bool], condition: &Condition) -> bool {
 fn is_seen(atoms: &[bool], watch: Watch) -> bool {
     match watch {
         Watch::Always => true,
-        Watch::Atom(atom) => is_true(atoms, atom),
+        Watch::Atoms(first, other) => is_true(atoms, first) && is_true(atoms, other),
     }
 }
 
@@ -294,11 +294,11 @@ fn assert_watched(
 }
 
 #[test]
-fn actions_watch_a_true_atom_if_they_ask_for_one(rt: HostRuntime) -> Result<(), Fail> {
+fn actions_watch_true_atoms_if_they_ask_for_one(rt: HostRuntime) -> Result<(), Fail> {
     let task = two_steps(&rt, rt.alloc())?;
-    assert_watched(&rt, rt.alloc(), &task, &[Watch::Always, Watch::Atom(0)])?;
+    assert_watched(&rt, rt.alloc(), &task, &[Watch::Always, Watch::Atoms(0, 0)])?;
     let task = three_actions(&rt, rt.alloc(), 0)?;
-    let watched = [Watch::Always, Watch::Atom(0), Watch::Always];
+    let watched = [Watch::Always, Watch::Atoms(0, 0), Watch::Always];
     assert_watched(&rt, rt.alloc(), &task, &watched)
 }
 
@@ -327,14 +327,14 @@ fn needing(alloc: Global) -> Result<Sequence<Action>, Fail> {
 }
 
 #[test]
-fn actions_watch_the_atom_that_fewest_ask_for(rt: HostRuntime) -> Result<(), Fail> {
+fn actions_watch_the_two_atoms_that_fewest_ask_for(rt: HostRuntime) -> Result<(), Fail> {
     let atoms = [false, false, false, false];
     let task = task_of(&rt, rt.alloc(), &atoms, needing(rt.alloc())?)?;
     let watched = [
-        Watch::Atom(1),
-        Watch::Atom(0),
-        Watch::Atom(1),
-        Watch::Atom(2),
+        Watch::Atoms(1, 0),
+        Watch::Atoms(0, 0),
+        Watch::Atoms(1, 0),
+        Watch::Atoms(2, 3),
     ];
     assert_watched(&rt, rt.alloc(), &task, &watched)
 }
