@@ -62,7 +62,8 @@ impl<'t> Successors<'t> {
         ensures task { IfOk result (λ s. s.task ≡ task.now) }
         ensures marked { IfOk result (λ s. s.marked ≡ []) }
     {
-        let watches = Watches::of(alloc, task.actions.as_slice(), task.atoms.len())?;
+        let initial = task.initial.atoms.as_slice();
+        let watches = Watches::of(alloc, task.actions.as_slice(), initial, task.atoms.len())?;
         match marks_of(alloc, &watches) {
             Ok((always, marks)) => Ok(Successors {
                 task,

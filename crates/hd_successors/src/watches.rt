@@ -112,17 +112,22 @@ fn mark_if_seen(state: &Packed, watch: Watch, action: usize, marks: &mut [u64])
 }
 
 impl Watches {
-    /// What each of these actions watches, of a task of so many atoms.
+    /// What each of these actions watches, of a task of so many atoms, which starts with these.
     ///
     /// # Errors
     /// `NoMemory` where there is no room for a number an atom and four an action.
-    pub(crate) fn of(alloc: Global, actions: &[Action], atoms: usize) -> Result<Watches, NoMemory>
+    pub(crate) fn of(
+        alloc: Global,
+        actions: &[Action],
+        initial: &[bool],
+        atoms: usize,
+    ) -> Result<Watches, NoMemory>
         requires few_atoms { atoms ≤ 2 ^ 20 }
         requires few_actions { length actions.now ≤ 2 ^ 20 }
         ensures watched { IfOk result (λ w. IsWatchedBy actions.now w.watched) }
         ensures atoms { IfOk result (λ w. length w.last ≡ atoms) }
     {
-        let watched = watched_of(alloc, actions, atoms)?;
+        let watched = watched_of(alloc, actions, initial)?;
         let (last, before) = match chains_of(alloc, watched.as_slice(), atoms) {
             Ok(chains) => chains,
             Err(error) => {

@@ -19,6 +19,10 @@ pub enum Watch {
     Atoms(u32, u32),
 }
 
+/// What stands at first for the uses of an atom that is true in the initial state, until an action is seen that makes it false: as it
+/// tells no state from another, it is watched last.
+const STAYS: u32 = 1 << 31;
+
 /// How many actions ask for an atom; none where it is beyond the table.
 fn uses_of(uses: &[u32], atom: u32) -> u32 {
     uses.get(atom as usize).copied().unwrap_or(0)
@@ -34,13 +38,34 @@ fn count_uses(uses: &mut [u32], condition: &Condition) {
     }
 }
 
-/// How many literals of conditions ask for each atom.
-fn all_uses(alloc: Global, actions: &[Action], atoms: usize) -> Result<Vec<u32>, NoMemory>
-    ensures { IfOk result (λ v. length v.items ≡ atoms) }
+/// Notes which atoms are true at first.
+fn note_initial(uses: &mut [u32], initial: &[bool]) {
+    for atom in 0..uses.len() {
+        if initial.get(atom).copied().unwrap_or(false) {
+            uses[atom] = STAYS;
+        }
+    }
+}
+
+/// Notes that atoms become false.
+fn note_deletes(uses: &mut [u32], deletes: &[u32]) {
+    for atom in deletes {
+        let atom = *atom as usize;
+        if atom < uses.len() && uses[atom] >= STAYS {
+            uses[atom] -= STAYS;
+        }
+    }
+}
+
+/// How many literals of conditions ask for each atom; of one that is true in each state, more than of any other.
+fn all_uses(alloc: Global, actions: &[Action], initial: &[bool]) -> Result<Vec<u32>, NoMemory>
+    ensures { IfOk result (λ v. length v.items ≡ length initial.now) }
 {
-    let mut uses = vec![in alloc; 0; atoms]?;
+    let mut uses = vec![in alloc; 0; initial.len()]?;
+    note_initial(uses.as_mut_slice(), initial);
     for action in actions {
         count_uses(uses.as_mut_slice(), &action.condition);
+        note_deletes(uses.as_mut_slice(), action.deletes.as_slice());
     }
     Ok(uses)
 }
@@ -74,7 +99,8 @@ fn rarer(uses: &[u32], watch: Watch, literal: Literal) -> Watch
     }
 }
 
-/// What an action of these literals watches: the two atoms that fewest ask for, of those that it asks to be true.
+/// What an action of these literals watches: the two atoms that fewest ask for, of those that it asks to be true; one that is true in
+/// each state comes last.
 fn rarest(uses: &[u32], literals: &[Literal]) -> Watch
     ensures { asks_for literals.now result ≡ true }
 {
@@ -96,18 +122,18 @@ fn each_rarest(alloc: Global, uses: &[u32], actions: &[Action]) -> Result<Vec<Wa
     Ok(watched)
 }
 
-/// What each of the actions of a task of so many atoms watches.
+/// What each of the actions of a task watches, which starts with these atoms.
 ///
 /// # Errors
 /// `NoMemory` where there is no room for a number an atom and three an action.
 pub(crate) fn watched_of(
     alloc: Global,
     actions: &[Action],
-    atoms: usize,
+    initial: &[bool],
 ) -> Result<Sequence<Watch>, NoMemory>
     ensures { IfOk result (IsWatchedBy actions.now) }
 {
-    let uses = all_uses(alloc, actions, atoms)?;
+    let uses = all_uses(alloc, actions, initial)?;
     let watched = each_rarest(alloc, uses.as_slice(), actions)?;
     Ok(Sequence::from_vec(watched))
 }

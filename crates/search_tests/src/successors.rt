@@ -2,7 +2,7 @@
 ghost use Rattle.std.specs.Prelude.{◌≡◌};
 
 use crate::outcomes::assert_sizes;
-use crate::tasks::{action_from, always, names, state, task_from, three_actions, two_steps};
+use crate::tasks::{action_from, always, list, names, state, task_from, three_actions, two_steps};
 use hd_pack::{Layout, Packed, pack};
 use hd_successors::{Successors, Watch};
 use hd_task::{Action, Condition, Literal, Sequence, State, Task};
@@ -324,6 +324,33 @@ fn needing(alloc: Global) -> Result<Sequence<Action>, Fail> {
         actions.push(idle(alloc, condition_of(literals, false, alloc)))?;
     }
     Ok(Sequence::from_vec(actions))
+}
+
+/// Two actions. The first asks for 0, 1 and 2; the second asks for 1, and makes it false.
+fn deleting(alloc: Global) -> Result<Sequence<Action>, Fail> {
+    let mut actions = Vec::new(alloc);
+    let literals = asking(alloc, &[0, 1, 2])?;
+    actions.push(idle(alloc, condition_of(literals, false, alloc)))?;
+    let literals = asking(alloc, &[1])?;
+    actions.push(action_from(
+        alloc,
+        0,
+        condition_of(literals, false, alloc),
+        list(alloc, &[1])?,
+        Sequence::empty(alloc),
+        Sequence::empty(alloc),
+        Sequence::empty(alloc),
+    ))?;
+    Ok(Sequence::from_vec(actions))
+}
+
+#[test]
+fn an_atom_that_stays_true_is_watched_last(rt: HostRuntime) -> Result<(), Fail> {
+    // 0 and 1 are true at first, and nothing makes 0 false; two ask for 1, and one for each of the others.
+    let atoms = [true, true, false];
+    let task = task_of(&rt, rt.alloc(), &atoms, deleting(rt.alloc())?)?;
+    let watched = [Watch::Atoms(2, 1), Watch::Atoms(1, 1)];
+    assert_watched(&rt, rt.alloc(), &task, &watched)
 }
 
 #[test]
