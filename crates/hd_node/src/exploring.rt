@@ -49,8 +49,9 @@ fn walk(
     ensures children { IfOk result (λ r. r.0 ≡ children_at task.now (node state.now cost)) }
     ensures departs { IfOk result (λ r. r.1 ≡ departing_at task.now (Some (node state.now cost))) }
 {
-    let mut children = Vec::new(alloc);
     let mut departures = goal_departure(alloc, task, state, test)?;
+    // No more children come than are marked, so that the list takes memory once.
+    let mut children = Vec::with_capacity(alloc, successors.count())?;
     let mut from = 0;
     while let Some(action) = successors.next(from) {
         match leads(

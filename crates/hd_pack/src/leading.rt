@@ -26,6 +26,7 @@ pub enum Led {
 }
 
 /// Makes a change, and gives the hash after it.
+#[inline(always)]
 fn make(words: &Words, state: &mut Packed, hash: u64, change: Change) -> u64
     requires fits { IsChangeOf state.old change }
     requires is_hash { hash ≡ state_hash state.old }
@@ -166,6 +167,8 @@ fn take_effect(
 ///
 /// # Errors
 /// `NoMemory` where there is no room for the bytes of the state after it.
+// It stands in the innermost loop of an expansion, and its answer is some sixty bytes: inlined, most of them are never written.
+#[inline(always)]
 pub fn leads(
     alloc: Global,
     task: &Task,

@@ -96,6 +96,7 @@ impl Packed {
     }
 
     /// Makes a change. It takes no memory.
+    #[inline(always)]
     pub fn change(&mut self, change: Change)
         requires fits { IsChangeOf self.old change }
         ensures { self.new ≡ changed self.old change }

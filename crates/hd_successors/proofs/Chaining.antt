@@ -1,4 +1,4 @@
--- Chains of the actions that watch an atom.
+-- Chains of the actions that watch an atom first.
 use Rattle.std.proofs.Common.{◌≡◌, ℕ, zero, suc, ◌+◌, ◌-◌, ◌<◌, ◌≤◌, ◌==◌, ◌&&◌, ◌||◌, nat_le, nat_lt, Bool, true, false, cond, List, [], ◌∷◌, ◌++◌, length, get_or, replicate, slice_get, inl, inr, refl, sym, ap, ap₂, ◌∙◌, subst, arith, true≢false}
 use Rattle.std.specs.Prelude.{Option, Some, None}
 use Rattle.std.proofs.lemmas.Bool.{cases_eq, cases_lt, cases_order, eq-eqb, ne_eqb, eqb-true, le-leb, lt-leb, lt-ltb, le-ltb, and_left}
@@ -7,7 +7,7 @@ use Rattle.std.proofs.lemmas.List.{get_or_append_left, length-set}
 use Rattle.std.proofs.Math.Seq.{get_or-append_seam}
 use Rattle.hd_base.proofs.Lists.{get_or-set, get_or-replicate_same}
 use Rattle.hd_successors.specs.declared.watching.Watch.{Watch}
-use Rattle.hd_successors.specs.declared.watching.Watch.TheVariants.{Always, Atom}
+use Rattle.hd_successors.specs.declared.watching.Watch.TheVariants.{Always, Atoms}
 use Rattle.hd_successors.specs.Seeing.{watches_one, is_always}
 use Rattle.hd_successors.proofs.Rows.{and_true}
 use Rattle.hd_successors.specs.Chains.{is_watcher, last_watcher, AreChains, last_with, last_in}
@@ -79,19 +79,19 @@ no_chains ws last before n el eb = record {
 
 length-last_with : (last : List ℕ) (w : Watch) (k : ℕ) → length (last_with last w k) ≡ length last
 length-last_with last Always k = refl
-length-last_with last (Atom i) k = length-set last i (k + 1)
+length-last_with last (Atoms i j) k = length-set last i (k + 1)
 
 lasts_more : (ws : List Watch) (last : List ℕ) (k a : ℕ) (w : Watch) → a < length last → slice_get ws k ≡ Some w → get_or last a 0 ≡ last_watcher ws a k
     → get_or (last_with last w k) a 0 ≡ last_watcher ws a (suc k)
 lasts_more ws last k a Always lt is e = e ∙ sym (last_step ws a k false (ap (watches_one (λ b. b == a)) is))
-lasts_more ws last k a (Atom i) lt is e =
+lasts_more ws last k a (Atoms i j) lt is e =
     let next : k + 1 ≡ suc k = omega arith in
     get_or-set last i (k + 1) a 0 lt
     ∙ (ap₂ (λ n m. cond (i == a) n m) next e ∙ sym (last_step ws a k (i == a) (ap (watches_one (λ b. b == a)) is)))
 
 last_in-is : (last : List ℕ) (w : Watch) (a : ℕ) → watches_one (λ b. b == a) (Some w) ≡ true → last_in last w ≡ get_or last a 0
 last_in-is last Always a is = absurd (true≢false (sym is))
-last_in-is last (Atom i) a is = ap (λ j. get_or last j 0) (eqb-true i a is)
+last_in-is last (Atoms i j) a is = ap (λ k. get_or last k 0) (eqb-true i a is)
 
 befores_more : (ws : List Watch) (last before : List ℕ) (k a n : ℕ) (w : Watch) → AreChains ws last before k → slice_get ws k ≡ Some w → a < length last → n < suc k → is_watcher ws a n ≡ true
     → get_or (before ++ last_in last w ∷ []) n 0 ≡ last_watcher ws a n
@@ -125,50 +125,54 @@ more_chains ws last before k n w chains is next =
 
 -- ---- marks along a chain
 
--- the marks of a chain's part from `left` on, and others
-abbrev pub marked_from : List Watch → ℕ → ℕ → Bool → ℕ → Bool
-marked_from ws a left other i = (is_watcher ws a i && nat_le left i) || other
+-- the marks of those actions of a chain's part from `left` on that pass a test, and others
+abbrev pub marked_from : List Watch → ℕ → ℕ → (ℕ → Bool) → Bool → ℕ → Bool
+marked_from ws a left seen other i = ((is_watcher ws a i && nat_le left i) && seen i) || other
 
 -- at the beginning of a chain nothing is passed
-pub none_passed : (ws : List Watch) (a i : ℕ) (other : Bool) → other ≡ marked_from ws a (last_watcher ws a (length ws)) other i
-none_passed ws a i other =
-    elim (is_watcher ws a i) as (λ b. is_watcher ws a i ≡ b → other ≡ ((b && nat_le (last_watcher ws a (length ws)) i) || other)) [
-      | true ↦ λ e. sym (ap (λ b. b || other) (lt-leb (last_watcher ws a (length ws)) i (below_last ws a (length ws) i e (watcher_within ws a i e))))
+pub none_passed : (ws : List Watch) (a i : ℕ) (seen : ℕ → Bool) (other : Bool) → other ≡ marked_from ws a (last_watcher ws a (length ws)) seen other i
+none_passed ws a i seen other =
+    elim (is_watcher ws a i) as (λ b. is_watcher ws a i ≡ b → other ≡ (((b && nat_le (last_watcher ws a (length ws)) i) && seen i) || other)) [
+      | true ↦ λ e. sym (ap (λ b. (b && seen i) || other) (lt-leb (last_watcher ws a (length ws)) i (below_last ws a (length ws) i e (watcher_within ws a i e))))
       | false ↦ λ e. refl
     ] refl
 
 -- one action more of a chain
-pub one_passed : (ws : List Watch) (a n i : ℕ) (other : Bool) → suc n ≡ last_watcher ws a (suc n)
-    → ((i == n) || marked_from ws a (suc n) other i) ≡ marked_from ws a (last_watcher ws a n) other i
-one_passed ws a n i other end =
+pub one_passed : (ws : List Watch) (a n i : ℕ) (seen : ℕ → Bool) (other : Bool) → suc n ≡ last_watcher ws a (suc n)
+    → (((i == n) && seen n) || marked_from ws a (suc n) seen other i) ≡ marked_from ws a (last_watcher ws a n) seen other i
+one_passed ws a n i seen other end =
     let here = watcher_at_last ws a n end in
     let low = last_below ws a n in
     elim (cases_order i n) [
       | inl same ↦
           let passed : nat_le (last_watcher ws a n) i ≡ true = le-leb (last_watcher ws a n) i (omega (arith, low, same)) in
-          ap (λ b. b || marked_from ws a (suc n) other i) (eq-eqb i n same)
-          ∙ sym (ap₂ (λ x y. (x && y) || other) (ap (is_watcher ws a) same ∙ here) passed)
+          let later : nat_le (suc n) i ≡ false = lt-leb (suc n) i (omega (arith, same)) in
+          let watches : is_watcher ws a i ≡ true = ap (is_watcher ws a) same ∙ here in
+          ap₂ (λ x y. (x && seen n) || (((y && nat_le (suc n) i) && seen i) || other)) (eq-eqb i n same) watches
+          ∙ (ap₂ (λ x y. x || ((y && seen i) || other)) (ap seen (sym same)) later
+          ∙ sym (ap₂ (λ x y. ((x && y) && seen i) || other) watches passed))
       | inr (inl before) ↦
           let later : nat_le (suc n) i ≡ false = lt-leb (suc n) i (omega (arith, before)) in
           let differs : (i == n) ≡ false = ne_eqb i n (λ e. omega (arith, before, e)) in
-          elim (is_watcher ws a i) as (λ b. is_watcher ws a i ≡ b → ((i == n) || ((b && nat_le (suc n) i) || other)) ≡ ((b && nat_le (last_watcher ws a n) i) || other)) [
+          elim (is_watcher ws a i) as (λ b. is_watcher ws a i ≡ b → (((i == n) && seen n) || (((b && nat_le (suc n) i) && seen i) || other)) ≡ (((b && nat_le (last_watcher ws a n) i) && seen i) || other)) [
             | true ↦ λ e.
                 let missed : nat_le (last_watcher ws a n) i ≡ false = lt-leb (last_watcher ws a n) i (below_last ws a n i e before) in
-                ap₂ (λ x y. x || (y || other)) differs later ∙ sym (ap (λ y. y || other) missed)
-            | false ↦ λ e. ap (λ x. x || other) differs
+                ap₂ (λ x y. (x && seen n) || ((y && seen i) || other)) differs later ∙ sym (ap (λ y. (y && seen i) || other) missed)
+            | false ↦ λ e. ap (λ x. (x && seen n) || other) differs
           ] refl
       | inr (inr after) ↦
           let later : nat_le (suc n) i ≡ true = le-leb (suc n) i (omega (arith, after)) in
           let passed : nat_le (last_watcher ws a n) i ≡ true = le-leb (last_watcher ws a n) i (omega (arith, low, after)) in
           let differs : (i == n) ≡ false = ne_eqb i n (λ e. omega (arith, after, e)) in
-          ap₂ (λ x y. x || ((is_watcher ws a i && y) || other)) differs later ∙ sym (ap (λ y. (is_watcher ws a i && y) || other) passed)
+          ap₂ (λ x y. (x && seen n) || (((is_watcher ws a i && y) && seen i) || other)) differs later
+          ∙ sym (ap (λ y. ((is_watcher ws a i && y) && seen i) || other) passed)
     ]
 
 -- where a chain begins
 pub record Begins (ws : List Watch) (a e : ℕ) : Type 0 where
   pub end : e ≡ last_watcher ws a e
   pub within : e ≤ length ws
-  pub none : (i : ℕ) (other : Bool) → other ≡ marked_from ws a e other i
+  pub none : (i : ℕ) (seen : ℕ → Bool) (other : Bool) → other ≡ marked_from ws a e seen other i
 
 pub chain_begins : (ws : List Watch) (last before xs : List ℕ) (a e : ℕ) → AreChains ws last before (length ws) → xs ≡ last → a < length xs → e ≡ get_or xs a 0 → Begins ws a e
 chain_begins ws last before xs a e chains same lt is =
@@ -178,14 +182,14 @@ chain_begins ws last before xs a e chains same lt is =
     record {
       end = begins ∙ (sym (last_again ws a (length ws)) ∙ ap (last_watcher ws a) (sym begins));
       within = omega (arith, begins, low);
-      none = λ i other. none_passed ws a i other ∙ ap (λ n. marked_from ws a n other i) (sym begins);
+      none = λ i seen other. none_passed ws a i seen other ∙ ap (λ n. marked_from ws a n seen other i) (sym begins);
     }
 
 -- what a step along a chain leads to
 pub record Continues (ws : List Watch) (a left e : ℕ) : Type 0 where
   pub end : e ≡ last_watcher ws a e
   pub smaller : e < left
-  pub one : (i : ℕ) (other : Bool) → ((i == (left - 1)) || marked_from ws a left other i) ≡ marked_from ws a e other i
+  pub one : (i : ℕ) (seen : ℕ → Bool) (other : Bool) → (((i == (left - 1)) && seen (left - 1)) || marked_from ws a left seen other i) ≡ marked_from ws a e seen other i
 
 pub chain_continues : (ws : List Watch) (last before xs ys : List ℕ) (a left e : ℕ) → AreChains ws last before (length ws) → xs ≡ last → ys ≡ before → a < length xs → 0 < left → left ≡ last_watcher ws a left → left ≤ length ws
     → get_or ys (left - 1) 0 ≡ e → Continues ws a left e
@@ -198,7 +202,9 @@ chain_continues ws last before xs ys a (suc n) e chains ex ey lt some end within
     record {
       end = leads ∙ (sym (last_again ws a n) ∙ ap (last_watcher ws a) (sym leads));
       smaller = omega (arith, leads, low);
-      one = λ i other. ap (λ k. (i == k) || marked_from ws a (suc n) other i) own ∙ (one_passed ws a n i other end ∙ ap (λ k. marked_from ws a k other i) (sym leads));
+      one = λ i seen other.
+          ap (λ k. ((i == k) && seen k) || marked_from ws a (suc n) seen other i) own
+          ∙ (one_passed ws a n i seen other end ∙ ap (λ k. marked_from ws a k seen other i) (sym leads));
     }
 
 -- ---- the actions that watch nothing

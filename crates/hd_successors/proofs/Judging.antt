@@ -1,5 +1,5 @@
 -- An action that is no candidate does nothing.
-use Rattle.std.proofs.Common.{◌≡◌, ℕ, ◌<◌, ◌≤◌, ◌==◌, ◌&&◌, not, true, false, List, [], ◌∷◌, length, slice_get, inl, inr, refl, sym, ap, ◌∙◌, arith, true≢false}
+use Rattle.std.proofs.Common.{◌≡◌, ℕ, ◌<◌, ◌≤◌, ◌==◌, ◌&&◌, not, true, false, List, [], ◌∷◌, length, slice_get, inl, inr, refl, sym, ap, ap₂, ◌∙◌, arith, true≢false}
 use Rattle.std.specs.Prelude.{Some, None, is_some, find, nat_le}
 use Rattle.std.specs.List.{list_any, list_all}
 use Rattle.std.proofs.lemmas.Bool.{and_parts, and_left, or_cases, or_from, cond-true, cond-false, cases_lt, eqb-true, both_ways, false_from_ne_true}
@@ -14,7 +14,7 @@ use Rattle.hd_task.specs.Plans.{Node, after_step, step, step_of, step_by}
 use Rattle.hd_task.specs.Departures.{cost_stays, departs_by, action_departs}
 use Rattle.hd_task.specs.Expansions.{is_applicable}
 use Rattle.hd_successors.specs.declared.watching.Watch.{Watch}
-use Rattle.hd_successors.specs.declared.watching.Watch.TheVariants.{Always, Atom}
+use Rattle.hd_successors.specs.declared.watching.Watch.TheVariants.{Always, Atoms}
 use Rattle.hd_successors.specs.Watching.{is_for, asks_for, IsWatchedBy, is_seen, is_candidate, candidates}
 use Rattle.hd_successors.proofs.Tests.{found_within, none_before_found, none_where_none_found}
 
@@ -37,7 +37,9 @@ atom_holds s i (l ∷ ls) is h =
 
 seen_where_asked : (s : State) (ls : List Literal) (w : Watch) → asks_for ls w ≡ true → list_all (literal_holds s) ls ≡ true → is_seen s (Some w) ≡ true
 seen_where_asked s ls Always is h = refl
-seen_where_asked s ls (Atom i) is h = atom_holds s i ls is h
+seen_where_asked s ls (Atoms i j) is h =
+    let parts = and_parts (list_any (is_for i) ls) (list_any (is_for j) ls) is in
+    ap₂ (λ x y. x && y) (atom_holds s i ls parts.0 h) (atom_holds s j ls parts.1 h)
 
 pub candidate_where_held :
     (t : Task) (ws : List Watch) (s : State) (n : ℕ) (a : Action) → IsWatchedBy t.actions ws → slice_get t.actions n ≡ Some a

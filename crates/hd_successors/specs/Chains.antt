@@ -1,14 +1,14 @@
--- The actions that watch an atom, one after the other from the last: each is found by the one behind it. (Our own.)
+-- The actions that watch an atom first, one after the other from the last: each is found by the one behind it. (Our own.)
 use Rattle.std.specs.Prelude.{◌≡◌, ℕ, zero, suc, ◌+◌, ◌<◌, ◌==◌, Bool, true, if◌then◌else◌, List, length, get_or, set, slice_get}
 use Rattle.hd_successors.specs.declared.watching.Watch.{Watch}
-use Rattle.hd_successors.specs.declared.watching.Watch.TheVariants.{Always, Atom}
+use Rattle.hd_successors.specs.declared.watching.Watch.TheVariants.{Always, Atoms}
 use Rattle.hd_successors.specs.Seeing.{watches_one}
 
--- an action watches this atom
+-- an action watches this atom first
 abbrev pub is_watcher : List Watch → ℕ → ℕ → Bool
 is_watcher watched atom n = watches_one (λ i. i == atom) (slice_get watched n)
 
--- one more than the last action below a number that watches this atom; 0 where none does
+-- one more than the last action below a number that watches this atom first; 0 where none does
 abbrev pub last_watcher : List Watch → ℕ → ℕ → ℕ
 last_watcher watched atom zero = 0
 last_watcher watched atom (suc n) = if is_watcher watched atom n then suc n else last_watcher watched atom n
@@ -23,9 +23,9 @@ pub record AreChains (watched : List Watch) (last before : List ℕ) (count : �
 -- where chains begin with one action more
 abbrev pub last_with : List ℕ → Watch → ℕ → List ℕ
 last_with last Always n = last
-last_with last (Atom i) n = set last i (n + 1)
+last_with last (Atoms i j) n = set last i (n + 1)
 
--- where the chain of what is watched began before
+-- where the chain of what is watched first began before
 abbrev pub last_in : List ℕ → Watch → ℕ
 last_in last Always = 0
-last_in last (Atom i) = get_or last i 0
+last_in last (Atoms i j) = get_or last i 0

@@ -2,19 +2,25 @@
 use Rattle.std.specs.Prelude.{ℕ, ◌-◌, ◌==◌, ◌&&◌, Bool, true, false, Option, Some, None, nat_le}
 use Rattle.std.specs.Int.{bit_at}
 use Rattle.hd_successors.specs.declared.watching.Watch.{Watch}
-use Rattle.hd_successors.specs.declared.watching.Watch.TheVariants.{Always, Atom}
+use Rattle.hd_successors.specs.declared.watching.Watch.TheVariants.{Always, Atoms}
 
 -- nothing is watched
 abbrev pub is_always : Option Watch → Bool
 is_always None = false
 is_always (Some Always) = true
-is_always (Some (Atom i)) = false
+is_always (Some (Atoms i j)) = false
 
--- an atom is watched that passes a test
+-- atoms are watched of which the first passes a test
 abbrev pub watches_one : (ℕ → Bool) → Option Watch → Bool
 watches_one p None = false
 watches_one p (Some Always) = false
-watches_one p (Some (Atom i)) = p i
+watches_one p (Some (Atoms i j)) = p i
+
+-- if atoms are watched, the other one passes a test
+abbrev pub other_passes : (ℕ → Bool) → Option Watch → Bool
+other_passes p None = true
+other_passes p (Some Always) = true
+other_passes p (Some (Atoms i j)) = p j
 
 -- an atom is true by a byte in which the bits of the atoms from `base` on stand, the least first
 abbrev pub is_in_byte : ℕ → ℕ → ℕ → Bool

@@ -1,4 +1,4 @@
--- What actions watch: an atom that the condition asks to be true, if it asks for one. (Our own.)
+-- What actions watch: two atoms that the condition asks to be true, if it asks for any. (Our own.)
 use Rattle.std.specs.Prelude.{◌≡◌, ℕ, ◌==◌, Bool, true, false, not, ◌&&◌, List, length, Option, Some, None, slice_get}
 use Rattle.std.specs.List.{list_any, filter}
 use Rattle.hd_task.specs.declared.state.State.{State}
@@ -7,17 +7,17 @@ use Rattle.hd_task.specs.declared.action.Action.{Action}
 use Rattle.hd_task.specs.Conditions.{has_atom}
 use Rattle.hd_task.specs.Effects.{numbers_below}
 use Rattle.hd_successors.specs.declared.watching.Watch.{Watch}
-use Rattle.hd_successors.specs.declared.watching.Watch.TheVariants.{Always, Atom}
+use Rattle.hd_successors.specs.declared.watching.Watch.TheVariants.{Always, Atoms}
 
 -- a literal asks that this atom is true
 abbrev pub is_for : ℕ → Literal → Bool
 is_for i l = l.positive && (l.atom == i)
 
--- what may be watched where these literals are asked for: an atom that one of them asks to be true, or nothing where none asks for
--- a true atom
+-- what may be watched where these literals are asked for: two atoms, each of which one of them asks to be true, or nothing where none
+-- asks for a true atom
 abbrev pub asks_for : List Literal → Watch → Bool
 asks_for ls Always = not (list_any (λ (l : Literal). l.positive) ls)
-asks_for ls (Atom i) = list_any (is_for i) ls
+asks_for ls (Atoms i j) = list_any (is_for i) ls && list_any (is_for j) ls
 
 -- each action watches what it may
 pub record IsWatchedBy (actions : List Action) (watched : List Watch) : Type 0 where
@@ -31,7 +31,7 @@ pub record IsWatchedBy (actions : List Action) (watched : List Watch) : Type 0 w
 abbrev pub is_seen : State → Option Watch → Bool
 is_seen s None = false
 is_seen s (Some Always) = true
-is_seen s (Some (Atom i)) = has_atom s i
+is_seen s (Some (Atoms i j)) = has_atom s i && has_atom s j
 
 -- an action is a candidate in a state where what it watches is so
 abbrev pub is_candidate : List Watch → State → ℕ → Bool

@@ -42,7 +42,7 @@ fn first_mark_in(marks: &[u64], place: usize) -> Option<usize>
 }
 
 /// The first number that is marked, from this one on.
-fn first_mark(marks: &[u64], from: usize) -> Option<usize>
+pub(crate) fn first_mark(marks: &[u64], from: usize) -> Option<usize>
     requires { length marks.now ≤ 2 ^ 20 }
     ensures { FirstMark marks.now from result }
 {
@@ -73,4 +73,19 @@ pub(crate) fn first_mark_below(marks: &[u64], from: u32, count: usize) -> Option
             }
         }
     }
+}
+
+/// How many numbers are marked, of so many. It goes from one to the next.
+pub(crate) fn marks_below(marks: &[u64], count: usize) -> usize
+    requires words { length marks.now ≤ 2 ^ 20 }
+    requires few { count ≤ 2 ^ 20 }
+    ensures { result ≡ length (filter (is_marked marks.now) (range_with_len 0 count)) }
+{
+    let mut found = 0;
+    let mut from = 0;
+    while let Some(number) = first_mark_below(marks, from, count) {
+        found += 1;
+        from = number + 1;
+    }
+    found
 }

@@ -6,7 +6,7 @@ ghost use Rattle.hd_successors.specs.Seeing.{is_always};
 ghost use Rattle.hd_successors.specs.Marks.{is_marked, words_for};
 
 use crate::Watch;
-use crate::marks::{first_mark_below, no_marks};
+use crate::marks::{first_mark_below, marks_below, no_marks};
 use crate::watches::Watches;
 use hd_base::NoMemory;
 use hd_pack::Packed;
@@ -57,12 +57,13 @@ impl<'t> Successors<'t> {
     /// The index of a task, without marks.
     ///
     /// # Errors
-    /// `NoMemory` where there is no room for a number an atom, three numbers an action and two bits an action.
+    /// `NoMemory` where there is no room for a number an atom, four numbers an action and two bits an action.
     pub fn new(alloc: Global, task: &'t Task) -> Result<Successors<'t>, NoMemory>
         ensures task { IfOk result (λ s. s.task ≡ task.now) }
         ensures marked { IfOk result (λ s. s.marked ≡ []) }
     {
-        let watches = Watches::of(alloc, task.actions.as_slice(), task.atoms.len())?;
+        let initial = task.initial.atoms.as_slice();
+        let watches = Watches::of(alloc, task.actions.as_slice(), initial, task.atoms.len())?;
         match marks_of(alloc, &watches) {
             Ok((always, marks)) => Ok(Successors {
                 task,
@@ -94,6 +95,13 @@ impl<'t> Successors<'t> {
         ensures { result ≡ find (nat_le from) self.now.marked }
     {
         first_mark_below(self.marks.as_slice(), from, self.watches.watched.len())
+    }
+
+    /// How many actions are marked.
+    pub fn count(&self) -> usize
+        ensures { result ≡ length self.now.marked }
+    {
+        marks_below(self.marks.as_slice(), self.watches.watched.len())
     }
 
     /// What each action watches.

@@ -2,26 +2,26 @@
 ghost use Rattle.std.specs.Prelude.{◌≡◌, ℕ, ◌+◌, ◌*◌, ◌<◌, ◌≤◌, ◌/◌, ◌^◌, ◌==◌, ◌&&◌, ◌||◌, false, Some, IfOk, length, slice_get, nat_lt};
 ghost use Rattle.hd_task.specs.Conditions.{has_atom};
 ghost use Rattle.hd_successors.specs.Watching.{IsWatchedBy, is_candidate};
-ghost use Rattle.hd_successors.specs.Seeing.{is_always, watches_one, is_in_byte};
+ghost use Rattle.hd_successors.specs.Seeing.{is_always, watches_one, other_passes, is_in_byte};
 ghost use Rattle.hd_successors.specs.Chains.{AreChains, last_with, last_in};
 ghost use Rattle.hd_successors.specs.Marks.{is_marked, words_for};
 
 use crate::Watch;
-use crate::marks::{no_marks, set_mark};
+use crate::marks::{first_mark, no_marks, set_mark};
 use crate::watching::watched_of;
 use hd_base::{NoMemory, Sequence};
 use hd_pack::Packed;
-use hd_task::Action;
+use hd_task::{Action, Reads};
 use std::alloc::Global;
 
-/// What each action watches, and which actions watch an atom.
+/// What each action watches, and which actions watch an atom first.
 #[derive(Debug, Drop)]
 pub(crate) struct Watches {
     /// By action.
     pub(crate) watched: Sequence<Watch>,
-    /// By atom: one more than the last action that watches it, or 0.
+    /// By atom: one more than the last action that watches it first, or 0.
     last: Sequence<u32>,
-    /// By action: one more than the last one before it that watches the same atom, or 0.
+    /// By action: one more than the last one before it that watches the same atom first, or 0.
     before: Sequence<u32>,
     // The chains are of all actions.
     ghost chained: { AreChains watched last before (length watched) },
@@ -30,13 +30,13 @@ pub(crate) struct Watches {
     ghost few_actions: { length watched ≤ 2 ^ 20 },
 }
 
-/// Puts an action at the end of the chain of what it watches, and gives what stands before it.
+/// Puts an action at the end of the chain of what it watches first, and gives what stands before it.
 fn link(last: &mut [u32], watch: Watch, action: u32) -> u32
     requires { action < 2 ^ 20 }
     ensures last { last.new ≡ last_with last.old watch action }
     ensures before { result ≡ last_in last.old watch }
 {
-    let Watch::Atom(atom) = watch else {
+    let Watch::Atoms(atom, _) = watch else {
         return 0;
     };
     let atom = atom as usize;
@@ -89,18 +89,45 @@ fn mark_always(watched: &[Watch], marks: &mut [u64])
     }
 }
 
+/// Whether the other atom that is watched is true in a state.
+fn sees_other(state: &Packed, watch: Watch) -> bool
+    ensures { result ≡ other_passes (has_atom state.now) (Some watch) }
+{
+    match watch {
+        Watch::Always => true,
+        Watch::Atoms(_, other) => state.has_atom(other),
+    }
+}
+
+/// Marks an action if the other atom that it watches is true in a state.
+fn mark_if_seen(state: &Packed, watch: Watch, action: usize, marks: &mut [u64])
+    requires { action / 64 < length marks.old }
+    ensures { (i : ℕ) → is_marked marks.new i
+        ≡ (((i == action) && other_passes (has_atom state.now) (Some watch))
+        || is_marked marks.old i) }
+{
+    if sees_other(state, watch) {
+        set_mark(marks, action);
+    }
+}
+
 impl Watches {
-    /// What each of these actions watches, of a task of so many atoms.
+    /// What each of these actions watches, of a task of so many atoms, which starts with these.
     ///
     /// # Errors
-    /// `NoMemory` where there is no room for a number an atom and three an action.
-    pub(crate) fn of(alloc: Global, actions: &[Action], atoms: usize) -> Result<Watches, NoMemory>
+    /// `NoMemory` where there is no room for a number an atom and four an action.
+    pub(crate) fn of(
+        alloc: Global,
+        actions: &[Action],
+        initial: &[bool],
+        atoms: usize,
+    ) -> Result<Watches, NoMemory>
         requires few_atoms { atoms ≤ 2 ^ 20 }
         requires few_actions { length actions.now ≤ 2 ^ 20 }
         ensures watched { IfOk result (λ w. IsWatchedBy actions.now w.watched) }
         ensures atoms { IfOk result (λ w. length w.last ≡ atoms) }
     {
-        let watched = watched_of(alloc, actions, atoms)?;
+        let watched = watched_of(alloc, actions, initial)?;
         let (last, before) = match chains_of(alloc, watched.as_slice(), atoms) {
             Ok(chains) => chains,
             Err(error) => {
@@ -126,50 +153,58 @@ impl Watches {
         Ok(marks)
     }
 
-    /// Marks the actions that watch an atom.
-    fn mark_watchers(&self, atom: usize, marks: &mut [u64])
+    /// Marks the actions that watch an atom first, and another that is true in a state.
+    fn mark_watchers(&self, atom: usize, state: &Packed, marks: &mut [u64])
         requires { length self.now.watched ≤ 64 * length marks.old }
         ensures { (i : ℕ) → is_marked marks.new i
-            ≡ (watches_one (λ a. (a == atom) && nat_lt a (length self.now.last))
-            (slice_get self.now.watched i) || is_marked marks.old i) }
+            ≡ ((watches_one (λ a. (a == atom) && nat_lt a (length self.now.last))
+            (slice_get self.now.watched i)
+            && other_passes (has_atom state.now) (slice_get self.now.watched i))
+            || is_marked marks.old i) }
     {
         let Some(last) = self.last.as_slice().get(atom) else {
             return;
         };
+        let watched = self.watched.as_slice();
         let before = self.before.as_slice();
         let mut left = *last as usize;
         while left > 0 {
-            set_mark(marks, left - 1);
+            mark_if_seen(state, watched[left - 1], left - 1, marks);
             left = before[left - 1] as usize;
         }
     }
 
-    /// Marks the actions that watch an atom which a byte has; the byte's atoms are those from `base` on.
-    fn mark_byte(&self, byte: u8, base: usize, marks: &mut [u64])
+    /// Marks the actions that watch an atom first which a byte has, and another that is true in a state; the byte's atoms are those from
+    /// `base` on.
+    fn mark_byte(&self, byte: u8, base: usize, state: &Packed, marks: &mut [u64])
         requires room { length self.now.watched ≤ 64 * length marks.old }
         requires near { base ≤ 2 ^ 20 }
         ensures { (i : ℕ) → is_marked marks.new i
-            ≡ (watches_one (λ a. nat_lt a (length self.now.last) && is_in_byte byte base a)
-            (slice_get self.now.watched i) || is_marked marks.old i) }
+            ≡ ((watches_one (λ a. nat_lt a (length self.now.last) && is_in_byte byte base a)
+            (slice_get self.now.watched i)
+            && other_passes (has_atom state.now) (slice_get self.now.watched i))
+            || is_marked marks.old i) }
     {
-        for bit in 0..8 {
-            if (byte >> bit) % 2 == 1 {
-                self.mark_watchers(base + bit, marks);
-            }
+        let bits = [u64::from(byte)];
+        let mut from = 0;
+        while let Some(bit) = first_mark(&bits, from) {
+            self.mark_watchers(base + bit, state, marks);
+            from = bit + 1;
         }
     }
 
-    /// Marks the actions that watch an atom which is true in a state.
+    /// Marks the actions that watch atoms which are true in a state.
     fn mark_seen(&self, state: &Packed, marks: &mut [u64])
         requires room { length self.now.watched ≤ 64 * length marks.old }
         requires of_task { length state.now.atoms ≡ length self.now.last }
         ensures { (i : ℕ) → is_marked marks.new i
-            ≡ (watches_one (has_atom state.now) (slice_get self.now.watched i)
+            ≡ ((watches_one (has_atom state.now) (slice_get self.now.watched i)
+            && other_passes (has_atom state.now) (slice_get self.now.watched i))
             || is_marked marks.old i) }
     {
         let bytes = state.bytes();
         for place in 0..self.last.len().div_ceil(8) {
-            self.mark_byte(bytes[place], 8 * place, marks);
+            self.mark_byte(bytes[place], 8 * place, state, marks);
         }
     }
 

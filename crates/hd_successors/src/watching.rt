@@ -2,7 +2,9 @@
 ghost use Rattle.std.specs.Prelude.{◌≡◌, ℕ, ◌≤◌, ◌++◌, [], ◌∷◌, List, true, IfOk, length};
 ghost use Rattle.hd_task.specs.declared.condition.Literal.{Literal};
 ghost use Rattle.hd_task.specs.declared.task.TheConstants.{MAX_ATOMS};
-ghost use Rattle.hd_successors.specs.Watching.{asks_for, IsWatchedBy};
+ghost use Rattle.hd_successors.specs.declared.watching.Watch.TheVariants as Watch;
+ghost use Rattle.std.specs.List.{list_any};
+ghost use Rattle.hd_successors.specs.Watching.{is_for, asks_for, IsWatchedBy};
 
 use hd_base::{NoMemory, Sequence};
 use hd_task::{Action, Condition, Literal};
@@ -13,9 +15,13 @@ use std::alloc::Global;
 pub enum Watch {
     /// Nothing: it may always apply.
     Always,
-    /// An atom that its condition asks to be true. One that the task lacks is false.
-    Atom(u32),
+    /// Two atoms that its condition asks to be true, the same one twice where it asks for no other. One that the task lacks is false.
+    Atoms(u32, u32),
 }
+
+/// What stands at first for the uses of an atom that is true in the initial state, until an action is seen that makes it false: as it
+/// tells no state from another, it is watched last.
+const STAYS: u32 = 1 << 31;
 
 /// How many actions ask for an atom; none where it is beyond the table.
 fn uses_of(uses: &[u32], atom: u32) -> u32 {
@@ -32,18 +38,54 @@ fn count_uses(uses: &mut [u32], condition: &Condition) {
     }
 }
 
-/// How many literals of conditions ask for each atom.
-fn all_uses(alloc: Global, actions: &[Action], atoms: usize) -> Result<Vec<u32>, NoMemory>
-    ensures { IfOk result (λ v. length v.items ≡ atoms) }
+/// Notes which atoms are true at first.
+fn note_initial(uses: &mut [u32], initial: &[bool]) {
+    for atom in 0..uses.len() {
+        if initial.get(atom).copied().unwrap_or(false) {
+            uses[atom] = STAYS;
+        }
+    }
+}
+
+/// Notes that atoms become false.
+fn note_deletes(uses: &mut [u32], deletes: &[u32]) {
+    for atom in deletes {
+        let atom = *atom as usize;
+        if atom < uses.len() && uses[atom] >= STAYS {
+            uses[atom] -= STAYS;
+        }
+    }
+}
+
+/// How many literals of conditions ask for each atom; of one that is true in each state, more than of any other.
+fn all_uses(alloc: Global, actions: &[Action], initial: &[bool]) -> Result<Vec<u32>, NoMemory>
+    ensures { IfOk result (λ v. length v.items ≡ length initial.now) }
 {
-    let mut uses = vec![in alloc; 0; atoms]?;
+    let mut uses = vec![in alloc; 0; initial.len()]?;
+    note_initial(uses.as_mut_slice(), initial);
     for action in actions {
         count_uses(uses.as_mut_slice(), &action.condition);
+        note_deletes(uses.as_mut_slice(), action.deletes.as_slice());
     }
     Ok(uses)
 }
 
-/// What to watch with one literal more: of two atoms the one that fewer ask for, the earlier of equal ones.
+/// What to watch with one atom more that is asked to be true: of the three the two that fewest ask for, the rarest first, the earlier
+/// of equal ones.
+fn rarer_with(uses: &[u32], rare: u32, other: u32, atom: u32) -> Watch
+    ensures { (literals : List Literal) → asks_for literals (Watch.Atoms rare other) ≡ true
+        → list_any (is_for atom) literals ≡ true → asks_for literals result ≡ true }
+{
+    if uses_of(uses, atom) < uses_of(uses, rare) {
+        Watch::Atoms(atom, rare)
+    } else if other == rare || uses_of(uses, atom) < uses_of(uses, other) {
+        Watch::Atoms(rare, atom)
+    } else {
+        Watch::Atoms(rare, other)
+    }
+}
+
+/// What to watch with one literal more.
 fn rarer(uses: &[u32], watch: Watch, literal: Literal) -> Watch
     ensures { (literals : List Literal) → asks_for literals watch ≡ true
         → asks_for (literals ++ literal ∷ []) result ≡ true }
@@ -52,18 +94,13 @@ fn rarer(uses: &[u32], watch: Watch, literal: Literal) -> Watch
         return watch;
     }
     match watch {
-        Watch::Always => Watch::Atom(literal.atom),
-        Watch::Atom(atom) => {
-            if uses_of(uses, literal.atom) < uses_of(uses, atom) {
-                Watch::Atom(literal.atom)
-            } else {
-                watch
-            }
-        }
+        Watch::Always => Watch::Atoms(literal.atom, literal.atom),
+        Watch::Atoms(rare, other) => rarer_with(uses, rare, other, literal.atom),
     }
 }
 
-/// What an action of these literals watches: the atom that fewest ask for, of those that it asks to be true.
+/// What an action of these literals watches: the two atoms that fewest ask for, of those that it asks to be true; one that is true in
+/// each state comes last.
 fn rarest(uses: &[u32], literals: &[Literal]) -> Watch
     ensures { asks_for literals.now result ≡ true }
 {
@@ -85,18 +122,18 @@ fn each_rarest(alloc: Global, uses: &[u32], actions: &[Action]) -> Result<Vec<Wa
     Ok(watched)
 }
 
-/// What each of the actions of a task of so many atoms watches.
+/// What each of the actions of a task watches, which starts with these atoms.
 ///
 /// # Errors
-/// `NoMemory` where there is no room for a number an atom and an action.
+/// `NoMemory` where there is no room for a number an atom and three an action.
 pub(crate) fn watched_of(
     alloc: Global,
     actions: &[Action],
-    atoms: usize,
+    initial: &[bool],
 ) -> Result<Sequence<Watch>, NoMemory>
     ensures { IfOk result (IsWatchedBy actions.now) }
 {
-    let uses = all_uses(alloc, actions, atoms)?;
+    let uses = all_uses(alloc, actions, initial)?;
     let watched = each_rarest(alloc, uses.as_slice(), actions)?;
     Ok(Sequence::from_vec(watched))
 }

@@ -104,6 +104,7 @@ impl Words {
     }
 
     /// The word of an atom that is true.
+    #[inline(always)]
     fn of_atom(&self, atom: usize) -> u64
         ensures { result ≡ atom_word atom }
     {
@@ -173,6 +174,7 @@ impl Words {
     }
 
     /// What a change does to a hash, by exclusive or.
+    #[inline(always)]
     fn of_change(&self, change: Change) -> u64
         ensures { result ≡ change_word change }
     {
@@ -185,6 +187,7 @@ impl Words {
     }
 
     /// A hash with what changes do to it.
+    #[inline(always)]
     fn updated(&self, old_hash: u64, changes: &[Change]) -> u64
         ensures { result ≡ updated old_hash changes.now }
     {
@@ -199,6 +202,8 @@ impl Words {
     ///
     /// Where the changes are those between two states, one after the other, and the old hash is that of the one, this is that of the
     /// other.
+    // Most callers have one change, of a known kind: all but that falls away where it is inlined.
+    #[inline(always)]
     #[tactic(auto, using(crate::proofs::Hashing::hash_after))]
     pub fn update(&self, old_hash: u64, changes: &[Change]) -> u64
         ensures words { result ≡ updated old_hash changes.now }

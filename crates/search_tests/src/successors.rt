@@ -2,7 +2,7 @@
 ghost use Rattle.std.specs.Prelude.{◌≡◌};
 
 use crate::outcomes::assert_sizes;
-use crate::tasks::{action_from, always, names, state, task_from, three_actions, two_steps};
+use crate::tasks::{action_from, always, list, names, state, task_from, three_actions, two_steps};
 use hd_pack::{Layout, Packed, pack};
 use hd_successors::{Successors, Watch};
 use hd_task::{Action, Condition, Literal, Sequence, State, Task};
@@ -129,7 +129,7 @@ fn literals_hold(atoms: &[bool], condition: &Condition) -> bool {
 fn is_seen(atoms: &[bool], watch: Watch) -> bool {
     match watch {
         Watch::Always => true,
-        Watch::Atom(atom) => is_true(atoms, atom),
+        Watch::Atoms(first, other) => is_true(atoms, first) && is_true(atoms, other),
     }
 }
 
@@ -294,11 +294,11 @@ fn assert_watched(
 }
 
 #[test]
-fn actions_watch_a_true_atom_if_they_ask_for_one(rt: HostRuntime) -> Result<(), Fail> {
+fn actions_watch_true_atoms_if_they_ask_for_one(rt: HostRuntime) -> Result<(), Fail> {
     let task = two_steps(&rt, rt.alloc())?;
-    assert_watched(&rt, rt.alloc(), &task, &[Watch::Always, Watch::Atom(0)])?;
+    assert_watched(&rt, rt.alloc(), &task, &[Watch::Always, Watch::Atoms(0, 0)])?;
     let task = three_actions(&rt, rt.alloc(), 0)?;
-    let watched = [Watch::Always, Watch::Atom(0), Watch::Always];
+    let watched = [Watch::Always, Watch::Atoms(0, 0), Watch::Always];
     assert_watched(&rt, rt.alloc(), &task, &watched)
 }
 
@@ -326,15 +326,42 @@ fn needing(alloc: Global) -> Result<Sequence<Action>, Fail> {
     Ok(Sequence::from_vec(actions))
 }
 
+/// Two actions. The first asks for 0, 1 and 2; the second asks for 1, and makes it false.
+fn deleting(alloc: Global) -> Result<Sequence<Action>, Fail> {
+    let mut actions = Vec::new(alloc);
+    let literals = asking(alloc, &[0, 1, 2])?;
+    actions.push(idle(alloc, condition_of(literals, false, alloc)))?;
+    let literals = asking(alloc, &[1])?;
+    actions.push(action_from(
+        alloc,
+        0,
+        condition_of(literals, false, alloc),
+        list(alloc, &[1])?,
+        Sequence::empty(alloc),
+        Sequence::empty(alloc),
+        Sequence::empty(alloc),
+    ))?;
+    Ok(Sequence::from_vec(actions))
+}
+
 #[test]
-fn actions_watch_the_atom_that_fewest_ask_for(rt: HostRuntime) -> Result<(), Fail> {
+fn an_atom_that_stays_true_is_watched_last(rt: HostRuntime) -> Result<(), Fail> {
+    // 0 and 1 are true at first, and nothing makes 0 false; two ask for 1, and one for each of the others.
+    let atoms = [true, true, false];
+    let task = task_of(&rt, rt.alloc(), &atoms, deleting(rt.alloc())?)?;
+    let watched = [Watch::Atoms(2, 1), Watch::Atoms(1, 1)];
+    assert_watched(&rt, rt.alloc(), &task, &watched)
+}
+
+#[test]
+fn actions_watch_the_two_atoms_that_fewest_ask_for(rt: HostRuntime) -> Result<(), Fail> {
     let atoms = [false, false, false, false];
     let task = task_of(&rt, rt.alloc(), &atoms, needing(rt.alloc())?)?;
     let watched = [
-        Watch::Atom(1),
-        Watch::Atom(0),
-        Watch::Atom(1),
-        Watch::Atom(2),
+        Watch::Atoms(1, 0),
+        Watch::Atoms(0, 0),
+        Watch::Atoms(1, 0),
+        Watch::Atoms(2, 3),
     ];
     assert_watched(&rt, rt.alloc(), &task, &watched)
 }

@@ -1,15 +1,18 @@
-use Rattle.std.proofs.Common.{◌≡◌, ℕ, ◌≤◌, length}
+use Rattle.std.proofs.Common.{◌≡◌, ℕ, ◌≤◌, length, slice_get}
+use Rattle.hd_task.specs.Conditions.{has_atom}
 use Rattle.hd_successors.specs.Chains.{last_watcher}
+use Rattle.hd_successors.specs.Seeing.{other_passes}
 use Rattle.hd_successors.specs.Marks.{is_marked}
 use Rattle.hd_successors.proofs.Chaining.{marked_from}
 use Rattle.hd_successors.proofs.watches.Watches.mark_watchers.Given as goal
 
--- the watchers from `left` on are marked, and none below it
+-- the watchers from `left` on are marked where they see the other atom, and none below it
 abbrev pub invariant-loop-left : goal.invariant-loop-left
 invariant-loop-left l = record {
   end : l.left ≡ last_watcher l.self.watched l.atom l.left;
   within : l.left ≤ length l.self.watched;
-  marks : (i : ℕ) → is_marked l.marks i ≡ marked_from l.self.watched l.atom l.left (is_marked l.initial.marks i) i;
+  marks : (i : ℕ) → is_marked l.marks i
+      ≡ marked_from l.self.watched l.atom l.left (λ k. other_passes (has_atom l.state) (slice_get l.self.watched k)) (is_marked l.initial.marks i) i;
 }
 
 abbrev pub decreases-loop-left : goal.decreases-loop-left
