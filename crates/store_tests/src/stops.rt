@@ -159,10 +159,14 @@ fn a_machine_stops_in_each_call(rt: HostRuntime) -> Result<(), Fail> {
         for fill in FILLS {
             let mut disk = MemoryDisk::of(rt.alloc(), list(rt.alloc(), b"abcd")?)?;
             disk.stop_at(nth as u64 + 1);
-            for what in &SCRIPT[..nth] {
-                assert!(rt; change(&mut disk, *what) == Some(Ok(())));
+            for (place, what) in SCRIPT.iter().enumerate() {
+                if place < nth {
+                    assert!(rt; change(&mut disk, *what) == Some(Ok(())));
+                }
+                if place == nth {
+                    assert!(rt; change(&mut disk, *what) == Some(Err(StoreError::Failed)));
+                }
             }
-            assert!(rt; change(&mut disk, SCRIPT[nth]) == Some(Err(StoreError::Failed)));
             assert_eq!(rt; disk.failures(), 1);
             // Each call fails now, and none is begun.
             assert!(rt; disk.sync() == Err(StoreError::Failed));
