@@ -16,6 +16,14 @@ later (Stops zero) = Down
 later (Stops (suc n)) = Stops n
 later Down = Down
 
+-- what is known behind a change that was begun and failed: a real device is not asked any more
+abbrev pub behind_failure : Ahead → Ahead
+behind_failure Unknown = Down
+behind_failure Well = Well
+behind_failure (Fails n) = later (Fails n)
+behind_failure (Stops n) = later (Stops n)
+behind_failure Down = Down
+
 -- whether the next call is one that fails although the device still runs
 abbrev pub is_next : Ahead → Bool
 is_next Unknown = false
@@ -24,9 +32,9 @@ is_next (Fails n) = n == 0
 is_next (Stops n) = n == 0
 is_next Down = false
 
--- what becomes of the reads to come, where a change is begun and fails: the device may stop in it
+-- what becomes of the reads to come, where a change is begun and fails: the machine may stop in it, and a real device is not asked any more
 abbrev pub reads_behind : Ahead → Ahead → Ahead
-reads_behind Unknown reads = reads
+reads_behind Unknown reads = Down
 reads_behind Well reads = reads
 reads_behind (Fails n) reads = reads
 reads_behind (Stops n) reads = Down

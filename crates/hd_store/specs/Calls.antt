@@ -1,9 +1,9 @@
 -- What the calls on a device answer and leave. (Our own.)
-use Rattle.std.specs.Prelude.{◌≡◌, ◌⊎◌, Bool, false, List, ℕ, Result, Ok, Err}
+use Rattle.std.specs.Prelude.{◌≡◌, ◌⊎◌, true, List, ℕ, Result, Ok, Err}
 use Rattle.hd_store.specs.declared.change.Change.{Change}
 use Rattle.hd_store.specs.declared.error.StoreError.{StoreError}
 use Rattle.hd_store.specs.declared.error.StoreError.TheVariants.{NoMemory, Failed}
-use Rattle.hd_store.specs.Device.{Device, is_due, broken, refused}
+use Rattle.hd_store.specs.Device.{Device, is_closed, broken, refused}
 
 -- where the device failed, this is so
 abbrev pub OnFailed : {X : Type 0} → Result X StoreError → Type 0 → Type 0
@@ -17,6 +17,6 @@ OnNoMemory (Ok x) P = Unit {0}
 OnNoMemory (Err NoMemory) P = P
 OnNoMemory (Err Failed) P = Unit {0}
 
--- A change failed: it was begun and any part of it was done, by what a read gives now; or nothing was begun, unless a failure was due.
+-- A change failed: it was begun and any part of it was done, by what a read gives now; or the device is closed, and nothing was begun.
 abbrev pub BreaksOff : Device → Change → (List ℕ → Type 0) → Device → Type 0
-BreaksOff old change IsPart new = ((is_due old ≡ false) × (new ≡ refused old)) ⊎ ((now : List ℕ) × IsPart now × (new ≡ broken old change now))
+BreaksOff old change IsPart new = ((is_closed old ≡ true) × (new ≡ refused old)) ⊎ ((now : List ℕ) × IsPart now × (new ≡ broken old change now))

@@ -1,9 +1,9 @@
 -- A device as contracts see it, and what calls make of it. (Our own.)
-use Rattle.std.specs.Prelude.{ℕ, ◌+◌, Bool, true, false, not, ◌&&◌, ◌==◌, List, ◌∷◌, min}
+use Rattle.std.specs.Prelude.{ℕ, ◌+◌, Bool, List, ◌∷◌, min}
 use Rattle.hd_store.specs.declared.ahead.Ahead.{Ahead}
 use Rattle.hd_store.specs.declared.change.Change.{Change}
 use Rattle.hd_store.specs.declared.error.TheConstants.{MOST_FAILURES}
-use Rattle.hd_store.specs.Ahead.{later, is_next, reads_behind}
+use Rattle.hd_store.specs.Ahead.{later, behind_failure, is_refused, reads_behind}
 use Rattle.hd_store.specs.Past.{Step, step, content_after}
 
 -- what it held for sure at its start, the steps since then, the last one first, how many calls have failed, and what is known of the changes
@@ -23,9 +23,9 @@ content_of device = content_after device.start device.steps
 abbrev pub one_more : ℕ → ℕ
 one_more failures = min (failures + 1) MOST_FAILURES
 
--- whether the next change is begun and fails: one is due, and the count can still rise
-abbrev pub is_due : Device → Bool
-is_due device = is_next device.changes && not (device.failures == MOST_FAILURES)
+-- whether no change is begun: the count of failures stands at its greatest value, or the device is not asked any more
+abbrev pub is_closed : Device → Bool
+is_closed device = is_refused device.failures device.changes
 
 -- behind a change that was done
 abbrev pub done : Device → Change → List ℕ → Device
@@ -39,7 +39,7 @@ abbrev pub broken : Device → Change → List ℕ → Device
 broken device change now = record device {
   steps = step change now ∷ device.steps;
   failures = one_more device.failures;
-  changes = later device.changes;
+  changes = behind_failure device.changes;
   reads = reads_behind device.changes device.reads;
 }
 

@@ -1,6 +1,6 @@
 //! Which calls are to fail.
 ghost use Rattle.std.specs.Prelude.{◌≡◌};
-ghost use Rattle.hd_store.specs.Ahead.{later, is_next, is_down, reads_behind};
+ghost use Rattle.hd_store.specs.Ahead.{later, behind_failure, is_next, is_down, reads_behind};
 
 /// What is known of the calls to come, of one kind.
 #[derive(Clone, Copy, Debug, PartialEq, Eq)]
@@ -31,6 +31,16 @@ impl Ahead {
         }
     }
 
+    /// What is known behind a change that was begun and failed.
+    pub(crate) fn behind_failure(self) -> Ahead
+        ensures { result ≡ behind_failure self }
+    {
+        match self {
+            Ahead::Unknown => Ahead::Down,
+            known => known.later(),
+        }
+    }
+
     /// Whether the next call is one that fails although the device still runs.
     pub(crate) fn is_next(self) -> bool
         ensures { result ≡ is_next self }
@@ -50,7 +60,7 @@ impl Ahead {
         ensures { result ≡ reads_behind self reads }
     {
         match self {
-            Ahead::Stops(_) => Ahead::Down,
+            Ahead::Stops(_) | Ahead::Unknown => Ahead::Down,
             _ => reads,
         }
     }

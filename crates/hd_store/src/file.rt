@@ -1,5 +1,5 @@
 //! A disk over a file.
-ghost use Rattle.std.specs.Prelude.{◌≡◌, ◌==◌, ◌↔◌, [], true, false, IsTrue, IfErr, OnOk, OnErr, IfOk};
+ghost use Rattle.std.specs.Prelude.{◌≡◌, ◌==◌, ◌||◌, ◌↔◌, true, false, IsTrue, IfErr, OnOk, OnErr, IfOk};
 ghost use Rattle.hd_store.specs.declared.error.StoreError.TheVariants.{Failed};
 ghost use Rattle.hd_store.specs.Device.{one_more};
 
@@ -98,7 +98,10 @@ impl FileStore {
     fn begin(&mut self) -> Result<(), StoreError>
         ensures begun { OnOk result (self.new ≡ self.old) }
         ensures few { OnOk result ((self.old.failures == MOST_FAILURES) ≡ false) }
+        ensures running { OnOk result (self.old.is_broken ≡ false) }
         ensures error { IfErr result (λ error. error ≡ Failed) }
+        ensures closed { OnErr result
+            ((self.old.failures == MOST_FAILURES) || self.old.is_broken ≡ true) }
         ensures counted { OnErr result
             (self.new ≡ record self.old { failures = one_more self.old.failures }) }
     {

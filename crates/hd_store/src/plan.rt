@@ -1,7 +1,7 @@
 //! Which calls of a disk in memory fail, and how many have failed.
 ghost use Rattle.std.specs.Prelude.{◌≡◌, ◌==◌, true, false, if◌then◌else◌, IfErr, OnOk, OnErr};
 ghost use Rattle.hd_store.specs.declared.error.StoreError.TheVariants.{Failed};
-ghost use Rattle.hd_store.specs.Ahead.{later, is_down, is_failing, is_refused, reads_behind};
+ghost use Rattle.hd_store.specs.Ahead.{later, behind_failure, is_down, is_failing, is_refused, reads_behind};
 ghost use Rattle.hd_store.specs.Device.{one_more};
 
 use crate::ahead::Ahead;
@@ -72,13 +72,13 @@ impl Plan {
     pub(crate) fn break_off(&mut self)
         ensures { self.new ≡ record {
           failures = one_more self.old.failures;
-          changes = later self.old.changes;
+          changes = behind_failure self.old.changes;
           reads = reads_behind self.old.changes self.old.reads;
         } }
     {
         self.count();
         self.reads = self.changes.reads_behind(self.reads);
-        self.changes = self.changes.later();
+        self.changes = self.changes.behind_failure();
     }
 
     /// A change was done.

@@ -1,5 +1,5 @@
 //! Tests of a disk over a real file, in a folder of the test's own.
-use crate::scripts::{Do, change, content, make, read};
+use crate::scripts::{Do, change, content, has_failed, make, read_fails, reads};
 use hd_store::{FileStore, Store, StoreError};
 use std::test::Fail;
 use std::{env, fs, process};
@@ -46,7 +46,7 @@ fn a_file_keeps_what_was_written(rt: HostRuntime) -> Result<(), Fail> {
         content(rt.alloc(), &mut store)?.as_slice(),
         b"axyd".as_slice()
     );
-    assert_eq!(rt; store.failures(), 0);
+    has_failed(&rt, &store, 0);
     drop(store);
     fs::remove_dir_all(&rt, folder.as_str())?;
     Ok(())
@@ -60,14 +60,13 @@ fn a_file_that_differs_is_a_failure(rt: HostRuntime) -> Result<(), Fail> {
     let mut store = FileStore::open(&rt, rt.alloc(), path, true)?;
     make(&rt, &mut store, &[Do::Write(0, b"abcd"), Do::Sync]);
     fs::write(&rt, path, "abxd")?;
-    let mut part = [0u8; 2];
-    assert!(rt; read(&mut store, 0, &mut part) == Some(Ok(())));
-    assert!(rt; read(&mut store, 1, &mut part) == Some(Err(StoreError::Failed)));
-    assert_eq!(rt; store.failures(), 1);
+    reads(&rt, &mut store, 0, b"ab");
+    read_fails(&rt, &mut store, 1);
+    has_failed(&rt, &store, 1);
     fs::write(&rt, path, "abcdefg")?;
     assert!(rt; store.len() == Err(StoreError::Failed));
     assert!(rt; change(&mut store, Do::Cut(1)) == None);
-    assert_eq!(rt; store.failures(), 3);
+    has_failed(&rt, &store, 3);
     assert!(rt; store.sync() == Ok(()));
     drop(store);
     fs::remove_dir_all(&rt, folder.as_str())?;

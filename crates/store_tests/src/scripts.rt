@@ -1,5 +1,5 @@
 //! Calls on any store, each of which first asks for the length: a call that does not fit it is no call.
-use hd_store::{Store, StoreError};
+use hd_store::{MemoryDisk, Store, StoreError};
 use std::alloc::{AllocError, Global};
 use std::process::Abort;
 use std::test::Fail;
@@ -52,7 +52,35 @@ pub fn content<S: Store>(alloc: Global, store: &mut S) -> Result<Vec<u8>, Fail> 
     Ok(bytes)
 }
 
-/// A list of these bytes.
-pub fn list(alloc: Global, bytes: &[u8]) -> Result<Vec<u8>, AllocError> {
-    bytes.to_vec(alloc)
+/// A disk in memory that holds these bytes for sure.
+pub fn disk_of(alloc: Global, bytes: &[u8]) -> Result<MemoryDisk, AllocError> {
+    MemoryDisk::of(alloc, bytes.to_vec(alloc)?)
+}
+
+/// The disk holds these bytes.
+pub fn holds(rt: &impl Abort, disk: &MemoryDisk, bytes: &[u8]) {
+    assert_eq!(rt; disk.bytes(), bytes);
+}
+
+/// So many calls on the store have failed.
+pub fn has_failed<S: Store>(rt: &impl Abort, store: &S, times: u64) {
+    assert_eq!(rt; store.failures(), times);
+}
+
+/// A change fits the length, and fails.
+pub fn fails<S: Store>(rt: &impl Abort, store: &mut S, what: Do) {
+    assert!(rt; change(store, what) == Some(Err(StoreError::Failed)));
+}
+
+/// A range fits the length, and these bytes are read there.
+pub fn reads<S: Store>(rt: &impl Abort, store: &mut S, at: u64, bytes: &[u8; 2]) {
+    let mut part = [0u8; 2];
+    assert!(rt; read(store, at, &mut part) == Some(Ok(())));
+    assert_eq!(rt; part.as_slice(), bytes.as_slice());
+}
+
+/// A range of two bytes fits the length, and reading it fails.
+pub fn read_fails<S: Store>(rt: &impl Abort, store: &mut S, at: u64) {
+    let mut part = [0u8; 2];
+    assert!(rt; read(store, at, &mut part) == Some(Err(StoreError::Failed)));
 }

@@ -1,5 +1,5 @@
 //! Tests of what a stop leaves of a disk in memory.
-use crate::scripts::{Do, change, list, make, read};
+use crate::scripts::{Do, disk_of, fails, has_failed, holds, make};
 use hd_store::{MemoryDisk, Store, StoreError};
 use std::alloc::Global;
 use std::process::Abort;
@@ -94,7 +94,7 @@ fn settles(
 fn a_stop_leaves_what_is_sure(rt: HostRuntime) -> Result<(), Fail> {
     for row in &ROWS {
         for fill in FILLS {
-            let mut disk = MemoryDisk::of(rt.alloc(), list(rt.alloc(), b"abcd")?)?;
+            let mut disk = disk_of(rt.alloc(), b"abcd")?;
             make(&rt, &mut disk, row.script);
             settles(&rt, rt.alloc(), &mut disk, row.left, fill)?;
         }
@@ -117,10 +117,10 @@ fn a_change_that_fails_may_have_been_done(rt: HostRuntime) -> Result<(), Fail> {
     ];
     for (what, left) in rows {
         for fill in FILLS {
-            let mut disk = MemoryDisk::of(rt.alloc(), list(rt.alloc(), b"abcd")?)?;
+            let mut disk = disk_of(rt.alloc(), b"abcd")?;
             disk.fail_at(1);
-            assert!(rt; change(&mut disk, what) == Some(Err(StoreError::Failed)));
-            assert_eq!(rt; disk.bytes(), b"abcd".as_slice());
+            fails(&rt, &mut disk, what);
+            holds(&rt, &disk, b"abcd");
             settles(&rt, rt.alloc(), &mut disk, left, fill)?;
         }
     }
@@ -129,11 +129,11 @@ fn a_change_that_fails_may_have_been_done(rt: HostRuntime) -> Result<(), Fail> {
 
 #[test]
 fn a_failed_sync_makes_nothing_sure(rt: HostRuntime) -> Result<(), Fail> {
-    let mut disk = MemoryDisk::of(rt.alloc(), list(rt.alloc(), b"abcd")?)?;
+    let mut disk = disk_of(rt.alloc(), b"abcd")?;
     make(&rt, &mut disk, &[Do::Write(0, b"x")]);
     disk.fail_at(1);
-    assert!(rt; change(&mut disk, Do::Sync) == Some(Err(StoreError::Failed)));
-    assert_eq!(rt; disk.bytes(), b"xbcd".as_slice());
+    fails(&rt, &mut disk, Do::Sync);
+    holds(&rt, &disk, b"xbcd");
     settles(
         &rt,
         rt.alloc(),
@@ -153,38 +153,38 @@ const STOPS: [&[Option<u8>]; 4] = [
     &[None, Some(b'b'), Some(b'c'), Some(b'd'), Some(b'e')],
 ];
 
+/// Behind a stop each call fails, and none is begun.
+fn stands_still(rt: &impl Abort, disk: &mut MemoryDisk) {
+    has_failed(rt, disk, 1);
+    fails(rt, disk, Do::Sync);
+    assert!(rt; disk.len() == Err(StoreError::Failed));
+    assert!(rt; disk.read_at(0, &mut []) == Err(StoreError::Failed));
+    has_failed(rt, disk, 4);
+}
+
+/// The machine stops in this call of the script.
+fn stops_in(rt: &impl Abort, disk: &mut MemoryDisk, nth: usize) {
+    for (place, what) in SCRIPT.iter().enumerate() {
+        if place < nth {
+            make(rt, disk, &[*what]);
+        }
+        if place == nth {
+            fails(rt, disk, *what);
+        }
+    }
+}
+
 #[test]
 fn a_machine_stops_in_each_call(rt: HostRuntime) -> Result<(), Fail> {
     for (nth, left) in STOPS.iter().enumerate() {
         for fill in FILLS {
-            let mut disk = MemoryDisk::of(rt.alloc(), list(rt.alloc(), b"abcd")?)?;
+            let mut disk = disk_of(rt.alloc(), b"abcd")?;
             disk.stop_at(nth as u64 + 1);
-            for what in &SCRIPT[..nth] {
-                assert!(rt; change(&mut disk, *what) == Some(Ok(())));
-            }
-            assert!(rt; change(&mut disk, SCRIPT[nth]) == Some(Err(StoreError::Failed)));
-            assert_eq!(rt; disk.failures(), 1);
-            // Each call fails now, and none is begun.
-            assert!(rt; disk.sync() == Err(StoreError::Failed));
-            assert!(rt; disk.len() == Err(StoreError::Failed));
-            assert!(rt; change(&mut disk, Do::Write(0, b"y")) == None);
-            assert_eq!(rt; disk.failures(), 4);
+            stops_in(&rt, &mut disk, nth);
+            stands_still(&rt, &mut disk);
             settles(&rt, rt.alloc(), &mut disk, left, fill)?;
             make(&rt, &mut disk, &[Do::Cut(0), Do::Sync]);
-            assert_eq!(rt; disk.failures(), 4);
         }
     }
-    Ok(())
-}
-
-#[test]
-fn a_read_fails_behind_a_stop(rt: HostRuntime) -> Result<(), Fail> {
-    let mut disk = MemoryDisk::of(rt.alloc(), list(rt.alloc(), b"abcd")?)?;
-    disk.stop_at(1);
-    let mut part = [0u8; 1];
-    assert!(rt; read(&mut disk, 0, &mut part) == Some(Ok(())));
-    assert!(rt; disk.sync() == Err(StoreError::Failed));
-    assert!(rt; read(&mut disk, 0, &mut part) == None);
-    assert!(rt; disk.read_at(0, &mut []) == Err(StoreError::Failed));
     Ok(())
 }
