@@ -18,7 +18,6 @@ use Rattle.hd_task.specs.Conditions.{has_atom, literal_holds, literals_hold, com
 use Rattle.hd_task.specs.Effects.{numbers_below, names_atom, atom_after, atoms_after, state_after, step_cost}
 use Rattle.hd_task.specs.Plans.{IsStateOf, Node, after_step, step, step_of, step_by, exec_from}
 use Rattle.hd_task.specs.Covers.{IsAdmissible}
-use Rattle.hd_task.proofs.Bounds.{IsSomeUpTo}
 use Rattle.hd_task.proofs.Runs.{exec_from-none}
 use Rattle.hd_hmax.specs.Prices.{price}
 use Rattle.hd_hmax.specs.Rounds.{cost_in, literal, brings_about, first_cost, table_after, hmax}
@@ -179,6 +178,6 @@ hmax_admissible t from p to of e met =
     (record { spent = 0; covers = at_start t from.state of; fits = omega arith }) e
     in
     let v = value_up_to k.spent (hmax t from.state) (goal_up_to t from.state to.state k.spent k.covers met) in
-    let least = v.least in
+    let least = v.2 in
     let fits = k.fits in
-    (v.value, v.is, omega (arith, least, fits))
+    (v.0, v.1, omega (arith, least, fits))

@@ -6,7 +6,6 @@ use Rattle.std.proofs.lemmas.Bool.{leb-true, le-leb, true≢false}
 use Rattle.std.proofs.lemmas.Bool.Decides.{nat_tests}
 use Rattle.hd_base.proofs.Truth.{or-false}
 use Rattle.hd_task.specs.Expansions.{lesser}
-use Rattle.hd_task.proofs.Bounds.{IsSomeUpTo}
 use Rattle.hd_hmax.specs.Costs.{greater, plus_price}
 
 -- a cost is finite and at most so much
@@ -66,9 +65,9 @@ pub up_to-more : (c d : ℕ) (a : Option ℕ) → c ≤ d → up_to c a ≡ true
 up_to-more c d None h e = e
 up_to-more c d (Some v) h e = le-leb v d (omega (arith, leb-true v c e))
 
-pub value_up_to : (c : ℕ) (a : Option ℕ) → up_to c a ≡ true → IsSomeUpTo a c
+pub value_up_to : (c : ℕ) (a : Option ℕ) → up_to c a ≡ true → (v : ℕ) × (a ≡ Some v) × (v ≤ c)
 value_up_to c None e = absurd (true≢false (sym e))
-value_up_to c (Some v) e = record { value = v; is = refl; least = leb-true v c e }
+value_up_to c (Some v) e = (v, refl, leb-true v c e)
 
 -- costs that are at most the same numbers are the same
 pub same_costs : (a b : Option ℕ) → ((c : ℕ) → up_to c a ≡ true → up_to c b ≡ true) → ((c : ℕ) → up_to c b ≡ true → up_to c a ≡ true) → a ≡ b

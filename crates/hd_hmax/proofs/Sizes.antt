@@ -11,7 +11,6 @@ use Rattle.hd_task.specs.declared.condition.Literal.{Literal}
 use Rattle.hd_task.specs.declared.action.Action.{Action}
 use Rattle.hd_task.specs.declared.task.Task.{Task}
 use Rattle.hd_task.specs.Conditions.{literal_holds}
-use Rattle.hd_task.proofs.Bounds.{IsSomeUpTo}
 use Rattle.hd_hmax.specs.Prices.{price}
 use Rattle.hd_hmax.specs.Rounds.{Table, cost_in, dearest, first_cost, table_after}
 use Rattle.hd_hmax.specs.Tables.{IsSmall}
@@ -84,7 +83,7 @@ small_dearest most table ls v small e =
     ∙ list_all-from_each (λ l. up_to most (cost_in table l)) ls
     (λ l m.
     let k = value_up_to v (cost_in table l) (each_passes (λ l. up_to v (cost_in table l)) ls l each m) in
-    ap (up_to most) k.is ∙ le-leb k.value most (small l k.value k.is))))
+    ap (up_to most) k.1 ∙ le-leb k.0 most (small l k.0 k.1))))
 
 -- after no more rounds than there are literals, sums of costs and prices fit 128 bits
 pub small_enough : (t : Task) (s : State) (prices : List ℕ) (k : ℕ) (table : Table) → prices ≡ map (price t) t.actions → All (λ p. p ≤ 2 ^ 95) prices
