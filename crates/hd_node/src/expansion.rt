@@ -8,7 +8,7 @@ ghost use Rattle.hd_zobrist.specs.Hash.{state_hash};
 ghost use Rattle.hd_node.specs.Children.{ChildView, children_at};
 
 use crate::exploring::explore;
-use crate::{Child, Hashed, Parcel};
+use crate::{Child, Children, Hashed, Parcel};
 use hd_base::{NoMemory, Sequence};
 use hd_pack::Packed;
 use hd_successors::Successors;
@@ -25,7 +25,7 @@ pub struct Expansion<'t> {
     state: Hashed,
     cost: u64,
     /// One for each applicable action, in order.
-    children: Sequence<Child>,
+    children: Children,
     /// What departs, the goal first, then actions in order.
     departures: Sequence<DepartsBy>,
     goal: GoalTest,
@@ -70,12 +70,13 @@ pub struct ExpansionParts {
     pub state: Hashed,
     pub cost: u64,
     /// One for each applicable action, in order.
-    pub children: Sequence<Child>,
+    pub children: Children,
 }
 
 impl<'t> Expansion<'t> {
     /// The expansion of a parcel of a task: tries the actions that may apply, by an index of the task, and tests the goal, at the parcel's
-    /// state and cost. It takes memory for the children's packed states and the two lists alone.
+    /// state and cost. It takes memory for the children's packed states alone, and once for their list where there are more than four, and
+    /// for the departures where there are any.
     ///
     /// # Errors
     /// The parcel and `NoMemory` where there is no room for them.
@@ -97,8 +98,18 @@ impl<'t> Expansion<'t> {
     {
         let state = parcel.hashed();
         let test = test_of(state.state(), &task.goal);
-        match explore(alloc, task, words, successors, state, parcel.cost(), test) {
-            Ok((children, departures)) => {
+        let mut children = Children::none(alloc);
+        match explore(
+            alloc,
+            task,
+            words,
+            successors,
+            state,
+            parcel.cost(),
+            test,
+            &mut children,
+        ) {
+            Ok(departures) => {
                 let (kid, state, cost) = parcel.into_parts();
                 Ok(Expansion {
                     task,

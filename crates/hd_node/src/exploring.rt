@@ -1,12 +1,12 @@
 //! What a node leads to, and what departs there.
-ghost use Rattle.std.specs.Prelude.{◌≡◌, IfOk};
+ghost use Rattle.std.specs.Prelude.{◌≡◌, ◌++◌, [], ◌∷◌, IfOk, OnOk};
 ghost use Rattle.hd_task.specs.Plans.{IsStateOf, node};
 ghost use Rattle.hd_task.specs.Applying.{goal_of};
 ghost use Rattle.hd_task.specs.Expansions.{departing_at};
 ghost use Rattle.hd_successors.specs.Watching.{candidates};
 ghost use Rattle.hd_node.specs.Children.{children_at, departing_by_goal};
 
-use crate::{Child, Hashed};
+use crate::{Child, Children, Hashed};
 use hd_base::{NoMemory, Sequence};
 use hd_pack::{Led, leads};
 use hd_successors::Successors;
@@ -32,7 +32,21 @@ fn goal_departure(
     Ok(departures)
 }
 
-/// What a node leads to, and what departs there, where the goal's test is known and the candidates at its state are marked.
+/// Pushes a child. A list that is full gets room for as many as are marked, since no more come, so that it takes memory once.
+fn push_child(
+    children: &mut Children,
+    successors: &Successors<'_>,
+    child: Child,
+) -> Result<(), NoMemory>
+    ensures { OnOk result (children.new ≡ children.old ++ child ∷ []) }
+{
+    if children.is_full() {
+        children.reserve_all(successors.count())?;
+    }
+    children.push(child)
+}
+
+/// What departs at a node, and into a list what it leads to, where the goal's test is known and the candidates at its state are marked.
 fn walk(
     alloc: Global,
     task: &Task,
@@ -41,17 +55,17 @@ fn walk(
     state: &Hashed,
     cost: u64,
     test: GoalTest,
-) -> Result<(Sequence<Child>, Sequence<DepartsBy>), NoMemory>
+    children: &mut Children,
+) -> Result<Sequence<DepartsBy>, NoMemory>
     requires of_task { IsStateOf task.now state.now }
     requires index { successors.now.task ≡ task.now }
     requires marked { successors.now.marked ≡ candidates successors.now.watched state.now }
     requires is_goal { test ≡ goal_of task.now state.now }
-    ensures children { IfOk result (λ r. r.0 ≡ children_at task.now (node state.now cost)) }
-    ensures departs { IfOk result (λ r. r.1 ≡ departing_at task.now (Some (node state.now cost))) }
+    requires none { children.old ≡ [] }
+    ensures children { OnOk result (children.new ≡ children_at task.now (node state.now cost)) }
+    ensures departs { IfOk result (λ d. d ≡ departing_at task.now (Some (node state.now cost))) }
 {
     let mut departures = goal_departure(alloc, task, state, test)?;
-    // No more children come than are marked, so that the list takes memory once.
-    let mut children = Vec::with_capacity(alloc, successors.count())?;
     let mut from = 0;
     while let Some(action) = successors.next(from) {
         match leads(
@@ -66,15 +80,15 @@ fn walk(
             Led::No => {}
             Led::Departs => departures.push(DepartsBy::Action(action))?,
             Led::Next(next, hash, cost) => {
-                children.push(Child::of(action, Hashed::known(next, hash), cost))?;
+                push_child(children, successors, Child::of(action, Hashed::known(next, hash), cost))?;
             }
         }
         from = action + 1;
     }
-    Ok((Sequence::from_vec(children), Sequence::from_vec(departures)))
+    Ok(Sequence::from_vec(departures))
 }
 
-/// What a node leads to, and what departs there, where the goal's test is known. The index marks the candidates at its state.
+/// What departs at a node, and into a list what it leads to, where the goal's test is known. The index marks the candidates at its state.
 pub(crate) fn explore<'t>(
     alloc: Global,
     task: &'t Task,
@@ -83,14 +97,16 @@ pub(crate) fn explore<'t>(
     state: &Hashed,
     cost: u64,
     test: GoalTest,
-) -> Result<(Sequence<Child>, Sequence<DepartsBy>), NoMemory>
+    children: &mut Children,
+) -> Result<Sequence<DepartsBy>, NoMemory>
     requires of_task { IsStateOf task.now state.now }
     requires index { successors.old.task ≡ task.now }
     requires is_goal { test ≡ goal_of task.now state.now }
-    ensures children { IfOk result (λ r. r.0 ≡ children_at task.now (node state.now cost)) }
-    ensures departs { IfOk result (λ r. r.1 ≡ departing_at task.now (Some (node state.now cost))) }
+    requires none { children.old ≡ [] }
+    ensures children { OnOk result (children.new ≡ children_at task.now (node state.now cost)) }
+    ensures departs { IfOk result (λ d. d ≡ departing_at task.now (Some (node state.now cost))) }
     ensures index { successors.new.task ≡ successors.old.task }
 {
     successors.mark(state.state());
-    walk(alloc, task, words, successors, state, cost, test)
+    walk(alloc, task, words, successors, state, cost, test, children)
 }

@@ -4,6 +4,7 @@
 
 mod batch;
 mod child;
+mod children;
 mod expansion;
 mod exploring;
 mod hashed;
@@ -12,6 +13,7 @@ mod parcel;
 
 pub use batch::{Batch, By, MAX_OUTCOMES, Outcome};
 pub use child::Child;
+pub use children::Children;
 pub use expansion::{Expansion, ExpansionParts};
 pub use hashed::Hashed;
 pub use parcel::Parcel;

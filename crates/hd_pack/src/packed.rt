@@ -1,5 +1,5 @@
 //! Packed states.
-ghost use Rattle.std.specs.Prelude.{◌≡◌, ◌<◌, true, IfOk, length, nat_eq, slice_get};
+ghost use Rattle.std.specs.Prelude.{◌≡◌, ◌<◌, [], true, IfOk, length, nat_eq, slice_get};
 ghost use Rattle.std.specs.Hash as fed;
 ghost use Rattle.std.specs.Cmp.{partial_equiv_from_equiv};
 ghost use Rattle.hd_pack.specs.Packing.{packed_bytes, same_packing};
@@ -37,6 +37,16 @@ impl Model for Packed {
 }
 
 impl Packed {
+    /// The packing of the state that has no atoms and no fluents. It takes no memory.
+    pub fn empty(alloc: Global) -> Packed
+        ensures { result ≡ record { atoms = []; fluents = [] } }
+    {
+        Packed {
+            atoms: 0,
+            bytes: Vec::new(alloc),
+        }
+    }
+
     /// The bytes of the packing.
     pub fn bytes(&self) -> &[u8]
         ensures { result.now ≡ packed_bytes self.now }
