@@ -4,36 +4,49 @@ ghost use Rattle.hd_book.specs.Settling.{IsOf};
 
 use crate::closed::Closed;
 use crate::expanding::Expanding;
+use crate::frontier::Waiting;
 use hd_base::NoMemory;
-use hd_node::{Batch, By, Estimate, Hashed, Outcome, Parcel};
+use hd_hmax::{Estimate, EstimateValue};
+use hd_node::{Batch, By, Hashed, Outcome};
 use hd_task::Task;
 use std::alloc::Global;
 
-/// A parcel's outcome: a duplicate where an entry has its state at no greater cost, else bounded where its cost reaches the
-/// bound, else its expansion.
+/// Whether a cost and an estimate reach the bound, or the estimate is infinite.
+fn is_bounded(cost: u64, value: EstimateValue, bound: Option<u64>) -> bool {
+    match (value, bound) {
+        (EstimateValue::Dead, _) => true,
+        (EstimateValue::Cost(_), None) => false,
+        (EstimateValue::Cost(estimate), Some(limit)) => {
+            u128::from(limit) <= estimate.saturating_add(u128::from(cost))
+        }
+    }
+}
+
+/// A parcel's outcome: a duplicate where an entry has its state at no greater cost, else bounded where its cost and its estimate
+/// reach the bound or its estimate is infinite, else its expansion.
 pub fn outcome_of<'t>(
     alloc: Global,
     task: &'t Task,
     closed: &Closed,
     expanding: &mut Expanding<'t>,
     bound: Option<u64>,
-    parcel: Parcel<'t>,
+    waiting: Waiting<'t>,
 ) -> Result<Outcome<'t>, NoMemory>
-    requires of_task { parcel.task ≡ task.now }
+    requires of_task { waiting.parcel.task ≡ task.now }
     requires index { expanding.old.successors.task ≡ task.now }
     ensures of_task { IfOk result (IsOf task.now) }
     ensures index { expanding.new.successors.task ≡ expanding.old.successors.task }
 {
+    let Waiting { parcel, value, .. } = waiting;
     if let Some(known) = closed.find(parcel.hashed()) {
         if known.cost <= parcel.cost() {
             return Ok(Outcome::Duplicate(parcel.kid(), By::Entry(known.entry)));
         }
     }
-    if let Some(limit) = bound {
-        if limit <= parcel.cost() {
-            let (kid, state, _) = parcel.into_parts();
-            return Ok(Outcome::Bounded(kid, Estimate::of(task, state.into_state())));
-        }
+    if is_bounded(parcel.cost(), value, bound) {
+        let (kid, state, _) = parcel.into_parts();
+        let estimate = Estimate::of(task, state.into_state(), value);
+        return Ok(Outcome::Bounded(kid, estimate));
     }
     Ok(Outcome::Expanded(expanding.expand(alloc, task, parcel)?))
 }

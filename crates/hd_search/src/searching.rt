@@ -9,10 +9,11 @@ ghost use Rattle.hd_search.specs.Refused.{HasOut, IsOpen, Tells};
 
 use crate::closed::{Closed, Known};
 use crate::expanding::Expanding;
-use crate::frontier::Frontier;
+use crate::frontier::{Frontier, Waiting};
 use crate::judging::{batch_of, closed_by, outcome_of};
 use hd_base::NoMemory;
 use hd_book::{Book, Redeemed, Refusal, Ticket, Verdict};
+use hd_hmax::Hmax;
 use hd_node::{Outcome, Parcel};
 use hd_task::{Kid, ROOT_ACTION, ROOT_PARENT, Task};
 use hd_zobrist::Words;
@@ -59,21 +60,23 @@ fn commit_alone<'t>(
 /// # Errors
 /// `NoMemory` alone.
 fn release<'t>(
+    task: &'t Task,
     book: &mut Book<'t>,
     frontier: &mut Frontier<'t>,
     ticket: Ticket,
 ) -> Result<(), Refusal>
-    requires waiting { IsOfTask book.old.state.task frontier.old }
+    requires task { book.old.state.task ≡ task.now }
+    requires waiting { IsOfTask task.now frontier.old }
     requires running { IsOpen book.old }
     requires out { HasOut book.old ticket }
     ensures task { book.new.state.task ≡ book.old.state.task }
     ensures running { IsOpen book.new }
-    ensures waiting { OnOk result (IsOfTask book.old.state.task frontier.new) }
+    ensures waiting { OnOk result (IsOfTask task.now frontier.new) }
     ensures told { IfErr result (λ r. r ≡ Refusal.NoMemory) }
 {
     let Redeemed::Released(receipt, parcels) = book.redeem(ticket)?;
     book.present(receipt)?;
-    frontier.push_all(parcels)?;
+    frontier.push_all(task, parcels)?;
     Ok(())
 }
 
@@ -85,24 +88,24 @@ fn settle<'t>(
     frontier: &mut Frontier<'t>,
     closed: &mut Closed,
     expanding: &mut Expanding<'t>,
-    parcel: Parcel<'t>,
+    waiting: Waiting<'t>,
 ) -> Result<(), Refusal>
     requires task { book.old.state.task ≡ task.now }
     requires running { IsOpen book.old }
-    requires parcel { parcel.task ≡ task.now }
-    requires waiting { IsOfTask task.now frontier.old }
+    requires parcel { waiting.parcel.task ≡ task.now }
+    requires frontier { IsOfTask task.now frontier.old }
     requires index { expanding.old.successors.task ≡ task.now }
     ensures task { book.new.state.task ≡ task.now }
     ensures running { IsOpen book.new }
-    ensures waiting { OnOk result (IsOfTask task.now frontier.new) }
+    ensures frontier { OnOk result (IsOfTask task.now frontier.new) }
     ensures index { expanding.new.successors.task ≡ task.now }
     ensures told { IfErr result (Tells task.now) }
 {
-    let cost = parcel.cost();
-    let outcome = outcome_of(alloc, task, closed, expanding, book.bound(), parcel)?;
+    let cost = waiting.parcel.cost();
+    let outcome = outcome_of(alloc, task, closed, expanding, book.bound(), waiting)?;
     let state = closed_by(alloc, &outcome)?;
     let (entry, ticket) = commit_alone(alloc, book, outcome)?;
-    release(book, frontier, ticket)?;
+    release(task, book, frontier, ticket)?;
     if let Some(state) = state {
         closed.close(state, Known { entry, cost })?;
     }
@@ -111,8 +114,8 @@ fn settle<'t>(
 
 /// Searches a task to the end: the book of the whole search.
 ///
-/// The parcels that wait stand in one list. That of least cost is taken, the earliest of equal ones, and committed alone: as a
-/// duplicate, else as bounded, else expanded.
+/// The parcels that wait stand in one list. That of the least cost with its estimate (h-max) is taken, of equal ones that of the least
+/// estimate, then the earliest, and committed alone: as a duplicate, else as bounded, else expanded.
 ///
 /// # Errors
 /// Why the book refuses, or `NoMemory`: `Full` only where as many plans are expanded as there may be entries, `Halted` and
@@ -123,12 +126,12 @@ pub fn searched<'t>(alloc: Global, task: &'t Task) -> Result<Book<'t>, Refusal>
     ensures told { IfErr result (Tells task.now) }
 {
     let mut book = Book::new(alloc, task, MOST_ENTRIES)?;
-    let mut frontier = Frontier::empty(alloc);
+    let mut frontier = Frontier::empty(alloc, Hmax::new(alloc, task)?);
     let mut closed = Closed::empty(alloc);
     let mut expanding = Expanding::of(alloc, task)?;
     frontier.push(root(alloc, task, &expanding.words)?)?;
     for _turn in 0..u64::MAX {
-        let Some(parcel) = frontier.pop() else {
+        let Some(waiting) = frontier.pop() else {
             break;
         };
         settle(
@@ -138,7 +141,7 @@ pub fn searched<'t>(alloc: Global, task: &'t Task) -> Result<Book<'t>, Refusal>
             &mut frontier,
             &mut closed,
             &mut expanding,
-            parcel,
+            waiting,
         )?;
     }
     Ok(book)
