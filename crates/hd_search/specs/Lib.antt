@@ -1,3 +1,4 @@
 pub mod Answer
+pub mod Expanding
 pub mod Frontier
 pub mod Refused
