@@ -4,16 +4,16 @@ ghost use Rattle.hd_book.specs.Answers.{IsTrueAnswer};
 ghost use Rattle.hd_search.specs.Answer.{IsAnswer};
 ghost use Rattle.hd_book.specs.Settling.{IsOf};
 ghost use Rattle.hd_book.specs.declared.refusal.Refusal.TheVariants as Refusal;
+ghost use Rattle.hd_search.specs.Expanding.{IsLookupOf};
 ghost use Rattle.hd_search.specs.Frontier.{IsOfTask};
 ghost use Rattle.hd_search.specs.Refused.{HasOut, IsOpen, Tells};
 
 use crate::closed::{Closed, Known};
 use crate::expanding::Expanding;
 use crate::frontier::{Frontier, Waiting};
-use crate::judging::{batch_of, closed_by, outcome_of};
+use crate::judging::{Judged, batch_of, closed_by, judge};
 use hd_base::NoMemory;
 use hd_book::{Book, Redeemed, Refusal, Ticket, Verdict};
-use hd_hmax::Hmax;
 use hd_node::{Outcome, Parcel};
 use hd_task::{Kid, ROOT_ACTION, ROOT_PARENT, Task};
 use hd_zobrist::Words;
@@ -55,32 +55,31 @@ fn commit_alone<'t>(
     }
 }
 
-/// Redeems a ticket that is out: what its batch releases waits from now on.
+/// Redeems a ticket that is out: what its batch releases waits from now on, by the total of the parcel that it comes from.
 ///
 /// # Errors
 /// `NoMemory` alone.
 fn release<'t>(
-    task: &'t Task,
     book: &mut Book<'t>,
     frontier: &mut Frontier<'t>,
     ticket: Ticket,
+    total: u128,
 ) -> Result<(), Refusal>
-    requires task { book.old.state.task ≡ task.now }
-    requires waiting { IsOfTask task.now frontier.old }
+    requires waiting { IsOfTask book.old.state.task frontier.old }
     requires running { IsOpen book.old }
     requires out { HasOut book.old ticket }
     ensures task { book.new.state.task ≡ book.old.state.task }
     ensures running { IsOpen book.new }
-    ensures waiting { OnOk result (IsOfTask task.now frontier.new) }
+    ensures waiting { OnOk result (IsOfTask book.old.state.task frontier.new) }
     ensures told { IfErr result (λ r. r ≡ Refusal.NoMemory) }
 {
     let Redeemed::Released(receipt, parcels) = book.redeem(ticket)?;
     book.present(receipt)?;
-    frontier.push_all(task, parcels)?;
+    frontier.push_all(parcels, total)?;
     Ok(())
 }
 
-/// Settles a parcel: its outcome is committed alone, and the ticket redeemed.
+/// Goes on with a parcel that is taken: it waits on, or its outcome is committed alone and the ticket redeemed.
 fn settle<'t>(
     alloc: Global,
     task: &'t Task,
@@ -94,18 +93,24 @@ fn settle<'t>(
     requires running { IsOpen book.old }
     requires parcel { waiting.parcel.task ≡ task.now }
     requires frontier { IsOfTask task.now frontier.old }
-    requires index { expanding.old.successors.task ≡ task.now }
+    requires lookup { IsLookupOf task.now expanding.old }
     ensures task { book.new.state.task ≡ task.now }
     ensures running { IsOpen book.new }
     ensures frontier { OnOk result (IsOfTask task.now frontier.new) }
-    ensures index { expanding.new.successors.task ≡ task.now }
+    ensures lookup { IsLookupOf task.now expanding.new }
     ensures told { IfErr result (Tells task.now) }
 {
-    let cost = waiting.parcel.cost();
-    let outcome = outcome_of(alloc, task, closed, expanding, book.bound(), waiting)?;
+    let (cost, total) = (waiting.parcel.cost(), waiting.rank.total);
+    let outcome = match judge(alloc, task, closed, expanding, book.bound(), waiting)? {
+        Judged::Settled(outcome) => outcome,
+        Judged::Waits(waiting) => {
+            frontier.wait(waiting)?;
+            return Ok(());
+        }
+    };
     let state = closed_by(alloc, &outcome)?;
     let (entry, ticket) = commit_alone(alloc, book, outcome)?;
-    release(task, book, frontier, ticket)?;
+    release(book, frontier, ticket, total)?;
     if let Some(state) = state {
         closed.close(state, Known { entry, cost })?;
     }
@@ -114,8 +119,9 @@ fn settle<'t>(
 
 /// Searches a task to the end: the book of the whole search.
 ///
-/// The parcels that wait stand in one list. That of the least cost with its estimate (h-max) is taken, of equal ones that of the least
-/// estimate, then the earliest, and committed alone: as a duplicate, else as bounded, else expanded.
+/// The parcels that wait stand in one list. That of the least cost plus estimate (h-max) is taken, the earliest of equal ones,
+/// and committed alone: as a duplicate, else as bounded, else expanded. It is estimated when it is first taken, unless it is a
+/// duplicate: until then it waits by the cost plus estimate of the parcel that it comes from, which its own is never below.
 ///
 /// # Errors
 /// Why the book refuses, or `NoMemory`: `Full` only where as many plans are expanded as there may be entries, `Halted` and
@@ -126,10 +132,10 @@ pub fn searched<'t>(alloc: Global, task: &'t Task) -> Result<Book<'t>, Refusal>
     ensures told { IfErr result (Tells task.now) }
 {
     let mut book = Book::new(alloc, task, MOST_ENTRIES)?;
-    let mut frontier = Frontier::empty(alloc, Hmax::new(alloc, task)?);
+    let mut frontier = Frontier::empty(alloc);
     let mut closed = Closed::empty(alloc);
     let mut expanding = Expanding::of(alloc, task)?;
-    frontier.push(root(alloc, task, &expanding.words)?)?;
+    frontier.push(root(alloc, task, &expanding.words)?, 0)?;
     for _turn in 0..u64::MAX {
         let Some(waiting) = frontier.pop() else {
             break;
