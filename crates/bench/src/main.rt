@@ -3,8 +3,11 @@
 //! The arguments are their two files; the times of a plain pass over the problem's bytes, of its words, of reading both texts
 //! and of checking them are then printed, in microseconds. With a third argument, `ground`, only the grounding of the checked task is
 //! timed, with `search` all that it takes to search the task to its end, and with `stages` reading, checking, grounding and searching one
-//! after the other, each by itself. Without arguments the texts are small, and no times are printed, only counts.
+//! after the other, each by itself. With `walk` and a number so many parcels are expanded, one after the other, and no time is printed, only
+//! what is met: that is to count instructions. Without arguments the texts are small, and no times are printed, only counts.
 #![tactic(auto)]
+
+mod walk;
 
 use hd_base::Seed;
 use hd_check::{Checked, check};
@@ -190,6 +193,24 @@ fn time_stages(rt: &HostRuntime, domain: &[u8], problem: &[u8]) -> anyhow::Resul
     told
 }
 
+/// Walks so many turns over the task of two texts, and prints what is met.
+fn walk_over(rt: &HostRuntime, domain: &[u8], problem: &[u8], turns: u64) -> anyhow::Result<()> {
+    let task = task_of(rt.alloc(), domain, problem)?;
+    let met = walk::walk(rt.alloc(), &task, turns);
+    drop(task);
+    let met = met?;
+    println!(rt; "{turns} turns, {} children, sum {}", met.children, met.sum)?;
+    Ok(())
+}
+
+/// The number that a word is, or 0.
+fn number_of(word: Option<String>) -> u64 {
+    match word {
+        Some(word) => word.as_str().parse::<u64>().unwrap_or(0),
+        None => 0,
+    }
+}
+
 fn main(rt: HostRuntime) -> anyhow::Result<()> {
     let mut words = env::args(&rt)?.skip(1);
     let (Some(domain), Some(problem)) = (words.next(), words.next()) else {
@@ -200,6 +221,9 @@ fn main(rt: HostRuntime) -> anyhow::Result<()> {
     match words.next() {
         Some(word) if word.as_str() == "ground" => time_grounding(&rt, &domain, &problem),
         Some(word) if word.as_str() == "stages" => time_stages(&rt, &domain, &problem),
+        Some(word) if word.as_str() == "walk" => {
+            walk_over(&rt, &domain, &problem, number_of(words.next()))
+        }
         Some(_) => time_search(&rt, &domain, &problem),
         None => {
             time_words(&rt, &problem)?;

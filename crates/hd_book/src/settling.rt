@@ -13,7 +13,7 @@ ghost use Rattle.hd_book.specs.Growing.{entered, entered_by, better, best_by, de
 
 use crate::content::Content;
 use crate::entry::{Best, Entry};
-use hd_node::{Child, Expansion, Outcome, Parcel};
+use hd_node::{Children, Expansion, Outcome, Parcel};
 use hd_task::{Departure, GoalTest, Kid, Task};
 use std::collections::HashSet;
 
@@ -135,14 +135,13 @@ pub(crate) fn push_reserved<T: Drop>(items: &mut Vec<T>, item: T)
 }
 
 /// Pushes the kids of an entry as parcels.
-fn release<'t>(parcels: &mut Vec<Parcel<'t>>, task: &'t Task, entry: u64, children: Vec<Child>)
-    requires room { vec_len parcels.old + length children.items ≤ vec_capacity parcels.old }
-    requires of_task { AllByRecursion (λ (c : ChildView).
-        IsStateOf task.now c.state) children.items }
+fn release<'t>(parcels: &mut Vec<Parcel<'t>>, task: &'t Task, entry: u64, children: Children)
+    requires room { vec_len parcels.old + length children ≤ vec_capacity parcels.old }
+    requires of_task { AllByRecursion (λ (c : ChildView). IsStateOf task.now c.state) children }
     requires tasks { AllByRecursion (IsParcelOf task.now) parcels.old.items }
     ensures released { map parcel_of parcels.new.items ≡ map parcel_of parcels.old.items
-        ++ map (released_from entry) children.items }
-    ensures len { vec_len parcels.new ≡ vec_len parcels.old + length children.items }
+        ++ map (released_from entry) children }
+    ensures len { vec_len parcels.new ≡ vec_len parcels.old + length children }
     ensures capacity { vec_capacity parcels.old ≤ vec_capacity parcels.new }
     ensures tasks { AllByRecursion (IsParcelOf task.now) parcels.new.items }
 {
@@ -177,7 +176,7 @@ fn enter_expansion<'t>(
 {
     let parts = expansion.into_parts();
     let entry = entries.len() as u64;
-    release(parcels, task, entry, parts.children.into_vec());
+    release(parcels, task, entry, parts.children);
     push_reserved(
         entries,
         Entry {

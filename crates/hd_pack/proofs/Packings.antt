@@ -1,5 +1,5 @@
 -- What stands in the bytes of a packing: the atoms and values of its state, also after a change.
-use Rattle.std.proofs.Common.{◌≡◌, ℕ, ◌+◌, ◌*◌, ◌<◌, ◌≤◌, ◌/◌, Bool, false, not, List, ◌++◌, length, drop, get_or, map, sym, ap, ap₂, ◌∙◌, subst, arith, length-set}
+use Rattle.std.proofs.Common.{◌≡◌, ℕ, ◌+◌, ◌*◌, ◌<◌, ◌≤◌, ◌/◌, Bool, false, not, List, [], ◌++◌, refl, length, drop, get_or, map, sym, ap, ap₂, ◌∙◌, subst, arith, length-set}
 use Rattle.std.specs.Prelude.{ℤ, Some, None, slice_get}
 use Rattle.std.specs.Int.{w64}
 use Rattle.std.specs.Int.RustNames.{FitsSigned}
@@ -100,3 +100,9 @@ value_place n xs s j parts lt = let e = length-bytes n xs s parts in omega (arit
 pub values_of : (n : ℕ) (xs : List ℕ) (s : State) → unpacked n xs ≡ s → values_in (drop (bytes_for n) xs) ≡ s.fluents
 unfolding unpacked
 values_of n xs s is = ap (λ (s : State). s.fluents) is
+
+-- ---- no atoms and no fluents
+
+pub parts_empty : (xs : List ℕ) → xs ≡ [] → Parts 0 xs (record { atoms = []; fluents = [] })
+unfolding packed_bytes
+parts_empty xs is = record { count = refl; bytes = is; fit = tt }

@@ -8,5 +8,5 @@ use Rattle.hd_book.proofs.settling.enter_expansion.Goals as goal
 pub release-requires-clause-of_task : goal.release-requires-clause-of_task
 release-requires-clause-of_task c =
     let e = c.args.expansion in
-    subst (λ cs. AllByRecursion (λ (x : ChildView). IsStateOf c.args.task.now x.state) cs) (sym (c.into_vec.ensures ∙ c.into_parts-parts.ensures.children))
+    subst (λ cs. AllByRecursion (λ (x : ChildView). IsStateOf c.args.task.now x.state) cs) (sym c.into_parts-parts.ensures.children)
     (subst (λ u. AllByRecursion (λ (x : ChildView). IsStateOf u x.state) e.children) c.requires.of_task (children_states e))
