@@ -6,19 +6,15 @@
 # Needs valgrind. The crate `bench` is built and proved as the gate does it.
 set -e
 here=$(cd "$(dirname "$0")/.." && pwd)
-program=$here/crates/bench/out/bench
+program=${BENCH:-$here/crates/bench/out/bench}
 folder=$(mktemp -d)
 trap 'rm -rf "$folder"' EXIT
-(cd "$here/crates/bench" && rt run) >&2
+. "$here/bench/counting.sh"
+[ -n "$BENCH" ] || (cd "$here/crates/bench" && rt run) >&2
 
 # The instructions, the allocations and the children of a walk of so many expansions.
 walk() {
-    valgrind --tool=cachegrind --cache-sim=no --cachegrind-out-file="$folder/counts" \
-        "$program" "$1/domain.pddl" "$1/problem.pddl" walk "$2" 2>"$folder/told" >"$folder/said"
-    instructions=$(awk '/I *refs:/ { gsub(",", ""); print $NF }' "$folder/told")
-    valgrind --tool=memcheck "$program" "$1/domain.pddl" "$1/problem.pddl" walk "$2" 2>"$folder/told" >"$folder/said"
-    allocations=$(awk '/total heap usage:/ { gsub(",", ""); print $5 }' "$folder/told")
-    echo "$instructions $allocations $(awk '{ gsub(",", ""); print $3 }' "$folder/said")"
+    echo "$(count_instructions "$1" walk "$2") $(count_allocations "$1" walk "$2") $(met_children)"
 }
 
 echo "| Task | Instructions an expansion | Children | Allocations |"

@@ -3,8 +3,9 @@
 //! The arguments are their two files; the times of a plain pass over the problem's bytes, of its words, of reading both texts
 //! and of checking them are then printed, in microseconds. With a third argument, `ground`, only the grounding of the checked task is
 //! timed, with `search` all that it takes to search the task to its end, and with `stages` reading, checking, grounding and searching one
-//! after the other, each by itself. With `walk` and a number so many parcels are expanded, one after the other, and no time is printed, only
-//! what is met: that is to count instructions. Without arguments the texts are small, and no times are printed, only counts.
+//! after the other, each by itself. With `walk` and a number so many parcels are expanded, one after the other, and with `estimate` and a number
+//! the state of each is estimated too; then no time is printed, only what is met: that is to count instructions. Without arguments the texts
+//! are small, and no times are printed, only counts.
 #![tactic(auto)]
 
 mod walk;
@@ -203,6 +204,22 @@ fn walk_over(rt: &HostRuntime, domain: &[u8], problem: &[u8], turns: u64) -> any
     Ok(())
 }
 
+/// Walks so many turns over the task of two texts, estimates each state on the way, and prints what is met.
+fn estimate_over(
+    rt: &HostRuntime,
+    domain: &[u8],
+    problem: &[u8],
+    turns: u64,
+) -> anyhow::Result<()> {
+    let task = task_of(rt.alloc(), domain, problem)?;
+    let found = walk::estimates(rt.alloc(), &task, turns);
+    drop(task);
+    let (met, estimates) = found?;
+    println!(rt; "{turns} turns, {} children, sum {}", met.children, met.sum)?;
+    println!(rt; "estimates' sum {}, {} dead", estimates.sum, estimates.dead)?;
+    Ok(())
+}
+
 /// The number that a word is, or 0.
 fn number_of(word: Option<String>) -> u64 {
     match word {
@@ -223,6 +240,9 @@ fn main(rt: HostRuntime) -> anyhow::Result<()> {
         Some(word) if word.as_str() == "stages" => time_stages(&rt, &domain, &problem),
         Some(word) if word.as_str() == "walk" => {
             walk_over(&rt, &domain, &problem, number_of(words.next()))
+        }
+        Some(word) if word.as_str() == "estimate" => {
+            estimate_over(&rt, &domain, &problem, number_of(words.next()))
         }
         Some(_) => time_search(&rt, &domain, &problem),
         None => {
