@@ -49,7 +49,8 @@ impl Children {
     pub(crate) fn reserve_all(&mut self, count: usize) -> Result<(), NoMemory>
         ensures { self.new ≡ self.old }
     {
-        self.items.reserve_exact(count.saturating_sub(self.items.len()))?;
+        self.items
+            .reserve_exact(count.saturating_sub(self.items.len()))?;
         Ok(())
     }
 

@@ -80,7 +80,11 @@ fn walk(
             Led::No => {}
             Led::Departs => departures.push(DepartsBy::Action(action))?,
             Led::Next(next, hash, cost) => {
-                push_child(children, successors, Child::of(action, Hashed::known(next, hash), cost))?;
+                push_child(
+                    children,
+                    successors,
+                    Child::of(action, Hashed::known(next, hash), cost),
+                )?;
             }
         }
         from = action + 1;
