@@ -15,7 +15,7 @@ use Rattle.hd_node.proofs.Leading.{led_no, led_departs, led_next}
 use Rattle.hd_node.proofs.Skipping.{to_first, to_end}
 use Rattle.hd_node.proofs.Steps.{few_actions}
 use Rattle.hd_node.proofs.exploring.walk.Goals as goal
-use Rattle.hd_node.proofs.exploring.walk.Goals.{in-No, in-Departs+in_ok-push-in-Departs, in-Next+in_ok-push-in-Next}
+use Rattle.hd_node.proofs.exploring.walk.Goals.{in-No, in-Departs+in_ok-push-in-Departs, in-Next+in_ok-push_child-in-Next}
 
 pub loop-action-preserved : goal.loop-action-preserved
 loop-action-preserved c =
@@ -38,9 +38,9 @@ loop-action-preserved c =
       | in-Departs+in_ok-push-in-Departs w ↦
           let found = found_by_step t r n _ _ _ _ _ _ says (led_departs (step_at t r n) (sym w.in-Departs.is ∙ answer)) cs ds (rw w.children-is (sym (append-nil _))) (rw w.departures-is w.in_ok-push-in-Departs.ensures.items) in
           record { children = found.0; departures = found.1; within = within }
-      | in-Next+in_ok-push-in-Next w ↦
+      | in-Next+in_ok-push_child-in-Next w ↦
           let next = led_next (step_at t r n) w.in-Next.next w.in-Next.hash w.in-Next.cost (sym w.in-Next.is ∙ answer) in
-          let found = found_by_step t r n _ _ _ _ _ _ says next.leads cs ds (rw w.children-is (w.in_ok-push-in-Next.ensures.items ∙ ap (λ (x : ChildView). c.loop-action.children.items ++ x ∷ []) (w.of.ensures ∙ ap (λ (s : State). let child : ChildView = record { action = n; state = s; cost = w.in-Next.cost } in child) w.known.ensures))) (rw w.departures-is (sym (append-nil _))) in
+          let found = found_by_step t r n _ _ _ _ _ _ says next.leads cs ds (rw w.children-is (w.in_ok-push_child-in-Next.ensures ∙ ap (λ (x : ChildView). c.loop-action.children ++ x ∷ []) (w.of.ensures ∙ ap (λ (s : State). let child : ChildView = record { action = n; state = s; cost = w.in-Next.cost } in child) w.known.ensures))) (rw w.departures-is (sym (append-nil _))) in
           record { children = found.0; departures = found.1; within = within }
     ]
 
@@ -74,7 +74,7 @@ returns-clause-children c =
     let ws = c.args.successors.now.watched in
     let watched = subst (λ (u : Task). IsWatchedBy u.actions ws) c.requires.index c.args.successors.now.is_watched in
     let to = to_end t (node c.args.state.now c.args.cost) ws watched c.loop-action.from (ap (find (nat_le c.loop-action.from)) (sym c.requires.marked) ∙ sym c.in_default.ensures) c.loop-action.invariant.within in
-    c.from_vec.ensures ∙ (c.loop-action.invariant.children ∙ sym to.children)
+    c.loop-action.invariant.children ∙ sym to.children
 
 pub returns-clause-departs : goal.returns-clause-departs
 unfolding departing_at goal_departs
@@ -83,4 +83,4 @@ returns-clause-departs c =
     let ws = c.args.successors.now.watched in
     let watched = subst (λ (u : Task). IsWatchedBy u.actions ws) c.requires.index c.args.successors.now.is_watched in
     let to = to_end t (node c.args.state.now c.args.cost) ws watched c.loop-action.from (ap (find (nat_le c.loop-action.from)) (sym c.requires.marked) ∙ sym c.in_default.ensures) c.loop-action.invariant.within in
-    c.from_vec-2.ensures ∙ (c.loop-action.invariant.departures ∙ sym to.found)
+    c.from_vec.ensures ∙ (c.loop-action.invariant.departures ∙ sym to.found)

@@ -6,7 +6,7 @@ use Rattle.hd_node.proofs.exploring.walk.Given as goal
 -- the children and departures of the actions so far
 abbrev pub invariant-loop-action : goal.invariant-loop-action
 invariant-loop-action l = record {
-  children : l.children.items ≡ children_below l.task (node l.state l.cost) l.from;
+  children : l.children ≡ children_below l.task (node l.state l.cost) l.from;
   departures : l.departures.items ≡ found_below l.task (node l.state l.cost) l.from;
   within : l.from ≤ length l.task.actions;
 }
