@@ -31,7 +31,7 @@ loop-action-preserved c =
     let says = step_at-says t r n c.requires.of_task in
     let answer = c.in_ok-leads.ensures ∙ ap (λ (s : State). led_of (step_at t (node s c.args.cost) n)) c.state.ensures in
     let within : n + 1 ≤ length t.actions = omega (arith, to.2) in
-    elim c.match-branch-4.branch [
+    elim c.match-branch-3.branch [
       | in-No w ↦
           let found = found_by_step t r n _ _ _ _ _ _ says (led_no (step_at t r n) (sym w.in-No.is ∙ answer)) cs ds (rw w.children-is (sym (append-nil _))) (rw w.departures-is (sym (append-nil _))) in
           record { children = found.0; departures = found.1; within = within }
