@@ -1,5 +1,5 @@
 -- Marks by the bits of words.
-use Rattle.std.proofs.Common.{◌≡◌, ℕ, ◌+◌, ◌*◌, ◌-◌, ◌<◌, ◌≤◌, ◌/◌, ◌%◌, ◌==◌, ◌^◌, ◌||◌, false, List, length, get_or, set, replicate, inl, inr, refl, sym, ap, ap₂, ◌∙◌, subst, arith, get_or-set_same, get_or-set_other}
+use Rattle.std.proofs.Common.{◌≡◌, ℕ, ◌+◌, ◌*◌, ◌-◌, ◌<◌, ◌≤◌, ◌/◌, ◌%◌, ◌==◌, ◌^◌, ◌||◌, false, List, [], ◌∷◌, length, get_or, set, replicate, inl, inr, refl, sym, ap, ap₂, ◌∙◌, subst, arith, get_or-set_same, get_or-set_other}
 use Rattle.std.specs.Prelude.{Option, Some, None, bit_or}
 use Rattle.std.specs.Int.{w64, bit_at, trailing_zeros}
 use Rattle.std.proofs.lemmas.Bool.{cases_eq, cases_lt, eq-eqb, ne_eqb}
@@ -91,6 +91,25 @@ none_in_word words from w m is none le row =
 -- beyond the words nothing is marked
 pub none_past : (words : List ℕ) (m : ℕ) → length words ≤ m / 64 → is_marked words m ≡ false
 none_past words m le = bit_marks words m 0 0 (get_or_past words (m / 64) 0 le) (bit_at-zero (m % 64))
+
+-- ---- one word
+
+pub first_alone : (w from n : ℕ) → from < 64 → w < 2 ^ 64 → 0 < w / 2 ^ from → n ≡ from + trailing_zeros w64 (w / 2 ^ from) → IsFirstMark (w ∷ []) from n
+first_alone w from n lt fits some is =
+    let column : from % 64 ≡ from = omega (arith, lt) in
+    let row : from / 64 ≡ 0 = omega (arith, lt) in
+    subst (IsFirstMark (w ∷ []) from) (ap (λ k. from + trailing_zeros w64 (w / 2 ^ k)) column ∙ sym is)
+    (first_in_word (w ∷ []) from w (ap (λ k. get_or (w ∷ []) k 0) row) fits (subst (λ k. 0 < w / 2 ^ k) (sym column) some))
+
+pub none_alone : (w from : ℕ) → from < 64 → w / 2 ^ from ≡ 0 → FirstMark (w ∷ []) from None
+none_alone w from lt none =
+    let column : from % 64 ≡ from = omega (arith, lt) in
+    let row : from / 64 ≡ 0 = omega (arith, lt) in
+    λ m far.
+    elim (cases_lt (m / 64) 1) [
+      | inl low ↦ none_in_word (w ∷ []) from w m (ap (λ k. get_or (w ∷ []) k 0) row) (ap (λ k. w / 2 ^ k) column ∙ none) far (omega (arith, low, row))
+      | inr high ↦ none_past (w ∷ []) m high
+    ]
 
 -- ---- a search through the words
 

@@ -1,5 +1,5 @@
 //! Marks on numbers: a bit each, in words.
-ghost use Rattle.std.specs.Prelude.{◌≡◌, ℕ, ◌≤◌, ◌<◌, ◌*◌, ◌/◌, ◌^◌, ◌==◌, ◌||◌, false, IfOk, length, find, nat_le};
+ghost use Rattle.std.specs.Prelude.{◌≡◌, ℕ, ◌≤◌, ◌<◌, ◌*◌, ◌/◌, ◌^◌, ◌==◌, ◌||◌, false, [], ◌∷◌, IfOk, length, find, nat_le};
 ghost use Rattle.std.specs.List.{filter, range_with_len};
 ghost use Rattle.hd_successors.specs.Marks.{is_marked, words_for, FirstMark};
 
@@ -55,6 +55,19 @@ pub(crate) fn first_mark(marks: &[u64], from: usize) -> Option<usize>
         return Some(from + word.trailing_zeros() as usize);
     }
     first_mark_in(marks, place + 1)
+}
+
+/// The first bit of a byte that is 1, from this one on: the same of one word that has no more.
+#[inline(always)]
+pub(crate) fn first_bit(byte: u8, from: usize) -> Option<usize>
+    requires { from ≤ 8 }
+    ensures { FirstMark (byte ∷ []) from result }
+{
+    let rest = u64::from(byte) >> from;
+    if rest == 0 {
+        return None;
+    }
+    Some(from + rest.trailing_zeros() as usize)
 }
 
 /// The first number that is marked, from this one on, of so many.

@@ -7,7 +7,7 @@ ghost use Rattle.hd_successors.specs.Chains.{AreChains, last_with, last_in};
 ghost use Rattle.hd_successors.specs.Marks.{is_marked, words_for};
 
 use crate::Watch;
-use crate::marks::{first_mark, no_marks, set_mark};
+use crate::marks::{first_bit, no_marks, set_mark};
 use crate::watching::watched_of;
 use hd_base::{NoMemory, Sequence};
 use hd_pack::Packed;
@@ -185,9 +185,8 @@ impl Watches {
             && other_passes (has_atom state.now) (slice_get self.now.watched i))
             || is_marked marks.old i) }
     {
-        let bits = [u64::from(byte)];
         let mut from = 0;
-        while let Some(bit) = first_mark(&bits, from) {
+        while let Some(bit) = first_bit(byte, from) {
             self.mark_watchers(base + bit, state, marks);
             from = bit + 1;
         }
