@@ -2,6 +2,7 @@
 ghost use Rattle.std.specs.Prelude.{◌≡◌, IfSome};
 ghost use Rattle.hd_hmax.specs.Rounds.{hmax};
 ghost use Rattle.hd_hmax.specs.Value.{estimated};
+ghost use Rattle.std.proofs.Props.{props};
 
 use hd_hmax::EstimateValue;
 use hd_node::Parcel;
@@ -23,5 +24,5 @@ pub struct Waiting<'t> {
     pub rank: Rank,
     pub value: Option<EstimateValue>,
     // The value is that of the parcel's state.
-    ghost estimates: { IfSome value (λ v. estimated v ≡ hmax parcel.task parcel.state) },
+    ghost estimates: { IfSome value (λ v. estimated v ≡ hmax parcel.task parcel.state) } by { Prim.hlevel props },
 }
