@@ -80,7 +80,8 @@ impl<'t> Content<'t> {
             == length (generated self.now.task.now (expansions (state_of self.now))))) }
         ensures kept { IsKept (state_of self.now) }
         ensures covered { IfOk result (λ v. IfSome v
-            (λ _. IsCovered self.now.task.now (hmax self.now.task.now) (expansions (state_of self.now)))) }
+            (λ _. IsCovered self.now.task.now (hmax self.now.task.now)
+            (expansions (state_of self.now)))) }
         ensures answer { IfOk result (λ v. IfSome v (IsAnswer self.now.task.now
             (expansions (state_of self.now)))) }
         ensures is_true { IfOk result (λ v. IfSome v (IsTrueAnswer self.now.task.now)) }

@@ -13,7 +13,7 @@ use hd_zobrist::Words;
 use std::alloc::Global;
 
 /// The words of a task's hashes, the index of its actions, and what computes the estimates of its states.
-#[derive(Debug, Drop)]
+#[derive(Drop)]
 pub struct Expanding<'t> {
     pub words: Words,
     pub successors: Successors<'t>,

@@ -2,38 +2,16 @@
 ghost use Rattle.std.specs.Prelude.{◌≡◌, IfSome, OnOk};
 ghost use Rattle.std.specs.List.{AllByRecursion};
 ghost use Rattle.hd_task.specs.declared.task.Task.{Task};
-ghost use Rattle.hd_hmax.specs.Rounds.{hmax};
-ghost use Rattle.hd_hmax.specs.Value.{estimated};
 ghost use Rattle.hd_book.specs.Holding.{IsParcelOf};
 ghost use Rattle.hd_search.specs.Frontier.{IsOfTask};
 
+use crate::waiting::{Rank, Waiting};
 use hd_base::NoMemory;
-use hd_hmax::EstimateValue;
 use hd_node::Parcel;
 use slab::Slab;
 use std::alloc::Global;
 use std::cmp::Reverse;
 use std::collections::BinaryHeap;
-
-/// When a parcel is taken: that of the least total first, of equal ones the earliest.
-#[derive(Clone, Copy, Debug, PartialEq, Eq, PartialOrd, Ord)]
-pub struct Rank {
-    /// What plans by the parcel cost at least, as far as that is known: its cost and its estimate; before it is estimated, the
-    /// total of the parcel that it comes from.
-    pub total: u128,
-    /// How many parcels came before.
-    pub arrival: u64,
-}
-
-/// A parcel that waits, with the value of its state's estimate once that is known.
-#[derive(Debug, Drop)]
-pub struct Waiting<'t> {
-    pub parcel: Parcel<'t>,
-    pub rank: Rank,
-    pub value: Option<EstimateValue>,
-    // The value is that of the parcel's state.
-    ghost estimates: { IfSome value (λ v. estimated v ≡ hmax parcel.task parcel.state) },
-}
 
 /// The parcels that wait.
 #[derive(Debug, Drop)]

@@ -8,7 +8,7 @@ ghost use Rattle.hd_search.specs.Judged.{IsJudgedOf};
 
 use crate::closed::Closed;
 use crate::expanding::Expanding;
-use crate::frontier::{Rank, Waiting};
+use crate::waiting::{Rank, Waiting};
 use hd_base::NoMemory;
 use hd_hmax::{Estimate, EstimateValue};
 use hd_node::{Batch, By, Hashed, Outcome, Parcel};

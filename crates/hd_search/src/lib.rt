@@ -6,5 +6,6 @@ mod expanding;
 mod frontier;
 mod judging;
 mod searching;
+mod waiting;
 
 pub use searching::{run, searched};

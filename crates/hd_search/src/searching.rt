@@ -10,8 +10,9 @@ ghost use Rattle.hd_search.specs.Refused.{HasOut, IsOpen, Tells};
 
 use crate::closed::{Closed, Known};
 use crate::expanding::Expanding;
-use crate::frontier::{Frontier, Waiting};
+use crate::frontier::Frontier;
 use crate::judging::{Judged, batch_of, closed_by, judge};
+use crate::waiting::Waiting;
 use hd_base::NoMemory;
 use hd_book::{Book, Redeemed, Refusal, Ticket, Verdict};
 use hd_node::{Outcome, Parcel};
