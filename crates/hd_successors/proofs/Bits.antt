@@ -94,21 +94,21 @@ none_past words m le = bit_marks words m 0 0 (get_or_past words (m / 64) 0 le) (
 
 -- ---- one word
 
-pub first_alone : (w from n : ℕ) → from < 64 → w < 2 ^ 64 → 0 < w / 2 ^ from → n ≡ from + trailing_zeros w64 (w / 2 ^ from) → IsFirstMark (w ∷ []) from n
-first_alone w from n lt fits some is =
+pub first_alone : (byte w from n : ℕ) → w ≡ byte → from < 64 → w < 2 ^ 64 → 0 < w / 2 ^ from → n ≡ from + trailing_zeros w64 (w / 2 ^ from) → IsFirstMark (byte ∷ []) from n
+first_alone byte w from n same lt fits some is =
     let column : from % 64 ≡ from = omega (arith, lt) in
     let row : from / 64 ≡ 0 = omega (arith, lt) in
-    subst (IsFirstMark (w ∷ []) from) (ap (λ k. from + trailing_zeros w64 (w / 2 ^ k)) column ∙ sym is)
-    (first_in_word (w ∷ []) from w (ap (λ k. get_or (w ∷ []) k 0) row) fits (subst (λ k. 0 < w / 2 ^ k) (sym column) some))
+    subst (IsFirstMark (byte ∷ []) from) (ap (λ k. from + trailing_zeros w64 (w / 2 ^ k)) column ∙ sym is)
+    (first_in_word (byte ∷ []) from w (ap (λ k. get_or (byte ∷ []) k 0) row ∙ sym same) fits (subst (λ k. 0 < w / 2 ^ k) (sym column) some))
 
-pub none_alone : (w from : ℕ) → from < 64 → w / 2 ^ from ≡ 0 → FirstMark (w ∷ []) from None
-none_alone w from lt none =
+pub none_alone : (byte w from : ℕ) → w ≡ byte → from < 64 → w / 2 ^ from ≡ 0 → FirstMark (byte ∷ []) from None
+none_alone byte w from same lt none =
     let column : from % 64 ≡ from = omega (arith, lt) in
     let row : from / 64 ≡ 0 = omega (arith, lt) in
     λ m far.
     elim (cases_lt (m / 64) 1) [
-      | inl low ↦ none_in_word (w ∷ []) from w m (ap (λ k. get_or (w ∷ []) k 0) row) (ap (λ k. w / 2 ^ k) column ∙ none) far (omega (arith, low, row))
-      | inr high ↦ none_past (w ∷ []) m high
+      | inl low ↦ none_in_word (byte ∷ []) from w m (ap (λ k. get_or (byte ∷ []) k 0) row ∙ sym same) (ap (λ k. w / 2 ^ k) column ∙ none) far (omega (arith, low, row))
+      | inr high ↦ none_past (byte ∷ []) m high
     ]
 
 -- ---- a search through the words
