@@ -212,7 +212,7 @@ fn estimate_over(
     turns: u64,
 ) -> anyhow::Result<()> {
     let task = task_of(rt.alloc(), domain, problem)?;
-    let found = walk::estimates(rt.alloc(), &task, turns);
+    let found = walk::walk_estimated(rt.alloc(), &task, turns);
     drop(task);
     let (met, estimates) = found?;
     println!(rt; "{turns} turns, {} children, sum {}", met.children, met.sum)?;

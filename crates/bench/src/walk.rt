@@ -170,7 +170,11 @@ fn with_estimate(estimates: Estimates, value: EstimateValue) -> Estimates {
 ///
 /// # Errors
 /// `NoMemory` where there is no room for the estimates' tables or an expansion.
-pub fn estimates(alloc: Global, task: &Task, turns: u64) -> Result<(Met, Estimates), NoMemory> {
+pub fn walk_estimated(
+    alloc: Global,
+    task: &Task,
+    turns: u64,
+) -> Result<(Met, Estimates), NoMemory> {
     let mut tables = tables_of(alloc, task)?;
     let mut hmax = Hmax::new(alloc, task)?;
     let mut met = NOTHING_MET;

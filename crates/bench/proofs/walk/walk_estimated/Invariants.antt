@@ -1,5 +1,5 @@
 use Rattle.std.proofs.Common.{◌≡◌}
-use Rattle.bench.proofs.walk.estimates.Given as goal
+use Rattle.bench.proofs.walk.walk_estimated.Given as goal
 
 -- the parcel and the tables are of the task
 abbrev pub invariant-loop-turn : goal.invariant-loop-turn
