@@ -8,3 +8,4 @@ pub mod Rows
 pub mod Rules
 pub mod Tables
 pub mod Value
+pub mod Working

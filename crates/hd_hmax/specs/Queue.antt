@@ -1,9 +1,8 @@
 -- Rules that can be taken, with what they cost. (Our own.)
 use Rattle.std.specs.Prelude.{◌≡◌, ℕ, ◌≤◌, ◌<◌, List, length, slice_index_or, Contains, ◌⊎◌}
-use Rattle.std.specs.Ordering.{Ordering, nat_cmp, ordering_then}
-use Rattle.std.specs.BinaryHeap.{heap_items}
+use Rattle.std.specs.Ordering.{nat_cmp, ordering_then}
+use Rattle.std.specs.declared.cmp.Ordering.{Ordering}
 use Rattle.std.specs.declared.cmp.Reverse.{Reverse}
-use Rattle.hd_hmax.specs.declared.queue.Queue.{Queue}
 
 -- a cost, and the rule that costs so much
 abbrev pub Ready : Type 0
@@ -25,15 +24,24 @@ pub record IsRun (run : List Ready) (last : ℕ) : Type 0 where
   pub low : (i : ℕ) → i < length run → (slice_index_or run i none).0.0 ≤ last
 
 -- a rule of a list from a place on
-pub record IsFrom (run : List Ready) (taken : ℕ) (x : Ready) : Type 0 where
+pub record IsInRun (run : List Ready) (taken : ℕ) (x : Ready) : Type 0 where
   pub place : ℕ
   pub from : taken ≤ place
   pub within : place < length run
   pub is : slice_index_or run place none ≡ x
 
--- a rule waits in the row or in the heap
-abbrev pub Waits : Queue → Ready → Type 0
-Waits q x = IsFrom q.run.items q.taken x ⊎ Contains (heap_items q.heap) x
+-- a rule waits in the row, from a place on, or in the heap
+abbrev pub WaitsIn : List Ready → ℕ → List Ready → Ready → Type 0
+WaitsIn run taken heap x = IsInRun run taken x ⊎ Contains heap x
+
+-- the next rule of the row costs no more than any of the heap
+pub record IsNext (run : List Ready) (taken : ℕ) (heap : List Ready) : Type 0 where
+  pub there : taken < length run
+  pub least : (y : Ready) → Contains heap y → (slice_index_or run taken none).0.0 ≤ y.0.0
+
+-- a rule of the heap costs no more than the next one of the row, if there is one
+abbrev pub IsLate : List Ready → ℕ → List Ready → Type 0
+IsLate run taken heap = (length run ≤ taken) ⊎ ((h : Ready) × Contains heap h × (h.0.0 ≤ (slice_index_or run taken none).0.0))
 
 -- a rule was put in
 pub record IsPushed (old : Ready → Type 0) (x : Ready) (new : Ready → Type 0) : Type 0 where

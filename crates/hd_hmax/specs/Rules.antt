@@ -1,12 +1,11 @@
 -- A task's actions as rules over the places of literals. A rule is an action, by its number, or behind the last action the goal.
 -- (Our own.)
-use Rattle.std.specs.Prelude.{◌≡◌, ℕ, ◌+◌, ◌*◌, ◌-◌, ◌<◌, ◌≤◌, ◌==◌, ◌^◌, nat_le, nat_lt, min, Bool, true, false, not, ◌&&◌, if◌then◌else◌, List, [], ◌∷◌, ◌++◌, map, filter, length, Option, Some, None, slice_get, slice_index_or, Contains}
+use Rattle.std.specs.Prelude.{◌≡◌, ℕ, ◌+◌, ◌*◌, ◌-◌, ◌<◌, ◌≤◌, ◌==◌, ◌^◌, nat_le, nat_lt, Bool, true, false, not, ◌&&◌, if◌then◌else◌, List, [], ◌∷◌, ◌++◌, map, filter, length, Option, Some, None, slice_get, slice_index_or, Contains}
 use Rattle.std.specs.List.{All}
 use Rattle.hd_task.specs.declared.condition.Literal.{Literal}
 use Rattle.hd_task.specs.declared.action.Action.{Action}
 use Rattle.hd_task.specs.declared.task.Task.{Task}
 use Rattle.hd_task.specs.Effects.{names_atom}
-use Rattle.hd_hmax.specs.declared.rules.Rules.{Rules}
 use Rattle.hd_hmax.specs.Prices.{price}
 use Rattle.hd_hmax.specs.Rounds.{literal, brings_about}
 
@@ -16,9 +15,17 @@ use Rattle.hd_hmax.specs.Rounds.{literal, brings_about}
 abbrev pub places : ℕ → ℕ
 places n = 2 * n + 2
 
--- the place of a literal: atoms come first, then negations; n stands for all atoms that the task lacks
+-- an atom's number among those of the task; n stands for all atoms that the task lacks
+abbrev pub near : ℕ → ℕ → ℕ
+near n i = if nat_lt i n then i else n
+
+-- the place of an atom or of its negation: atoms come first, then negations
+abbrev pub place_at : ℕ → Bool → ℕ → ℕ
+place_at n positive i = if positive then i else n + 1 + i
+
+-- the place of a literal
 abbrev pub place : ℕ → Literal → ℕ
-place n l = if l.positive then min l.atom n else n + 1 + min l.atom n
+place n l = place_at n l.positive (near n l.atom)
 
 -- the literal of a place
 abbrev pub literal_at : ℕ → ℕ → Literal
@@ -74,13 +81,13 @@ brings_of n askers a = added_places n askers a.adds ++ deleted_places n askers a
 pub record IsTransposed (t : Task) (askers : List (List ℕ)) (counts : List ℕ) : Type 0 where
   pub rules : length counts ≡ length t.actions + 1
   pub counted : (q : ℕ) → q ≤ length t.actions → slice_index_or counts q 0 ≡ length (needs t q)
-  pub places : length askers ≡ places (length t.atoms)
+  pub width : length askers ≡ places (length t.atoms)
   pub each : (p q : ℕ) → p < places (length t.atoms) → times q (row askers p) ≡ (if nat_le q (length t.actions) then times p (needs t q) else 0)
 
 -- rules are those of a task
-pub record AreRulesOf (t : Task) (r : Rules) : Type 0 where
-  pub atoms : r.atoms ≡ length t.atoms
-  pub prices : r.prices.items ≡ map (price t) t.actions ++ 0 ∷ []
-  pub small : All (λ p. p ≤ 2 ^ 95) r.prices.items
-  pub askers : IsTransposed t r.askers r.counts.items
-  pub brings : r.brings ≡ map (brings_of (length t.atoms) r.askers) t.actions
+pub record AreRulesOf (t : Task) (n : ℕ) (prices counts : List ℕ) (askers brings : List (List ℕ)) : Type 0 where
+  pub atoms : n ≡ length t.atoms
+  pub each_price : prices ≡ map (price t) t.actions ++ 0 ∷ []
+  pub small : All (λ p. p ≤ 2 ^ 95) prices
+  pub transposed : IsTransposed t askers counts
+  pub brought : brings ≡ map (brings_of (length t.atoms) askers) t.actions

@@ -1,11 +1,9 @@
 //! What computes estimates.
-ghost use Rattle.std.specs.Prelude.{◌≡◌, ◌≤◌, ◌^◌, map, length, IfOk};
-ghost use Rattle.std.specs.List.{All};
+ghost use Rattle.std.specs.Prelude.{◌≡◌, IfOk};
 ghost use Rattle.hd_task.specs.Plans.{IsStateOf};
-ghost use Rattle.hd_hmax.specs.Prices.{price};
 ghost use Rattle.hd_hmax.specs.Rounds.{hmax};
-ghost use Rattle.hd_hmax.specs.Tables.{HasWidth};
 ghost use Rattle.hd_hmax.specs.Value.{estimated};
+ghost use Rattle.hd_hmax.specs.Working.{HasWidth};
 
 use crate::rules::Rules;
 use crate::settling::Work;
@@ -19,9 +17,10 @@ use std::marker::Model;
 /// What computes the estimates of a task's states: its rules, made once, and what is written anew for each state.
 #[derive(Drop)]
 pub struct Hmax<'t> {
-    task: &'t Task,
-    rules: Rules,
+    rules: Rules<'t>,
     work: Work,
+    // There is room for what is written.
+    ghost width: { HasWidth rules.task.now work },
 }
 
 impl<'t> Model for Hmax<'t> {
@@ -33,7 +32,7 @@ impl<'t> Model for Hmax<'t> {
 
     ghost coded = { Prim.hlevel (codes, tasks.the_row.coded) };
 
-    ghost view = { λ h. record { task = h.task.now } };
+    ghost view = { λ h. record { task = h.rules.task.now } };
 }
 
 /// The value of an estimate.
@@ -56,18 +55,17 @@ impl<'t> Hmax<'t> {
         ensures task { IfOk result (λ h. h.task ≡ task.now) }
     {
         let rules = Rules::of(alloc, task)?;
-        let work = Work::new(alloc, 2 * task.atoms.len() + 2, task.actions.len() + 1)?;
-        Ok(Hmax { task, rules, work })
+        let work = Work::new(alloc, &rules)?;
+        Ok(Hmax { rules, work })
     }
 
     /// The estimate of a state, in whatever form it is kept. It takes no memory.
-    #[tactic(auto, unfolding(crate::specs::Rounds::hmax))]
     pub fn value<R: Reads>(&mut self, state: &R) -> EstimateValue
         requires of_task { IsStateOf self.old.task (R.seen state.now) }
         ensures value { estimated result ≡ hmax self.old.task (R.seen state.now) }
         ensures task { self.new.task ≡ self.old.task }
     {
-        value_of(self.work.goal_cost(&self.rules, self.task.actions.len(), state))
+        value_of(self.work.goal_cost(&self.rules, state))
     }
 
     /// The estimate of a state, which keeps the state packed.
@@ -81,8 +79,8 @@ impl<'t> Hmax<'t> {
         ensures task { self.new.task ≡ self.old.task }
     {
         let value = self.value(state);
-        let state = pack(alloc, &Layout::new(self.task), state)?;
-        Ok(Estimate::of(self.task, state, value))
+        let state = pack(alloc, &Layout::new(self.rules.task), state)?;
+        Ok(Estimate::of(self.rules.task, state, value))
     }
 
     /// The estimate of a packed state, with a copy of it.
@@ -101,6 +99,6 @@ impl<'t> Hmax<'t> {
     {
         let value = self.value(state);
         let state = state.copied(alloc)?;
-        Ok(Estimate::of(self.task, state, value))
+        Ok(Estimate::of(self.rules.task, state, value))
     }
 }

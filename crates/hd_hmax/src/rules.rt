@@ -4,7 +4,7 @@
 //! then those of their negations; the last of each half stands for all atoms that the task lacks.
 ghost use Rattle.std.specs.Prelude.{◌≡◌, ℕ, ◌+◌, ◌*◌, ◌<◌, ◌≤◌, ◌^◌, ◌++◌, ◌∷◌, [], ◌==◌, Some, None, IfOk, OnOk, length, map, replicate, slice_get, slice_index_or, slice_set, nat_lt, if◌then◌else◌};
 ghost use Rattle.hd_task.specs.Effects.{names_atom};
-ghost use Rattle.hd_hmax.specs.Rules.{place, places, asked_of, asked_by, asked, needs, times, is_asked, added_places, deleted_places, brings_of, IsTransposed, AreRulesOf};
+ghost use Rattle.hd_hmax.specs.Rules.{place, place_at, places, asked_of, asked_by, asked, needs, times, is_asked, added_places, deleted_places, brings_of, IsTransposed, AreRulesOf};
 
 use crate::prices::prices_of;
 use crate::rows::Rows;
@@ -14,8 +14,9 @@ use std::alloc::Global;
 use std::mem::replace;
 
 /// A task's rules.
-#[derive(Debug, Drop)]
-pub(crate) struct Rules {
+#[derive(Drop)]
+pub(crate) struct Rules<'t> {
+    pub(crate) task: &'t Task,
     /// How many atoms the task has.
     pub(crate) atoms: usize,
     /// By rule: what it costs at least. The goal costs nothing.
@@ -26,6 +27,8 @@ pub(crate) struct Rules {
     pub(crate) askers: Rows,
     /// By action: the places of what it brings about, if a rule needs them.
     pub(crate) brings: Rows,
+    // They are those of the task.
+    ghost of_task: { AreRulesOf task.now atoms prices.items counts.items askers brings },
 }
 
 /// The place of an atom or of its negation.
@@ -33,7 +36,7 @@ pub(crate) struct Rules {
 pub(crate) fn place_at(atoms: usize, atom: usize, positive: bool) -> usize
     requires few { atoms ≤ 2 ^ 20 }
     requires within { atom ≤ atoms }
-    ensures { result ≡ (if positive then atom else atoms + 1 + atom) }
+    ensures { result ≡ place_at atoms positive atom }
 {
     if positive { atom } else { atoms + 1 + atom }
 }
@@ -44,8 +47,9 @@ fn place_of(atoms: usize, literal: Literal) -> usize
     ensures place { result ≡ place atoms literal }
     ensures within { result < places atoms }
 {
-    let atom = (literal.atom as usize).min(atoms);
-    place_at(atoms, atom, literal.positive)
+    let atom = literal.atom as usize;
+    let near = if atom < atoms { atom } else { atoms };
+    place_at(atoms, near, literal.positive)
 }
 
 /// Whether an atom is one of these.
@@ -181,12 +185,7 @@ fn is_asked(askers: &Rows, place: usize) -> bool
 }
 
 /// Puts the places of added atoms behind others, if a rule needs them.
-fn push_added(
-    row: &mut Vec<u32>,
-    atoms: usize,
-    askers: &Rows,
-    adds: &[u32],
-) -> Result<(), NoMemory>
+fn push_added(row: &mut Vec<u32>, atoms: usize, askers: &Rows, adds: &[u32]) -> Result<(), NoMemory>
     requires few { atoms ≤ 2 ^ 20 }
     requires places { length askers.now ≡ places atoms }
     ensures { OnOk result (row.new.items
@@ -261,14 +260,14 @@ fn all_brings(
     Ok(rows)
 }
 
-impl Rules {
+impl<'t> Rules<'t> {
     /// The rules of a task.
     ///
     /// # Errors
     /// `NoMemory` where there is no room for two numbers a rule, two a place, and one for each literal of a condition, of the
     /// goal and of what an action brings about.
-    pub(crate) fn of(alloc: Global, task: &Task) -> Result<Rules, NoMemory>
-        ensures { IfOk result (AreRulesOf task.now) }
+    pub(crate) fn of(alloc: Global, task: &'t Task) -> Result<Rules<'t>, NoMemory>
+        ensures { IfOk result (λ r. r.task.now ≡ task.now) }
     {
         let atoms = task.atoms.len();
         let mut prices = prices_of(alloc, task)?;
@@ -276,6 +275,7 @@ impl Rules {
         let (askers, counts) = askers_of(alloc, task)?;
         let brings = all_brings(alloc, atoms, &askers, task.actions.as_slice())?;
         Ok(Rules {
+            task,
             atoms,
             prices,
             counts,

@@ -1,0 +1,188 @@
+-- The rules of a task: by place the rules that need it, and by action the places of what it brings about.
+use Rattle.std.proofs.Common.{◌≡◌, ℕ, ◌+◌, ◌<◌, ◌≤◌, ◌==◌, nat_le, nat_lt, Bool, true, false, cond, not, ◌&&◌, ◌||◌, List, [], ◌∷◌, ◌++◌, map, filter, length, set, get_or, take, replicate, slice_get, Option, Some, None, Contains, inl, inr, refl, sym, ap, ◌∙◌, subst, arith}
+use Rattle.std.proofs.lemmas.Bool.{true≢false, cases_lt, cases_eq, eq-eqb, eqb-true, ne_eqb, le-leb, lt-leb, lt-ltb, le-ltb, ltb-true, and_parts, and_from, cond-true, cond-false, not-true, not_from_false}
+use Rattle.std.proofs.lemmas.List.{get_or-map, get_or-replicate}
+use Rattle.std.proofs.lemmas.List.Elements.{Contains-append_left, Contains-append_right, Contains-append_cases, Contains-get_or}
+use Rattle.std.proofs.lemmas.Option.{slice_get_within, get_or_from_slice_get}
+use Rattle.hd_base.proofs.Lists.{get_or-set}
+use Rattle.hd_base.proofs.Members.{Contains-first, Contains-map, Contains-filter, Contains-from_filter, passes-from_filter, IsFrom-from_map}
+use Rattle.hd_base.proofs.Tests.{list_any-from_contains}
+use Rattle.hd_task.specs.declared.condition.Literal.{Literal}
+use Rattle.hd_task.specs.declared.action.Action.{Action}
+use Rattle.hd_task.specs.declared.task.Task.{Task}
+use Rattle.hd_task.specs.Effects.{names_atom}
+use Rattle.hd_hmax.specs.Rounds.{literal, brings_about}
+use Rattle.hd_hmax.specs.Rules.{places, near, place, place_at, literal_at, needs, times, row, is_asked, added_places, deleted_places, brings_of, IsTransposed}
+use Rattle.hd_hmax.proofs.Counts.{passing_member}
+use Rattle.hd_hmax.proofs.Counting.{times-nil, times-cons, times-append, times_positive, times_member}
+use Rattle.hd_hmax.proofs.Places.{near_own, place_at_below, place_below}
+use Rattle.hd_hmax.proofs.Cheapest.{BringRight}
+
+-- ---- a rule more in a list
+
+no_more : (b c : Bool) → c ≡ false → cond b (cond c 1 0) 0 ≡ 0
+no_more true c e = cond-false c 1 0 e
+no_more false c e = refl
+
+-- a rule was put into the list of a place
+pub times-added : (lists : List (List ℕ)) (place rule p q : ℕ) → place < length lists → p < length lists
+    → times q (row (set lists place (row lists place ++ rule ∷ [])) p) ≡ times q (row lists p) + cond (rule == q) (cond (place == p) 1 0) 0
+times-added lists place rule p q h k =
+    let at = get_or-set lists place (row lists place ++ rule ∷ []) p [] k in
+    let more = times-append q (row lists place) (rule ∷ []) in
+    let last = times-cons q rule [] in
+    let none = times-nil q in
+    elim (cases_eq place p) [
+      | inl same ↦
+          let here : row (set lists place (row lists place ++ rule ∷ [])) p ≡ row lists place ++ rule ∷ [] = at ∙ cond-true (place == p) (row lists place ++ rule ∷ []) (row lists p) (eq-eqb place p same) in
+          let now = ap (times q) here in
+          let before : times q (row lists place) ≡ times q (row lists p) = ap (λ i. times q (row lists i)) same in
+          let one : cond (rule == q) (cond (place == p) 1 0) 0 ≡ cond (rule == q) 1 0 = ap (λ b. cond (rule == q) (cond b 1 0) 0) (eq-eqb place p same) in
+          omega (arith, now, more, last, none, before, one)
+      | inr apart ↦
+          let there : row (set lists place (row lists place ++ rule ∷ [])) p ≡ row lists p = at ∙ cond-false (place == p) (row lists place ++ rule ∷ []) (row lists p) (ne_eqb place p apart) in
+          let now = ap (times q) there in
+          let nothing = no_more (rule == q) (place == p) (ne_eqb place p apart) in
+          omega (arith, now, nothing)
+    ]
+
+-- one literal more was gone through
+pub times-next : (same b : Bool) (before now so_far next : ℕ) → now ≡ before + cond same (cond b 1 0) 0 → next ≡ so_far + cond b 1 0 → (first : ℕ) → before ≡ first + cond same so_far 0 → now ≡ first + cond same next 0
+times-next true b before now so_far next e k first h = omega (arith, e, k, h)
+times-next false b before now so_far next e k first h = omega (arith, e, h)
+
+-- one rule more was gone through
+pub times-rule : (below same : Bool) (asked before now : ℕ) → (below ≡ true → same ≡ false) → before ≡ cond below asked 0 → now ≡ before + cond same asked 0 → now ≡ cond (below || same) asked 0
+times-rule true true asked before now apart a b = absurd (true≢false (apart refl))
+times-rule true false asked before now apart a b = omega (arith, a, b)
+times-rule false true asked before now apart a b = omega (arith, a, b)
+times-rule false false asked before now apart a b = omega (arith, a, b)
+
+-- ---- what actions bring about
+
+asked_if_needed : (t : Task) (askers : List (List ℕ)) (counts : List ℕ) → IsTransposed t askers counts → (r p : ℕ) → r ≤ length t.actions → p < places (length t.atoms) → Contains (needs t r) p → is_asked askers p ≡ true
+asked_if_needed t askers counts f r p h own m =
+    let some = times_positive p (needs t r) m in
+    let e = f.each p r own ∙ cond-true (nat_le r (length t.actions)) (times p (needs t r)) 0 (le-leb r (length t.actions) h) in
+    let among = times_member r (row askers p) (omega (arith, some, e)) in
+    let long = among.1 in
+    not_from_false (length (row askers p) == 0) (ne_eqb (length (row askers p)) 0 (λ z. omega (arith, long, z)))
+
+positive : (n : ℕ) → not (n == 0) ≡ true → 0 < n
+positive n e =
+    elim (cases_lt 0 n) [
+      | inl h ↦ h
+      | inr z ↦ absurd (true≢false (sym e ∙ ap not (eq-eqb n 0 (omega (arith, z)))))
+    ]
+
+needed_if_asked : (t : Task) (askers : List (List ℕ)) (counts : List ℕ) → IsTransposed t askers counts → (p : ℕ) → p < places (length t.atoms) → is_asked askers p ≡ true → (r : ℕ) × (r ≤ length t.actions) × Contains (needs t r) p
+needed_if_asked t askers counts f p own asked =
+    let long : 0 < length (row askers p) = positive (length (row askers p)) asked in
+    let q = get_or (row askers p) 0 0 in
+    let some = times_positive q (row askers p) (Contains-get_or (row askers p) 0 0 long) in
+    elim (cases_lt (length t.actions) q) [
+      | inl beyond ↦
+          let none : times q (row askers p) ≡ 0 = f.each p q own ∙ cond-false (nat_le q (length t.actions)) (times p (needs t q)) 0 (lt-leb q (length t.actions) beyond) in
+          absurd (omega (arith, some, none))
+      | inr known ↦
+          let e = f.each p q own ∙ cond-true (nat_le q (length t.actions)) (times p (needs t q)) 0 (le-leb q (length t.actions) known) in
+          (q, known, times_member p (needs t q) (omega (arith, some, e)))
+    ]
+
+-- the places of an action's row are those of what it brings about and a rule needs
+module _ (t : Task) (askers : List (List ℕ)) (counts : List ℕ) (f : IsTransposed t askers counts) (a : Action) where
+  named : (atoms : List ℕ) (i : ℕ) → Contains atoms i → names_atom atoms i ≡ true
+  named atoms i m = list_any-from_contains (λ j. j == i) atoms i m (eq-eqb i i refl)
+
+  among : (atoms : List ℕ) (i : ℕ) → names_atom atoms i ≡ true → Contains atoms i
+  among atoms i e =
+      let k = passing_member (λ j. j == i) atoms e in
+      subst (Contains atoms) (eqb-true k.member i k.is) k.among
+
+  all_added : (i : ℕ) → i < length t.atoms → brings_about a (literal true i) ≡ true → is_asked askers (place_at (length t.atoms) true i) ≡ true → Contains (brings_of (length t.atoms) askers a) (place_at (length t.atoms) true i)
+  unfolding brings_about
+  all_added i own brings asked =
+      Contains-append_left (added_places (length t.atoms) askers a.adds) (deleted_places (length t.atoms) askers a.adds a.deletes) i
+      (Contains-filter (λ i. nat_lt i (length t.atoms) && is_asked askers i) a.adds i (among a.adds i brings) (and_from (nat_lt i (length t.atoms)) (is_asked askers i) (lt-ltb i (length t.atoms) own) asked))
+
+  all_deleted : (i : ℕ) → i < length t.atoms → brings_about a (literal false i) ≡ true → is_asked askers (place_at (length t.atoms) false i) ≡ true → Contains (brings_of (length t.atoms) askers a) (place_at (length t.atoms) false i)
+  unfolding brings_about
+  all_deleted i own brings asked =
+      let both = and_parts (names_atom a.deletes i) (not (names_atom a.adds i)) brings in
+      Contains-append_right (added_places (length t.atoms) askers a.adds) (deleted_places (length t.atoms) askers a.adds a.deletes) (length t.atoms + 1 + i)
+      (Contains-map (λ i. length t.atoms + 1 + i) (filter (λ i. nat_lt i (length t.atoms) && (is_asked askers (length t.atoms + 1 + i) && not (names_atom a.adds i))) a.deletes) i
+      (Contains-filter (λ i. nat_lt i (length t.atoms) && (is_asked askers (length t.atoms + 1 + i) && not (names_atom a.adds i))) a.deletes i (among a.deletes i both.0)
+      (and_from (nat_lt i (length t.atoms)) (is_asked askers (length t.atoms + 1 + i) && not (names_atom a.adds i)) (lt-ltb i (length t.atoms) own)
+      (and_from (is_asked askers (length t.atoms + 1 + i)) (not (names_atom a.adds i)) asked both.1))))
+
+  pub all_in_row : (b : Bool) (i : ℕ) → i < length t.atoms → brings_about a (literal b i) ≡ true → is_asked askers (place_at (length t.atoms) b i) ≡ true → Contains (brings_of (length t.atoms) askers a) (place_at (length t.atoms) b i)
+  all_in_row true i own brings asked = all_added i own brings asked
+  all_in_row false i own brings asked = all_deleted i own brings asked
+
+  -- a place of the row
+  pub record IsBrought (p : ℕ) : Type 0 where
+    pub positive : Bool
+    pub atom : ℕ
+    pub own : atom < length t.atoms
+    pub is : p ≡ place_at (length t.atoms) positive atom
+    pub brings : brings_about a (literal positive atom) ≡ true
+    pub asked : is_asked askers p ≡ true
+
+  added_is : (p : ℕ) → Contains (added_places (length t.atoms) askers a.adds) p → IsBrought p
+  unfolding brings_about
+  added_is p m =
+      let both = and_parts (nat_lt p (length t.atoms)) (is_asked askers p) (passes-from_filter (λ i. nat_lt i (length t.atoms) && is_asked askers i) a.adds p m) in
+      record {
+        positive = true;
+        atom = p;
+        own = ltb-true p (length t.atoms) both.0;
+        is = refl;
+        brings = named a.adds p (Contains-from_filter (λ i. nat_lt i (length t.atoms) && is_asked askers i) a.adds p m);
+        asked = both.1;
+      }
+
+  deleted_is : (p : ℕ) → Contains (deleted_places (length t.atoms) askers a.adds a.deletes) p → IsBrought p
+  unfolding brings_about
+  deleted_is p m =
+      let test = λ i. nat_lt i (length t.atoms) && (is_asked askers (length t.atoms + 1 + i) && not (names_atom a.adds i)) in
+      let from = IsFrom-from_map (λ i. length t.atoms + 1 + i) (filter test a.deletes) p m in
+      let i = from.source in
+      let both = and_parts (nat_lt i (length t.atoms)) (is_asked askers (length t.atoms + 1 + i) && not (names_atom a.adds i)) (passes-from_filter test a.deletes i from.among) in
+      let rest = and_parts (is_asked askers (length t.atoms + 1 + i)) (not (names_atom a.adds i)) both.1 in
+      record {
+        positive = false;
+        atom = i;
+        own = ltb-true i (length t.atoms) both.0;
+        is = sym from.is;
+        brings = and_from (names_atom a.deletes i) (not (names_atom a.adds i)) (named a.deletes i (Contains-from_filter test a.deletes i from.among)) rest.1;
+        asked = ap (is_asked askers) (sym from.is) ∙ rest.0;
+      }
+
+  pub row_is : (p : ℕ) → Contains (brings_of (length t.atoms) askers a) p → IsBrought p
+  row_is p m =
+      elim (Contains-append_cases (added_places (length t.atoms) askers a.adds) (deleted_places (length t.atoms) askers a.adds a.deletes) p m) [
+        | inl k ↦ added_is p k
+        | inr k ↦ deleted_is p k
+      ]
+
+row_of_map : (f : Action → List ℕ) (actions : List Action) (q : ℕ) (a : Action) → slice_get actions q ≡ Some a → row (map f actions) q ≡ f a
+row_of_map f actions q a is =
+    get_or-map f actions q a [] (slice_get_within actions q a is) ∙ ap f (get_or_from_slice_get actions q a a is)
+
+pub bring_right : (t : Task) (askers : List (List ℕ)) (counts : List ℕ) (brings : List (List ℕ)) → IsTransposed t askers counts → brings ≡ map (brings_of (length t.atoms) askers) t.actions → BringRight t brings
+bring_right t askers counts brings f are = record {
+  all = λ q a l is own by r known need.
+      let at : row brings q ≡ brings_of (length t.atoms) askers a = ap (λ rows. row rows q) are ∙ row_of_map (brings_of (length t.atoms) askers) t.actions q a is in
+      let same : place (length t.atoms) l ≡ place_at (length t.atoms) l.positive l.atom = ap (place_at (length t.atoms) l.positive) (near_own (length t.atoms) l.atom own) in
+      let asked = asked_if_needed t askers counts f r (place (length t.atoms) l) known (place_below (length t.atoms) l) need in
+      subst (λ ps. Contains ps (place (length t.atoms) l)) (sym at)
+      (subst (Contains (brings_of (length t.atoms) askers a)) (sym same) (all_in_row t askers counts f a l.positive l.atom own by (ap (is_asked askers) (sym same) ∙ asked)));
+  only = λ q a p is m.
+      let at : row brings q ≡ brings_of (length t.atoms) askers a = ap (λ rows. row rows q) are ∙ row_of_map (brings_of (length t.atoms) askers) t.actions q a is in
+      let k = row_is t askers counts f a p (subst (λ ps. Contains ps p) at m) in
+      let l = literal k.positive k.atom in
+      let same : p ≡ place (length t.atoms) l = k.is ∙ ap (place_at (length t.atoms) k.positive) (sym (near_own (length t.atoms) k.atom k.own)) in
+      let own = place_below (length t.atoms) l in
+      let needed = needed_if_asked t askers counts f p (omega (arith, own, same)) k.asked in
+      (l, same, k.own, k.brings, needed);
+}
