@@ -33,6 +33,15 @@ pub record BringRight (t : Task) (brings : List (List ℕ)) : Type 0 where
       → (r : ℕ) → r ≤ length t.actions → Contains (needs t r) (place (length t.atoms) l) → Contains (row brings q) (place (length t.atoms) l)
   pub only : (q : ℕ) (a : Action) (p : ℕ) → slice_get t.actions q ≡ Some a → Contains (row brings q) p → (l : Literal) × (p ≡ place (length t.atoms) l) × (l.atom < length t.atoms) × (brings_about a l ≡ true) × ((r : ℕ) × (r ≤ length t.actions) × Contains (needs t r) p)
 
+-- so many more
+climb : ℕ → ℕ → ℕ
+climb zero k = k
+climb (suc j) k = suc (climb j k)
+
+climb_is : (j k : ℕ) → climb j k ≡ j + k
+climb_is zero k = omega arith
+climb_is (suc j) k = let e = climb_is j k in omega (arith, e)
+
 free_literal : (b : Bool) (c : ℕ) → up_to c (cond b (Some 0) None) ≡ true → b ≡ true
 free_literal true c e = refl
 free_literal false c e = absurd (true≢false (sym e))
@@ -41,7 +50,7 @@ none_finite : (o : Option ℕ) → ((c : ℕ) → o ≡ Some c → ⊥) → o �
 none_finite None h = refl
 none_finite (Some c) h = absurd (h c refl)
 
-slice_get_there : {X : Type 0} (xs : List X) (i : ℕ) → i < length xs → (x : X) × (slice_get xs i ≡ Some x)
+pub slice_get_there : {X : Type 0} (xs : List X) (i : ℕ) → i < length xs → (x : X) × (slice_get xs i ≡ Some x)
 slice_get_there [] i h = absurd (omega (arith, h))
 slice_get_there (x ∷ xs) zero h = (x, refl)
 slice_get_there (x ∷ xs) (suc i) h = slice_get_there xs i (omega (arith, h))
@@ -71,13 +80,14 @@ small_rule t s q c cheap few e =
     omega (arith, low, most, sum, few)
 
 module _ (t : Task) (s : State) where
-  affords_up : (j k c : ℕ) (l : Literal) → affords t s k c l ≡ true → affords t s (j + k) c l ≡ true
+  affords_up : (j k c : ℕ) (l : Literal) → affords t s k c l ≡ true → affords t s (climb j k) c l ≡ true
   affords_up zero k c l e = e
-  affords_up (suc j) k c l e = affords-later t s (j + k) c l (affords_up j k c l e)
+  affords_up (suc j) k c l e = affords-later t s (climb j k) c l (affords_up j k c l e)
 
   affords_last : (k c : ℕ) (l : Literal) → k ≤ 2 * length t.atoms → affords t s k c l ≡ true → affords t s (2 * length t.atoms) c l ≡ true
   affords_last k c l h e =
-      let same : 2 * length t.atoms - k + k ≡ 2 * length t.atoms = omega (arith, h) in
+      let sum = climb_is (2 * length t.atoms - k) k in
+      let same : climb (2 * length t.atoms - k) k ≡ 2 * length t.atoms = omega (arith, h, sum) in
       subst (λ n. affords t s n c l ≡ true) same (affords_up (2 * length t.atoms - k) k c l e)
 
   -- ---- what rules cost

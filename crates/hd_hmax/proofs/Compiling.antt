@@ -1,7 +1,7 @@
 -- The rules of a task: by place the rules that need it, and by action the places of what it brings about.
 use Rattle.std.proofs.Common.{◌≡◌, ℕ, ◌+◌, ◌<◌, ◌≤◌, ◌==◌, nat_le, nat_lt, Bool, true, false, cond, not, ◌&&◌, ◌||◌, List, [], ◌∷◌, ◌++◌, map, filter, length, set, get_or, take, replicate, slice_get, Option, Some, None, Contains, inl, inr, refl, sym, ap, ◌∙◌, subst, arith}
 use Rattle.std.proofs.lemmas.Bool.{true≢false, cases_lt, cases_eq, eq-eqb, eqb-true, ne_eqb, le-leb, lt-leb, lt-ltb, le-ltb, ltb-true, and_parts, and_from, cond-true, cond-false, not-true, not_from_false}
-use Rattle.std.proofs.lemmas.List.{get_or-map, get_or-replicate}
+use Rattle.std.proofs.lemmas.List.{get_or-map, get_or-replicate, take_more, map-append}
 use Rattle.std.proofs.lemmas.List.Elements.{Contains-append_left, Contains-append_right, Contains-append_cases, Contains-get_or}
 use Rattle.std.proofs.lemmas.Option.{slice_get_within, get_or_from_slice_get}
 use Rattle.hd_base.proofs.Lists.{get_or-set}
@@ -14,40 +14,59 @@ use Rattle.hd_task.specs.Effects.{names_atom}
 use Rattle.hd_hmax.specs.Rounds.{literal, brings_about}
 use Rattle.hd_hmax.specs.Rules.{places, near, place, place_at, literal_at, needs, times, row, is_asked, added_places, deleted_places, brings_of, IsTransposed}
 use Rattle.hd_hmax.proofs.Counts.{passing_member}
-use Rattle.hd_hmax.proofs.Counting.{times-nil, times-cons, times-append, times_positive, times_member}
+use Rattle.hd_hmax.proofs.Counting.{unit_if, times-nil, times-cons, times-append, times_positive, times_member}
 use Rattle.hd_hmax.proofs.Places.{near_own, place_at_below, place_below}
-use Rattle.hd_hmax.proofs.Cheapest.{BringRight}
+use Rattle.hd_hmax.proofs.Cheapest.{BringRight, slice_get_there}
 
 -- ---- a rule more in a list
 
-no_more : (b c : Bool) → c ≡ false → cond b (cond c 1 0) 0 ≡ 0
-no_more true c e = cond-false c 1 0 e
+no_more : (b c : Bool) → c ≡ false → cond b (unit_if c) 0 ≡ 0
+no_more true c e = ap unit_if e
 no_more false c e = refl
 
+at_once : (b : Bool) → unit_if b ≡ cond b (unit_if true) 0
+at_once true = refl
+at_once false = refl
+
 -- a rule was put into the list of a place
-pub times-added : (lists : List (List ℕ)) (place rule p q : ℕ) → place < length lists → p < length lists
-    → times q (row (set lists place (row lists place ++ rule ∷ [])) p) ≡ times q (row lists p) + cond (rule == q) (cond (place == p) 1 0) 0
-times-added lists place rule p q h k =
-    let at = get_or-set lists place (row lists place ++ rule ∷ []) p [] k in
-    let more = times-append q (row lists place) (rule ∷ []) in
+pub times-added : (lists : List (List ℕ)) (at rule p q : ℕ) → at < length lists → p < length lists
+    → times q (row (set lists at (row lists at ++ rule ∷ [])) p) ≡ times q (row lists p) + cond (rule == q) (unit_if (at == p)) 0
+times-added lists at rule p q h k =
+    let is = get_or-set lists at (row lists at ++ rule ∷ []) p [] k in
+    let more = times-append q (row lists at) (rule ∷ []) in
     let last = times-cons q rule [] in
     let none = times-nil q in
-    elim (cases_eq place p) [
+    elim (cases_eq at p) [
       | inl same ↦
-          let here : row (set lists place (row lists place ++ rule ∷ [])) p ≡ row lists place ++ rule ∷ [] = at ∙ cond-true (place == p) (row lists place ++ rule ∷ []) (row lists p) (eq-eqb place p same) in
+          let here : row (set lists at (row lists at ++ rule ∷ [])) p ≡ row lists at ++ rule ∷ [] = is ∙ cond-true (at == p) (row lists at ++ rule ∷ []) (row lists p) (eq-eqb at p same) in
           let now = ap (times q) here in
-          let before : times q (row lists place) ≡ times q (row lists p) = ap (λ i. times q (row lists i)) same in
-          let one : cond (rule == q) (cond (place == p) 1 0) 0 ≡ cond (rule == q) 1 0 = ap (λ b. cond (rule == q) (cond b 1 0) 0) (eq-eqb place p same) in
-          omega (arith, now, more, last, none, before, one)
+          let before : times q (row lists at) ≡ times q (row lists p) = ap (λ i. times q (row lists i)) same in
+          let once : unit_if (rule == q) ≡ cond (rule == q) (unit_if (at == p)) 0 = at_once (rule == q) ∙ ap (λ b. cond (rule == q) (unit_if b) 0) (sym (eq-eqb at p same)) in
+          omega (arith, now, more, last, none, before, once)
       | inr apart ↦
-          let there : row (set lists place (row lists place ++ rule ∷ [])) p ≡ row lists p = at ∙ cond-false (place == p) (row lists place ++ rule ∷ []) (row lists p) (ne_eqb place p apart) in
+          let there : row (set lists at (row lists at ++ rule ∷ [])) p ≡ row lists p = is ∙ cond-false (at == p) (row lists at ++ rule ∷ []) (row lists p) (ne_eqb at p apart) in
           let now = ap (times q) there in
-          let nothing = no_more (rule == q) (place == p) (ne_eqb place p apart) in
+          let nothing = no_more (rule == q) (at == p) (ne_eqb at p apart) in
           omega (arith, now, nothing)
     ]
 
+-- no literal was gone through yet
+pub times-first : (same : Bool) (k p : ℕ) → k ≡ k + cond same (times p []) 0
+times-first true k p = let e = times-nil p in omega (arith, e)
+times-first false k p = omega arith
+
+-- the places so far, and one more
+pub times-place : (n : ℕ) (ls : List Literal) (i : ℕ) (l : Literal) → i < length ls → l ≡ get_or ls i l → (p : ℕ)
+    → times p (map (place n) (take (i + 1) ls)) ≡ times p (map (place n) (take i ls)) + unit_if (place n l == p)
+times-place n ls i l h is p =
+    let one : take (i + 1) ls ≡ take i ls ++ l ∷ [] = take_more ls i l h ∙ ap (λ x. take i ls ++ x ∷ []) (sym is) in
+    let all = ap (λ xs. times p (map (place n) xs)) one ∙ (ap (times p) (map-append (place n) (take i ls) (l ∷ [])) ∙ times-append p (map (place n) (take i ls)) (place n l ∷ [])) in
+    let last = times-cons p (place n l) [] in
+    let none = times-nil p in
+    omega (arith, all, last, none)
+
 -- one literal more was gone through
-pub times-next : (same b : Bool) (before now so_far next : ℕ) → now ≡ before + cond same (cond b 1 0) 0 → next ≡ so_far + cond b 1 0 → (first : ℕ) → before ≡ first + cond same so_far 0 → now ≡ first + cond same next 0
+pub times-next : (same b : Bool) (before now so_far next : ℕ) → now ≡ before + cond same (unit_if b) 0 → next ≡ so_far + unit_if b → (first : ℕ) → before ≡ first + cond same so_far 0 → now ≡ first + cond same next 0
 times-next true b before now so_far next e k first h = omega (arith, e, k, h)
 times-next false b before now so_far next e k first h = omega (arith, e, h)
 
@@ -144,7 +163,7 @@ module _ (t : Task) (askers : List (List ℕ)) (counts : List ℕ) (f : IsTransp
   deleted_is : (p : ℕ) → Contains (deleted_places (length t.atoms) askers a.adds a.deletes) p → IsBrought p
   unfolding brings_about
   deleted_is p m =
-      let test = λ i. nat_lt i (length t.atoms) && (is_asked askers (length t.atoms + 1 + i) && not (names_atom a.adds i)) in
+      let test : ℕ → Bool = λ i. nat_lt i (length t.atoms) && (is_asked askers (length t.atoms + 1 + i) && not (names_atom a.adds i)) in
       let from = IsFrom-from_map (λ i. length t.atoms + 1 + i) (filter test a.deletes) p m in
       let i = from.source in
       let both = and_parts (nat_lt i (length t.atoms)) (is_asked askers (length t.atoms + 1 + i) && not (names_atom a.adds i)) (passes-from_filter test a.deletes i from.among) in
@@ -186,3 +205,12 @@ bring_right t askers counts brings f are = record {
       let needed = needed_if_asked t askers counts f p (omega (arith, own, same)) k.asked in
       (l, same, k.own, k.brings, needed);
 }
+
+-- the places of rows are there
+pub brings-below : (t : Task) (brings : List (List ℕ)) → BringRight t brings → (q p : ℕ) → q < length t.actions → Contains (row brings q) p → p < places (length t.atoms)
+brings-below t brings right q p h m =
+    let a = slice_get_there t.actions q h in
+    let of = right.only q a.0 p a.1 m in
+    let own = place_below (length t.atoms) of.0 in
+    let same = of.1 in
+    omega (arith, own, same)

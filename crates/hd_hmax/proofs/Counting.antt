@@ -1,19 +1,26 @@
 -- How often a number stands in a list, and how many places of a list are open.
-use Rattle.std.proofs.Common.{◌≡◌, ℕ, ◌+◌, ◌<◌, ◌==◌, Bool, true, false, cond, List, [], ◌∷◌, ◌++◌, filter, length, set, get_or, replicate, Contains, inl, inr, refl, sym, ap, ◌∙◌, subst, arith, length-set}
-use Rattle.std.proofs.lemmas.Bool.{true≢false, cases_lt, cases_eq, cases_Bool, eq-eqb, ne_eqb, eqb-true, cond-true, cond-false}
+use Rattle.std.proofs.Common.{◌≡◌, ℕ, ◌+◌, ◌-◌, ◌<◌, ◌≤◌, ◌==◌, nat_lt, Bool, true, false, cond, List, [], ◌∷◌, ◌++◌, filter, length, set, get_or, replicate, Contains, inl, inr, refl, sym, ap, ◌∙◌, subst, arith, length-set}
+use Rattle.std.specs.List.{sum_by}
+use Rattle.std.proofs.lemmas.Bool.{both_ways, cases_lt, cases_eq, cases_Bool, eq-eqb, ne_eqb, lt-ltb, le-ltb, cond-true, cond-false}
+use Rattle.std.proofs.lemmas.List.Sums.{length-filter, sum_by-set}
 use Rattle.std.proofs.lemmas.List.{get_or_past, get_or-replicate}
 use Rattle.hd_base.proofs.Lists.{get_or-set}
 use Rattle.hd_base.proofs.Members.{Contains-first, Contains-later, Contains-cons_cases, Contains-nil}
 use Rattle.hd_hmax.specs.Rules.{times}
-use Rattle.hd_hmax.specs.Working.{is_open, open_in}
+use Rattle.hd_hmax.specs.Working.{is_open, open_in, unfinished, StayClosed}
 
-length_if : (b : Bool) (x : ℕ) (xs : List ℕ) → length (cond b (x ∷ xs) xs) ≡ length xs + cond b 1 0
+-- one where a test holds
+pub unit_if : Bool → ℕ
+unit_if true = 1
+unit_if false = 0
+
+length_if : (b : Bool) (x : ℕ) (xs : List ℕ) → length (cond b (x ∷ xs) xs) ≡ length xs + unit_if b
 length_if true x xs = omega arith
 length_if false x xs = omega arith
 
 -- ---- how often
 
-pub times-cons : (x y : ℕ) (ys : List ℕ) → times x (y ∷ ys) ≡ times x ys + cond (y == x) 1 0
+pub times-cons : (x y : ℕ) (ys : List ℕ) → times x (y ∷ ys) ≡ times x ys + unit_if (y == x)
 unfolding times
 times-cons x y ys = length_if (y == x) y (filter (λ z. z == x) ys)
 
@@ -21,11 +28,11 @@ pub times-nil : (x : ℕ) → times x [] ≡ 0
 unfolding times
 times-nil x = refl
 
-one_if_same : (x y : ℕ) → y ≡ x → cond (y == x) 1 0 ≡ 1
-one_if_same x y e = cond-true (y == x) 1 0 (eq-eqb y x e)
+pub one_if_same : (x y : ℕ) → y ≡ x → unit_if (y == x) ≡ 1
+one_if_same x y e = ap unit_if (eq-eqb y x e)
 
-none_if_apart : (x y : ℕ) → (y ≡ x → ⊥) → cond (y == x) 1 0 ≡ 0
-none_if_apart x y e = cond-false (y == x) 1 0 (ne_eqb y x e)
+pub none_if_apart : (x y : ℕ) → (y ≡ x → ⊥) → unit_if (y == x) ≡ 0
+none_if_apart x y e = ap unit_if (ne_eqb y x e)
 
 pub times_first : (x : ℕ) (ys : List ℕ) → times x (x ∷ ys) ≡ times x ys + 1
 times_first x ys = times-cons x x ys ∙ ap (λ k. times x ys + k) (one_if_same x x refl)
@@ -65,7 +72,7 @@ times-append x (y ∷ xs) ys =
 
 -- ---- how many are open
 
-pub open_in-cons : (pending : List Bool) (p : ℕ) (ps : List ℕ) → open_in pending (p ∷ ps) ≡ open_in pending ps + cond (is_open pending p) 1 0
+pub open_in-cons : (pending : List Bool) (p : ℕ) (ps : List ℕ) → open_in pending (p ∷ ps) ≡ open_in pending ps + unit_if (is_open pending p)
 unfolding open_in
 open_in-cons pending p ps = length_if (is_open pending p) p (filter (is_open pending) ps)
 
@@ -80,8 +87,8 @@ none_open pending (q ∷ ps) e p m =
     elim (Contains-cons_cases q ps p m) [
       | inl same ↦
           elim (cases_Bool (is_open pending q)) [
-            | inl yes ↦ let b : cond (is_open pending q) 1 0 ≡ 1 = cond-true (is_open pending q) 1 0 yes in absurd (omega (arith, a, b, e))
-            | inr no ↦ ap (is_open pending) (sym same) ∙ no
+            | inl still ↦ let b : unit_if (is_open pending q) ≡ 1 = ap unit_if still in absurd (omega (arith, a, b, e))
+            | inr shut ↦ ap (is_open pending) (sym same) ∙ shut
           ]
       | inr later ↦ none_open pending ps (omega (arith, a, e)) p later
     ]
@@ -90,7 +97,7 @@ pub all_closed : (pending : List Bool) (ps : List ℕ) → ((p : ℕ) → Contai
 all_closed pending [] each = open_in-nil pending
 all_closed pending (q ∷ ps) each =
     let a = open_in-cons pending q ps in
-    let b : cond (is_open pending q) 1 0 ≡ 0 = cond-false (is_open pending q) 1 0 (each q (Contains-first q ps)) in
+    let b : unit_if (is_open pending q) ≡ 0 = ap unit_if (each q (Contains-first q ps)) in
     let k = all_closed pending ps (λ p m. each p (Contains-later q ps p m)) in
     omega (arith, a, b, k)
 
@@ -98,8 +105,8 @@ pub all_open : (count : ℕ) (ps : List ℕ) → ((p : ℕ) → Contains ps p �
 all_open count [] each = open_in-nil (replicate count true)
 all_open count (q ∷ ps) each =
     let a = open_in-cons (replicate count true) q ps in
-    let yes : is_open (replicate count true) q ≡ true = get_or-replicate count q true false (each q (Contains-first q ps)) in
-    let b : cond (is_open (replicate count true) q) 1 0 ≡ 1 = cond-true (is_open (replicate count true) q) 1 0 yes in
+    let still : is_open (replicate count true) q ≡ true = get_or-replicate count q true false (each q (Contains-first q ps)) in
+    let b : unit_if (is_open (replicate count true) q) ≡ 1 = ap unit_if still in
     let k = all_open count ps (λ p m. each p (Contains-later q ps p m)) in
     omega (arith, a, b, k)
 
@@ -135,12 +142,62 @@ open_in-closing pending p h was (q ∷ ps) =
     let c = times-cons p q ps in
     elim (cases_eq q p) [
       | inl same ↦
-          let x : cond (is_open (set pending p false) q) 1 0 ≡ 0 = cond-false (is_open (set pending p false) q) 1 0 (ap (is_open (set pending p false)) same ∙ closed_there pending p h) in
-          let y : cond (is_open pending q) 1 0 ≡ 1 = cond-true (is_open pending q) 1 0 (ap (is_open pending) same ∙ was) in
+          let x : unit_if (is_open (set pending p false) q) ≡ 0 = ap unit_if (ap (is_open (set pending p false)) same ∙ closed_there pending p h) in
+          let y : unit_if (is_open pending q) ≡ 1 = ap unit_if (ap (is_open pending) same ∙ was) in
           let z = one_if_same p q same in
           omega (arith, k, a, b, c, x, y, z)
       | inr apart ↦
-          let x : cond (is_open (set pending p false) q) 1 0 ≡ cond (is_open pending q) 1 0 = ap (λ b. cond b 1 0) (closed_elsewhere pending p q h apart) in
+          let x : unit_if (is_open (set pending p false) q) ≡ unit_if (is_open pending q) = ap unit_if (closed_elsewhere pending p q h apart) in
           let z = none_if_apart p q apart in
           omega (arith, k, a, b, c, x, z)
+    ]
+
+-- ---- rules that still need open places
+
+-- one rule needs one place less
+pub unfinished_less : (left : List ℕ) (i k : ℕ) → i < length left → 0 < get_or left i 0 → unfinished (set left i k) + 1 ≡ unfinished left + cond (nat_lt 0 k) 1 0
+unfolding unfinished
+unfinished_less left i k h positive =
+    let f = λ (x : ℕ). cond (nat_lt 0 x) 1 0 in
+    let before = length-filter (nat_lt 0) left in
+    let after = length-filter (nat_lt 0) (set left i k) in
+    let sums : sum_by f (set left i k) + f (get_or left i 0) ≡ sum_by f left + f k = sum_by-set f left i k 0 h in
+    let one : f (get_or left i 0) ≡ 1 = cond-true (nat_lt 0 (get_or left i 0)) 1 0 (lt-ltb 0 (get_or left i 0) positive) in
+    omega (arith, before, after, sums, one)
+
+filter_most : (p : ℕ → Bool) (xs : List ℕ) → length (filter p xs) ≤ length xs
+filter_most p [] = omega arith
+filter_most p (x ∷ xs) =
+    let k = filter_most p xs in
+    elim (cases_Bool (p x)) [
+      | inl passes ↦ let e = ap (λ b. length (cond b (x ∷ filter p xs) (filter p xs))) passes in omega (arith, e, k)
+      | inr fails ↦ let e = ap (λ b. length (cond b (x ∷ filter p xs) (filter p xs))) fails in omega (arith, e, k)
+    ]
+
+pub unfinished_most : (left : List ℕ) → unfinished left ≤ length left
+unfolding unfinished
+unfinished_most left = filter_most (nat_lt 0) left
+
+-- where a rule needs one place more, it stays unfinished
+pub unfinished_same : (left : List ℕ) (i : ℕ) → i < length left → 1 < get_or left i 0 → unfinished (set left i (get_or left i 0 - 1)) ≡ unfinished left
+unfinished_same left i h more =
+    let e = unfinished_less left i (get_or left i 0 - 1) h (omega (arith, more)) in
+    let f = λ (x : ℕ). cond (nat_lt 0 x) 1 0 in
+    let one : f (get_or left i 0 - 1) ≡ 1 = cond-true (nat_lt 0 (get_or left i 0 - 1)) 1 0 (lt-ltb 0 (get_or left i 0 - 1) (omega (arith, more))) in
+    omega (arith, e, one)
+
+-- where it needs no more, one rule less is unfinished
+pub unfinished_done : (left : List ℕ) (i : ℕ) → i < length left → get_or left i 0 ≡ 1 → unfinished (set left i (get_or left i 0 - 1)) + 1 ≡ unfinished left
+unfinished_done left i h last =
+    let e = unfinished_less left i (get_or left i 0 - 1) h (omega (arith, last)) in
+    let f = λ (x : ℕ). cond (nat_lt 0 x) 1 0 in
+    let none : f (get_or left i 0 - 1) ≡ 0 = cond-false (nat_lt 0 (get_or left i 0 - 1)) 1 0 (le-ltb 0 (get_or left i 0 - 1) (omega (arith, last))) in
+    omega (arith, e, none)
+
+-- a place that is open was open before
+pub was_open : (before now : List Bool) → StayClosed before now → (p : ℕ) → is_open now p ≡ true → is_open before p ≡ true
+was_open before now stay p e =
+    elim (cases_Bool (is_open before p)) [
+      | inl still ↦ still
+      | inr shut ↦ absurd (both_ways (is_open now p) (stay p shut) e)
     ]

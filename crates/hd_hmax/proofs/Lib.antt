@@ -9,6 +9,7 @@ pub mod Paying
 pub mod Places
 pub mod Running
 pub mod Sizes
+pub mod Starting
 pub mod Starts
 pub mod Tables
 pub mod Telling

@@ -1,5 +1,5 @@
 -- The places of literals: what the literal of a place costs is what the literal does whose place it is.
-use Rattle.std.proofs.Common.{◌≡◌, ℕ, ◌+◌, ◌*◌, ◌-◌, ◌<◌, ◌≤◌, nat_le, Bool, true, false, cond, List, [], ◌∷◌, ◌++◌, map, length, get_or, slice_get, Option, Some, None, Contains, inl, inr, refl, sym, ap, ◌∙◌, subst, arith}
+use Rattle.std.proofs.Common.{◌≡◌, ℕ, zero, suc, ◌+◌, ◌*◌, ◌-◌, ◌<◌, ◌≤◌, nat_le, Bool, true, false, cond, List, [], ◌∷◌, ◌++◌, map, length, get_or, slice_get, Option, Some, None, Contains, inl, inr, refl, sym, ap, ◌∙◌, subst, arith}
 use Rattle.std.specs.List.{fold}
 use Rattle.std.proofs.lemmas.Bool.{cases_lt, le-leb, lt-leb, lt-ltb, le-ltb}
 use Rattle.std.proofs.lemmas.Option.{slice_get_past}
@@ -113,7 +113,7 @@ needs-below t r p m =
 
 -- the prices that are kept are those of the rules
 pub price_there : (t : Task) (actions : List Action) (r : ℕ) → get_or (map (price t) actions ++ 0 ∷ []) r 0 ≡ price_by t (slice_get actions r)
-price_there t [] 0 = refl
+price_there t [] zero = refl
 price_there t [] (suc r) = refl
-price_there t (a ∷ actions) 0 = refl
+price_there t (a ∷ actions) zero = refl
 price_there t (a ∷ actions) (suc r) = price_there t actions r

@@ -15,13 +15,13 @@ pub(crate) struct Rows {
 
 impl Model for Rows {
     ghost use Rattle.std.specs.Prelude.{ℕ, List};
-    ghost use Rattle.hd_hmax.specs.Rows.{rows_of, AreStarts};
+    ghost use Rattle.hd_hmax.specs.Rows.{rows_of, IsLaid};
 
     ghost Value = { List (List ℕ) };
 
     ghost view = { λ r. rows_of r.starts.items r.items.items };
 
-    ghost invariant = { λ r. AreStarts r.starts.items r.items.items };
+    ghost invariant = { λ r. IsLaid r.starts.items r.items.items };
 }
 
 impl Rows {
@@ -57,6 +57,13 @@ impl Rows {
         requires { number < length self.now }
         ensures { result.now ≡ slice_index_or self.now number [] }
     {
-        &self.items.as_slice()[self.starts[number]..self.starts[number + 1]]
+        let start = self.starts[number];
+        let end = self.starts[number + 1];
+        self.items
+            .as_slice()
+            .split_at(start)
+            .1
+            .split_at(end - start)
+            .0
     }
 }

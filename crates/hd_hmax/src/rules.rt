@@ -107,7 +107,7 @@ fn add_each(
 ) -> Result<(), NoMemory>
     requires few { atoms ≤ 2 ^ 20 }
     requires count { length lists.old.items ≡ places atoms }
-    ensures count { length lists.new.items ≡ length lists.old.items }
+    ensures count { OnOk result (length lists.new.items ≡ length lists.old.items) }
     ensures more { OnOk result ((p q : ℕ) → p < places atoms
         → times q (slice_index_or lists.new.items p [])
         ≡ times q (slice_index_or lists.old.items p [])
@@ -130,7 +130,7 @@ fn add_rule(
 ) -> Result<usize, NoMemory>
     requires few { atoms ≤ 2 ^ 20 }
     requires count { length lists.old.items ≡ places atoms }
-    ensures count { length lists.new.items ≡ length lists.old.items }
+    ensures count { OnOk result (length lists.new.items ≡ length lists.old.items) }
     ensures needs { IfOk result (λ k. k ≡ length (asked_of atoms literals.now)) }
     ensures more { OnOk result ((p q : ℕ) → p < places atoms
         → times q (slice_index_or lists.new.items p [])

@@ -65,7 +65,8 @@ impl Work {
         ensures room { HasRoom self.new }
         ensures load { load self.new ≤ load self.old }
     {
-        if self.pending[place] {
+        let is_open = self.pending[place];
+        if is_open {
             self.pending[place] = false;
             let askers = rules.askers.row(place);
             for rule in askers {

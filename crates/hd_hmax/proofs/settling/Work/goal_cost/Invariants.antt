@@ -3,8 +3,8 @@ use Rattle.hd_hmax.specs.Working.{Counted, Fair, IsAllReady, HasRoom, HasStarted
 use Rattle.hd_hmax.proofs.settling.Work.goal_cost.Given as goal
 
 -- what was taken so far
-abbrev pub invariant-loop-level-rule : goal.invariant-loop-level-rule
-invariant-loop-level-rule g l = record {
+abbrev pub invariant-loop-level : goal.invariant-loop-level
+invariant-loop-level g l = record {
   counted : Counted l.rules.task.now l.self [];
   started : HasStarted l.rules.task.now (g.R.Reads.seen l.state) l.self.pending.items;
   fair : (level : ℕ) × Fair l.rules.task.now (g.R.Reads.seen l.state) l.self level [];
@@ -12,5 +12,5 @@ invariant-loop-level-rule g l = record {
   room : HasRoom l.self;
 }
 
-abbrev pub decreases-loop-level-rule : goal.decreases-loop-level-rule
-decreases-loop-level-rule g l = load l.self
+abbrev pub decreases-loop-level : goal.decreases-loop-level
+decreases-loop-level g l = load l.self
