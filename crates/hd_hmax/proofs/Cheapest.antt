@@ -34,13 +34,17 @@ pub record BringRight (t : Task) (brings : List (List ℕ)) : Type 0 where
   pub only : (q : ℕ) (a : Action) (p : ℕ) → slice_get t.actions q ≡ Some a → Contains (row brings q) p → (l : Literal) × (p ≡ place (length t.atoms) l) × (l.atom < length t.atoms) × (brings_about a l ≡ true) × ((r : ℕ) × (r ≤ length t.actions) × Contains (needs t r) p)
 
 -- so many more
-climb : ℕ → ℕ → ℕ
+abbrev climb : ℕ → ℕ → ℕ
 climb zero k = k
 climb (suc j) k = suc (climb j k)
 
 climb_is : (j k : ℕ) → climb j k ≡ j + k
 climb_is zero k = omega arith
 climb_is (suc j) k = let e = climb_is j k in omega (arith, e)
+
+-- what waits is there with what it costs
+pub entries_from : (t : Task) (s : State) (pending : List Bool) (waits : Ready → Type 0) (level : ℕ) → IsFair t s pending waits level [] → (x : Ready) → waits x → IsEntry t s 0 x
+entries_from t s pending waits level g x w = let k = g.queued x w in record { known = k.known; cost = k.cost; above = omega arith }
 
 free_literal : (b : Bool) (c : ℕ) → up_to c (cond b (Some 0) None) ≡ true → b ≡ true
 free_literal true c e = refl

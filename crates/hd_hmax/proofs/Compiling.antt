@@ -1,7 +1,8 @@
 -- The rules of a task: by place the rules that need it, and by action the places of what it brings about.
-use Rattle.std.proofs.Common.{◌≡◌, ℕ, ◌+◌, ◌<◌, ◌≤◌, ◌==◌, nat_le, nat_lt, Bool, true, false, cond, not, ◌&&◌, ◌||◌, List, [], ◌∷◌, ◌++◌, map, filter, length, set, get_or, take, replicate, slice_get, Option, Some, None, Contains, inl, inr, refl, sym, ap, ◌∙◌, subst, arith}
+use Rattle.std.proofs.Common.{◌≡◌, ℕ, ◌+◌, ◌<◌, ◌≤◌, ◌==◌, nat_le, nat_lt, Bool, true, false, cond, not, ◌&&◌, ◌||◌, List, [], ◌∷◌, ◌++◌, map, filter, length, set, get_or, take, replicate, slice_get, Option, Some, None, Contains, inl, inr, refl, sym, ap, ap₂, ◌∙◌, subst, arith}
 use Rattle.std.proofs.lemmas.Bool.{true≢false, cases_lt, cases_eq, eq-eqb, eqb-true, ne_eqb, le-leb, lt-leb, lt-ltb, le-ltb, ltb-true, and_parts, and_from, cond-true, cond-false, not-true, not_from_false}
-use Rattle.std.proofs.lemmas.List.{get_or-map, get_or-replicate, take_more, map-append}
+use Rattle.std.proofs.lemmas.Bool.Decides.{nat_tests}
+use Rattle.std.proofs.lemmas.List.{get_or-map, get_or-replicate, get_or_at, get_or_append_left, take_more, map-append, length-map}
 use Rattle.std.proofs.lemmas.List.Elements.{Contains-append_left, Contains-append_right, Contains-append_cases, Contains-get_or}
 use Rattle.std.proofs.lemmas.Option.{slice_get_within, get_or_from_slice_get}
 use Rattle.hd_base.proofs.Lists.{get_or-set}
@@ -12,7 +13,7 @@ use Rattle.hd_task.specs.declared.action.Action.{Action}
 use Rattle.hd_task.specs.declared.task.Task.{Task}
 use Rattle.hd_task.specs.Effects.{names_atom}
 use Rattle.hd_hmax.specs.Rounds.{literal, brings_about}
-use Rattle.hd_hmax.specs.Rules.{places, near, place, place_at, literal_at, needs, times, row, is_asked, added_places, deleted_places, brings_of, IsTransposed}
+use Rattle.hd_hmax.specs.Rules.{places, place, place_at, asked_by, asked_of, needs, times, row, is_asked, added_places, deleted_places, brings_of, IsTransposed}
 use Rattle.hd_hmax.proofs.Counts.{passing_member}
 use Rattle.hd_hmax.proofs.Counting.{unit_if, times-nil, times-cons, times-append, times_positive, times_member}
 use Rattle.hd_hmax.proofs.Places.{near_own, place_at_below, place_below}
@@ -214,3 +215,47 @@ brings-below t brings right q p h m =
     let own = place_below (length t.atoms) of.0 in
     let same = of.1 in
     omega (arith, own, same)
+
+-- ---- the rules, one after the other
+
+-- where nothing was put into the lists
+pub no_rules_yet : (lists : List (List ℕ)) (count p q k : ℕ) → lists ≡ replicate count [] → p < count → times q (row lists p) ≡ cond (nat_lt q 0) k 0
+no_rules_yet lists count p q k are h =
+    let empty : times q (row lists p) ≡ 0 = ap (λ (xs : List (List ℕ)). times q (row xs p)) are ∙ (ap (times q) (get_or-replicate count p [] [] h) ∙ times-nil q) in
+    empty ∙ sym (cond-false (nat_lt q 0) k 0 (le-ltb q 0 (omega arith)))
+
+lt_next : (q r : ℕ) → nat_lt q (r + 1) ≡ (nat_lt q r || (r == q))
+lt_next q r = grind (arith, nat_tests)
+
+same_needs : (t : Task) (p q r : ℕ) → cond (r == q) (times p (needs t r)) 0 ≡ cond (r == q) (times p (needs t q)) 0
+same_needs t p q r =
+    elim (cases_eq r q) [
+      | inl same ↦ ap (λ k. cond (r == q) (times p (needs t k)) 0) same
+      | inr apart ↦ cond-false (r == q) (times p (needs t r)) 0 (ne_eqb r q apart) ∙ sym (cond-false (r == q) (times p (needs t q)) 0 (ne_eqb r q apart))
+    ]
+
+-- what a rule needs, by the literals of its condition
+pub needs_by : (t : Task) (r n : ℕ) (ls : List Literal) → n ≡ length t.atoms → ls ≡ asked_by t (slice_get t.actions r) → map (place n) (asked_of n ls) ≡ needs t r
+unfolding needs
+needs_by t r n ls same are = ap₂ (λ (k : ℕ) (xs : List Literal). map (place k) (asked_of k xs)) same are
+
+-- one rule more was gone through
+pub rule_through : (t : Task) (before now : List (List ℕ)) (p q r : ℕ) (all : List ℕ) → all ≡ needs t r → times q (row now p) ≡ times q (row before p) + cond (r == q) (times p all) 0
+    → times q (row before p) ≡ cond (nat_lt q r) (times p (needs t q)) 0 → times q (row now p) ≡ cond (nat_lt q (r + 1)) (times p (needs t q)) 0
+rule_through t before now p q r all are more so_far =
+    times-rule (nat_lt q r) (r == q) (times p (needs t q)) (times q (row before p)) (times q (row now p))
+    (λ below. ne_eqb r q (λ e. let h = ltb-true q r below in omega (arith, e, h))) so_far
+    (more ∙ ap (λ k. times q (row before p) + k) (ap (λ xs. cond (r == q) (times p xs) 0) are ∙ same_needs t p q r))
+    ∙ ap (λ b. cond b (times p (needs t q)) 0) (sym (lt_next q r))
+
+pub counted_through : (t : Task) (counts now : List ℕ) (r k n : ℕ) (ls : List Literal) → length counts ≡ r → now ≡ counts ++ k ∷ [] → k ≡ length (asked_of n ls) → map (place n) (asked_of n ls) ≡ needs t r
+    → ((q : ℕ) → q < r → get_or counts q 0 ≡ length (needs t q)) → (q : ℕ) → q < r + 1 → get_or now q 0 ≡ length (needs t q)
+counted_through t counts now r k n ls long more is are so_far q h =
+    ap (λ xs. get_or xs q 0) more
+    ∙ elim (cases_lt q r) [
+      | inl old ↦ get_or_append_left counts (k ∷ []) 0 q (omega (arith, old, long)) ∙ so_far q old
+      | inr new ↦
+          let same : q ≡ r = omega (arith, h, new) in
+          get_or_at counts k [] 0 q (omega (arith, long, same))
+          ∙ (is ∙ (sym (length-map (asked_of n ls) (place n)) ∙ (ap length are ∙ ap (λ k. length (needs t k)) (sym same))))
+    ]

@@ -10,7 +10,7 @@ use Rattle.hd_hmax.specs.Rules.{times}
 use Rattle.hd_hmax.specs.Working.{is_open, open_in, unfinished, StayClosed}
 
 -- one where a test holds
-pub unit_if : Bool → ℕ
+abbrev pub unit_if : Bool → ℕ
 unit_if true = 1
 unit_if false = 0
 
@@ -158,7 +158,7 @@ open_in-closing pending p h was (q ∷ ps) =
 pub unfinished_less : (left : List ℕ) (i k : ℕ) → i < length left → 0 < get_or left i 0 → unfinished (set left i k) + 1 ≡ unfinished left + cond (nat_lt 0 k) 1 0
 unfolding unfinished
 unfinished_less left i k h positive =
-    let f = λ (x : ℕ). cond (nat_lt 0 x) 1 0 in
+    let f : ℕ → ℕ = λ x. cond (nat_lt 0 x) 1 0 in
     let before = length-filter (nat_lt 0) left in
     let after = length-filter (nat_lt 0) (set left i k) in
     let sums : sum_by f (set left i k) + f (get_or left i 0) ≡ sum_by f left + f k = sum_by-set f left i k 0 h in
@@ -182,7 +182,7 @@ unfinished_most left = filter_most (nat_lt 0) left
 pub unfinished_same : (left : List ℕ) (i : ℕ) → i < length left → 1 < get_or left i 0 → unfinished (set left i (get_or left i 0 - 1)) ≡ unfinished left
 unfinished_same left i h more =
     let e = unfinished_less left i (get_or left i 0 - 1) h (omega (arith, more)) in
-    let f = λ (x : ℕ). cond (nat_lt 0 x) 1 0 in
+    let f : ℕ → ℕ = λ x. cond (nat_lt 0 x) 1 0 in
     let one : f (get_or left i 0 - 1) ≡ 1 = cond-true (nat_lt 0 (get_or left i 0 - 1)) 1 0 (lt-ltb 0 (get_or left i 0 - 1) (omega (arith, more))) in
     omega (arith, e, one)
 
@@ -190,7 +190,7 @@ unfinished_same left i h more =
 pub unfinished_done : (left : List ℕ) (i : ℕ) → i < length left → get_or left i 0 ≡ 1 → unfinished (set left i (get_or left i 0 - 1)) + 1 ≡ unfinished left
 unfinished_done left i h last =
     let e = unfinished_less left i (get_or left i 0 - 1) h (omega (arith, last)) in
-    let f = λ (x : ℕ). cond (nat_lt 0 x) 1 0 in
+    let f : ℕ → ℕ = λ x. cond (nat_lt 0 x) 1 0 in
     let none : f (get_or left i 0 - 1) ≡ 0 = cond-false (nat_lt 0 (get_or left i 0 - 1)) 1 0 (le-ltb 0 (get_or left i 0 - 1) (omega (arith, last))) in
     omega (arith, e, none)
 

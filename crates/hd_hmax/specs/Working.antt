@@ -111,9 +111,11 @@ pub record HasWidth (t : Task) (w : Work) : Type 0 where
   pub heap : length t.actions + 1 ≤ heap_capacity w.queue.heap
 
 -- the queue has room for all rules that may still come
-pub record HasRoom (w : Work) : Type 0 where
-  pub run : vec_len w.queue.run + unfinished w.left.items ≤ vec_capacity w.queue.run
-  pub heap : heap_len w.queue.heap + unfinished w.left.items ≤ heap_capacity w.queue.heap
+pub record HasRoom (t : Task) (w : Work) : Type 0 where
+  pub run : vec_len w.queue.run + unfinished w.left.items ≤ length t.actions + 1
+  pub heap : heap_len w.queue.heap + unfinished w.left.items ≤ length t.actions + 1
+  pub run_room : length t.actions + 1 ≤ vec_capacity w.queue.run
+  pub heap_room : length t.actions + 1 ≤ heap_capacity w.queue.heap
 
 -- how many rules wait, and how many may still come
 unfoldable pub load : Work → ℕ

@@ -27,6 +27,8 @@ pub(crate) struct Rules<'t> {
     pub(crate) askers: Rows,
     /// By action: the places of what it brings about, if a rule needs them.
     pub(crate) brings: Rows,
+    // The places fit 32 bits.
+    ghost few: { atoms ≤ 2 ^ 20 },
     // They are those of the task.
     ghost of_task: { AreRulesOf task.now atoms prices.items counts.items askers brings },
 }

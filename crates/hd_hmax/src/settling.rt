@@ -1,5 +1,5 @@
 //! Places are closed one after the other, the cheapest first.
-ghost use Rattle.std.specs.Prelude.{◌≡◌, ℕ, ◌+◌, ◌*◌, ◌<◌, ◌≤◌, ◌^◌, [], ◌∷◌, true, false, Some, List, length, slice_index_or, Contains, IfOk};
+ghost use Rattle.std.specs.Prelude.{◌≡◌, ℕ, ◌+◌, ◌*◌, ◌<◌, ◌≤◌, ◌^◌, [], ◌∷◌, true, false, Some, length, replicate, slice_index_or, Contains, IfOk};
 ghost use Rattle.hd_task.specs.declared.state.State.{State};
 ghost use Rattle.hd_task.specs.Plans.{IsStateOf};
 ghost use Rattle.hd_hmax.specs.Rounds.{hmax};
@@ -22,6 +22,21 @@ pub(crate) struct Work {
     queue: Queue,
 }
 
+/// Opens all places.
+fn open_all(pending: &mut Vec<bool>)
+    ensures { pending.new.items ≡ replicate (length pending.old.items) true }
+{
+    pending.as_mut_slice().fill(true);
+}
+
+/// Takes over as many numbers as there are.
+fn copy_all(left: &mut Vec<usize>, counts: &[usize])
+    requires { length counts.now ≡ length left.old.items }
+    ensures { left.new.items ≡ counts.now }
+{
+    left.as_mut_slice().copy_from_slice(counts);
+}
+
 impl Work {
     /// Tells a rule that a place which it needs costs as much as the level. Where that was the last, it can be taken.
     #[inline(always)]
@@ -30,12 +45,12 @@ impl Work {
         requires within { rule < length self.old.left.items }
         requires needs { 0 < slice_index_or self.old.left.items rule 0 }
         requires small { level ≤ 2 ^ 120 }
-        requires room { HasRoom self.old }
+        requires room { HasRoom rules.now.task.now self.old }
         ensures told { IsTold self.old.left.items (Waits self.old.queue) rule
             (slice_index_or rules.now.prices.items rule 0 + level)
             self.new.left.items (Waits self.new.queue) }
         ensures pending { self.new.pending.items ≡ self.old.pending.items }
-        ensures room { HasRoom self.new }
+        ensures room { HasRoom rules.now.task.now self.new }
         ensures load { load self.new ≤ load self.old }
     {
         let number = rule as usize;
@@ -52,7 +67,7 @@ impl Work {
         requires own { place < places (length rules.now.task.now.atoms) }
         requires counted { Counted rules.now.task.now self.old [] }
         requires small { level ≤ 2 ^ 120 }
-        requires room { HasRoom self.old }
+        requires room { HasRoom rules.now.task.now self.old }
         ensures counted { Counted rules.now.task.now self.new [] }
         ensures closed { is_open self.new.pending.items place ≡ false }
         ensures stay { StayClosed self.old.pending.items self.new.pending.items }
@@ -62,7 +77,7 @@ impl Work {
             → Fair rules.now.task.now s self.new level [] }
         ensures ready { (busy : ℕ) → IsAllReady rules.now.task.now rules.now.brings self.old busy
             → IsAllReady rules.now.task.now rules.now.brings self.new busy }
-        ensures room { HasRoom self.new }
+        ensures room { HasRoom rules.now.task.now self.new }
         ensures load { load self.new ≤ load self.old }
     {
         let is_open = self.pending[place];
@@ -81,7 +96,7 @@ impl Work {
         requires known { action < length rules.now.task.now.actions }
         requires counted { Counted rules.now.task.now self.old [] }
         requires small { level ≤ 2 ^ 120 }
-        requires room { HasRoom self.old }
+        requires room { HasRoom rules.now.task.now self.old }
         ensures counted { Counted rules.now.task.now self.new [] }
         ensures stay { StayClosed self.old.pending.items self.new.pending.items }
         ensures fair { (s : State) → ((p : ℕ) → Contains (row rules.now.brings action) p
@@ -92,7 +107,7 @@ impl Work {
         ensures ready { IsAllReady rules.now.task.now rules.now.brings self.old action
             → IsAllReady rules.now.task.now rules.now.brings self.new
             (length rules.now.task.now.actions + 1) }
-        ensures room { HasRoom self.new }
+        ensures room { HasRoom rules.now.task.now self.new }
         ensures load { load self.new ≤ load self.old }
     {
         let brought = rules.brings.row(action);
@@ -101,7 +116,7 @@ impl Work {
         }
     }
 
-    /// Opens all places.
+    /// Opens all places, with no rule in the queue.
     fn begin(&mut self, rules: &Rules<'_>)
         requires width { HasWidth rules.now.task.now self.old }
         ensures width { HasWidth rules.now.task.now self.new }
@@ -109,12 +124,10 @@ impl Work {
         ensures fair { (s : State) → Fair rules.now.task.now s self.new 0 [] }
         ensures ready { IsAllReady rules.now.task.now rules.now.brings self.new
             (length rules.now.task.now.actions + 1) }
-        ensures room { HasRoom self.new }
+        ensures room { HasRoom rules.now.task.now self.new }
     {
-        self.pending.as_mut_slice().fill(true);
-        self.left
-            .as_mut_slice()
-            .copy_from_slice(rules.counts.as_slice());
+        open_all(&mut self.pending);
+        copy_all(&mut self.left, rules.counts.as_slice());
         self.queue.clear();
     }
 
@@ -127,7 +140,7 @@ impl Work {
         ensures fair { Fair rules.now.task.now (R.seen state.now) self.new 0 [] }
         ensures ready { IsAllReady rules.now.task.now rules.now.brings self.new
             (length rules.now.task.now.actions + 1) }
-        ensures room { HasRoom self.new }
+        ensures room { HasRoom rules.now.task.now self.new }
     {
         self.begin(rules);
         for atom in 0..rules.atoms + 1 {

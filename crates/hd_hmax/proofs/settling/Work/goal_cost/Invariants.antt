@@ -9,7 +9,7 @@ invariant-loop-level g l = record {
   started : HasStarted l.rules.task.now (g.R.Reads.seen l.state) l.self.pending.items;
   fair : (level : ℕ) × Fair l.rules.task.now (g.R.Reads.seen l.state) l.self level [];
   ready : IsAllReady l.rules.task.now l.rules.brings l.self (length l.rules.task.now.actions + 1);
-  room : HasRoom l.self;
+  room : HasRoom l.rules.task.now l.self;
 }
 
 abbrev pub decreases-loop-level : goal.decreases-loop-level

@@ -11,6 +11,6 @@ invariant-loop-rule l = record {
   fair : (s : State) → value_at l.rules.task.now s l.place ≡ Some l.level → Fair l.rules.task.now s l.fn.self l.level []
       → Fair l.rules.task.now s l.self l.level (drop l.rule-index l.askers);
   ready : (busy : ℕ) → IsAllReady l.rules.task.now l.rules.brings l.fn.self busy → IsAllReady l.rules.task.now l.rules.brings l.self busy;
-  room : HasRoom l.self;
+  room : HasRoom l.rules.task.now l.self;
   load : load l.self ≤ load l.fn.self;
 }

@@ -13,5 +13,5 @@ invariant-loop-atom g l = record {
       → is_open l.self.pending.items (place_at (length l.rules.task.now.atoms) b i) ≡ false;
   fair : Fair l.rules.task.now (g.R.Reads.seen l.state) l.self 0 [];
   ready : IsAllReady l.rules.task.now l.rules.brings l.self (length l.rules.task.now.actions + 1);
-  room : HasRoom l.self;
+  room : HasRoom l.rules.task.now l.self;
 }

@@ -12,6 +12,6 @@ invariant-loop-place l = record {
   fair : (s : State) → ((p : ℕ) → Contains l.brought p → is_open l.fn.self.pending.items p ≡ true → value_at l.rules.task.now s p ≡ Some l.level)
       → Fair l.rules.task.now s l.fn.self l.level [] → Fair l.rules.task.now s l.self l.level [];
   ready : (busy : ℕ) → IsAllReady l.rules.task.now l.rules.brings l.fn.self busy → IsAllReady l.rules.task.now l.rules.brings l.self busy;
-  room : HasRoom l.self;
+  room : HasRoom l.rules.task.now l.self;
   load : load l.self ≤ load l.fn.self;
 }

@@ -14,7 +14,8 @@ push-requires-clause-room c =
     let one : get_or w.left.items c.args.rule 0 ≡ 1 = omega (arith, at, needs, c.if-fewer-eq0.true) in
     let done = unfinished_done w.left.items c.args.rule c.requires.within one in
     let room = c.requires.room.run in
-    omega (arith, done, room)
+    let most = c.requires.room.run_room in
+    omega (arith, done, room, most)
 
 pub push-requires-clause-late : goal.push-requires-clause-late
 push-requires-clause-late c =
@@ -24,7 +25,8 @@ push-requires-clause-late c =
     let one : get_or w.left.items c.args.rule 0 ≡ 1 = omega (arith, at, needs, c.if-fewer-eq0.true) in
     let done = unfinished_done w.left.items c.args.rule c.requires.within one in
     let room = c.requires.room.heap in
-    omega (arith, done, room)
+    let most = c.requires.room.heap_room in
+    omega (arith, done, room, most)
 
 pub returns-then-fewer-eq0-clause-told : goal.returns-then-fewer-eq0-clause-told
 returns-then-fewer-eq0-clause-told c =
@@ -55,8 +57,10 @@ returns-then-fewer-eq0-clause-room c =
     let same = ap (λ k. unfinished (set w.left.items c.args.rule (k - 1))) at in
     let f = c.push.ensures in
     record {
-      run = let room = c.requires.room.run in let a = f.len in let b = f.run in let d = f.heap in let e = f.capacity in omega (arith, done, same, room, a, b, d, e);
-      heap = let room = c.requires.room.heap in let a = f.len in let b = f.run in let d = f.heap in let e = f.heap_capacity in omega (arith, done, same, room, a, b, d, e);
+      run = let room = c.requires.room.run in let a = f.len in let b = f.run in let d = f.heap in omega (arith, done, same, room, a, b, d);
+      heap = let room = c.requires.room.heap in let a = f.len in let b = f.run in let d = f.heap in omega (arith, done, same, room, a, b, d);
+      run_room = let room = c.requires.room.run_room in let e = f.capacity in omega (arith, room, e);
+      heap_room = let room = c.requires.room.heap_room in let e = f.heap_capacity in omega (arith, room, e);
     }
 
 pub returns-then-fewer-eq0-clause-load : goal.returns-then-fewer-eq0-clause-load
@@ -85,6 +89,8 @@ returns-else-fewer-eq0-clause-room c =
     record {
       run = let room = c.requires.room.run in omega (arith, stays, same, room);
       heap = let room = c.requires.room.heap in omega (arith, stays, same, room);
+      run_room = c.requires.room.run_room;
+      heap_room = c.requires.room.heap_room;
     }
 
 pub returns-else-fewer-eq0-clause-load : goal.returns-else-fewer-eq0-clause-load
