@@ -222,7 +222,7 @@ module _ (t : Task) (s : State) where
           let same : v.0 ≡ x.0.0 =
           elim (cases_lt v.0 x.0.0) [
             | inl below ↦
-                let shut = cheap_closed (2 * length t.atoms) v.0 of.0 of.4 (omega arith) of.5 (subst (Contains (needs t of.4)) of.1 of.6) (λ y w. let k = least y w in omega (arith, k, below))
+                let shut = cheap_closed (2 * length t.atoms) v.0 of.0 of.4.0 (omega arith) of.4.1 (subst (Contains (needs t of.4.0)) of.1 of.4.2) (λ y w. let k = least y w in omega (arith, k, below))
                 (ap (up_to v.0) v.1 ∙ le-leb v.0 v.0 (omega arith))
                 in
                 absurd (both_ways (is_open pending p) (ap (is_open pending) of.1 ∙ shut) still)

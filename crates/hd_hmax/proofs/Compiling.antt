@@ -57,14 +57,18 @@ times-first true k p = let e = times-nil p in omega (arith, e)
 times-first false k p = omega arith
 
 -- the places so far, and one more
-pub times-place : (n : ℕ) (ls : List Literal) (i : ℕ) (l : Literal) → i < length ls → l ≡ get_or ls i l → (p : ℕ)
-    → times p (map (place n) (take (i + 1) ls)) ≡ times p (map (place n) (take i ls)) + unit_if (place n l == p)
-times-place n ls i l h is p =
-    let one : take (i + 1) ls ≡ take i ls ++ l ∷ [] = take_more ls i l h ∙ ap (λ x. take i ls ++ x ∷ []) (sym is) in
-    let all = ap (λ xs. times p (map (place n) xs)) one ∙ (ap (times p) (map-append (place n) (take i ls) (l ∷ [])) ∙ times-append p (map (place n) (take i ls)) (place n l ∷ [])) in
+pub times-place : (n : ℕ) (ls : List Literal) (i at : ℕ) (d : Literal) → i < length ls → at ≡ place n (get_or ls i d) → (p : ℕ)
+    → times p (map (place n) (take (i + 1) ls)) ≡ times p (map (place n) (take i ls)) + unit_if (at == p)
+times-place n ls i at d h is p =
+    let l = get_or ls i d in
+    let all =
+    ap (λ xs. times p (map (place n) xs)) (take_more ls i d h)
+    ∙ (ap (times p) (map-append (place n) (take i ls) (l ∷ [])) ∙ times-append p (map (place n) (take i ls)) (place n l ∷ []))
+    in
     let last = times-cons p (place n l) [] in
     let none = times-nil p in
-    omega (arith, all, last, none)
+    let same : unit_if (at == p) ≡ unit_if (place n l == p) = ap (λ k. unit_if (k == p)) is in
+    omega (arith, all, last, none, same)
 
 -- one literal more was gone through
 pub times-next : (same b : Bool) (before now so_far next : ℕ) → now ≡ before + cond same (unit_if b) 0 → next ≡ so_far + unit_if b → (first : ℕ) → before ≡ first + cond same so_far 0 → now ≡ first + cond same next 0

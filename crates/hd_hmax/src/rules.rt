@@ -262,6 +262,14 @@ fn all_brings(
     Ok(rows)
 }
 
+/// How many atoms a task has.
+fn atoms_of(task: &Task) -> usize
+    ensures count { result ≡ length task.now.atoms }
+    ensures few { result ≤ 2 ^ 20 }
+{
+    task.atoms.len()
+}
+
 impl<'t> Rules<'t> {
     /// The rules of a task.
     ///
@@ -271,7 +279,7 @@ impl<'t> Rules<'t> {
     pub(crate) fn of(alloc: Global, task: &'t Task) -> Result<Rules<'t>, NoMemory>
         ensures { IfOk result (λ r. r.task.now ≡ task.now) }
     {
-        let atoms = task.atoms.len();
+        let atoms = atoms_of(task);
         let mut prices = prices_of(alloc, task)?;
         prices.push(0)?;
         let (askers, counts) = askers_of(alloc, task)?;

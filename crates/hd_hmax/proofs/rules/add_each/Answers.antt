@@ -26,6 +26,6 @@ loop-literal-preserved c =
           let own : p < length old = omega (arith, h, width) in
           times-next (c.args.rule == q) (at == p) (times q (row old p)) _ (times p (map (place c.args.atoms) (take i ls))) (times p (map (place c.args.atoms) (take (i + 1) ls)))
           (ap (λ xs. times q (row xs p)) e ∙ times-added old at c.args.rule p q within own)
-          (times-place c.args.atoms ls i _ c.loop-literal-test.true c.literal-item.is p ∙ ap (λ k. times p (map (place c.args.atoms) (take i ls)) + unit_if (k == p)) (sym c.place_of.ensures.place))
+          (times-place c.args.atoms ls i at _ c.loop-literal-test.true c.place_of.ensures.place p)
           (times q (row c.args.lists.now.items p)) (f.more p q h);
     }

@@ -7,10 +7,10 @@ use Rattle.hd_hmax.proofs.rules.Rules.of.Goals as goal
 pub invariant_of-result : goal.invariant_of-result
 invariant_of-result c =
     let prices = c.in_ok-prices.prices.items in
-    let atoms = c.len-atoms.ensures in
+    let atoms = c.atoms_of-atoms.ensures.count in
     let more = c.in_ok-push.ensures.items in
     record {
-      few = omega (arith, atoms);
+      few = c.atoms_of-atoms.ensures.few;
       of_task = record {
         atoms = atoms;
         each_price = more ∙ ap (λ (xs : List ℕ). xs ++ 0 ∷ []) c.in_ok-prices.ensures.prices;

@@ -113,4 +113,4 @@ returns-clause-cost g c =
     let l = c.loop-level.self in
     let f = c.loop-level.invariant in
     let right = bring_right t r.askers r.counts.items r.brings r.of_task.transposed r.of_task.brought in
-    nothing_waits t s c.requires.of_task r.brings right l.pending.items l.left.items (Waits l.queue) f.counted f.ready (entries_from t s l.pending.items (Waits l.queue) f.fair.0 f.fair.1) f.started c.in-None.ensures.none
+    nothing_waits t s c.requires.of_task r.brings right l.pending.items l.left.items (Waits l.queue) f.counted f.ready (entries_from t s l.pending.items (Waits l.queue) f.fair.0 f.fair.1) f.started c.in_default.ensures.none

@@ -1,12 +1,13 @@
 use Rattle.std.proofs.Common.{◌≡◌, ◌+◌, ◌<◌, ◌∷◌, [], false, true, ℕ, List, length, get_or, slice_get, set, drop, refl, sym, ap, ◌∙◌, subst, arith}
 use Rattle.std.proofs.lemmas.List.{get_or_read}
 use Rattle.hd_hmax.specs.Rules.{row}
-use Rattle.hd_hmax.specs.Working.{Waits, is_open, price_by, IsCounted, IsFair, AreReady}
+use Rattle.hd_hmax.specs.Working.{Waits, is_open, load, price_by, IsCounted, IsFair, AreReady}
 use Rattle.hd_hmax.proofs.Places.{price_there}
 use Rattle.hd_hmax.proofs.Telling.{drop_next, told_known, told_within, needs_still, counted_next, fair_next, ready_next, counted_begin, fair_begin, ready_begin}
 use Rattle.hd_hmax.proofs.settling.Work.settle.Goals as goal
 
 pub loop-rule-init : goal.loop-rule-init
+unfolding load
 loop-rule-init c =
     let w = c.args.self.now in
     let r = c.args.rules.now in
@@ -24,7 +25,7 @@ loop-rule-init c =
           subst (λ xs. IsFair t s (set w.pending.items p false) (Waits w.queue) c.args.level xs) (sym c.row-askers.ensures)
           (fair_begin t r.askers r.counts.items r.of_task.transposed w.pending.items w.left.items p c.requires.counted own was s (Waits w.queue) c.args.level is g);
       ready = λ busy g. ready_begin t r.askers r.counts.items r.of_task.transposed w.pending.items w.left.items p c.requires.counted own was r.brings (Waits w.queue) busy g;
-      room = c.requires.room;
+      room = let room = c.requires.room in record { run = room.run; heap = room.heap; run_room = room.run_room; heap_room = room.heap_room };
       load = omega arith;
     }
 

@@ -38,7 +38,7 @@ returns-then-fewer-eq0-clause-told c =
     let one : get_or w.left.items rule 0 ≡ 1 = omega (arith, at, needs, c.if-fewer-eq0.true) in
     let count = length-prices r.task.now r.prices.items r.of_task.each_price in
     let known : rule < length r.prices.items = let k = c.requires.known in omega (arith, count, k) in
-    let paid = get_or_read r.prices.items _ _ known c.index-2.ensures 0 in
+    let paid = get_or_read r.prices.items _ _ known c.index-then-fewer-eq0.ensures 0 in
     let pushed = subst (λ k. IsPushed (Waits w.queue) (ready (k + c.args.level) rule) (Waits c.push.new.self)) paid c.push.ensures.pushed in
     record {
       less = ap (λ k. set w.left.items rule (k - 1)) at;
