@@ -1,6 +1,6 @@
 -- The cheapest rule that waits is taken: what it brings about costs as much as it does, and where it is the goal, or nothing
 -- waits, the estimate is known.
-use Rattle.std.proofs.Common.{◌≡◌, ℕ, zero, suc, ◌+◌, ◌*◌, ◌-◌, ◌<◌, ◌≤◌, ◌^◌, nat_le, Bool, true, false, cond, not, List, [], ◌∷◌, map, length, get_or, slice_get, Option, Some, None, Contains, ◌⊎◌, inl, inr, refl, sym, ap, ◌∙◌, subst, arith}
+use Rattle.std.proofs.Common.{◌≡◌, ℕ, zero, suc, ◌+◌, ◌*◌, ◌-◌, ◌<◌, ◌≤◌, ◌^◌, nat_le, Bool, true, false, cond, not, List, [], ◌∷◌, map, length, get_or, slice_get, Option, Some, None, Contains, inl, inr, refl, sym, ap, ◌∙◌, subst, arith}
 use Rattle.std.specs.List.{list_all}
 use Rattle.std.proofs.lemmas.Bool.{true≢false, cases_lt, cases_Bool, le-leb, leb-true, and_parts, and_from, both_ways}
 use Rattle.std.proofs.lemmas.List.{get_or_past}
@@ -18,10 +18,10 @@ use Rattle.hd_hmax.specs.Prices.{price}
 use Rattle.hd_hmax.specs.Queue.{Ready, ready, IsPopped, IsEmpty}
 use Rattle.hd_hmax.specs.Rounds.{cost_in, literal, dearest, brings_about, cost_by, first_cost, table_after, hmax}
 use Rattle.hd_hmax.specs.Rules.{place, place_at, asked_by, asked_of, asked, needs, row}
-use Rattle.hd_hmax.specs.Working.{value_at, price_by, rule_cost, is_open, open_in, IsCounted, IsEntry, IsFair, IsTaken, AreReady, HasStarted}
-use Rattle.hd_hmax.proofs.Infinite.{up_to, up_to-more, value_up_to}
+use Rattle.hd_hmax.specs.Working.{value_at, price_by, rule_cost, is_open, open_in, IsCounted, IsEntry, IsFair, AreReady, HasStarted}
+use Rattle.hd_hmax.proofs.Infinite.{up_to, value_up_to}
 use Rattle.hd_hmax.proofs.Counts.{each_passes}
-use Rattle.hd_hmax.proofs.Tables.{cost_in-own, foreign_after, affords, affords-foreign, affords-later, affords-from_start, up_to-cost_by, up_to-dearest, IsBroughtAbout, own_if_new, brought_about_if_new}
+use Rattle.hd_hmax.proofs.Tables.{cost_in-own, foreign_after, affords, affords-foreign, affords-later, up_to-cost_by, up_to-dearest, own_if_new, brought_about_if_new}
 use Rattle.hd_hmax.proofs.Falling.{closed}
 use Rattle.hd_hmax.proofs.Places.{near_own, near_foreign, value_at-place, rule_cost-literals, rule_cost-action, rule_cost-goal}
 use Rattle.hd_hmax.proofs.Sizes.{small_after, small_dearest}

@@ -1,12 +1,12 @@
 -- The rules of a task: by place the rules that need it, and by action the places of what it brings about.
-use Rattle.std.proofs.Common.{◌≡◌, ℕ, ◌+◌, ◌<◌, ◌≤◌, ◌==◌, nat_le, nat_lt, Bool, true, false, cond, not, ◌&&◌, ◌||◌, List, [], ◌∷◌, ◌++◌, map, filter, length, set, get_or, take, replicate, slice_get, Option, Some, None, Contains, inl, inr, refl, sym, ap, ap₂, ◌∙◌, subst, arith}
-use Rattle.std.proofs.lemmas.Bool.{true≢false, cases_lt, cases_eq, eq-eqb, eqb-true, ne_eqb, le-leb, lt-leb, lt-ltb, le-ltb, ltb-true, and_parts, and_from, cond-true, cond-false, not-true, not_from_false}
+use Rattle.std.proofs.Common.{◌≡◌, ℕ, ◌+◌, ◌<◌, ◌≤◌, ◌==◌, nat_le, nat_lt, Bool, true, false, cond, not, ◌&&◌, ◌||◌, List, [], ◌∷◌, ◌++◌, map, filter, length, set, get_or, take, replicate, slice_get, Some, Contains, inl, inr, refl, sym, ap, ap₂, ◌∙◌, subst, arith}
+use Rattle.std.proofs.lemmas.Bool.{true≢false, cases_lt, cases_eq, eq-eqb, eqb-true, ne_eqb, le-leb, lt-leb, lt-ltb, le-ltb, ltb-true, and_parts, and_from, cond-true, cond-false, not_from_false}
 use Rattle.std.proofs.lemmas.Bool.Decides.{nat_tests}
 use Rattle.std.proofs.lemmas.List.{get_or-map, get_or-replicate, get_or_at, get_or_append_left, take_more, map-append, length-map}
 use Rattle.std.proofs.lemmas.List.Elements.{Contains-append_left, Contains-append_right, Contains-append_cases, Contains-get_or}
 use Rattle.std.proofs.lemmas.Option.{slice_get_within, get_or_from_slice_get}
 use Rattle.hd_base.proofs.Lists.{get_or-set}
-use Rattle.hd_base.proofs.Members.{Contains-first, Contains-map, Contains-filter, Contains-from_filter, passes-from_filter, IsFrom-from_map}
+use Rattle.hd_base.proofs.Members.{Contains-map, Contains-filter, Contains-from_filter, passes-from_filter, IsFrom-from_map}
 use Rattle.hd_base.proofs.Tests.{list_any-from_contains}
 use Rattle.hd_task.specs.declared.condition.Literal.{Literal}
 use Rattle.hd_task.specs.declared.action.Action.{Action}
@@ -16,7 +16,7 @@ use Rattle.hd_hmax.specs.Rounds.{literal, brings_about}
 use Rattle.hd_hmax.specs.Rules.{places, place, place_at, asked_by, asked_of, needs, times, row, is_asked, added_places, deleted_places, brings_of, IsTransposed}
 use Rattle.hd_hmax.proofs.Counts.{passing_member}
 use Rattle.hd_hmax.proofs.Counting.{unit_if, times-nil, times-cons, times-append, times_positive, times_member}
-use Rattle.hd_hmax.proofs.Places.{near_own, place_at_below, place_below}
+use Rattle.hd_hmax.proofs.Places.{near_own, place_below}
 use Rattle.hd_hmax.proofs.Cheapest.{BringRight, slice_get_there}
 
 -- ---- a rule more in a list

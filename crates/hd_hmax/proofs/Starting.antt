@@ -1,5 +1,5 @@
 -- Where the computation begins: all places are open; then what is true in a state is closed at no cost.
-use Rattle.std.proofs.Common.{◌≡◌, ℕ, suc, ◌+◌, ◌*◌, ◌<◌, ◌≤◌, ◌^◌, Bool, true, false, cond, not, List, [], ◌∷◌, ◌++◌, map, length, take, replicate, get_or, slice_get, Option, Some, None, Contains, ◌⊎◌, inl, inr, refl, sym, ap, ◌∙◌, subst, arith, length-append}
+use Rattle.std.proofs.Common.{◌≡◌, ℕ, ◌+◌, ◌*◌, ◌<◌, ◌≤◌, ◌^◌, Bool, true, false, cond, not, List, [], ◌∷◌, ◌++◌, map, length, take, replicate, get_or, slice_get, Some, None, Contains, inl, inr, sym, ap, ◌∙◌, subst, arith, length-append}
 use Rattle.std.specs.List.{All}
 use Rattle.std.proofs.lemmas.Bool.{true≢false, cases_lt, le-leb, not-true}
 use Rattle.std.proofs.lemmas.List.{get_or_past, get_or-replicate, length-map, length-replicate, take_more}
@@ -12,10 +12,10 @@ use Rattle.hd_task.specs.declared.task.Task.{Task}
 use Rattle.hd_task.specs.Conditions.{has_atom, literal_holds}
 use Rattle.hd_task.specs.Plans.{IsStateOf}
 use Rattle.hd_hmax.specs.Prices.{price}
-use Rattle.hd_hmax.specs.Queue.{Ready, ready, IsEmpty}
+use Rattle.hd_hmax.specs.Queue.{Ready, IsEmpty}
 use Rattle.hd_hmax.specs.Rounds.{cost_in, literal, first_cost, table_after}
 use Rattle.hd_hmax.specs.Rules.{places, place_at, place, asked_by, asked_of, asked, needs, row, IsTransposed}
-use Rattle.hd_hmax.specs.Working.{value_at, is_open, open_in, IsCounted, IsFair, IsTaken, AreReady, StayClosed}
+use Rattle.hd_hmax.specs.Working.{value_at, is_open, IsCounted, IsFair, IsTaken, AreReady, StayClosed}
 use Rattle.hd_hmax.proofs.Infinite.{up_to, value_up_to}
 use Rattle.hd_hmax.proofs.Tables.{cost_in-own, foreign_after, affords, affords-from_start}
 use Rattle.hd_hmax.proofs.Places.{literal_at-place_at, needs-below}

@@ -1,23 +1,22 @@
 -- A place is closed, and the rules that need it are told, one after the other.
-use Rattle.std.proofs.Common.{◌≡◌, ℕ, suc, ◌+◌, ◌-◌, ◌<◌, ◌≤◌, ◌==◌, nat_le, Bool, true, false, cond, List, [], ◌∷◌, ◌++◌, drop, filter, length, set, get_or, slice_get, Option, Some, None, Contains, ◌⊎◌, inl, inr, refl, sym, ap, ◌∙◌, subst, arith, length-set}
+use Rattle.std.proofs.Common.{◌≡◌, ℕ, ◌+◌, ◌-◌, ◌<◌, ◌≤◌, ◌==◌, nat_le, Bool, true, false, List, [], ◌∷◌, drop, length, set, get_or, slice_get, Option, Some, Contains, inl, inr, refl, sym, ap, ◌∙◌, subst, arith, length-set}
 use Rattle.std.specs.List.{list_all, fold}
 use Rattle.std.proofs.Math.Seq.{drop-cons}
 use Rattle.std.proofs.Math.Numerals.{add-one}
-use Rattle.std.proofs.Math.ListN.{drop_of_length-le}
 use Rattle.std.proofs.lemmas.Bool.{cases_lt, cases_eq, eq-eqb, ne_eqb, le-leb, leb-true, lt-leb, and_parts, and_from, cond-true, cond-false}
 use Rattle.hd_base.proofs.Lists.{get_or-set}
-use Rattle.hd_base.proofs.Members.{Contains-first, Contains-later, Contains-nil}
+use Rattle.hd_base.proofs.Members.{Contains-first, Contains-later}
 use Rattle.hd_base.proofs.Tests.{list_all-from_each}
 use Rattle.hd_task.specs.declared.state.State.{State}
 use Rattle.hd_task.specs.declared.task.Task.{Task}
 use Rattle.hd_hmax.specs.Costs.{greater, plus_price}
 use Rattle.hd_hmax.specs.Queue.{Ready, ready}
 use Rattle.hd_hmax.specs.Rules.{places, needs, row, times, IsTransposed}
-use Rattle.hd_hmax.specs.Working.{value_at, dearest_at, price_by, rule_cost, is_open, open_in, IsCounted, IsEntry, IsFair, IsTaken, AreReady, IsTold, StayClosed}
+use Rattle.hd_hmax.specs.Working.{value_at, price_by, rule_cost, is_open, open_in, IsCounted, IsEntry, IsFair, AreReady, IsTold}
 use Rattle.hd_hmax.proofs.Infinite.{up_to, up_to-all, up_to-more, same_costs}
 use Rattle.hd_hmax.proofs.Counts.{each_passes}
 use Rattle.hd_hmax.proofs.Places.{needs-below}
-use Rattle.hd_hmax.proofs.Counting.{times-nil, times_first, times_other, times_positive, times_member, none_open, closed_there, closed_elsewhere, stays_closed, open_in-closing}
+use Rattle.hd_hmax.proofs.Counting.{times-nil, times_first, times_other, times_positive, times_member, none_open, closed_elsewhere, stays_closed, open_in-closing}
 
 -- ---- the greatest of costs
 

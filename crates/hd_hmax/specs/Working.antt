@@ -1,6 +1,6 @@
 -- How the estimate is computed: places are closed one after the other, the cheapest first (as shortest paths: Dijkstra 1959).
 -- (Our own.)
-use Rattle.std.specs.Prelude.{◌≡◌, ℕ, ◌+◌, ◌*◌, ◌-◌, ◌<◌, ◌≤◌, ◌^◌, nat_lt, Bool, true, false, List, length, filter, Option, Some, None, slice_get, slice_index_or, slice_set, Contains, ◌⊎◌, vec_len, vec_capacity}
+use Rattle.std.specs.Prelude.{◌≡◌, ℕ, ◌+◌, ◌*◌, ◌-◌, ◌<◌, ◌≤◌, nat_lt, Bool, true, false, List, length, filter, Option, Some, None, slice_get, slice_index_or, slice_set, Contains, ◌⊎◌, vec_len, vec_capacity}
 use Rattle.std.specs.List.{fold}
 use Rattle.std.specs.BinaryHeap.{heap_items, heap_len, heap_capacity}
 use Rattle.hd_task.specs.declared.state.State.{State}

@@ -15,7 +15,7 @@ use std::alloc::Global;
 use std::marker::Model;
 
 /// What computes the estimates of a task's states: its rules, made once, and what is written anew for each state.
-#[derive(Drop)]
+#[derive(Debug, Drop)]
 pub struct Hmax<'t> {
     rules: Rules<'t>,
     work: Work,

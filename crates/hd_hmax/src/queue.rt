@@ -12,7 +12,7 @@ use std::collections::BinaryHeap;
 /// Rules that can be taken, with what they cost.
 ///
 /// Most come in the order of their costs: they stand in a row, the others in a heap.
-#[derive(Drop)]
+#[derive(Debug, Drop)]
 pub(crate) struct Queue {
     /// Rules in the order of their costs; those before `taken` were taken out.
     run: Vec<Reverse<(u128, u32)>>,

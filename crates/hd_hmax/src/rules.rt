@@ -14,7 +14,7 @@ use std::alloc::Global;
 use std::mem::replace;
 
 /// A task's rules.
-#[derive(Drop)]
+#[derive(Debug, Drop)]
 pub(crate) struct Rules<'t> {
     pub(crate) task: &'t Task,
     /// How many atoms the task has.

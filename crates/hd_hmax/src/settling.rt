@@ -13,7 +13,7 @@ use hd_task::Reads;
 use std::alloc::Global;
 
 /// What is written anew for each state.
-#[derive(Drop)]
+#[derive(Debug, Drop)]
 pub(crate) struct Work {
     /// By place: whether what it costs is not known yet.
     pending: Vec<bool>,

@@ -1,6 +1,5 @@
-use Rattle.std.proofs.Common.{◌≡◌, ◌==◌, ◌+◌, ◌++◌, ◌∷◌, [], ◌<◌, List, ℕ, cond, length, map, take, get_or, set, refl, sym, ap, ◌∙◌, subst, arith, length-set}
-use Rattle.hd_hmax.specs.Rules.{places, place, row, times}
-use Rattle.hd_hmax.proofs.Counting.{unit_if}
+use Rattle.std.proofs.Common.{◌==◌, ◌+◌, ◌++◌, ◌∷◌, [], ◌<◌, length, map, take, refl, ap, ◌∙◌, arith, length-set}
+use Rattle.hd_hmax.specs.Rules.{place, row, times}
 use Rattle.hd_hmax.proofs.Compiling.{times-first, times-added, times-place, times-next}
 use Rattle.hd_hmax.proofs.rules.add_each.Goals as goal
 

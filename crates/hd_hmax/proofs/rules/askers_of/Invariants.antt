@@ -1,4 +1,4 @@
-use Rattle.std.proofs.Common.{◌≡◌, ℕ, ◌+◌, ◌<◌, nat_lt, cond, length, get_or}
+use Rattle.std.proofs.Common.{◌≡◌, ℕ, ◌<◌, nat_lt, cond, length, get_or}
 use Rattle.hd_hmax.specs.Rules.{places, needs, row, times}
 use Rattle.hd_hmax.proofs.rules.askers_of.Given as goal
 

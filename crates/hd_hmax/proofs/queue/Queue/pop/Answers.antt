@@ -1,4 +1,4 @@
-use Rattle.std.proofs.Common.{◌+◌, sym, subst, arith}
+use Rattle.std.proofs.Common.{◌+◌, sym, subst}
 use Rattle.std.proofs.lemmas.List.{get_or_read}
 use Rattle.std.specs.BinaryHeap.{heap_items}
 use Rattle.hd_hmax.specs.Queue.{none, WaitsIn, IsPopped}

@@ -1,8 +1,6 @@
-use Rattle.std.proofs.Common.{◌≡◌, ◌+◌, ◌<◌, ◌≤◌, ℕ, length, sym, ap, ◌∙◌, subst, arith}
-use Rattle.hd_task.specs.declared.state.State.{State}
-use Rattle.hd_task.specs.declared.task.Task.{Task}
-use Rattle.hd_hmax.specs.Queue.{Ready, ready}
-use Rattle.hd_hmax.specs.Working.{Waits, IsFair, IsEntry, load}
+use Rattle.std.proofs.Common.{◌<◌, length, arith}
+use Rattle.hd_hmax.specs.Queue.{ready}
+use Rattle.hd_hmax.specs.Working.{Waits, load}
 use Rattle.hd_hmax.proofs.Compiling.{bring_right}
 use Rattle.hd_hmax.proofs.Starting.{cheap_rules}
 use Rattle.hd_hmax.proofs.Cheapest.{entries_from, brings_at_level, fair_popped, ready_popped, goal_reached, known_popped, small_popped, nothing_waits}

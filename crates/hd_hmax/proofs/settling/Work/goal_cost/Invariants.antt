@@ -1,4 +1,4 @@
-use Rattle.std.proofs.Common.{◌≡◌, ℕ, ◌+◌, [], length}
+use Rattle.std.proofs.Common.{ℕ, ◌+◌, [], length}
 use Rattle.hd_hmax.specs.Working.{Counted, Fair, IsAllReady, HasRoom, HasStarted, load}
 use Rattle.hd_hmax.proofs.settling.Work.goal_cost.Given as goal
 

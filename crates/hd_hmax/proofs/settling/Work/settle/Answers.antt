@@ -1,6 +1,5 @@
-use Rattle.std.proofs.Common.{◌≡◌, ◌+◌, ◌<◌, ◌∷◌, [], false, true, ℕ, List, length, get_or, slice_get, set, drop, refl, sym, ap, ◌∙◌, subst, arith}
+use Rattle.std.proofs.Common.{◌≡◌, ◌+◌, ◌<◌, false, true, ℕ, length, get_or, slice_get, set, drop, refl, sym, ap, ◌∙◌, subst, arith}
 use Rattle.std.proofs.lemmas.List.{get_or_read}
-use Rattle.hd_hmax.specs.Rules.{row}
 use Rattle.hd_hmax.specs.Working.{Waits, is_open, load, price_by, IsCounted, IsFair, AreReady}
 use Rattle.hd_hmax.proofs.Places.{price_there}
 use Rattle.hd_hmax.proofs.Telling.{drop_next, told_known, told_within, needs_still, counted_next, fair_next, ready_next, counted_begin, fair_begin, ready_begin}

@@ -1,4 +1,4 @@
-use Rattle.std.proofs.Common.{◌≡◌, ◌+◌, ◌≤◌, true, false, ℕ, length, sym, ap, ◌∙◌, subst, arith}
+use Rattle.std.proofs.Common.{◌≡◌, ◌+◌, ◌≤◌, ℕ, length, sym, ap, ◌∙◌, arith}
 use Rattle.hd_hmax.specs.Rules.{place_at}
 use Rattle.hd_hmax.specs.Working.{value_at, is_open}
 use Rattle.hd_hmax.proofs.Starting.{true_is_free, holds_here, started_next}

@@ -1,8 +1,7 @@
-use Rattle.std.proofs.Common.{◌≡◌, ◌+◌, ◌<◌, true, ℕ, List, length, get_or, take, Contains, sym, ap, ◌∙◌, subst, arith}
+use Rattle.std.proofs.Common.{get_or, Contains, sym, ◌∙◌, subst, arith}
 use Rattle.std.proofs.lemmas.List.{take_all}
 use Rattle.std.proofs.lemmas.List.Elements.{Contains-get_or}
-use Rattle.hd_hmax.specs.Rules.{row}
-use Rattle.hd_hmax.specs.Working.{Waits, is_open}
+use Rattle.hd_hmax.specs.Working.{Waits}
 use Rattle.hd_hmax.proofs.Counting.{was_open}
 use Rattle.hd_hmax.proofs.Compiling.{bring_right, brings-below}
 use Rattle.hd_hmax.proofs.Starting.{closed_next, taken_now}
