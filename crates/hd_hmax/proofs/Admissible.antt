@@ -2,20 +2,19 @@
 --
 -- Along the way each literal that is true costs, in the last table, at most what the way has cost so far: at the start true
 -- literals cost nothing, and a step brings about only what its action affords.
-use Rattle.std.proofs.Common.{◌≡◌, ℕ, ◌+◌, ◌*◌, ◌-◌, ◌<◌, ◌≤◌, Bool, true, false, cond, not, ◌&&◌, ◌||◌, IsTrue, List, [], ◌∷◌, map, length, get_or, slice_get, Option, Some, None, Contains, inl, inr, refl, sym, ap, ◌∙◌, subst, arith}
+use Rattle.std.proofs.Common.{◌≡◌, ℕ, ◌+◌, ◌*◌, ◌-◌, ◌<◌, ◌≤◌, Bool, true, false, cond, not, ◌&&◌, List, [], ◌∷◌, length, slice_get, Option, Some, None, Contains, inl, inr, refl, sym, ap, ◌∙◌, subst, arith}
 use Rattle.std.specs.List.{list_all}
-use Rattle.std.proofs.lemmas.Bool.{cases_lt, le-leb, true≢false, and_parts, and_from, and_cases, or_cases, or_parts, not-true, not-false, not_from_false, cond-true, both_ways}
+use Rattle.std.proofs.lemmas.Bool.{cases_lt, le-leb, and_parts, and_from, and_cases, or_cases, or_parts, not-true, not-false, not_from_false, cond-true, both_ways}
 use Rattle.std.proofs.lemmas.List.{get_or_past}
 use Rattle.std.proofs.lemmas.List.FromFn.{length-map-range_with_len, get_or-map-range_with_len}
 use Rattle.std.proofs.lemmas.Option.{none-some, same_Some, slice_get_within, get_or_from_slice_get}
 use Rattle.hd_base.proofs.Tests.{list_all-from_each}
 use Rattle.hd_task.specs.declared.state.State.{State}
-use Rattle.hd_task.specs.declared.condition.Literal.{Literal}
 use Rattle.hd_task.specs.declared.condition.Condition.{Condition}
 use Rattle.hd_task.specs.declared.action.Action.{Action}
 use Rattle.hd_task.specs.declared.task.Task.{Task}
 use Rattle.hd_task.specs.Conditions.{has_atom, literal_holds, literals_hold, comparisons_hold, holds}
-use Rattle.hd_task.specs.Effects.{numbers_below, names_atom, atom_after, atoms_after, state_after, step_cost}
+use Rattle.hd_task.specs.Effects.{names_atom, atom_after, atoms_after, state_after, step_cost}
 use Rattle.hd_task.specs.Plans.{IsStateOf, Node, after_step, step, step_of, step_by, exec_from}
 use Rattle.hd_task.specs.Covers.{IsAdmissible}
 use Rattle.hd_task.proofs.Runs.{exec_from-none}
@@ -24,7 +23,7 @@ use Rattle.hd_hmax.specs.Rounds.{cost_in, literal, brings_about, first_cost, tab
 use Rattle.hd_hmax.proofs.Infinite.{up_to, up_to-more, value_up_to}
 use Rattle.hd_hmax.proofs.Counts.{each_passes}
 use Rattle.hd_hmax.proofs.Paying.{price-le}
-use Rattle.hd_hmax.proofs.Tables.{cost_in-own, affords, up_to-dearest, IsBroughtAbout, affords-foreign, affords-from_start}
+use Rattle.hd_hmax.proofs.Tables.{cost_in-own, affords, up_to-dearest, affords-foreign, affords-from_start}
 use Rattle.hd_hmax.proofs.Falling.{closed}
 
 -- the literals of a condition that holds are true

@@ -1,5 +1,5 @@
 -- How large the costs in the tables are: each round adds one price at most.
-use Rattle.std.proofs.Common.{◌≡◌, ℕ, zero, suc, ◌+◌, ◌*◌, ◌-◌, ◌≤◌, ◌<◌, ◌^◌, Bool, true, false, cond, List, [], ◌∷◌, map, length, get_or, Option, Some, None, Contains, inl, inr, refl, sym, ap, ◌∙◌, subst, arith}
+use Rattle.std.proofs.Common.{◌≡◌, ℕ, zero, suc, ◌+◌, ◌*◌, ◌-◌, ◌≤◌, Bool, true, false, cond, List, map, length, Some, None, Contains, inl, inr, sym, ap, ◌∙◌, subst, arith}
 use Rattle.std.specs.List.{list_all, All}
 use Rattle.std.proofs.Math.Nat.{suc-mul}
 use Rattle.std.proofs.lemmas.Bool.{le-leb, leb-true, cases_lt, cases_Bool}
@@ -16,7 +16,7 @@ use Rattle.hd_hmax.specs.Rounds.{Table, cost_in, dearest, first_cost, table_afte
 use Rattle.hd_hmax.specs.Tables.{IsSmall}
 use Rattle.hd_hmax.proofs.Infinite.{up_to, up_to-more, value_up_to}
 use Rattle.hd_hmax.proofs.Counts.{each_passes}
-use Rattle.hd_hmax.proofs.Tables.{foreign_cost, cost_in-own, foreign_after, affords, up_to-dearest, IsBroughtAbout, affords-by, affords-later, own_if_new, brought_about_if_new}
+use Rattle.hd_hmax.proofs.Tables.{foreign_cost, cost_in-own, foreign_after, affords, up_to-dearest, affords-by, affords-later, own_if_new, brought_about_if_new}
 
 free_if_finite : (b : Bool) (c : ℕ) → up_to c (cond b (Some 0) None) ≡ true → up_to 0 (cond b (Some 0) None) ≡ true
 free_if_finite true c e = le-leb 0 0 (omega arith)
@@ -84,10 +84,3 @@ small_dearest most table ls v small e =
     (λ l m.
     let k = value_up_to v (cost_in table l) (each_passes (λ l. up_to v (cost_in table l)) ls l each m) in
     ap (up_to most) k.1 ∙ le-leb k.0 most (small l k.0 k.1))))
-
--- after no more rounds than there are literals, sums of costs and prices fit 128 bits
-pub small_enough : (t : Task) (s : State) (prices : List ℕ) (k : ℕ) (table : Table) → prices ≡ map (price t) t.actions → All (λ p. p ≤ 2 ^ 95) prices
-    → table ≡ table_after t s k → k ≤ 2 ^ 21 → IsSmall (2 ^ 120) table
-small_enough t s prices k table are small is few l v e =
-    let h = small_after t s (2 ^ 95) (cheap_actions t prices (2 ^ 95) are small) k l v (ap (λ (table : Table). cost_in table l) (sym is) ∙ e) in
-    omega (arith, h, few)
