@@ -1,7 +1,15 @@
 pub mod Admissible
+pub mod Cheapest
+pub mod Compiling
+pub mod Counting
 pub mod Counts
 pub mod Falling
 pub mod Infinite
 pub mod Paying
+pub mod Places
+pub mod Running
 pub mod Sizes
+pub mod Starting
+pub mod Starts
 pub mod Tables
+pub mod Telling

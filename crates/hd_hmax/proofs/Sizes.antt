@@ -84,10 +84,3 @@ small_dearest most table ls v small e =
     (λ l m.
     let k = value_up_to v (cost_in table l) (each_passes (λ l. up_to v (cost_in table l)) ls l each m) in
     ap (up_to most) k.1 ∙ le-leb k.0 most (small l k.0 k.1))))
-
--- after no more rounds than there are literals, sums of costs and prices fit 128 bits
-pub small_enough : (t : Task) (s : State) (prices : List ℕ) (k : ℕ) (table : Table) → prices ≡ map (price t) t.actions → All (λ p. p ≤ 2 ^ 95) prices
-    → table ≡ table_after t s k → k ≤ 2 ^ 21 → IsSmall (2 ^ 120) table
-small_enough t s prices k table are small is few l v e =
-    let h = small_after t s (2 ^ 95) (cheap_actions t prices (2 ^ 95) are small) k l v (ap (λ (table : Table). cost_in table l) (sym is) ∙ e) in
-    omega (arith, h, few)

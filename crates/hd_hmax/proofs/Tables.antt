@@ -1,19 +1,17 @@
 -- What the tables say of literals, from round to round: what a literal or an action costs falls, where it changes.
-use Rattle.std.proofs.Common.{◌≡◌, ℕ, zero, suc, ◌-◌, ◌<◌, ◌≤◌, nat_le, Bool, true, false, cond, ◌&&◌, ◌||◌, List, map, length, get_or, Option, Some, None, Contains, inl, inr, refl, sym, ap, ap₂, ◌∙◌, arith}
+use Rattle.std.proofs.Common.{◌≡◌, ℕ, zero, suc, ◌-◌, ◌<◌, ◌≤◌, nat_le, Bool, true, false, cond, ◌&&◌, ◌||◌, List, map, length, get_or, Option, Some, None, Contains, inl, inr, refl, sym, ap, ◌∙◌, arith}
 use Rattle.std.specs.List.{list_all, list_any}
 use Rattle.std.proofs.lemmas.Bool.{le-leb, leb-true, cases_lt, and_parts, and_from, or_left, or_right, or_cases, both_ways}
 use Rattle.std.proofs.lemmas.List.{get_or_past}
-use Rattle.std.proofs.lemmas.List.FromFn.{length-map-range_with_len, get_or-map-range_with_len, fill_by_all}
+use Rattle.std.proofs.lemmas.List.FromFn.{length-map-range_with_len, get_or-map-range_with_len}
 use Rattle.hd_base.proofs.Tests.{list_any-from_contains}
 use Rattle.hd_task.specs.declared.state.State.{State}
 use Rattle.hd_task.specs.declared.condition.Literal.{Literal}
 use Rattle.hd_task.specs.declared.action.Action.{Action}
 use Rattle.hd_task.specs.declared.task.Task.{Task}
 use Rattle.hd_task.specs.Effects.{numbers_below}
-use Rattle.hd_hmax.specs.declared.costs.Costs.{Costs}
 use Rattle.hd_hmax.specs.Prices.{price}
 use Rattle.hd_hmax.specs.Rounds.{Table, cost_in, literal, table_by, dearest, brings_about, cost_by, lowered, first_cost, table_after}
-use Rattle.hd_hmax.specs.Tables.{table_of, HasWidth}
 use Rattle.hd_hmax.proofs.Infinite.{up_to, up_to-plus, up_to-all, up_to-any}
 use Rattle.hd_hmax.proofs.Counts.{passing_member}
 
@@ -37,14 +35,6 @@ cost_in-foreign n f l h =
       | true ↦ get_or_past (map (λ i. f (literal true i)) (numbers_below n)) l.atom None (omega (arith, h, length-map-range_with_len (λ i. f (literal true i)) 0 n))
       | false ↦ get_or_past (map (λ i. f (literal false i)) (numbers_below n)) l.atom (Some 0) (omega (arith, h, length-map-range_with_len (λ i. f (literal false i)) 0 n))
     ]
-
--- a table that is filled with what a function gives
-pub table_filled : (n : ℕ) (f : Literal → Option ℕ) (c : Costs) → HasWidth n c → ((k : ℕ) → k < n → get_or c.atoms.items k None ≡ f (literal true k))
-    → ((k : ℕ) → k < n → get_or c.negations.items k None ≡ f (literal false k)) → table_of c ≡ table_by n f
-table_filled n f c width atoms negations =
-    ap₂ (λ (xs ys : List (Option ℕ)). let table : Table = record { atoms = xs; negations = ys } in table)
-    (fill_by_all (λ i. f (literal true i)) c.atoms.items n None width.atoms atoms)
-    (fill_by_all (λ i. f (literal false i)) c.negations.items n None width.negations negations)
 
 -- ---- what literals and actions cost at most
 

@@ -2,6 +2,10 @@ pub mod Costs
 pub mod Estimate
 pub mod Hmax
 pub mod Prices
+pub mod Queue
 pub mod Rounds
+pub mod Rows
+pub mod Rules
 pub mod Tables
 pub mod Value
+pub mod Working

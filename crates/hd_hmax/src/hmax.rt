@@ -1,15 +1,12 @@
 //! What computes estimates.
-ghost use Rattle.std.specs.Prelude.{◌≡◌, ◌≤◌, ◌^◌, map, length, IfOk};
-ghost use Rattle.std.specs.List.{All};
+ghost use Rattle.std.specs.Prelude.{◌≡◌, IfOk};
 ghost use Rattle.hd_task.specs.Plans.{IsStateOf};
-ghost use Rattle.hd_hmax.specs.Prices.{price};
 ghost use Rattle.hd_hmax.specs.Rounds.{hmax};
-ghost use Rattle.hd_hmax.specs.Tables.{HasWidth};
 ghost use Rattle.hd_hmax.specs.Value.{estimated};
+ghost use Rattle.hd_hmax.specs.Working.{HasWidth};
 
-use crate::costs::Costs;
-use crate::prices::prices_of;
-use crate::rounds::all_rounds;
+use crate::rules::Rules;
+use crate::settling::Work;
 use crate::{Estimate, EstimateValue};
 use hd_base::NoMemory;
 use hd_pack::{Layout, Packed, pack};
@@ -17,21 +14,13 @@ use hd_task::{Reads, State, Task};
 use std::alloc::Global;
 use std::marker::Model;
 
-/// What computes the estimates of a task's states: tables made once, which are written anew for each state.
-#[derive(Debug, Drop)]
+/// What computes the estimates of a task's states: its rules, made once, and what is written anew for each state.
+#[derive(Drop)]
 pub struct Hmax<'t> {
-    task: &'t Task,
-    /// By action: what it costs at least.
-    prices: Vec<u128>,
-    costs: Costs,
-    next: Costs,
-    // The prices are those of the task's actions.
-    ghost priced: { prices.items ≡ map (price task.now) task.now.actions },
-    // Their sums fit 128 bits.
-    ghost prices_small: { All (λ p. p ≤ 2 ^ 95) prices.items },
-    // The tables have the task's atoms.
-    ghost width: { HasWidth (length task.now.atoms) costs },
-    ghost next_width: { HasWidth (length task.now.atoms) next },
+    rules: Rules<'t>,
+    work: Work,
+    // There is room for what is written.
+    ghost width: { HasWidth rules.task.now work },
 }
 
 impl<'t> Model for Hmax<'t> {
@@ -43,7 +32,7 @@ impl<'t> Model for Hmax<'t> {
 
     ghost coded = { Prim.hlevel (codes, tasks.the_row.coded) };
 
-    ghost view = { λ h. record { task = h.task.now } };
+    ghost view = { λ h. record { task = h.rules.task.now } };
 }
 
 /// The value of an estimate.
@@ -60,37 +49,23 @@ impl<'t> Hmax<'t> {
     /// What computes the estimates of a task's states.
     ///
     /// # Errors
-    /// `NoMemory` where there is no room for a number an action and four numbers an atom.
+    /// `NoMemory` where there is no room for six numbers an action, six an atom, and one for each literal of a condition, of the
+    /// goal and of what an action brings about.
     pub fn new(alloc: Global, task: &'t Task) -> Result<Hmax<'t>, NoMemory>
         ensures task { IfOk result (λ h. h.task ≡ task.now) }
     {
-        let atoms = task.atoms.len();
-        let prices = prices_of(alloc, task)?;
-        let costs = Costs::new(alloc, atoms)?;
-        let next = Costs::new(alloc, atoms)?;
-        Ok(Hmax {
-            task,
-            prices,
-            costs,
-            next,
-        })
+        let rules = Rules::of(alloc, task)?;
+        let work = Work::new(alloc, &rules)?;
+        Ok(Hmax { rules, work })
     }
 
     /// The estimate of a state, in whatever form it is kept. It takes no memory.
-    #[tactic(auto, unfolding(crate::specs::Rounds::hmax))]
     pub fn value<R: Reads>(&mut self, state: &R) -> EstimateValue
         requires of_task { IsStateOf self.old.task (R.seen state.now) }
         ensures value { estimated result ≡ hmax self.old.task (R.seen state.now) }
         ensures task { self.new.task ≡ self.old.task }
     {
-        all_rounds(
-            self.task,
-            self.prices.as_slice(),
-            state,
-            &mut self.costs,
-            &mut self.next,
-        );
-        value_of(self.costs.dearest(self.task.goal.literals.as_slice()))
+        value_of(self.work.goal_cost(&self.rules, state))
     }
 
     /// The estimate of a state, which keeps the state packed.
@@ -104,8 +79,8 @@ impl<'t> Hmax<'t> {
         ensures task { self.new.task ≡ self.old.task }
     {
         let value = self.value(state);
-        let state = pack(alloc, &Layout::new(self.task), state)?;
-        Ok(Estimate::of(self.task, state, value))
+        let state = pack(alloc, &Layout::new(self.rules.task), state)?;
+        Ok(Estimate::of(self.rules.task, state, value))
     }
 
     /// The estimate of a packed state, with a copy of it.
@@ -124,6 +99,6 @@ impl<'t> Hmax<'t> {
     {
         let value = self.value(state);
         let state = state.copied(alloc)?;
-        Ok(Estimate::of(self.task, state, value))
+        Ok(Estimate::of(self.rules.task, state, value))
     }
 }

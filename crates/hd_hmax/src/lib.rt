@@ -6,12 +6,14 @@
 //! estimate is what the dearest literal of the goal costs. No way to the goal costs less ([`laws::hmax_is_admissible`]).
 #![tactic(auto)]
 
-mod costs;
 mod estimate;
 mod hmax;
 pub mod laws;
 mod prices;
-mod rounds;
+mod queue;
+mod rows;
+mod rules;
+mod settling;
 
 pub use estimate::{Estimate, EstimateValue};
 pub use hmax::Hmax;

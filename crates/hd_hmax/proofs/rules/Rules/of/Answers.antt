@@ -1,0 +1,21 @@
+use Rattle.std.proofs.Common.{◌≡◌, ◌≤◌, ◌^◌, ◌++◌, ◌∷◌, [], ℕ, List, map, All, sym, ap, ap₂, ◌∙◌, subst, arith}
+use Rattle.std.proofs.lemmas.List.Elements.{All-push}
+use Rattle.hd_task.specs.declared.action.Action.{Action}
+use Rattle.hd_hmax.specs.Rules.{brings_of}
+use Rattle.hd_hmax.proofs.rules.Rules.of.Goals as goal
+
+pub invariant_of-result : goal.invariant_of-result
+invariant_of-result c =
+    let prices = c.in_ok-prices.prices.items in
+    let atoms = c.atoms_of-atoms.ensures.count in
+    let more = c.in_ok-push.ensures.items in
+    record {
+      few = c.atoms_of-atoms.ensures.few;
+      of_task = record {
+        atoms = atoms;
+        each_price = more ∙ ap (λ (xs : List ℕ). xs ++ 0 ∷ []) c.in_ok-prices.ensures.prices;
+        small = subst (All (λ p. p ≤ 2 ^ 95)) (sym more) (All-push (λ p. p ≤ 2 ^ 95) prices 0 c.in_ok-prices.ensures.small (omega arith));
+        transposed = c.in_ok-askers.ensures;
+        brought = c.in_ok-brings.ensures ∙ ap₂ (λ (n : ℕ) (actions : List Action). map (brings_of n c.in_ok-askers.askers) actions) atoms c.as_slice.ensures;
+      };
+    }
