@@ -118,6 +118,40 @@ fn settle<'t>(
     Ok(())
 }
 
+/// Settles parcels until none waits: the root's first, then always that of the least cost plus estimate.
+fn settle_all<'t>(
+    alloc: Global,
+    task: &'t Task,
+    book: &mut Book<'t>,
+    expanding: &mut Expanding<'t>,
+) -> Result<(), Refusal>
+    requires task { book.old.state.task ≡ task.now }
+    requires running { IsOpen book.old }
+    requires lookup { IsLookupOf task.now expanding.old }
+    ensures task { book.new.state.task ≡ task.now }
+    ensures running { IsOpen book.new }
+    ensures told { IfErr result (Tells task.now) }
+{
+    let mut frontier = Frontier::empty(alloc);
+    let mut closed = Closed::empty(alloc);
+    frontier.push(root(alloc, task, &expanding.words)?, 0)?;
+    for _turn in 0..u64::MAX {
+        let Some(waiting) = frontier.pop() else {
+            break;
+        };
+        settle(
+            alloc,
+            task,
+            book,
+            &mut frontier,
+            &mut closed,
+            expanding,
+            waiting,
+        )?;
+    }
+    Ok(())
+}
+
 /// Searches a task to the end: the book of the whole search.
 ///
 /// The parcels that wait stand in one list. That of the least cost plus estimate (h-max) is taken, the earliest of equal ones,
@@ -133,25 +167,13 @@ pub fn searched<'t>(alloc: Global, task: &'t Task) -> Result<Book<'t>, Refusal>
     ensures told { IfErr result (Tells task.now) }
 {
     let mut book = Book::new(alloc, task, MOST_ENTRIES)?;
-    let mut frontier = Frontier::empty(alloc);
-    let mut closed = Closed::empty(alloc);
     let mut expanding = Expanding::of(alloc, task)?;
-    frontier.push(root(alloc, task, &expanding.words)?, 0)?;
-    for _turn in 0..u64::MAX {
-        let Some(waiting) = frontier.pop() else {
-            break;
-        };
-        settle(
-            alloc,
-            task,
-            &mut book,
-            &mut frontier,
-            &mut closed,
-            &mut expanding,
-            waiting,
-        )?;
+    let ended = settle_all(alloc, task, &mut book, &mut expanding);
+    drop(expanding);
+    match ended {
+        Ok(()) => Ok(book),
+        Err(refusal) => Err(refusal),
     }
-    Ok(book)
 }
 
 /// Searches a task to the end, and answers its verdict.

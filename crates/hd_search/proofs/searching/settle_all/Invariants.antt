@@ -2,7 +2,7 @@ use Rattle.std.proofs.Common.{◌≡◌}
 use Rattle.hd_search.specs.Expanding.{IsLookupOf}
 use Rattle.hd_search.specs.Frontier.{IsOfTask}
 use Rattle.hd_search.specs.Refused.{IsOpen}
-use Rattle.hd_search.proofs.searching.searched.Given as goal
+use Rattle.hd_search.proofs.searching.settle_all.Given as goal
 
 abbrev pub invariant-loop-turn : goal.invariant-loop-turn
 invariant-loop-turn l = record {
