@@ -16,6 +16,8 @@ pub struct Group {
 }
 
 impl Model for Group {
+    ghost use Rattle.std.specs.Prelude.{◌≤◌, length};
+    ghost use Rattle.hd_image.specs.declared.entry.TheConstants.{MAX_GROUP};
     ghost use Rattle.hd_journal.specs.Group.{GroupView};
 
     ghost Value = { GroupView };

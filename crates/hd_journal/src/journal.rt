@@ -2,7 +2,6 @@
 ghost use Rattle.std.specs.Prelude.{◌≡◌, ◌+◌, false, length};
 ghost use Rattle.hd_store.specs.Device.{content_of};
 ghost use Rattle.hd_image.specs.Image.{most_of};
-ghost use Rattle.hd_journal.specs.Journal.{device_of};
 
 use hd_image::{Entry, Version};
 use hd_store::Store;
@@ -28,7 +27,7 @@ impl<S: Store> Journal<S> {
         last_gate: u64,
     ) -> Journal<S>
         requires { last_gate + 1 ≡ length (content_of (S.device store)) }
-        ensures device { device_of result ≡ S.device store }
+        ensures device { S.device result.store ≡ S.device store }
         ensures version { result.version ≡ version }
         ensures entries { result.entries.items ≡ entries.items }
         ensures gate { result.last_gate ≡ last_gate }
@@ -60,7 +59,7 @@ impl<S: Store> Journal<S> {
 
     /// The store, as the journal left it.
     pub fn into_store(self) -> S
-        ensures { S.device result ≡ device_of self }
+        ensures { S.device result ≡ S.device self.store }
     {
         self.store
     }
