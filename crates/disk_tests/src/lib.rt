@@ -4,6 +4,14 @@
 #[cfg(test)]
 mod appended;
 #[cfg(test)]
+mod failing;
+#[cfg(test)]
 mod files;
 #[cfg(test)]
+mod hostile;
+#[cfg(test)]
 mod journals;
+#[cfg(test)]
+mod real;
+#[cfg(test)]
+mod stopped;
