@@ -27,7 +27,7 @@ use Rattle.hd_journal.proofs.Running.{led_on, split}
 use Rattle.hd_journal.proofs.Passing.{sure_then, no_more}
 use Rattle.hd_journal.proofs.Making.{head_bytes, head_len, opening_head, open_head_moments, fill_moments, create_moments}
 use Rattle.hd_journal.proofs.Appending.{closed, opening, gate_moments}
-use Rattle.hd_journal.proofs.Opening.{found_one, stands_found, opens, journal_opens, Opens}
+use Rattle.hd_journal.proofs.Opening.{found_one, stands_found, unmade_opens, half_opens, journal_opens, Opens}
 
 -- ---- a group that was being appended
 
@@ -180,11 +180,11 @@ pub making_opens : (digest : List ℕ) (found : Found) (old new : Device) → le
 making_opens digest found old new len making found_is ran =
     elim (making_found digest (content_of old) found len making found_is) [
       | Nothing short told ↦
-          let one = opens digest Unmade old new len short (subst (λ (f : Found). RanThrough old (open_calls digest f) new) told ran) in
-          (ap version_in told, subst (λ (f : Found). Opens digest f [] new) (sym told) one.1)
+          let one = unmade_opens digest old new len short (subst (λ (f : Found). RanThrough old (open_calls digest f) new) told ran) in
+          (ap version_in told, subst (λ (f : Found). Opens digest f [] new) (sym told) one)
       | Half half told ↦
-          let one = opens digest HalfMade old new len half (subst (λ (f : Found). RanThrough old (open_calls digest f) new) told ran) in
-          (ap version_in told, subst (λ (f : Found). Opens digest f [] new) (sym told) one.1)
+          let one = half_opens digest old new len half (subst (λ (f : Found). RanThrough old (open_calls digest f) new) told ran) in
+          (ap version_in told, subst (λ (f : Found). Opens digest f [] new) (sym told) one)
       | Whole gate is told ↦ (
           ap version_in told,
           subst (λ (f : Found). Opens digest f [] new) (sym told)

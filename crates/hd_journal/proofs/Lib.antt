@@ -7,3 +7,5 @@ pub mod Appending
 pub mod Opening
 pub mod Again
 pub mod Wholes
+pub mod Widths
+pub mod Recovering

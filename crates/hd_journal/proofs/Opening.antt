@@ -13,7 +13,7 @@ use Rattle.hd_image.specs.declared.contents.Found.TheVariants.{Unmade, HalfMade,
 use Rattle.hd_image.specs.declared.error.ImageError.{ImageError}
 use Rattle.hd_image.specs.declared.error.ImageError.TheVariants.{NoMemory}
 use Rattle.hd_image.specs.Image.{IsGroup, counted, opened, header, front, image, entries_in}
-use Rattle.hd_image.specs.Reading.{IsFound, IsJournal, contents_of}
+use Rattle.hd_image.specs.Reading.{IsFound, IsHalfMade, IsJournal, contents_of}
 use Rattle.hd_image.proofs.Stopping.{is_journal, length-front, joined}
 use Rattle.hd_image.proofs.Ways.{one_answer}
 use Rattle.hd_store.specs.declared.error.StoreError.{StoreError}
@@ -50,7 +50,7 @@ fits_in digest content (Journal found) is = journal_fits digest content found is
 
 -- ---- a file is found in one way
 
-found_of : Result Found ImageError → Found
+abbrev found_of : Result Found ImageError → Found
 found_of (Ok found) = found
 found_of (Err error) = Unmade
 
@@ -143,21 +143,28 @@ journal_opens v digest groups head gate behind old new len sound is ran = record
   gate = sym (length-front v digest groups len);
 }
 
+pub unmade_opens : (digest : List ℕ) (old new : Device) → length digest ≡ DIGEST_LEN → length (content_of old) ≤ 1
+    → RanThrough old (open_calls digest Unmade) new → Opens digest Unmade [] new
+unmade_opens digest old new len is ran = record {
+  sound = tt;
+  content = create_content digest old new len is ran;
+  entries = refl;
+  gate = no_groups_len digest len;
+}
+
+pub half_opens : (digest : List ℕ) (old new : Device) → length digest ≡ DIGEST_LEN → IsHalfMade (content_of old)
+    → RanThrough old (open_calls digest HalfMade) new → Opens digest HalfMade [] new
+half_opens digest old new len is ran = record {
+  sound = tt;
+  content = fill_content digest old new is.rest len is.closed is.short ran;
+  entries = refl;
+  gate = no_groups_len digest len;
+}
+
 pub opens : (digest : List ℕ) (found : Found) (old new : Device) → length digest ≡ DIGEST_LEN → IsFound digest (content_of old) found
     → RanThrough old (open_calls digest found) new → (groups : List (List Kid)) × Opens digest found groups new
-opens digest Unmade old new len is ran = (
-  [],
-  record { sound = tt; content = create_content digest old new len is ran; entries = refl; gate = no_groups_len digest len },
-)
-opens digest HalfMade old new len is ran = (
-  [],
-  record {
-    sound = tt;
-    content = fill_content digest old new is.rest len is.closed is.short ran;
-    entries = refl;
-    gate = no_groups_len digest len;
-  },
-)
+opens digest Unmade old new len is ran = ([], unmade_opens digest old new len is ran)
+opens digest HalfMade old new len is ran = ([], half_opens digest old new len is ran)
 opens digest (Journal found) old new len is ran = (
   is.groups,
   subst (λ (f : Contents). Opens digest (Journal f) is.groups new) (sym is.told)

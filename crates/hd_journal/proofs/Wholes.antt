@@ -13,6 +13,7 @@ use Rattle.hd_image.specs.Stops.{IsBeforeOrAfter}
 use Rattle.hd_image.proofs.Joining.{opened-append}
 use Rattle.hd_image.proofs.Stopping.{length-front, joined, appended_entries}
 use Rattle.hd_store.specs.declared.store.Store.{Ghosts}
+use Rattle.hd_store.specs.declared.error.StoreError.TheVariants as store
 use Rattle.hd_store.specs.Device.{Device, content_of}
 use Rattle.hd_journal.specs.declared.error.JournalError.{JournalError}
 use Rattle.hd_journal.specs.declared.error.JournalError.TheVariants.{NotAJournal, OtherTask, Damaged, Device as Broken, Failed, JournalExists, NotOut, NoMemory}
@@ -92,7 +93,7 @@ not_appended_moments digest groups group old new NotAJournal is settled not = ab
 not_appended_moments digest groups group old new OtherTask is settled not = absurd not
 not_appended_moments digest groups group old new (Damaged at) is settled not = absurd not
 not_appended_moments digest groups group old new Broken is settled not =
-    append_moments old.version digest groups group.kids (device_of old) (device_of new) old.last_gate _ is.gate settled is.content not.ran
+    append_moments old.version digest groups group.kids (device_of old) (device_of new) old.last_gate (Err store.Failed) is.gate settled is.content not.ran
 not_appended_moments digest groups group old new Failed is settled not = same_moments digest groups group old new is settled not.1
 not_appended_moments digest groups group old new JournalExists is settled not = absurd not
 not_appended_moments digest groups group old new NotOut is settled not = same_moments digest groups group old new is settled not.2

@@ -85,13 +85,17 @@ IsNotMade digest old NoMemory new = MayTellLength old (Ok tt) × (content_of old
 
 -- ---- opening one
 
--- a journal was read, and mended where it had to be; a header that was not there yet was made
-pub record IsOpened {S : Type 0} {G : Ghosts S} (digest : List ℕ) (old : Device) (journal : Journal S G) : Type 0 where
+-- this was read, and mended where it had to be; a header that was not there yet was made
+pub record IsMended (digest : List ℕ) (old : Device) (found : Found) (new : Device) : Type 0 where
   pub seen : Device
-  pub found : Found
   pub looked : IsSeen old seen
   pub is : IsFound digest (content_of old) found
-  pub ran : RanThrough seen (open_calls digest found) (device_of journal)
+  pub ran : RanThrough seen (open_calls digest found) new
+
+-- a journal was opened
+pub record IsOpened {S : Type 0} {G : Ghosts S} (digest : List ℕ) (old : Device) (journal : Journal S G) : Type 0 where
+  pub found : Found
+  pub mended : IsMended digest old found (device_of journal)
   pub version : journal.version ≡ version_in found
   pub entries : journal.entries.items ≡ found_in found
   pub gate : journal.last_gate ≡ gate_in found

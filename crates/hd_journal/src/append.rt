@@ -3,7 +3,7 @@ ghost use Rattle.std.specs.Prelude.{◌≡◌, ◌+◌, ◌*◌, ◌<◌, ◌≤
 ghost use Rattle.std.specs.List.{AllByRecursion};
 ghost use Rattle.hd_task.specs.declared.plan.Kid.{Kid};
 ghost use Rattle.hd_image.specs.declared.entry.TheConstants.{MAX_GROUP};
-ghost use Rattle.hd_image.specs.Image.{HasNumber, IsGroup, counted, entries_of, entry_width};
+ghost use Rattle.hd_image.specs.Image.{HasNumber, IsGroup, counted, entries_of};
 ghost use Rattle.hd_image.specs.Stops.{IsBeforeOrAfter};
 ghost use Rattle.hd_store.specs.Calls.{OnNoMemory};
 ghost use Rattle.hd_store.specs.Device.{content_of};
@@ -49,7 +49,7 @@ fn push_reserved(entries: &mut Vec<Entry>, entry: Entry)
 /// Adds the entries of pairs, of which the first stands at this place, to a `Vec` that has room.
 fn push_entries(entries: &mut Vec<Entry>, version: Version, first: u64, kids: &[Kid])
     requires room { vec_len entries.old + length kids.now ≤ vec_capacity entries.old }
-    requires places { first + entry_width version * length kids.now < 2 ^ 64 }
+    requires places { first + 9 * length kids.now < 2 ^ 64 }
     ensures { entries.new.items ≡ entries.old.items ++ entries_of version first kids.now }
 {
     let width = version.entry_width() as u64;

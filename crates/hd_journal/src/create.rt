@@ -53,8 +53,10 @@ fn begin<S: Store>(store: &mut S, digest: &[u8; DIGEST_LEN]) -> Result<(), Journ
     if store.len()? > 0 {
         return Err(JournalError::JournalExists);
     }
-    make(store, digest)?;
-    Ok(())
+    match make(store, digest) {
+        Ok(()) => Ok(()),
+        Err(error) => Err(JournalError::from(error)),
+    }
 }
 
 impl<S: Store> Journal<S> {

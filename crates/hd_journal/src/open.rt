@@ -1,5 +1,5 @@
 //! Opening a journal that is there.
-ghost use Rattle.std.specs.Prelude.{◌≡◌, ◌≢◌, ◌+◌, ◌≤◌, ◌∷◌, ◌++◌, ℕ, List, [], length, Result, Ok, Err, IfOk, IfErr, OnOk};
+ghost use Rattle.std.specs.Prelude.{◌≡◌, ◌≢◌, ◌+◌, ◌≤◌, ◌∷◌, ◌++◌, ℕ, List, [], false, length, Result, Ok, Err, IfOk, IfErr, OnOk};
 ghost use Rattle.std.specs.List.{AllByRecursion};
 ghost use Rattle.hd_task.specs.declared.plan.Kid.{Kid};
 ghost use Rattle.hd_image.specs.declared.version.Version.{Version};
@@ -8,7 +8,7 @@ ghost use Rattle.hd_image.specs.Image.{IsGroup, front};
 ghost use Rattle.hd_image.specs.Reading.{IsFound};
 ghost use Rattle.hd_image.specs.Stops.{IsBeforeOrAfter, IsMaking};
 ghost use Rattle.hd_store.specs.Device.{content_of};
-ghost use Rattle.hd_journal.specs.Answers.{IsNotOpened, IsOpened, IsSeen, IsUnseen, FitsIn, StandsIn, device_left};
+ghost use Rattle.hd_journal.specs.Answers.{IsMended, IsNotOpened, IsOpened, IsSeen, IsUnseen, FitsIn, StandsIn, device_left};
 ghost use Rattle.hd_journal.specs.Calls.{Ran};
 ghost use Rattle.hd_journal.specs.Journal.{IsOf, device_of, found_in, gate_in, open_calls, version_in};
 ghost use Rattle.hd_journal.specs.Moments.{IsSettled, LeavesSince};
@@ -72,6 +72,26 @@ fn settle<S: Store>(
     }
 }
 
+/// Finds what stands in a store, and mends it, or makes it.
+fn recover<S: Store>(
+    alloc: Global,
+    store: &mut S,
+    digest: &[u8; DIGEST_LEN],
+) -> Result<Found, JournalError>
+    ensures mended { IfOk result (λ found.
+        IsMended digest.now (S.device store.old) found (S.device store.new)) }
+    ensures len { IfOk result (λ found. gate_in found + 1
+        ≡ length (content_of (S.device store.new))) }
+    ensures refused { IfErr result (λ error.
+        IsNotOpened digest.now (S.device store.old) error (S.device store.new)) }
+{
+    let found = find(alloc, store, digest)?;
+    match settle(store, digest, &found) {
+        Ok(()) => Ok(found),
+        Err(error) => Err(JournalError::from(error)),
+    }
+}
+
 impl<S: Store> Journal<S> {
     /// The journal on a store where this was found and mended.
     fn of_found(alloc: Global, store: S, found: Found) -> Journal<S>
@@ -131,13 +151,9 @@ impl<S: Store> Journal<S> {
             → IfOk result (λ journal. IsSettled (device_of journal)) }
     {
         let mut store = store;
-        let found = match find(alloc, &mut store, digest) {
-            Ok(found) => found,
-            Err(error) => return Err((store, error)),
-        };
-        match settle(&mut store, digest, &found) {
-            Ok(()) => Ok(Journal::of_found(alloc, store, found)),
-            Err(error) => Err((store, JournalError::from(error))),
+        match recover(alloc, &mut store, digest) {
+            Ok(found) => Ok(Journal::of_found(alloc, store, found)),
+            Err(error) => Err((store, error)),
         }
     }
 }
