@@ -149,11 +149,23 @@ fn write_journal(rt: &HostRuntime, path: &str, entries: u64, size: u64) -> anyho
     Ok(())
 }
 
+/// Prints the most memory that the process has had, as the system tells it.
+fn print_peak(rt: &HostRuntime) -> anyhow::Result<()> {
+    let status = fs::read_to_string(rt, "/proc/self/status")?;
+    for line in status.as_str().lines() {
+        if line.starts_with("VmHWM") {
+            println!(rt; "{line}")?;
+        }
+    }
+    Ok(())
+}
+
 /// Prints how long it takes to read a file, and then to open the journal in it.
 fn time_open(rt: &HostRuntime, path: &str) -> anyhow::Result<()> {
     let start = Instant::now(rt)?;
     let store = FileStore::open(rt, rt.alloc(), path, false)?;
     let reading = start.elapsed(rt)?.as_micros();
+    print_peak(rt)?;
     let start = Instant::now(rt)?;
     let journal = opened(rt.alloc(), store)?;
     let opening = start.elapsed(rt)?.as_micros();
@@ -161,7 +173,7 @@ fn time_open(rt: &HostRuntime, path: &str) -> anyhow::Result<()> {
         "{} entries: the store {reading} us, the journal {opening} us",
         journal.entries().len()
     )?;
-    Ok(())
+    print_peak(rt)
 }
 
 /// Prints the counts of a small journal.

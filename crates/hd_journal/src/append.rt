@@ -99,6 +99,30 @@ impl<S: Store> Journal<S> {
         Ok(bytes)
     }
 
+    /// Writes a group behind the last gate, and opens that; the entries are kept then.
+    fn put(&mut self, group: &Group) -> Result<(), JournalError>
+        ensures appended { OnOk result (IsAppended self.old group.now self.new) }
+        ensures group { OnOk result (IsGroup self.old.version group.now.kids) }
+        ensures refused { IfErr result (λ error.
+            IsNotAppended self.old group.now error self.new) }
+    {
+        let bytes = match self.prepare(group) {
+            Ok(bytes) => bytes,
+            Err(error) => return Err(error),
+        };
+        match write_behind(&mut self.store, self.last_gate, &bytes) {
+            Ok(()) => {
+                push_entries(&mut self.entries, self.version, self.last_gate + 5, group.kids());
+                self.last_gate += bytes.len() as u64;
+                Ok(())
+            }
+            Err(error) => {
+                self.failed = matches!(error, StoreError::Failed);
+                Err(JournalError::from(error))
+            }
+        }
+    }
+
     /// Appends a group: it is written behind the last gate, made sure of, and then its gate is opened. At `Ok` it stays, whatever
     /// happens.
     ///
@@ -122,20 +146,9 @@ impl<S: Store> Journal<S> {
             (device_of self.old) (device_of self.new) }
         ensures settled { OnOk result (IsSettled (device_of self.new)) }
     {
-        let bytes = match self.prepare(&group) {
-            Ok(bytes) => bytes,
-            Err(error) => return Err((group, error)),
-        };
-        match write_behind(&mut self.store, self.last_gate, &bytes) {
-            Ok(()) => {
-                push_entries(&mut self.entries, self.version, self.last_gate + 5, group.kids());
-                self.last_gate += bytes.len() as u64;
-                Ok(Flushed::of(group))
-            }
-            Err(error) => {
-                self.failed = matches!(error, StoreError::Failed);
-                Err((group, JournalError::from(error)))
-            }
+        match self.put(&group) {
+            Ok(()) => Ok(Flushed::of(group)),
+            Err(error) => Err((group, error)),
         }
     }
 }
