@@ -62,11 +62,7 @@ fn three_groups(rt: HostRuntime) -> Result<(), Fail> {
     let mut journal = rooted(rt.alloc())?;
     append(rt.alloc(), &mut journal, 1, &[kid(0, 0)])?;
     append(rt.alloc(), &mut journal, 2, &[kid(1, 1)])?;
-    let wanted: [Entry; 3] = [
-        root_entry(),
-        entry(kid(0, 0), 57),
-        entry(kid(1, 1), 71),
-    ];
+    let wanted: [Entry; 3] = [root_entry(), entry(kid(0, 0), 57), entry(kid(1, 1), 71)];
     assert_eq!(rt; journal.entries(), wanted.as_slice());
     assert_bytes(&rt, journal, &TWO);
     Ok(())
@@ -79,11 +75,7 @@ fn third_group_in_version_one(rt: HostRuntime) -> Result<(), Fail> {
     bytes[64] = 0;
     let mut journal = opened(rt.alloc(), MemoryDisk::of(rt.alloc(), bytes)?)?;
     append(rt.alloc(), &mut journal, 2, &[kid(1, 1)])?;
-    let wanted: [Entry; 3] = [
-        root_entry(),
-        entry(kid(0, 0), 56),
-        entry(kid(1, 1), 69),
-    ];
+    let wanted: [Entry; 3] = [root_entry(), entry(kid(0, 0), 56), entry(kid(1, 1), 69)];
     assert_eq!(rt; journal.entries(), wanted.as_slice());
     assert_bytes(&rt, journal, &ONE);
     Ok(())

@@ -1,8 +1,8 @@
 //! Calls on the device that fail, and stops behind them.
+use crate::files::TWO;
 use crate::journals::{
     FILLS, appends, assert_opens, disk_of, kid, not_created, not_opened, rooted,
 };
-use crate::files::TWO;
 use hd_journal::{Journal, JournalError};
 use hd_store::{MemoryDisk, Store};
 use std::alloc::Global;

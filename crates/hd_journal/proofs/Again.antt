@@ -186,10 +186,10 @@ making_opens digest found old new len making found_is ran =
           let one = half_opens digest old new len half (subst (λ (f : Found). RanThrough old (open_calls digest f) new) told ran) in
           (ap version_in told, subst (λ (f : Found). Opens digest f [] new) (sym told) one)
       | Whole gate is told ↦ (
-          ap version_in told,
-          subst (λ (f : Found). Opens digest f [] new) (sym told)
-          (journal_opens Two digest [] gate 0 [] old new len tt is (subst (λ (f : Found). RanThrough old (open_calls digest f) new) told ran)),
-        )
+        ap version_in told,
+        subst (λ (f : Found). Opens digest f [] new) (sym told)
+            (journal_opens Two digest [] gate 0 [] old new len tt is (subst (λ (f : Found). RanThrough old (open_calls digest f) new) told ran)),
+      )
     ]
 
 -- ---- nothing is pending then

@@ -1,22 +1,18 @@
 -- Groups that are appended.
 use Rattle.std.proofs.Common.{◌≡◌, ◌⊎◌, inl, inr, ℕ, ◌+◌, ◌<◌, ◌≤◌, List, [], ◌∷◌, ◌++◌, length, max, Result, Ok, Err, refl, sym, ap, ◌∙◌, subst, append_assoc, arith}
-use Rattle.std.specs.Prelude.{OnOk}
 use Rattle.std.proofs.lemmas.List.{length-append}
 use Rattle.hd_task.specs.declared.plan.Kid.{Kid}
 use Rattle.hd_image.specs.declared.version.Version.{Version}
 use Rattle.hd_image.specs.Image.{counted, front}
 use Rattle.hd_image.specs.Stops.{IsBeforeOrAfter}
 use Rattle.hd_store.specs.declared.error.StoreError.{StoreError}
-use Rattle.hd_store.specs.declared.error.StoreError.TheVariants.{NoMemory, Failed}
 use Rattle.hd_store.specs.Bytes.{written_over, IsPartOfWrite}
-use Rattle.hd_store.specs.Calls.{OnNoMemory}
 use Rattle.hd_store.specs.Device.{Device, content_of}
 use Rattle.hd_journal.specs.Calls.{Call, after_call, Ran, RanThrough, surely}
 use Rattle.hd_journal.specs.Calls.Call.{Writing, Syncing}
 use Rattle.hd_journal.specs.Journal.{append_calls}
 use Rattle.hd_journal.specs.Moments.{LeavesSince, IsSettled}
 use Rattle.hd_journal.proofs.Bytes.{over_end, over_one, part_end, part_one}
-use Rattle.hd_journal.proofs.Lengths.{length-written_over}
 use Rattle.hd_journal.proofs.Running.{led_on}
 use Rattle.hd_journal.proofs.Passing.{sure_then, no_more}
 
@@ -40,42 +36,6 @@ pub behind_content : (old new : Device) (f bytes : List ℕ) (gate : ℕ) → co
 behind_content old new f bytes gate is e ran =
     ap content_of (led_on old new (behind_calls gate bytes) ran)
     ∙ (ap (λ (c : List ℕ). written_over c gate (1 ∷ [])) (written (content_of old) f bytes gate is e) ∙ over_one f bytes 0 1 gate e)
-
-longer : (content bytes : List ℕ) (gate : ℕ) → gate + 1 ≡ length content
-    → length (written_over content (gate + 1) bytes) ≡ gate + 1 + length bytes
-longer content bytes gate e = let len = length-written_over content (gate + 1) bytes (omega (arith, e)) in omega (arith, len, e)
-
-pub behind_len : (old new : Device) (gate : ℕ) (bytes : List ℕ) (result : Result (Unit {0}) StoreError) → gate + 1 ≡ length (content_of old)
-    → Ran old (behind_calls gate bytes) result new → OnOk result (length (content_of new) ≡ gate + 1 + length bytes)
-behind_len old new gate bytes (Err error) e ran = tt
-behind_len old new gate bytes (Ok done) e ran =
-    let first = longer (content_of old) bytes gate e in
-    let both = length-written_over (written_over (content_of old) (gate + 1) bytes) gate (1 ∷ []) (omega (arith, first)) in
-    ap (λ (d : Device). length (content_of d)) (led_on old new (behind_calls gate bytes) ran) ∙ omega (arith, both, first)
-
-no_growth : (gate len count : ℕ) → len ≡ gate + 1 + count → len < gate + 1 → ⊥
-no_growth gate len count e more = omega (arith, e, more)
-
--- memory is wanted by the first call alone, and then nothing was begun
-pub behind_same : (old new : Device) (gate : ℕ) (bytes : List ℕ) (result : Result (Unit {0}) StoreError) → gate + 1 ≡ length (content_of old)
-    → Ran old (behind_calls gate bytes) result new → OnNoMemory result (new ≡ old)
-behind_same old new gate bytes (Ok done) e ran = tt
-behind_same old new gate bytes (Err Failed) e ran = tt
-behind_same old new gate bytes (Err NoMemory) e ran =
-    let first = longer (content_of old) bytes gate e in
-    elim ran [
-      | inr ends ↦ ends.1
-      | inl a ↦ elim a.1 [
-        | inr ends ↦ absurd ends.0
-        | inl b ↦ elim b.1 [
-          | inr ends ↦ let more = ends.0 in absurd (no_growth gate (length (written_over (content_of old) (gate + 1) bytes)) (length bytes) first more)
-          | inl d ↦ elim d.1 [
-            | inr ends ↦ absurd ends.0
-            | inl last ↦ absurd last.1.0
-          ]
-        ]
-      ]
-    ]
 
 -- ---- what a stop leaves meanwhile
 

@@ -82,7 +82,7 @@ differs [] ys g [] len same = absurd (not_zero (length ys) (sym len))
 differs [] ys g (h ∷ found) len same = (
   h,
   ap (λ (t : List ℕ). h ∷ t) (same_number_lists found ys (omega (arith, len)) (λ place below.
-  same (suc place) (omega (arith, len, below)) (not_zero place))),
+      same (suc place) (omega (arith, len, below)) (not_zero place))),
 )
 differs (x ∷ xs) ys g [] len same = absurd (not_zero (length (xs ++ g ∷ ys)) (sym len))
 differs (x ∷ xs) ys g (y ∷ found) len same =

@@ -1,5 +1,4 @@
 pub mod Bytes
-pub mod Lengths
 pub mod Running
 pub mod Passing
 pub mod Making
@@ -7,5 +6,4 @@ pub mod Appending
 pub mod Opening
 pub mod Again
 pub mod Wholes
-pub mod Widths
 pub mod Recovering

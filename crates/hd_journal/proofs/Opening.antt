@@ -1,7 +1,6 @@
 -- What is found in a file, and what mending makes of it.
 use Rattle.std.proofs.Common.{◌≡◌, ◌≢◌, ◌⊎◌, inl, inr, ℕ, suc, ◌+◌, ◌<◌, ◌≤◌, ◌==◌, Bool, true, false, List, [], ◌∷◌, ◌++◌, length, take, Result, Ok, Err, refl, sym, ap, ◌∙◌, subst, append_assoc, append-nil, arith, if◌then◌else◌}
 use Rattle.std.specs.List.{flat_map, AllByRecursion}
-use Rattle.std.proofs.lemmas.List.{length-append}
 use Rattle.std.proofs.lemmas.Bool.{eqb-true, eqb-false}
 use Rattle.hd_task.specs.declared.plan.Kid.{Kid}
 use Rattle.hd_image.specs.declared.version.Version.{Version}
@@ -13,40 +12,18 @@ use Rattle.hd_image.specs.declared.contents.Found.TheVariants.{Unmade, HalfMade,
 use Rattle.hd_image.specs.declared.error.ImageError.{ImageError}
 use Rattle.hd_image.specs.declared.error.ImageError.TheVariants.{NoMemory}
 use Rattle.hd_image.specs.Image.{IsGroup, counted, opened, header, front, image, entries_in}
-use Rattle.hd_image.specs.Reading.{IsFound, IsHalfMade, IsJournal, contents_of}
+use Rattle.hd_image.specs.Reading.{IsFound, IsHalfMade, contents_of}
 use Rattle.hd_image.proofs.Stopping.{is_journal, length-front, joined}
 use Rattle.hd_image.proofs.Ways.{one_answer}
 use Rattle.hd_store.specs.declared.error.StoreError.{StoreError}
 use Rattle.hd_store.specs.Bytes.{written_over}
 use Rattle.hd_store.specs.Device.{Device, content_of}
-use Rattle.hd_journal.specs.Answers.{FitsIn, StandsIn}
 use Rattle.hd_journal.specs.Calls.{Call, after_call, Ran, RanThrough, surely}
 use Rattle.hd_journal.specs.Calls.Call.{Writing, Cutting, Syncing}
 use Rattle.hd_journal.specs.Journal.{head_calls, gate_calls, cut_calls, mend_calls, open_calls, version_in, found_in, gate_in}
 use Rattle.hd_journal.proofs.Bytes.{over_one, cut_whole}
 use Rattle.hd_journal.proofs.Running.{led_on, split}
 use Rattle.hd_journal.proofs.Making.{create_content, fill_content}
-
--- ---- what is found is as long as the file
-
-journal_fits : (digest content : List ℕ) (found : Contents) → IsJournal digest content found
-    → found.last_gate + found.behind + 1 ≡ length content
-journal_fits digest content found a =
-    let body = flat_map (opened a.v) a.groups ++ a.gate ∷ a.behind in
-    let whole = ap length a.headed.whole in
-    let both = length-append digest body in
-    let parts = length-append (flat_map (opened a.v) a.groups) (a.gate ∷ a.behind) in
-    let len = a.headed.digest_len in
-    subst (λ (f : Contents). f.last_gate + f.behind + 1 ≡ length content) (sym a.told) (omega (arith, whole, both, parts, len))
-
-pub fits_in : (digest content : List ℕ) (found : Found) → IsFound digest content found → FitsIn found (length content)
-fits_in digest content Unmade is = is
-fits_in digest content HalfMade is =
-    let whole = ap length is.closed in
-    let some = is.some in
-    let short = is.short in
-    (omega (arith, whole, some), omega (arith, whole, short))
-fits_in digest content (Journal found) is = journal_fits digest content found is
 
 -- ---- a file is found in one way
 
@@ -168,8 +145,8 @@ opens digest HalfMade old new len is ran = ([], half_opens digest old new len is
 opens digest (Journal found) old new len is ran = (
   is.groups,
   subst (λ (f : Contents). Opens digest (Journal f) is.groups new) (sym is.told)
-  (journal_opens is.v digest is.groups is.head is.gate is.behind old new len is.sound is.headed.whole
-  (subst (λ (f : Contents). RanThrough old (mend_calls f) new) is.told ran)),
+      (journal_opens is.v digest is.groups is.head is.gate is.behind old new len is.sound is.headed.whole
+      (subst (λ (f : Contents). RanThrough old (mend_calls f) new) is.told ran)),
 )
 
 -- where these groups stand, just they are opened
@@ -182,5 +159,5 @@ stands_opens v digest groups gate behind found old new len sound ends whole is r
     let headed = whole ∙ ap (λ (xs : List ℕ). 1 ∷ header v xs) (append_assoc digest (flat_map (opened v) groups) (gate ∷ behind)) in (
       ap version_in told,
       subst (λ (f : Found). Opens digest f groups new) (sym told)
-      (journal_opens v digest groups 1 gate behind old new len sound headed (subst (λ (f : Found). RanThrough old (open_calls digest f) new) told ran)),
+          (journal_opens v digest groups 1 gate behind old new len sound headed (subst (λ (f : Found). RanThrough old (open_calls digest f) new) told ran)),
     )

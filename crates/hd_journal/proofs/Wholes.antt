@@ -18,12 +18,11 @@ use Rattle.hd_store.specs.Device.{Device, content_of}
 use Rattle.hd_journal.specs.declared.error.JournalError.{JournalError}
 use Rattle.hd_journal.specs.declared.error.JournalError.TheVariants.{NotAJournal, OtherTask, Damaged, Device as Broken, Failed, JournalExists, NotOut, NoMemory}
 use Rattle.hd_journal.specs.declared.journal.Journal.{Journal}
-use Rattle.hd_journal.specs.Answers.{BreaksAppending, IsAppended, IsNotAppended, is_next}
-use Rattle.hd_journal.specs.Calls.{Ran, RanThrough}
+use Rattle.hd_journal.specs.Answers.{IsAppended, IsNotAppended}
 use Rattle.hd_journal.specs.Group.{GroupView}
 use Rattle.hd_journal.specs.Journal.{IsOf, IsSame, device_of, append_calls, version_in, found_in, gate_in}
 use Rattle.hd_journal.specs.Moments.{LeavesSince, IsSettled}
-use Rattle.hd_journal.proofs.Appending.{append_moments, behind_calls, behind_content, closed}
+use Rattle.hd_journal.proofs.Appending.{append_moments, behind_content, closed}
 use Rattle.hd_journal.proofs.Opening.{Opens}
 use Rattle.hd_journal.proofs.Passing.{unchanged}
 use Rattle.hd_journal.proofs.Running.{led_on}
@@ -103,61 +102,3 @@ not_appended_moments digest groups group old new NoMemory is settled not = same_
 pub appended_settled : {S : Type 0} {G : Ghosts S} (group : GroupView) (old new : Journal S G) → IsAppended old group new → IsSettled (device_of new)
 appended_settled group old new a =
     subst IsSettled (sym (led_on (device_of old) (device_of new) (append_calls old.version old.last_gate group.kids) a.ran)) refl
-
--- a group was written behind the last gate of a journal that is as it was but for its room, and its entries were kept
-pub appended_by : {S : Type 0} {G : Ghosts S} (old mid new : Journal S G) (group : GroupView) (bytes : List ℕ) → old.failed ≡ false
-    → is_next old group ≡ true → IsSame old mid → bytes ≡ counted old.version group.kids ++ 0 ∷ []
-    → RanThrough (device_of mid) (behind_calls mid.last_gate bytes) (device_of new) → new.version ≡ mid.version
-    → new.entries.items ≡ mid.entries.items ++ entries_of mid.version (mid.last_gate + 5) group.kids
-    → new.last_gate ≡ mid.last_gate + length bytes → new.failed ≡ mid.failed → IsAppended old group new
-appended_by old mid new group bytes running next same are ran version entries gate failed =
-    let len = length-append (counted old.version group.kids) (0 ∷ []) in
-    let written = ap length are in
-    record {
-      running = running;
-      next = next;
-      ran =
-          subst (λ (bs : List ℕ). RanThrough (device_of old) (behind_calls old.last_gate bs) (device_of new)) are
-          (subst (λ (at : ℕ). RanThrough (device_of old) (behind_calls at bytes) (device_of new)) same.gate
-          (subst (λ (d : Device). RanThrough d (behind_calls mid.last_gate bytes) (device_of new)) same.device ran));
-      version = version ∙ same.version;
-      entries =
-          entries
-          ∙ (ap (λ (es : List Entry). es ++ entries_of mid.version (mid.last_gate + 5) group.kids) same.entries
-          ∙ (ap (λ (v : Version). old.entries.items ++ entries_of v (mid.last_gate + 5) group.kids) same.version
-          ∙ ap (λ (at : ℕ). old.entries.items ++ entries_of old.version (at + 5) group.kids) same.gate));
-      gate =
-          let before = same.gate in
-          let now = gate in
-          omega (arith, before, now, written, len);
-      still = failed ∙ (same.failed ∙ running);
-    }
-
--- the device failed then
-pub breaks_by : {S : Type 0} {G : Ghosts S} (old mid new : Journal S G) (group : GroupView) (bytes : List ℕ) → old.failed ≡ false
-    → is_next old group ≡ true → IsSame old mid → bytes ≡ counted old.version group.kids ++ 0 ∷ []
-    → Ran (device_of mid) (behind_calls mid.last_gate bytes) (Err store.Failed) (device_of new) → new.version ≡ mid.version
-    → new.entries.items ≡ mid.entries.items → new.failed ≡ true → BreaksAppending old group new
-breaks_by old mid new group bytes running next same are ran version entries failed = record {
-  running = running;
-  next = next;
-  ran =
-      subst (λ (bs : List ℕ). Ran (device_of old) (behind_calls old.last_gate bs) (Err store.Failed) (device_of new)) are
-      (subst (λ (at : ℕ). Ran (device_of old) (behind_calls at bytes) (Err store.Failed) (device_of new)) same.gate
-      (subst (λ (d : Device). Ran d (behind_calls mid.last_gate bytes) (Err store.Failed) (device_of new)) same.device ran));
-  version = version ∙ same.version;
-  entries = entries ∙ same.entries;
-  failed = failed;
-}
-
--- memory was wanted then, and nothing was begun
-pub same_by : {S : Type 0} {G : Ghosts S} (old mid new : Journal S G) → IsSame old mid → device_of new ≡ device_of mid
-    → new.version ≡ mid.version → new.entries.items ≡ mid.entries.items → new.last_gate ≡ mid.last_gate → new.failed ≡ mid.failed
-    → IsSame old new
-same_by old mid new same device version entries gate failed = record {
-  device = device ∙ same.device;
-  version = version ∙ same.version;
-  entries = entries ∙ same.entries;
-  gate = gate ∙ same.gate;
-  failed = failed ∙ same.failed;
-}

@@ -13,10 +13,10 @@ ghost use Rattle.hd_journal.specs.Calls.Call.{Writing};
 ghost use Rattle.hd_journal.specs.Journal.{IsOf, IsSame, device_of};
 ghost use Rattle.hd_journal.specs.Moments.{IsSettled, LeavesSince};
 
+use crate::JournalError;
 use crate::group::{Flushed, Group};
 use crate::journal::Journal;
 use crate::strokes::write_surely;
-use crate::JournalError;
 use hd_image::{Entry, Kid, OPEN, Version, closed_group, fits};
 use hd_store::{Store, StoreError};
 
@@ -112,7 +112,12 @@ impl<S: Store> Journal<S> {
         };
         match write_behind(&mut self.store, self.last_gate, &bytes) {
             Ok(()) => {
-                push_entries(&mut self.entries, self.version, self.last_gate + 5, group.kids());
+                push_entries(
+                    &mut self.entries,
+                    self.version,
+                    self.last_gate + 5,
+                    group.kids(),
+                );
                 self.last_gate += bytes.len() as u64;
                 Ok(())
             }

@@ -17,10 +17,7 @@ use hd_store::{Store, StoreError};
 use std::alloc::Global;
 
 /// Makes a header behind its closed gate, and opens that.
-pub(crate) fn fill<S: Store>(
-    store: &mut S,
-    digest: &[u8; DIGEST_LEN],
-) -> Result<(), StoreError>
+pub(crate) fn fill<S: Store>(store: &mut S, digest: &[u8; DIGEST_LEN]) -> Result<(), StoreError>
     requires some { 1 ≤ length (content_of (S.device store.old)) }
     requires short { length (content_of (S.device store.old)) ≤ FIRST_GATE + 1 }
     ensures ran { Ran (S.device store.old) (fill_calls digest.now) result (S.device store.new) }
@@ -31,10 +28,7 @@ pub(crate) fn fill<S: Store>(
 }
 
 /// Closes a header's gate, makes the header behind it, and opens that.
-pub(crate) fn make<S: Store>(
-    store: &mut S,
-    digest: &[u8; DIGEST_LEN],
-) -> Result<(), StoreError>
+pub(crate) fn make<S: Store>(store: &mut S, digest: &[u8; DIGEST_LEN]) -> Result<(), StoreError>
     requires { length (content_of (S.device store.old)) ≤ FIRST_GATE + 1 }
     ensures ran { Ran (S.device store.old) (create_calls digest.now) result (S.device store.new) }
     ensures len { OnOk result (length (content_of (S.device store.new)) ≡ FIRST_GATE + 1) }
@@ -81,12 +75,7 @@ impl<S: Store> Journal<S> {
     {
         let mut store = store;
         match begin(&mut store, digest) {
-            Ok(()) => Ok(Journal::of(
-                store,
-                Version::Two,
-                Vec::new(alloc),
-                FIRST_GATE as u64,
-            )),
+            Ok(()) => Ok(Journal::of(store, Version::Two, Vec::new(alloc), FIRST_GATE as u64)),
             Err(error) => Err((store, error)),
         }
     }

@@ -20,12 +20,7 @@ pub struct Journal<S: Store> {
 
 impl<S: Store> Journal<S> {
     /// A journal of these entries on a store, whose last byte is its last gate.
-    pub(crate) fn of(
-        store: S,
-        version: Version,
-        entries: Vec<Entry>,
-        last_gate: u64,
-    ) -> Journal<S>
+    pub(crate) fn of(store: S, version: Version, entries: Vec<Entry>, last_gate: u64) -> Journal<S>
         requires { last_gate + 1 ≡ length (content_of (S.device store)) }
         ensures device { S.device result.store ≡ S.device store }
         ensures version { result.version ≡ version }

@@ -7,11 +7,7 @@ ghost use Rattle.hd_journal.specs.Calls.Call.{Writing, Cutting};
 use hd_store::{Store, StoreError};
 
 /// Writes bytes and makes sure of them.
-pub(crate) fn write_surely<S: Store>(
-    store: &mut S,
-    at: u64,
-    bytes: &[u8],
-) -> Result<(), StoreError>
+pub(crate) fn write_surely<S: Store>(store: &mut S, at: u64, bytes: &[u8]) -> Result<(), StoreError>
     requires { at ≤ length (content_of (S.device store.old)) }
     ensures { Ran (S.device store.old) (surely (Writing at bytes.now)) result
         (S.device store.new) }

@@ -1,4 +1,4 @@
-use Rattle.std.proofs.Common.{rules, ◌≡◌, ◌≤◌, length, sym, ap, ◌∙◌, subst, arith}
+use Rattle.std.proofs.Common.{rules, ◌≡◌, ◌≤◌, [], length, sym, ap, ◌∙◌, subst, arith}
 use Rattle.hd_image.specs.declared.header.TheConstants.{DIGEST_LEN}
 use Rattle.hd_image.specs.declared.version.Version.TheVariants.{Two}
 use Rattle.hd_image.specs.Stops.{IsBeforeOrAfter, IsMaking}
@@ -13,28 +13,34 @@ pub returns-in-Ok-clause-whole : goal.returns-in-Ok-clause-whole
 returns-in-Ok-clause-whole g c =
     let len : length c.args.digest.now ≡ DIGEST_LEN = search rules in
     let o = mended_opens c.args.digest.now (g.S.Store.device c.args.store) c.in-Ok.found (g.S.Store.device c.recover.new.store) len
-    c.in-Ok.ensures.mended in
-    (o.0, is_of c.args.digest.now o.0 c.of_found.result c.in-Ok.found len
-    (subst (λ (d : Device). Opens c.args.digest.now c.in-Ok.found o.0 d) (sym c.of_found.ensures.device) o.1)
-    c.of_found.ensures.version c.of_found.ensures.entries c.of_found.ensures.gate c.of_found.ensures.running)
+    c.in-Ok.ensures.mended in (
+      o.0,
+      is_of c.args.digest.now o.0 c.of_found.result c.in-Ok.found len
+          (subst (λ (d : Device). Opens c.args.digest.now c.in-Ok.found o.0 d) (sym c.of_found.ensures.device) o.1)
+          c.of_found.ensures.version c.of_found.ensures.entries c.of_found.ensures.gate c.of_found.ensures.running,
+    )
 
 pub returns-in-Ok-clause-groups : goal.returns-in-Ok-clause-groups
 returns-in-Ok-clause-groups g c = λ v groups stands.
     let len : length c.args.digest.now ≡ DIGEST_LEN = search rules in
     let o = mended_groups v c.args.digest.now groups (g.S.Store.device c.args.store) c.in-Ok.found (g.S.Store.device c.recover.new.store) len stands
-    c.in-Ok.ensures.mended in
-    (c.of_found.ensures.version ∙ o.0, is_of c.args.digest.now groups c.of_found.result c.in-Ok.found len
-    (subst (λ (d : Device). Opens c.args.digest.now c.in-Ok.found groups d) (sym c.of_found.ensures.device) o.1)
-    c.of_found.ensures.version c.of_found.ensures.entries c.of_found.ensures.gate c.of_found.ensures.running)
+    c.in-Ok.ensures.mended in (
+      c.of_found.ensures.version ∙ o.0,
+      is_of c.args.digest.now groups c.of_found.result c.in-Ok.found len
+          (subst (λ (d : Device). Opens c.args.digest.now c.in-Ok.found groups d) (sym c.of_found.ensures.device) o.1)
+          c.of_found.ensures.version c.of_found.ensures.entries c.of_found.ensures.gate c.of_found.ensures.running,
+    )
 
 pub returns-in-Ok-clause-none : goal.returns-in-Ok-clause-none
 returns-in-Ok-clause-none g c = λ making.
     let len : length c.args.digest.now ≡ DIGEST_LEN = search rules in
     let o = mended_none c.args.digest.now (g.S.Store.device c.args.store) c.in-Ok.found (g.S.Store.device c.recover.new.store) len making
-    c.in-Ok.ensures.mended in
-    (c.of_found.ensures.version ∙ o.0, is_of c.args.digest.now _ c.of_found.result c.in-Ok.found len
-    (subst (λ (d : Device). Opens c.args.digest.now c.in-Ok.found _ d) (sym c.of_found.ensures.device) o.1)
-    c.of_found.ensures.version c.of_found.ensures.entries c.of_found.ensures.gate c.of_found.ensures.running)
+    c.in-Ok.ensures.mended in (
+      c.of_found.ensures.version ∙ o.0,
+      is_of c.args.digest.now [] c.of_found.result c.in-Ok.found len
+          (subst (λ (d : Device). Opens c.args.digest.now c.in-Ok.found [] d) (sym c.of_found.ensures.device) o.1)
+          c.of_found.ensures.version c.of_found.ensures.entries c.of_found.ensures.gate c.of_found.ensures.running,
+    )
 
 pub returns-in-Ok-clause-making : goal.returns-in-Ok-clause-making
 returns-in-Ok-clause-making g c = λ settled making.
