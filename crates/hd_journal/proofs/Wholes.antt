@@ -1,14 +1,14 @@
 -- Journals that are opened, made and appended to, as the journals of groups.
-use Rattle.std.proofs.Common.{◌≡◌, ◌⊎◌, inl, inr, ℕ, ◌+◌, List, [], ◌∷◌, ◌++◌, length, Result, Ok, Err, refl, sym, ap, ◌∙◌, subst, false, true, arith}
+use Rattle.std.proofs.Common.{◌≡◌, ◌⊎◌, inl, inr, ℕ, ◌+◌, List, [], ◌∷◌, ◌++◌, length, map, Result, Ok, Err, refl, sym, ap, ◌∙◌, subst, false, true, arith}
 use Rattle.std.specs.List.{flat_map, AllByRecursion}
-use Rattle.std.proofs.lemmas.List.{length-append}
+use Rattle.std.proofs.lemmas.List.{length-append, map-append}
 use Rattle.hd_base.proofs.Lists.{AllByRecursion-push}
 use Rattle.hd_task.specs.declared.plan.Kid.{Kid}
 use Rattle.hd_image.specs.declared.entry.Entry.{Entry}
 use Rattle.hd_image.specs.declared.version.Version.{Version}
 use Rattle.hd_image.specs.declared.header.TheConstants.{FIRST_GATE, DIGEST_LEN}
 use Rattle.hd_image.specs.declared.contents.Found.{Found}
-use Rattle.hd_image.specs.Image.{IsGroup, counted, opened, front, image, entries_in, entries_of}
+use Rattle.hd_image.specs.Image.{IsGroup, counted, opened, front, image, entries_in, entries_of, entry_width}
 use Rattle.hd_image.specs.Stops.{IsBeforeOrAfter}
 use Rattle.hd_image.proofs.Joining.{opened-append}
 use Rattle.hd_image.proofs.Stopping.{length-front, joined, appended_entries}
@@ -20,7 +20,7 @@ use Rattle.hd_journal.specs.declared.error.JournalError.TheVariants.{NotAJournal
 use Rattle.hd_journal.specs.declared.journal.Journal.{Journal}
 use Rattle.hd_journal.specs.Answers.{IsAppended, IsNotAppended}
 use Rattle.hd_journal.specs.Group.{GroupView}
-use Rattle.hd_journal.specs.Journal.{IsOf, IsSame, device_of, append_calls, version_in, found_in, gate_in}
+use Rattle.hd_journal.specs.Journal.{IsOf, IsSame, device_of, kid_of, kids_of, append_calls, version_in, found_in, gate_in}
 use Rattle.hd_journal.specs.Moments.{LeavesSince, IsSettled}
 use Rattle.hd_journal.proofs.Appending.{append_moments, behind_content, closed}
 use Rattle.hd_journal.proofs.Opening.{Opens}
@@ -102,3 +102,27 @@ not_appended_moments digest groups group old new NoMemory is settled not = same_
 pub appended_settled : {S : Type 0} {G : Ghosts S} (group : GroupView) (old new : Journal S G) → IsAppended old group new → IsSettled (device_of new)
 appended_settled group old new a =
     subst IsSettled (sym (led_on (device_of old) (device_of new) (append_calls old.version old.last_gate group.kids) a.ran)) refl
+
+-- ---- its pairs
+
+kids_back : (v : Version) (at : ℕ) (kids : List Kid) → map kid_of (entries_of v at kids) ≡ kids
+kids_back v at [] = refl
+kids_back v at (kid ∷ kids) = ap (λ (ks : List Kid). kid ∷ ks) (kids_back v (at + entry_width v) kids)
+
+pub appended_kids : {S : Type 0} {G : Ghosts S} (group : GroupView) (old new : Journal S G) → IsAppended old group new
+    → kids_of new ≡ kids_of old ++ group.kids
+appended_kids group old new a =
+    ap (map kid_of) a.entries
+    ∙ (map-append kid_of old.entries.items (entries_of old.version (old.last_gate + 5) group.kids)
+    ∙ ap (λ (ks : List Kid). map kid_of old.entries.items ++ ks) (kids_back old.version (old.last_gate + 5) group.kids))
+
+pub not_appended_kids : {S : Type 0} {G : Ghosts S} (group : GroupView) (old new : Journal S G) (error : JournalError)
+    → IsNotAppended old group error new → kids_of new ≡ kids_of old
+not_appended_kids group old new NotAJournal not = absurd not
+not_appended_kids group old new OtherTask not = absurd not
+not_appended_kids group old new (Damaged at) not = absurd not
+not_appended_kids group old new Broken not = ap (map kid_of) not.entries
+not_appended_kids group old new Failed not = ap (map kid_of) not.1.entries
+not_appended_kids group old new JournalExists not = absurd not
+not_appended_kids group old new NotOut not = ap (map kid_of) not.2.entries
+not_appended_kids group old new NoMemory not = ap (map kid_of) not.2.entries

@@ -1,5 +1,5 @@
 //! Appending a group.
-ghost use Rattle.std.specs.Prelude.{◌≡◌, ◌+◌, ◌*◌, ◌<◌, ◌≤◌, ◌^◌, ◌∷◌, ◌++◌, ℕ, List, [], true, false, length, vec_len, vec_capacity, IfOk, IfErr, OnOk};
+ghost use Rattle.std.specs.Prelude.{◌≡◌, ◌+◌, ◌*◌, ◌<◌, ◌≤◌, ◌^◌, ◌∷◌, ◌++◌, ℕ, List, [], true, false, length, vec_len, vec_capacity, IfOk, IfErr, OnOk, OnErr};
 ghost use Rattle.std.specs.List.{AllByRecursion};
 ghost use Rattle.hd_task.specs.declared.plan.Kid.{Kid};
 ghost use Rattle.hd_image.specs.declared.entry.TheConstants.{MAX_GROUP};
@@ -10,7 +10,7 @@ ghost use Rattle.hd_store.specs.Device.{content_of};
 ghost use Rattle.hd_journal.specs.Answers.{IsAppended, IsNotAppended, is_next};
 ghost use Rattle.hd_journal.specs.Calls.{Ran, surely};
 ghost use Rattle.hd_journal.specs.Calls.Call.{Writing};
-ghost use Rattle.hd_journal.specs.Journal.{IsOf, IsSame, device_of};
+ghost use Rattle.hd_journal.specs.Journal.{IsOf, IsSame, device_of, kids_of};
 ghost use Rattle.hd_journal.specs.Moments.{IsSettled, LeavesSince};
 
 use crate::JournalError;
@@ -141,6 +141,8 @@ impl<S: Store> Journal<S> {
         ensures appended { OnOk result (IsAppended self.old group self.new) }
         ensures refused { IfErr result (λ e. IsNotAppended self.old group e.1 self.new) }
         ensures handed_back { IfErr result (λ e. e.0 ≡ group) }
+        ensures kids { OnOk result (kids_of self.new ≡ kids_of self.old ++ group.kids) }
+        ensures same_kids { OnErr result (kids_of self.new ≡ kids_of self.old) }
         ensures whole { (digest : List ℕ) (groups : List (List Kid))
             → IsOf digest groups self.old
             → OnOk result (IsOf digest (groups ++ group.kids ∷ []) self.new) }

@@ -68,6 +68,7 @@ impl<S: Store> Journal<S> {
         ensures refused { IfErr result (λ e.
             IsNotMade digest.now (S.device store) e.1 (S.device e.0)) }
         ensures whole { IfOk result (IsOf digest.now []) }
+        ensures version { IfOk result (λ journal. journal.version ≡ Two) }
         // What a stop leaves at any moment is a header that is still to be made, or a journal without entries.
         ensures moments { IsSettled (S.device store) → content_of (S.device store) ≡ []
             → LeavesSince (IsMaking Two digest.now) (S.device store) (device_left result) }
