@@ -1,5 +1,6 @@
 -- Files that were opened, and that were not.
-use Rattle.std.proofs.Common.{◌≡◌, ◌⊎◌, inl, inr, ℕ, ◌≤◌, List, [], ◌∷◌, ◌++◌, length, Result, Ok, Err, refl, sym, ap, ◌∙◌, subst, arith}
+use Rattle.std.proofs.Common.{◌≡◌, ◌⊎◌, inl, inr, ℕ, suc, ◌≤◌, ◌==◌, Bool, true, false, Option, Some, None, List, [], ◌∷◌, ◌++◌, length, Result, Ok, Err, refl, sym, ap, ◌∙◌, subst, arith}
+use Rattle.std.specs.Prelude.{MatchBool, MatchOption}
 use Rattle.std.specs.List.{AllByRecursion}
 use Rattle.hd_task.specs.declared.plan.Kid.{Kid}
 use Rattle.hd_image.specs.declared.version.Version.{Version}
@@ -11,6 +12,8 @@ use Rattle.hd_image.specs.Reading.{IsFound}
 use Rattle.hd_image.specs.Stops.{IsBeforeOrAfter, IsMaking}
 use Rattle.hd_store.specs.declared.error.StoreError.{StoreError}
 use Rattle.hd_store.specs.declared.error.StoreError.TheVariants as store
+use Rattle.hd_store.specs.declared.error.TheConstants.{MOST_FAILURES}
+use Rattle.hd_store.specs.Ahead.{GoesAs, GoesAsForetold, foretold_of_length}
 use Rattle.hd_store.specs.Device.{Device, content_of, looked_at}
 use Rattle.hd_journal.specs.declared.error.JournalError.{JournalError}
 use Rattle.hd_journal.specs.declared.error.JournalError.TheVariants.{NotAJournal, OtherTask, Damaged, Device as Broken, Failed, JournalExists, NotOut, NoMemory}
@@ -26,10 +29,28 @@ use Rattle.hd_journal.proofs.Passing.{unchanged}
 
 -- ---- making
 
+-- the length that was told says nothing of whether it may be told
+told_by : (is_most : Bool) (known : Option Bool) (len : ℕ)
+    → MatchBool is_most (◌≡◌ {A = Result ℕ StoreError} (Ok len) (Err store.Failed)) (MatchOption known (Unit {0}) (GoesAs {X = ℕ} (Ok len)))
+    → MatchBool is_most (◌≡◌ {A = Result (Unit {0}) StoreError} (Ok tt) (Err store.Failed)) (MatchOption known (Unit {0}) (GoesAs {X = Unit {0}} (Ok tt)))
+told_by true known len e = cc
+told_by false None len e = tt
+told_by false (Some fails) len e = e
+
+pub may_tell : (old : Device) (len : ℕ) → GoesAsForetold {X = ℕ} (Ok len) old.failures (foretold_of_length old.reads) → MayTellLength old (Ok tt)
+may_tell old len e = told_by (old.failures == MOST_FAILURES) (foretold_of_length old.reads) len e
+
 pub not_made : (digest : List ℕ) (old new : Device) (error : StoreError) → MayTellLength old (Ok tt) → content_of old ≡ []
     → Ran old (create_calls digest) (Err error) new → IsNotMade digest old (of_store error) new
 not_made digest old new store.NoMemory told empty ran = (told, empty, ran)
 not_made digest old new store.Failed told empty ran = inr (told, empty, ran)
+
+none_longer : (n : ℕ) → suc n ≤ 0 → ⊥
+none_longer n e = omega (arith, e)
+
+pub no_items : (xs : List ℕ) → length xs ≤ 0 → xs ≡ []
+no_items [] none = refl
+no_items (x ∷ xs) some = absurd (none_longer (length xs) some)
 
 empty_making : (digest content : List ℕ) → content ≡ [] → IsMaking Two digest content
 empty_making digest content empty = inl (let none = ap length empty in omega (arith, none))
