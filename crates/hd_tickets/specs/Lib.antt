@@ -1,0 +1,5 @@
+pub mod Batches
+pub mod Queue
+pub mod Redeeming
+pub mod Slots
+pub mod Steps

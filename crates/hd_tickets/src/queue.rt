@@ -1,0 +1,186 @@
+//! The batches with entries that are not acknowledged, and the group of them that is out.
+ghost use Rattle.std.specs.Prelude.{◌≡◌, ◌≢◌, ◌+◌, ◌<◌, ◌≤◌, ◌^◌, true, [], length, take, drop, OnOk};
+ghost use Rattle.hd_tickets.specs.Queue.{end_of, entries_of, group_end, is_out, is_idle, are_acknowledged, queue_from, with_batch, with_group, group_next, without_group, with_none_out, fitting};
+
+use std::alloc::{AllocError, Global};
+use std::collections::VecDeque;
+use std::marker::Model;
+use std::ops::Range;
+
+/// How many entries a group has at most.
+pub const MAX_GROUP: u64 = 65_536;
+
+/// The batches with entries that are not acknowledged, in the order of their commits.
+#[derive(Debug, Drop)]
+pub(crate) struct Queue {
+    /// How many entries are acknowledged.
+    acknowledged: u64,
+    /// Where each batch behind them ends.
+    ends: VecDeque<u64>,
+    /// How many of these are in the group that is out; 0 where none is.
+    out: usize,
+}
+
+impl Model for Queue {
+    ghost use Rattle.std.specs.Prelude.{nat_lt};
+    ghost use Rattle.std.specs.VecDeque.{deque_len, deque_capacity};
+    ghost use Rattle.hd_tickets.specs.Queue.{Queued, QueueView, IsQueue};
+
+    ghost Value = { Queued };
+
+    ghost view = { λ q. record {
+      batches = record { acknowledged = q.acknowledged; ends = q.ends.items; out = q.out };
+      room = nat_lt (deque_len q.ends) (deque_capacity q.ends);
+    } };
+
+    ghost invariant = { λ q. IsQueue (record {
+      acknowledged = q.acknowledged;
+      ends = q.ends.items;
+      out = q.out;
+    }) };
+}
+
+/// Takes the first ends away; answers the last of these, or `from` where there are none.
+fn pop_ends(ends: &mut VecDeque<u64>, count: usize, from: u64) -> u64
+    requires { count ≤ length ends.old.items }
+    ensures end { result ≡ end_of from (take count ends.old.items) }
+    ensures rest { ends.new.items ≡ drop count ends.old.items }
+{
+    let mut last = from;
+    for _turn in 0..count {
+        if let Some(end) = ends.pop_front() {
+            last = end;
+        }
+    }
+    last
+}
+
+impl Queue {
+    /// The queue in which so many entries are acknowledged, and none wait. It takes no memory.
+    pub(crate) fn new(alloc: Global, acknowledged: u64) -> Queue
+        ensures { result.batches ≡ queue_from acknowledged }
+    {
+        Queue {
+            acknowledged,
+            ends: VecDeque::new(alloc),
+            out: 0,
+        }
+    }
+
+    /// How many entries are acknowledged.
+    pub(crate) fn acknowledged(&self) -> u64
+        ensures count { result ≡ self.now.batches.acknowledged }
+        ensures few { result ≤ entries_of self.now.batches }
+    {
+        self.acknowledged
+    }
+
+    /// How many entries there are in all.
+    pub(crate) fn entries(&self) -> u64
+        ensures { result ≡ entries_of self.now.batches }
+    {
+        match self.ends.back() {
+            Some(end) => *end,
+            None => self.acknowledged,
+        }
+    }
+
+    /// Whether nothing waits and no group is out.
+    pub(crate) fn is_idle(&self) -> bool
+        ensures { result ≡ is_idle self.now.batches }
+    {
+        self.ends.is_empty()
+    }
+
+    /// Whether these entries are acknowledged; none always are.
+    pub(crate) fn are_acknowledged(&self, first: u64, end: u64) -> bool
+        ensures { result ≡ are_acknowledged self.now.batches first end }
+    {
+        first == end || end <= self.acknowledged
+    }
+
+    /// Makes room for one more batch.
+    ///
+    /// # Errors
+    /// Want of memory: nothing has changed.
+    pub(crate) fn reserve(&mut self) -> Result<(), AllocError>
+        ensures batches { self.new.batches ≡ self.old.batches }
+        ensures room { OnOk result (self.new.room ≡ true) }
+    {
+        self.ends.reserve(1)
+    }
+
+    /// One more batch of so many entries; there is room for it.
+    pub(crate) fn push(&mut self, count: u64)
+        requires room { self.old.room ≡ true }
+        requires few { count ≤ MAX_GROUP }
+        requires fits { entries_of self.old.batches + count < 2 ^ 64 }
+        ensures { self.new.batches ≡ with_batch count self.old.batches }
+    {
+        if count > 0 {
+            let end = self.entries() + count;
+            self.ends.push_back_reserved(end);
+        }
+    }
+
+    /// How many batches go into the next group.
+    fn fitting(&self) -> usize
+        ensures count { result ≡ fitting self.now.batches }
+        ensures within { result ≤ length self.now.batches.ends }
+        ensures some { self.now.batches.ends ≢ [] → 0 < result }
+    {
+        let from = self.acknowledged;
+        self.ends
+            .iter()
+            .take_while(|end| end.saturating_sub(from) <= MAX_GROUP)
+            .count()
+    }
+
+    /// Where the group that is out ends.
+    fn group_end(&self) -> u64
+        ensures { result ≡ group_end self.now.batches }
+    {
+        match self.out.checked_sub(1) {
+            Some(last) => self.ends[last],
+            None => self.acknowledged,
+        }
+    }
+
+    /// The next group goes out, if there is one and none is out: whole batches from the oldest on, as many as fit together.
+    pub(crate) fn take(&mut self) -> Option<Range<u64>>
+        ensures group { result ≡ group_next self.old.batches }
+        ensures taken { self.new.batches ≡ with_group self.old.batches }
+    {
+        if self.out > 0 {
+            return None;
+        }
+        self.out = self.fitting();
+        if self.out > 0 {
+            Some(self.acknowledged..self.group_end())
+        } else {
+            None
+        }
+    }
+
+    /// Whether the group that is out has these entries.
+    pub(crate) fn is_out(&self, first: u64, end: u64) -> bool
+        ensures { result ≡ is_out self.now.batches first end }
+    {
+        self.out > 0 && first == self.acknowledged && end == self.group_end()
+    }
+
+    /// The group that is out is acknowledged.
+    pub(crate) fn acknowledge(&mut self)
+        ensures { self.new.batches ≡ without_group self.old.batches }
+    {
+        self.acknowledged = pop_ends(&mut self.ends, self.out, self.acknowledged);
+        self.out = 0;
+    }
+
+    /// The group that is out waits again.
+    pub(crate) fn hand_back(&mut self)
+        ensures { self.new.batches ≡ with_none_out self.old.batches }
+    {
+        self.out = 0;
+    }
+}
