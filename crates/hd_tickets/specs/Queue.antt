@@ -68,7 +68,7 @@ fitting q = prefix_len (fits q.acknowledged) q.ends
 
 -- these batches are out, where none were
 abbrev pub with_group : QueueView → QueueView
-with_group q = if q.out == 0 then record q { out = fitting q } else q
+with_group q = record q { out = if q.out == 0 then fitting q else q.out }
 
 -- the group that goes out next, where none is out
 abbrev pub group_next : QueueView → Option (Range ℕ)

@@ -1,6 +1,6 @@
 //! The batches with entries that are not acknowledged, and the group of them that is out.
-ghost use Rattle.std.specs.Prelude.{◌≡◌, ◌≢◌, ◌+◌, ◌<◌, ◌≤◌, ◌^◌, true, [], length, take, drop, OnOk};
-ghost use Rattle.hd_tickets.specs.Queue.{end_of, entries_of, group_end, is_out, is_idle, are_acknowledged, queue_from, with_batch, with_group, group_next, without_group, with_none_out, fitting};
+ghost use Rattle.std.specs.Prelude.{◌≡◌, ◌≢◌, ◌+◌, ◌<◌, ◌≤◌, ◌^◌, true, [], length, OnOk};
+ghost use Rattle.hd_tickets.specs.Queue.{entries_of, group_end, is_out, is_idle, are_acknowledged, queue_from, with_batch, with_group, group_next, without_group, with_none_out, fitting};
 
 use std::alloc::{AllocError, Global};
 use std::collections::VecDeque;
@@ -38,21 +38,6 @@ impl Model for Queue {
       ends = q.ends.items;
       out = q.out;
     }) };
-}
-
-/// Takes the first ends away; answers the last of these, or `from` where there are none.
-fn pop_ends(ends: &mut VecDeque<u64>, count: usize, from: u64) -> u64
-    requires { count ≤ length ends.old.items }
-    ensures end { result ≡ end_of from (take count ends.old.items) }
-    ensures rest { ends.new.items ≡ drop count ends.old.items }
-{
-    let mut last = from;
-    for _turn in 0..count {
-        if let Some(end) = ends.pop_front() {
-            last = end;
-        }
-    }
-    last
 }
 
 impl Queue {
@@ -140,10 +125,10 @@ impl Queue {
     fn group_end(&self) -> u64
         ensures { result ≡ group_end self.now.batches }
     {
-        match self.out.checked_sub(1) {
-            Some(last) => self.ends[last],
-            None => self.acknowledged,
+        if self.out == 0 {
+            return self.acknowledged;
         }
+        self.ends[self.out - 1]
     }
 
     /// The next group goes out, if there is one and none is out: whole batches from the oldest on, as many as fit together.
@@ -173,7 +158,10 @@ impl Queue {
     pub(crate) fn acknowledge(&mut self)
         ensures { self.new.batches ≡ without_group self.old.batches }
     {
-        self.acknowledged = pop_ends(&mut self.ends, self.out, self.acknowledged);
+        self.acknowledged = self.group_end();
+        let rest = self.ends.len() - self.out;
+        self.ends.rotate_left(self.out);
+        self.ends.truncate(rest);
         self.out = 0;
     }
 
