@@ -1,4 +1,5 @@
 pub mod Batches
+pub mod Moves
 pub mod Queue
 pub mod Redeeming
 pub mod Slots

@@ -136,15 +136,11 @@ impl Queue {
         ensures group { result ≡ group_next self.old.batches }
         ensures taken { self.new.batches ≡ with_group self.old.batches }
     {
-        if self.out > 0 {
+        if self.out > 0 || self.ends.is_empty() {
             return None;
         }
         self.out = self.fitting();
-        if self.out > 0 {
-            Some(self.acknowledged..self.group_end())
-        } else {
-            None
-        }
+        Some(self.acknowledged..self.group_end())
     }
 
     /// Whether the group that is out has these entries.

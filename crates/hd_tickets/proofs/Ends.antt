@@ -1,0 +1,58 @@
+-- Where batches end.
+use Rattle.std.proofs.Common.{◌≡◌, ◌≢◌, ℕ, zero, suc, ◌+◌, ◌-◌, ◌<◌, ◌≤◌, true, cond, List, [], ◌∷◌, ◌++◌, length, take, drop, get_or, refl, sym, ap, ◌∙◌, arith}
+use Rattle.std.specs.Prelude.{nat_le}
+use Rattle.std.specs.List.{prefix_len}
+use Rattle.std.proofs.lemmas.Bool.{le-leb}
+use Rattle.std.proofs.lemmas.List.{take_all, take-append-drop}
+use Rattle.hd_tickets.specs.declared.queue.TheConstants.{MAX_GROUP}
+use Rattle.hd_tickets.specs.Queue.{end_of, fits, AreBatches}
+
+pub end_of-append : (from : ℕ) (xs ys : List ℕ) → end_of from (xs ++ ys) ≡ end_of (end_of from xs) ys
+end_of-append from [] ys = refl
+end_of-append from (x ∷ xs) ys = end_of-append x xs ys
+
+-- the first batches and the others
+pub end_of_parts : (from : ℕ) (ends : List ℕ) (n : ℕ) → end_of (end_of from (take n ends)) (drop n ends) ≡ end_of from ends
+end_of_parts from ends n = sym (end_of-append from (take n ends) (drop n ends)) ∙ ap (end_of from) (take-append-drop n ends)
+
+-- the end of the batch at a place
+end_of-take : (from : ℕ) (ends : List ℕ) (n d : ℕ) → n < length ends → end_of from (take (suc n) ends) ≡ get_or ends n d
+end_of-take from [] n d h = absurd (omega arith)
+end_of-take from (e ∷ ends) zero d h = refl
+end_of-take from (e ∷ ends) (suc n) d h = end_of-take e ends n d (omega arith)
+
+-- the first batches end where the last of them does
+pub end_of_first : (from : ℕ) (ends : List ℕ) (n x : ℕ) → 0 < n → n ≤ length ends → x ≡ get_or ends (n - 1) x → x ≡ end_of from (take n ends)
+end_of_first from ends zero x some within is = absurd (omega arith)
+end_of_first from ends (suc n) x some within is =
+    let one : suc n - 1 ≡ n = omega arith in
+    is ∙ (ap (λ (k : ℕ). get_or ends k x) one ∙ sym (end_of-take from ends n x (omega arith)))
+
+-- batches end where the last of them does
+pub end_of_last : (from : ℕ) (ends : List ℕ) (n x : ℕ) → n ≡ length ends → 0 < n → x ≡ get_or ends (n - 1) x → x ≡ end_of from ends
+end_of_last from ends n x all some is =
+    end_of_first from ends n x some (omega arith) is ∙ ap (end_of from) (take_all n ends (omega arith))
+
+-- one more batch
+pub AreBatches-push : (from : ℕ) (ends : List ℕ) (e : ℕ) → AreBatches from ends → end_of from ends < e → e ≤ end_of from ends + MAX_GROUP → AreBatches from (ends ++ e ∷ [])
+AreBatches-push from [] e are above near = (above, near, tt)
+AreBatches-push from (x ∷ ends) e are above near = (are.0, are.1, AreBatches-push x ends e are.2 above near)
+
+-- the batches behind the first ones
+pub AreBatches-drop : (from : ℕ) (ends : List ℕ) (n : ℕ) → AreBatches from ends → AreBatches (end_of from (take n ends)) (drop n ends)
+AreBatches-drop from ends zero are = are
+AreBatches-drop from [] (suc n) are = are
+AreBatches-drop from (e ∷ ends) (suc n) are = AreBatches-drop e ends n are.2
+
+-- batches end behind where they begin
+pub end_of_above : (from : ℕ) (ends : List ℕ) → AreBatches from ends → from ≤ end_of from ends
+end_of_above from [] are = omega arith
+end_of_above from (e ∷ ends) are = let above : from < e = are.0 in omega (arith, end_of_above e ends are.2)
+
+-- the first batch fits into a group
+pub some_fit : (from : ℕ) (ends : List ℕ) → AreBatches from ends → ends ≢ [] → 0 < prefix_len (fits from) ends
+some_fit from [] are some = absurd (some refl)
+some_fit from (e ∷ ends) are some =
+    let near : e ≤ from + MAX_GROUP = are.1 in
+    let fit : fits from e ≡ true = le-leb (e - from) MAX_GROUP (omega arith) in
+    rw fit (omega arith)
