@@ -1,8 +1,7 @@
 -- Where batches end.
-use Rattle.std.proofs.Common.{◌≡◌, ◌≢◌, ℕ, zero, suc, ◌+◌, ◌-◌, ◌<◌, ◌≤◌, true, cond, List, [], ◌∷◌, ◌++◌, length, take, drop, get_or, refl, sym, ap, ◌∙◌, arith}
-use Rattle.std.specs.Prelude.{nat_le}
+use Rattle.std.proofs.Common.{◌≡◌, ◌≢◌, ℕ, zero, suc, ◌+◌, ◌-◌, ◌<◌, ◌≤◌, Bool, true, false, cond, List, [], ◌∷◌, ◌++◌, length, take, drop, get_or, refl, sym, ap, ◌∙◌, arith}
 use Rattle.std.specs.List.{prefix_len}
-use Rattle.std.proofs.lemmas.Bool.{le-leb}
+use Rattle.std.proofs.lemmas.Bool.{le-leb, leb-true}
 use Rattle.std.proofs.lemmas.List.{take_all, take-append-drop}
 use Rattle.hd_tickets.specs.declared.queue.TheConstants.{MAX_GROUP}
 use Rattle.hd_tickets.specs.Queue.{end_of, fits, AreBatches}
@@ -56,3 +55,31 @@ some_fit from (e ∷ ends) are some =
     let near : e ≤ from + MAX_GROUP = are.1 in
     let fit : fits from e ≡ true = le-leb (e - from) MAX_GROUP (omega arith) in
     rw fit (omega arith)
+
+-- the first batches end behind where all begin
+pub first_above : (from : ℕ) (ends : List ℕ) (n : ℕ) → AreBatches from ends → from ≤ end_of from (take n ends)
+first_above from ends zero are = omega arith
+first_above from [] (suc n) are = omega arith
+first_above from (e ∷ ends) (suc n) are = let above : from < e = are.0 in omega (arith, first_above e ends n are.2)
+
+-- a group has entries
+pub group_above : (from : ℕ) (ends : List ℕ) (n : ℕ) → AreBatches from ends → 0 < n → n ≤ length ends → from < end_of from (take n ends)
+group_above from ends zero are some within = absurd (omega arith)
+group_above from [] (suc n) are some within = absurd (omega arith)
+group_above from (e ∷ ends) (suc n) are some within = let above : from < e = are.0 in omega (arith, first_above e ends n are.2)
+
+-- a group ends within the entries
+pub group_within : (from : ℕ) (ends : List ℕ) (n : ℕ) → AreBatches from ends → end_of from (take n ends) ≤ end_of from ends
+group_within from ends n are =
+    omega (arith, end_of_parts from ends n, end_of_above (end_of from (take n ends)) (drop n ends) (AreBatches-drop from ends n are))
+
+-- the batches that fit end within a group
+pub group_near : (from start : ℕ) (ends : List ℕ) → start ≤ from + MAX_GROUP → end_of start (take (prefix_len (fits from) ends) ends) ≤ from + MAX_GROUP
+group_near from start [] h = h
+group_near from start (e ∷ ends) h = elim (fits from e) as (λ (v : Bool). fits from e ≡ v → end_of start (take (cond v (1 + prefix_len (fits from) ends) 0) (e ∷ ends)) ≤ from + MAX_GROUP) [
+  | true ↦ λ fit.
+      let near : e ≤ from + MAX_GROUP = omega (arith, leb-true (e - from) MAX_GROUP fit) in
+      let more : 1 + prefix_len (fits from) ends ≡ suc (prefix_len (fits from) ends) = omega arith in
+      rw more (group_near from e ends near)
+  | false ↦ λ _. h
+] refl

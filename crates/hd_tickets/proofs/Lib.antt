@@ -1,3 +1,5 @@
+pub mod Answering
 pub mod Ends
 pub mod Following
 pub mod Spent
+pub mod Taking

@@ -1,6 +1,5 @@
 -- The batches with entries that are not acknowledged, in the order of their commits. (Our own.)
-use Rattle.std.specs.Prelude.{◌≡◌, ℕ, ◌+◌, ◌-◌, ◌<◌, ◌≤◌, Bool, not, ◌&&◌, ◌||◌, ◌==◌, nat_le, List, [], ◌∷◌, ◌++◌, length, take, drop, Option, Some, None, if◌then◌else◌}
-use Rattle.std.specs.List.{prefix_len}
+use Rattle.std.specs.Prelude.{◌≡◌, ℕ, ◌+◌, ◌-◌, ◌<◌, ◌≤◌, Bool, not, ◌&&◌, ◌||◌, ◌==◌, nat_le, List, [], ◌∷◌, ◌++◌, length, take, drop, take_while, Option, Some, None, if◌then◌else◌}
 use Rattle.std.specs.declared.ops.Range.{Range}
 use Rattle.hd_tickets.specs.declared.queue.TheConstants.{MAX_GROUP}
 
@@ -64,7 +63,7 @@ fits from end = nat_le (end - from) MAX_GROUP
 
 -- how many batches go into the next group: from the oldest on, as many as fit together
 abbrev pub fitting : QueueView → ℕ
-fitting q = prefix_len (fits q.acknowledged) q.ends
+fitting q = length (take_while (fits q.acknowledged) q.ends)
 
 -- these batches are out, where none were
 abbrev pub with_group : QueueView → QueueView

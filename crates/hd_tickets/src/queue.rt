@@ -1,6 +1,6 @@
 //! The batches with entries that are not acknowledged, and the group of them that is out.
-ghost use Rattle.std.specs.Prelude.{◌≡◌, ◌≢◌, ◌+◌, ◌<◌, ◌≤◌, ◌^◌, true, [], length, OnOk};
-ghost use Rattle.hd_tickets.specs.Queue.{entries_of, group_end, is_out, is_idle, are_acknowledged, queue_from, with_batch, with_group, group_next, without_group, with_none_out, fitting};
+ghost use Rattle.std.specs.Prelude.{◌≡◌, ◌+◌, ◌<◌, ◌≤◌, ◌^◌, true, length, take, take_while, IfSome, OnOk};
+ghost use Rattle.hd_tickets.specs.Queue.{end_of, entries_of, group_end, is_out, is_idle, are_acknowledged, queue_from, with_batch, with_group, group_next, without_group, with_none_out, fits};
 
 use std::alloc::{AllocError, Global};
 use std::collections::VecDeque;
@@ -40,6 +40,26 @@ impl Model for Queue {
     }) };
 }
 
+/// Where the last of the first `count` batches ends, which begin behind `from`.
+fn end_among(ends: &VecDeque<u64>, count: usize, from: u64) -> u64
+    requires { count ≤ length ends.now.items }
+    ensures { result ≡ end_of from (take count ends.now.items) }
+{
+    if count == 0 {
+        return from;
+    }
+    ends[count - 1]
+}
+
+/// How many batches, from the first on, end within a group of the entries from `from` on.
+fn fitting_among(ends: &VecDeque<u64>, from: u64) -> usize
+    ensures { result ≡ length (take_while (fits from) ends.now.items) }
+{
+    ends.iter()
+        .take_while(|end| end.saturating_sub(from) <= MAX_GROUP)
+        .count()
+}
+
 impl Queue {
     /// The queue in which so many entries are acknowledged, and none wait. It takes no memory.
     pub(crate) fn new(alloc: Global, acknowledged: u64) -> Queue
@@ -64,10 +84,7 @@ impl Queue {
     pub(crate) fn entries(&self) -> u64
         ensures { result ≡ entries_of self.now.batches }
     {
-        match self.ends.back() {
-            Some(end) => *end,
-            None => self.acknowledged,
-        }
+        end_among(&self.ends, self.ends.len(), self.acknowledged)
     }
 
     /// Whether nothing waits and no group is out.
@@ -92,7 +109,8 @@ impl Queue {
         ensures batches { self.new.batches ≡ self.old.batches }
         ensures room { OnOk result (self.new.room ≡ true) }
     {
-        self.ends.reserve(1)
+        self.ends.reserve(1)?;
+        Ok(())
     }
 
     /// One more batch of so many entries; there is room for it.
@@ -102,45 +120,37 @@ impl Queue {
         requires fits { entries_of self.old.batches + count < 2 ^ 64 }
         ensures { self.new.batches ≡ with_batch count self.old.batches }
     {
-        if count > 0 {
-            let end = self.entries() + count;
-            self.ends.push_back_reserved(end);
+        if count == 0 {
+            return;
         }
-    }
-
-    /// How many batches go into the next group.
-    fn fitting(&self) -> usize
-        ensures count { result ≡ fitting self.now.batches }
-        ensures within { result ≤ length self.now.batches.ends }
-        ensures some { self.now.batches.ends ≢ [] → 0 < result }
-    {
-        let from = self.acknowledged;
-        self.ends
-            .iter()
-            .take_while(|end| end.saturating_sub(from) <= MAX_GROUP)
-            .count()
+        let end = self.entries() + count;
+        self.ends.push_back_reserved(end);
     }
 
     /// Where the group that is out ends.
     fn group_end(&self) -> u64
         ensures { result ≡ group_end self.now.batches }
     {
-        if self.out == 0 {
-            return self.acknowledged;
-        }
-        self.ends[self.out - 1]
+        end_among(&self.ends, self.out, self.acknowledged)
     }
 
     /// The next group goes out, if there is one and none is out: whole batches from the oldest on, as many as fit together.
     pub(crate) fn take(&mut self) -> Option<Range<u64>>
         ensures group { result ≡ group_next self.old.batches }
+        ensures some { IfSome result (λ g. g.start < g.end) }
+        ensures few { IfSome result (λ g. g.end ≤ g.start + MAX_GROUP) }
+        ensures within { IfSome result (λ g. g.end ≤ entries_of self.old.batches) }
         ensures taken { self.new.batches ≡ with_group self.old.batches }
     {
-        if self.out > 0 || self.ends.is_empty() {
+        if self.out > 0 {
             return None;
         }
-        self.out = self.fitting();
-        Some(self.acknowledged..self.group_end())
+        if self.ends.is_empty() {
+            return None;
+        }
+        self.out = fitting_among(&self.ends, self.acknowledged);
+        let end = end_among(&self.ends, self.out, self.acknowledged);
+        Some(self.acknowledged..end)
     }
 
     /// Whether the group that is out has these entries.
@@ -154,7 +164,7 @@ impl Queue {
     pub(crate) fn acknowledge(&mut self)
         ensures { self.new.batches ≡ without_group self.old.batches }
     {
-        self.acknowledged = self.group_end();
+        self.acknowledged = end_among(&self.ends, self.out, self.acknowledged);
         let rest = self.ends.len() - self.out;
         self.ends.rotate_left(self.out);
         self.ends.truncate(rest);

@@ -69,7 +69,8 @@ impl<R: Drop> Slots<R> {
         ensures tickets { self.new.tickets ≡ self.old.tickets }
         ensures room { OnOk result (self.new.room ≡ true) }
     {
-        self.slots.reserve(1)
+        self.slots.reserve(1)?;
+        Ok(())
     }
 
     /// One more ticket, which is out; there is room for it.

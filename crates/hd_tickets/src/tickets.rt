@@ -67,7 +67,7 @@ impl<R: Drop> Tickets<R> {
 }
 
 impl<R: Drop> Tickets<R> {
-    ghost use Rattle.std.specs.Prelude.{◌≡◌, ◌+◌, ◌<◌, ◌≤◌, ◌^◌, true, is_ok, length, IfOk, OnOk, OnErr};
+    ghost use Rattle.std.specs.Prelude.{◌≡◌, ◌+◌, ◌<◌, ◌≤◌, ◌^◌, true, false, is_ok, length, IfOk, IfSome, OnOk, OnErr};
     ghost use Rattle.hd_tickets.specs.declared.queue.TheConstants.{MAX_GROUP};
     ghost use Rattle.hd_tickets.specs.Queue.{entries_of, group_next, is_out, is_idle, are_acknowledged};
     ghost use Rattle.hd_tickets.specs.Steps.{resumed, ticket_of, entered, taken, flushed, handed_back, redeemed, with_halt};
@@ -135,6 +135,7 @@ impl<R: Drop> Tickets<R> {
 
     /// Accepts a batch of so many entries: they wait to be appended, where there are any, and its ticket is out. There is room for it.
     pub fn enter(&mut self, count: u64, released: R) -> Ticket
+        requires going { self.old.batches.halted ≡ false }
         requires room { self.old.room ≡ true }
         requires few { count ≤ MAX_GROUP }
         requires fits { entries_of self.old.batches.queue + count < 2 ^ 64 }
@@ -158,6 +159,9 @@ impl<R: Drop> Tickets<R> {
     /// the oldest on, as many as fit into a group. None where nothing waits, or a group is out.
     pub fn take(&mut self) -> Option<Range<u64>>
         ensures group { result ≡ group_next self.old.batches.queue }
+        ensures some { IfSome result (λ g. g.start < g.end) }
+        ensures few { IfSome result (λ g. g.end ≤ g.start + MAX_GROUP) }
+        ensures within { IfSome result (λ g. g.end ≤ entries_of self.old.batches.queue) }
         ensures taken { self.new.batches ≡ taken self.old.batches }
     {
         self.queue.take()

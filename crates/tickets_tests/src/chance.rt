@@ -27,7 +27,7 @@ fn any_count(numbers: &mut SplitMix64) -> u64 {
     }
 }
 
-/// Accepts a batch here and there, unless too many tickets are held.
+/// Accepts a batch here and there, unless too many tickets are held or no more are accepted.
 fn enter(
     rt: &impl Abort,
     numbers: &mut SplitMix64,
@@ -35,7 +35,7 @@ fn enter(
     plain: &mut Plain,
 ) -> Result<(), Fail> {
     let count = any_count(numbers);
-    if trial.held.len() < 60 {
+    if trial.held.len() < 60 && !plain.halted {
         trial.enter(rt, count);
         plain.enter(count)?;
     }

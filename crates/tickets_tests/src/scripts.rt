@@ -131,6 +131,7 @@ fn put_back(held: &mut Vec<Ticket>, place: usize, ticket: Ticket)
 /// Accepts a batch, which releases 1,000 and how many were accepted before it.
 pub fn accepted(rt: &impl Abort, tickets: &mut Tickets<u64>, count: u64) -> Ticket {
     let number = tickets.commits();
+    assert!(rt; !tickets.is_halted());
     assert!(rt; count <= MAX_GROUP);
     assert!(rt; tickets.entries() < 1 << 40);
     assert!(rt; number < 1 << 40);
