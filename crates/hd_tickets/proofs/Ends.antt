@@ -2,7 +2,7 @@
 use Rattle.std.proofs.Common.{◌≡◌, ◌≢◌, ℕ, zero, suc, ◌+◌, ◌-◌, ◌<◌, ◌≤◌, Bool, true, false, cond, List, [], ◌∷◌, ◌++◌, length, take, drop, get_or, refl, sym, ap, ◌∙◌, arith}
 use Rattle.std.specs.List.{prefix_len}
 use Rattle.std.proofs.lemmas.Bool.{le-leb, leb-true}
-use Rattle.std.proofs.lemmas.List.{take_all, take-append-drop}
+use Rattle.std.proofs.lemmas.List.{take-append-drop}
 use Rattle.hd_tickets.specs.declared.queue.TheConstants.{MAX_GROUP}
 use Rattle.hd_tickets.specs.Queue.{end_of, fits, AreBatches}
 
@@ -26,11 +26,6 @@ end_of_first from ends zero x some within is = absurd (omega arith)
 end_of_first from ends (suc n) x some within is =
     let one : suc n - 1 ≡ n = omega arith in
     is ∙ (ap (λ (k : ℕ). get_or ends k x) one ∙ sym (end_of-take from ends n x (omega arith)))
-
--- batches end where the last of them does
-pub end_of_last : (from : ℕ) (ends : List ℕ) (n x : ℕ) → n ≡ length ends → 0 < n → x ≡ get_or ends (n - 1) x → x ≡ end_of from ends
-end_of_last from ends n x all some is =
-    end_of_first from ends n x some (omega arith) is ∙ ap (end_of from) (take_all n ends (omega arith))
 
 -- one more batch
 pub AreBatches-push : (from : ℕ) (ends : List ℕ) (e : ℕ) → AreBatches from ends → end_of from ends < e → e ≤ end_of from ends + MAX_GROUP → AreBatches from (ends ++ e ∷ [])

@@ -1,6 +1,7 @@
 -- Lists of calls.
 use Rattle.std.proofs.Common.{◌≡◌, ℕ, zero, suc, ◌+◌, ◌<◌, ◌==◌, ◌&&◌, ◌||◌, Bool, true, false, not, cond, Option, Some, None, List, [], ◌∷◌, ◌++◌, length, take, drop, set, slice_get, refl, sym, ap, ◌∙◌, subst, true≢false, arith, append_assoc}
 use Rattle.std.proofs.lemmas.List.{take-append-drop, append-nil}
+use Rattle.std.specs.Prelude.{nat_lt}
 use Rattle.std.specs.Option.{option_flatten}
 use Rattle.std.proofs.lemmas.Bool.{and_parts, eqb-true}
 use Rattle.std.specs.declared.ops.Range.{Range}
@@ -17,6 +18,25 @@ use Rattle.hd_tickets.proofs.Ends.{end_of-append, end_of_parts}
 pub Lead-append : (gs hs : List (Range ℕ)) (from via to : ℕ) → Lead from gs via → Lead via hs to → Lead from (gs ++ hs) to
 Lead-append [] hs from via to p q = subst (λ (n : ℕ). Lead n hs to) (sym p) q
 Lead-append (g ∷ gs) hs from via to p q = (p.0, Lead-append gs hs g.end via to p.1 q)
+
+-- cut twice
+cut_again : (from : ℕ) (ends later : List ℕ) (p q : QueueView) → AreCutBy from ends p → AreCutBy p.acknowledged (p.ends ++ later) q → AreCutBy from (ends ++ later) q
+cut_again from ends later p q h k = record {
+  done = h.done ++ k.done;
+  all =
+      ap (λ (xs : List ℕ). xs ++ later) h.all
+      ∙ (append_assoc h.done p.ends later
+      ∙ (ap (λ (xs : List ℕ). h.done ++ xs) k.all ∙ sym (append_assoc h.done k.done q.ends)));
+  acknowledged =
+      k.acknowledged
+      ∙ (ap (λ (n : ℕ). end_of n k.done) h.acknowledged ∙ sym (end_of-append from h.done k.done));
+}
+
+-- how many entries there are, by what is cut
+entries_cut : (from : ℕ) (ends : List ℕ) (q : QueueView) → AreCutBy from ends q → entries_of q ≡ end_of from ends
+entries_cut from ends q h =
+    ap (λ (n : ℕ). end_of n q.ends) h.acknowledged
+    ∙ (sym (end_of-append from h.done q.ends) ∙ ap (end_of from) (sym h.all))
 
 module _ {R : Type 0} where
   -- one call
@@ -43,25 +63,6 @@ module _ {R : Type 0} where
   ]
   step_cuts b Halt = record { done = []; all = append-nil b.queue.ends; acknowledged = refl }
 
-  -- cut twice
-  cut_again : (from : ℕ) (ends later : List ℕ) (p q : QueueView) → AreCutBy from ends p → AreCutBy p.acknowledged (p.ends ++ later) q → AreCutBy from (ends ++ later) q
-  cut_again from ends later p q h k = record {
-    done = h.done ++ k.done;
-    all =
-        ap (λ (xs : List ℕ). xs ++ later) h.all
-        ∙ (append_assoc h.done p.ends later
-        ∙ (ap (λ (xs : List ℕ). h.done ++ xs) k.all ∙ sym (append_assoc h.done k.done q.ends)));
-    acknowledged =
-        k.acknowledged
-        ∙ (ap (λ (n : ℕ). end_of n k.done) h.acknowledged ∙ sym (end_of-append from h.done k.done));
-  }
-
-  -- how many entries there are, by what is cut
-  entries_cut : (from : ℕ) (ends : List ℕ) (q : QueueView) → AreCutBy from ends q → entries_of q ≡ end_of from ends
-  entries_cut from ends q h =
-      ap (λ (n : ℕ). end_of n q.ends) h.acknowledged
-      ∙ (sym (end_of-append from h.done q.ends) ∙ ap (end_of from) (sym h.all))
-
   pub moves_cut : (b : Batches R) (moves : List (Move R)) → AreCutBy b.queue.acknowledged (b.queue.ends ++ ends_by (entries_of b.queue) moves) (after_moves moves b).queue
   moves_cut b [] = record { done = []; all = append-nil b.queue.ends; acknowledged = refl }
   moves_cut b (m ∷ moves) =
@@ -82,9 +83,9 @@ module _ {R : Type 0} where
   step_leads b Take = refl
   step_leads b (Acknowledge first end) = elim (is_out b.queue first end) as (λ (v : Bool). is_out b.queue first end ≡ v → Lead b.queue.acknowledged (cond v (record { start = first; end = end } ∷ []) []) (cond v (flushed b) b).queue.acknowledged) [
     | true ↦ λ out.
-        let parts = and_parts (not (b.queue.out == 0)) ((first == b.queue.acknowledged) && (end == group_end b.queue)) out in
-        let both = and_parts (first == b.queue.acknowledged) (end == group_end b.queue) parts.1 in
-        (eqb-true first b.queue.acknowledged both.0, eqb-true end (group_end b.queue) both.1)
+        let parts = and_parts (nat_lt 0 b.queue.out && (first == b.queue.acknowledged)) (end == group_end b.queue) out in
+        let both = and_parts (nat_lt 0 b.queue.out) (first == b.queue.acknowledged) parts.0 in
+        (eqb-true first b.queue.acknowledged both.1, eqb-true end (group_end b.queue) parts.1)
     | false ↦ λ out. refl
   ] refl
   step_leads b (HandBack first end) = elim (is_out b.queue first end) as (λ (v : Bool). b.queue.acknowledged ≡ (cond v (handed_back b) b).queue.acknowledged) [ true ↦ refl | false ↦ refl ]

@@ -27,7 +27,10 @@ module _ {X : Type 0} where
 
   -- spent slots in front are so many more
   pub spent_more : (n m : ℕ) (slots rest : List (Option X)) → slots ≡ replicate m None ++ rest → replicate n None ++ slots ≡ replicate (n + m) None ++ rest
-  spent_more zero m slots rest e = e ∙ ap (λ (k : ℕ). replicate k None ++ rest) (omega arith)
+  spent_more zero m slots rest e =
+      let same : m ≡ zero + m = omega arith in
+      e ∙ ap (λ (k : ℕ). replicate k None ++ rest) same
   spent_more (suc n) m slots rest e =
+      let same : suc (n + m) ≡ suc n + m = omega arith in
       ap (λ (xs : List (Option X)). None ∷ xs) (spent_more n m slots rest e)
-      ∙ ap (λ (k : ℕ). replicate k None ++ rest) (omega arith)
+      ∙ ap (λ (k : ℕ). replicate k None ++ rest) same

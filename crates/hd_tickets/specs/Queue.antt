@@ -1,5 +1,5 @@
 -- The batches with entries that are not acknowledged, in the order of their commits. (Our own.)
-use Rattle.std.specs.Prelude.{◌≡◌, ℕ, ◌+◌, ◌-◌, ◌<◌, ◌≤◌, Bool, not, ◌&&◌, ◌||◌, ◌==◌, nat_le, List, [], ◌∷◌, ◌++◌, length, take, drop, take_while, Option, Some, None, if◌then◌else◌}
+use Rattle.std.specs.Prelude.{◌≡◌, ℕ, ◌+◌, ◌-◌, ◌<◌, ◌≤◌, Bool, not, ◌&&◌, ◌||◌, ◌==◌, nat_lt, nat_le, List, [], ◌∷◌, ◌++◌, length, take, drop, take_while, Option, Some, None, if◌then◌else◌}
 use Rattle.std.specs.declared.ops.Range.{Range}
 use Rattle.hd_tickets.specs.declared.queue.TheConstants.{MAX_GROUP}
 
@@ -36,11 +36,15 @@ group_out q = if q.out == 0 then None else Some (record { start = q.acknowledged
 
 -- the group that is out has these entries
 abbrev pub is_out : QueueView → ℕ → ℕ → Bool
-is_out q first end = not (q.out == 0) && ((first == q.acknowledged) && (end == group_end q))
+is_out q first end = nat_lt 0 q.out && (first == q.acknowledged) && (end == group_end q)
 
 -- nothing waits, and no group is out
 abbrev pub is_idle : QueueView → Bool
 is_idle q = length q.ends == 0
+
+-- a group is due: something waits, and none is out
+abbrev pub is_due : QueueView → Bool
+is_due q = (q.out == 0) && not (is_idle q)
 
 -- these entries are acknowledged; none always are
 abbrev pub are_acknowledged : QueueView → ℕ → ℕ → Bool

@@ -15,8 +15,8 @@ ticket_of count b =
 
 -- a batch is accepted: its entries wait to be appended, and its ticket is out
 abbrev pub entered : {R : Type 0} → ℕ → R → Batches R → Batches R
-entered count released b =
-    let out = record { first = entries_of b.queue; end = entries_of b.queue + count; released = released } in
+entered {R = R} count released b =
+    let out : Outgoing R = record { first = entries_of b.queue; end = entries_of b.queue + count; released = released } in
     record { queue = with_batch count b.queue; tickets = b.tickets ++ Some out ∷ []; halted = b.halted }
 
 -- the next group goes out

@@ -1,6 +1,6 @@
 //! The batches with entries that are not acknowledged, and the group of them that is out.
-ghost use Rattle.std.specs.Prelude.{◌≡◌, ◌+◌, ◌<◌, ◌≤◌, ◌^◌, true, length, take, take_while, IfSome, OnOk};
-ghost use Rattle.hd_tickets.specs.Queue.{end_of, entries_of, group_end, is_out, is_idle, are_acknowledged, queue_from, with_batch, with_group, group_next, without_group, with_none_out, fits};
+ghost use Rattle.std.specs.Prelude.{◌≡◌, ◌+◌, ◌<◌, ◌≤◌, ◌^◌, true, is_some, length, take, take_while, IfSome, OnOk};
+ghost use Rattle.hd_tickets.specs.Queue.{end_of, entries_of, group_end, is_out, is_idle, is_due, are_acknowledged, queue_from, with_batch, with_group, group_next, without_group, with_none_out, fits};
 
 use std::alloc::{AllocError, Global};
 use std::collections::VecDeque;
@@ -141,15 +141,18 @@ impl Queue {
         ensures few { IfSome result (λ g. g.end ≤ g.start + MAX_GROUP) }
         ensures within { IfSome result (λ g. g.end ≤ entries_of self.old.batches) }
         ensures taken { self.new.batches ≡ with_group self.old.batches }
+        ensures due { is_some result ≡ is_due self.old.batches }
     {
-        if self.out > 0 {
+        let out = self.out;
+        if out > 0 {
             return None;
         }
-        if self.ends.is_empty() {
+        let count = fitting_among(&self.ends, self.acknowledged);
+        if count == 0 {
             return None;
         }
-        self.out = fitting_among(&self.ends, self.acknowledged);
-        let end = end_among(&self.ends, self.out, self.acknowledged);
+        self.out = count;
+        let end = end_among(&self.ends, count, self.acknowledged);
         Some(self.acknowledged..end)
     }
 
@@ -157,7 +160,8 @@ impl Queue {
     pub(crate) fn is_out(&self, first: u64, end: u64) -> bool
         ensures { result ≡ is_out self.now.batches first end }
     {
-        self.out > 0 && first == self.acknowledged && end == self.group_end()
+        let group_end = self.group_end();
+        self.out > 0 && first == self.acknowledged && end == group_end
     }
 
     /// The group that is out is acknowledged.

@@ -1,5 +1,6 @@
 //! The tickets by number, in memory.
-ghost use Rattle.std.specs.Prelude.{◌≡◌, ◌+◌, ◌<◌, ◌^◌, true, None, [], ◌∷◌, ◌++◌, length, replicate, slice_set, option_copied, OnOk};
+ghost use Rattle.std.specs.Prelude.{◌≡◌, ◌+◌, ◌<◌, ◌^◌, true, None, [], ◌∷◌, ◌++◌, length, replicate, slice_get, slice_set, option_copied, OnOk};
+ghost use Rattle.std.specs.Option.{option_flatten};
 ghost use Rattle.hd_tickets.specs.Slots.{ticket_at};
 
 use crate::Outgoing;
@@ -36,11 +37,22 @@ fn pop_spent<R: Drop>(slots: &mut VecDeque<Option<Outgoing<R>>>) -> u64
     ensures { slots.old.items ≡ replicate result None ++ slots.new.items }
 {
     let mut count = 0;
-    while let Some(None) = slots.front() {
+    'spent: while let Some(None) = slots.front() {
         drop(slots.pop_front());
         count += 1;
     }
     count
+}
+
+/// Spends the ticket in the slot at a place, if it is out.
+fn spend_at<R>(slots: &mut VecDeque<Option<Outgoing<R>>>, place: usize) -> Option<Outgoing<R>>
+    ensures out { result ≡ option_flatten (slice_get slots.old.items place) }
+    ensures spent { slots.new.items ≡ slice_set slots.old.items place None }
+{
+    match slots.get_mut(place) {
+        Some(slot) => slot.take(),
+        None => None,
+    }
 }
 
 impl<R: Drop> Slots<R> {
@@ -77,7 +89,7 @@ impl<R: Drop> Slots<R> {
     pub(crate) fn push(&mut self, out: Outgoing<R>)
         requires room { self.old.room ≡ true }
         requires few { length self.old.tickets + 1 < 2 ^ 64 }
-        ensures { self.new.tickets ≡ self.old.tickets ++ Some out.entry ∷ [] }
+        ensures { self.new.tickets ≡ self.old.tickets ++ Some out ∷ [] }
     {
         self.slots.push_back_reserved(Some(out));
     }
@@ -86,10 +98,14 @@ impl<R: Drop> Slots<R> {
     pub(crate) fn get(&self, number: u64) -> Option<&Outgoing<R>>
         ensures { option_copied result ≡ ticket_at self.now.tickets number }
     {
-        let place = number.checked_sub(self.spent)?;
-        match self.slots.get(place as usize) {
+        let spent = self.spent;
+        if number < spent {
+            return None;
+        }
+        match self.slots.get((number - spent) as usize) {
             Some(Some(out)) => Some(out),
-            _ => None,
+            Some(None) => None,
+            None => None,
         }
     }
 
@@ -98,11 +114,11 @@ impl<R: Drop> Slots<R> {
         ensures out { result ≡ ticket_at self.old.tickets number }
         ensures spent { self.new.tickets ≡ slice_set self.old.tickets number None }
     {
-        let place = number.checked_sub(self.spent)?;
-        let out = match self.slots.get_mut(place as usize) {
-            Some(slot) => slot.take(),
-            None => None,
-        };
+        let spent = self.spent;
+        if number < spent {
+            return None;
+        }
+        let out = spend_at(&mut self.slots, (number - spent) as usize);
         self.spent += pop_spent(&mut self.slots);
         out
     }

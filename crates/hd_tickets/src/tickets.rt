@@ -67,9 +67,9 @@ impl<R: Drop> Tickets<R> {
 }
 
 impl<R: Drop> Tickets<R> {
-    ghost use Rattle.std.specs.Prelude.{◌≡◌, ◌+◌, ◌<◌, ◌≤◌, ◌^◌, true, false, is_ok, length, IfOk, IfSome, OnOk, OnErr};
+    ghost use Rattle.std.specs.Prelude.{◌≡◌, ◌+◌, ◌<◌, ◌≤◌, ◌^◌, true, false, is_ok, is_some, length, IfOk, IfSome, OnOk, OnErr};
     ghost use Rattle.hd_tickets.specs.declared.queue.TheConstants.{MAX_GROUP};
-    ghost use Rattle.hd_tickets.specs.Queue.{entries_of, group_next, is_out, is_idle, are_acknowledged};
+    ghost use Rattle.hd_tickets.specs.Queue.{entries_of, group_next, is_out, is_idle, is_due, are_acknowledged};
     ghost use Rattle.hd_tickets.specs.Steps.{resumed, ticket_of, entered, taken, flushed, handed_back, redeemed, with_halt};
     ghost use Rattle.hd_tickets.specs.Redeeming.{redeemed_for};
 
@@ -141,7 +141,7 @@ impl<R: Drop> Tickets<R> {
         requires fits { entries_of self.old.batches.queue + count < 2 ^ 64 }
         requires commits { length self.old.batches.tickets + 1 < 2 ^ 64 }
         ensures ticket { result ≡ ticket_of count self.old.batches }
-        ensures entered { self.new.batches ≡ entered count released.entry self.old.batches }
+        ensures entered { self.new.batches ≡ entered count released self.old.batches }
     {
         let number = self.slots.len();
         let first = self.queue.entries();
@@ -163,6 +163,7 @@ impl<R: Drop> Tickets<R> {
         ensures few { IfSome result (λ g. g.end ≤ g.start + MAX_GROUP) }
         ensures within { IfSome result (λ g. g.end ≤ entries_of self.old.batches.queue) }
         ensures taken { self.new.batches ≡ taken self.old.batches }
+        ensures due { is_some result ≡ is_due self.old.batches.queue }
     {
         self.queue.take()
     }
