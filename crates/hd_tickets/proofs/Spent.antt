@@ -3,12 +3,6 @@ use Rattle.std.proofs.Common.{◌≡◌, ℕ, zero, suc, ◌+◌, ◌-◌, ◌<�
 use Rattle.std.proofs.lemmas.List.{set-append_right, length-replicate}
 
 module _ {X : Type 0} where
-  -- a ticket before the slots is spent
-  pub spent_at : (n : ℕ) (slots : List (Option X)) (k : ℕ) → k < n → slice_get (replicate n None ++ slots) k ≡ Some None
-  spent_at zero slots k h = absurd (omega arith)
-  spent_at (suc n) slots zero h = refl
-  spent_at (suc n) slots (suc k) h = spent_at n slots k (omega arith)
-
   -- a ticket from there on is in its slot
   pub slot_at : (n : ℕ) (slots : List (Option X)) (k : ℕ) → n ≤ k → slice_get (replicate n None ++ slots) k ≡ slice_get slots (k - n)
   slot_at zero slots k h = ap (slice_get slots) (omega arith)

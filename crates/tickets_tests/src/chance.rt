@@ -54,7 +54,11 @@ fn take(rt: &impl Abort, trial: &mut Trial, plain: &mut Plain) {
 /// Acknowledges or hands back the group that is out, or one beside it.
 fn settle(rt: &impl Abort, numbers: &mut SplitMix64, trial: &mut Trial, plain: &mut Plain) {
     let (first, end) = plain.out.unwrap_or((0, 1));
-    let end = if below(numbers, 5) == 0 { end + 1 } else { end };
+    let end = if below(numbers, 5) == 0 {
+        end.saturating_add(1)
+    } else {
+        end
+    };
     if below(numbers, 40) == 0 {
         assert!(rt; trial.tickets.hand_back(first, end).is_ok() == plain.hand_back(first, end));
     } else {

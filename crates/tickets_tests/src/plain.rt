@@ -94,12 +94,13 @@ impl Plain {
         let (acknowledged, halted) = (self.acknowledged, self.halted);
         let mut left = place;
         for batch in &mut self.batches {
-            if batch.held && left == 0 {
+            if !batch.held {
+                continue;
+            }
+            if left == 0 {
                 return comes_of(batch, acknowledged, halted);
             }
-            if batch.held {
-                left -= 1;
-            }
+            left -= 1;
         }
         Comes::NotOut
     }

@@ -37,6 +37,9 @@ pub enum Line {
     Is(bool, bool),
 }
 
+/// More than there are of anything.
+const MOST: u64 = 1_099_511_627_776;
+
 /// How many tickets a script holds at most.
 const MOST_HELD: usize = 70;
 
@@ -133,8 +136,8 @@ pub fn accepted(rt: &impl Abort, tickets: &mut Tickets<u64>, count: u64) -> Tick
     let number = tickets.commits();
     assert!(rt; !tickets.is_halted());
     assert!(rt; count <= MAX_GROUP);
-    assert!(rt; tickets.entries() < 1 << 40);
-    assert!(rt; number < 1 << 40);
+    assert!(rt; tickets.entries() < MOST);
+    assert!(rt; number < MOST);
     match tickets.reserve() {
         Ok(()) => tickets.enter(count, 1_000 + number),
         Err(_) => panic!(rt; "no memory"),
