@@ -2,6 +2,7 @@
 ghost use Rattle.std.specs.Prelude.{◌≡◌, ℕ, ◌+◌, ◌-◌, ◌*◌, ◌<◌, ◌≤◌, ◌==◌, ◌++◌, [], ◌∷◌, List, OnOk, IsOk, length, slice_get, slice_index_or, slice_set, option_copied};
 ghost use Rattle.hd_chunks.specs.Chunks.{ChunksView, items_in, AreChunks};
 
+use crate::iter::Iter;
 use hd_base::NoMemory;
 use std::alloc::Global;
 use std::marker::Model;
@@ -140,6 +141,13 @@ impl<T> Chunks<T> {
         } else {
             None
         }
+    }
+
+    /// The items, one after the other.
+    pub fn iter(&self) -> Iter<'_, T>
+        ensures { result ≡ self.now.items }
+    {
+        Iter::of(self)
     }
 
     /// Puts an item in the place of the one with this number. It takes no memory.

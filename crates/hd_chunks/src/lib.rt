@@ -3,6 +3,8 @@
 
 mod bits;
 mod chunks;
+mod iter;
 
 pub use bits::Bits;
 pub use chunks::{CHUNK, Chunks, MOST_ITEMS};
+pub use iter::Iter;

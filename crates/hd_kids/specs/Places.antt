@@ -1,9 +1,12 @@
 -- How the parts of a table show its kids: those of an entry stand side by side, from its first place up to that of the next entry.
 -- (Our own.)
-use Rattle.std.specs.Prelude.{◌≡◌, ℕ, zero, suc, ◌<◌, ◌≤◌, Bool, nat_lt, List, length, get_or, map}
+use Rattle.std.specs.Prelude.{◌≡◌, ℕ, zero, suc, ◌<◌, ◌≤◌, Bool, nat_lt, List, length, get_or, map, min}
 use Rattle.std.specs.List.{count_by, position_or_len, range_with_len}
+use Rattle.hd_chunks.specs.Chunks.{ChunksView}
+use Rattle.hd_chunks.specs.Bits.{BitsView}
 use Rattle.hd_task.specs.declared.plan.Kid.{Kid}
 use Rattle.hd_task.specs.declared.plan.TheConstants.{ROOT_PARENT, ROOT_ACTION}
+use Rattle.hd_kids.specs.Kids.{KidsView}
 
 -- how many entries' kids begin at a place or before it
 unfoldable pub begun : List ℕ → ℕ → ℕ
@@ -21,6 +24,16 @@ kid_at firsts actions j = record { parent = parent_after (begun firsts j); actio
 -- the kids at all places
 unfoldable pub kids_by : List ℕ → List ℕ → List Kid
 kids_by firsts actions = map (kid_at firsts actions) (range_with_len 0 (length actions))
+
+-- the table that these first places, actions and marks show
+abbrev pub shown : ChunksView ℕ → ChunksView ℕ → BitsView → KidsView
+shown firsts actions marks = record {
+  kids = kids_by firsts.items actions.items;
+  marks = marks.items;
+  entries = length firsts.items;
+  entry_room = firsts.room;
+  kid_room = min actions.room marks.room;
+}
 
 -- the kids of entry n stand from a place up to another
 pub record IsRow (firsts actions : List ℕ) (n low high : ℕ) : Type 0 where

@@ -20,19 +20,12 @@ pub struct KidTable {
 }
 
 impl Model for KidTable {
-    ghost use Rattle.std.specs.Prelude.{length, min};
     ghost use Rattle.hd_kids.specs.Kids.{KidsView};
-    ghost use Rattle.hd_kids.specs.Places.{kids_by, AreKids};
+    ghost use Rattle.hd_kids.specs.Places.{shown, AreKids};
 
     ghost Value = { KidsView };
 
-    ghost view = { λ t. record {
-      kids = kids_by t.firsts.items t.actions.items;
-      marks = t.marks.items;
-      entries = length t.firsts.items;
-      entry_room = t.firsts.room;
-      kid_room = min t.actions.room t.marks.room;
-    } };
+    ghost view = { λ t. shown t.firsts t.actions t.marks };
 
     ghost invariant = { λ t. AreKids t.firsts.items t.actions.items t.marks.items t.settled };
 }

@@ -44,6 +44,19 @@ fn items_stay_over_chunks(rt: HostRuntime) -> Result<(), Fail> {
 }
 
 #[test]
+fn items_come_one_after_the_other(rt: HostRuntime) -> Result<(), Fail> {
+    let list = numbers(&rt, rt.alloc(), 2500)?;
+    let mut wanted = 0u32;
+    for item in list.iter() {
+        assert_eq!(rt; *item, wanted);
+        wanted = wanted.saturating_add(1);
+    }
+    assert_eq!(rt; wanted, 2500);
+    assert_eq!(rt; list.iter().filter(|item| **item % 2 == 0).count(), 1250);
+    Ok(())
+}
+
+#[test]
 fn a_new_list_has_nothing(rt: HostRuntime) {
     let list: Chunks<u32> = Chunks::new(rt.alloc());
     assert!(rt; list.is_empty());
