@@ -4,6 +4,7 @@ use Rattle.std.specs.List.{AllByRecursion, count_by, fold}
 use Rattle.std.proofs.lemmas.Bool.{cases_eq}
 use Rattle.std.proofs.lemmas.List.{length-set, same_lists, get_or_default}
 use Rattle.std.proofs.lemmas.List.Sums.{sum_by-set}
+use Rattle.hd_kids.specs.Places.{AreKids}
 use Rattle.hd_base.proofs.Members.{Contains-first, Contains-later, Contains-nil, Contains-cons_cases}
 use Rattle.hd_base.proofs.Tests.{count_by-set}
 
@@ -17,6 +18,43 @@ count_reopened marks k lt was =
     let f : Bool → ℕ = λ x. cond x 1 0 in
     let before : f (get_or marks k false) ≡ 1 = ap (λ (b : Bool). cond b 1 0) was in
     omega (arith, before, sum_by-set f marks k false false lt)
+
+-- ---- a table's marks
+
+-- another mark where the counts tell
+pub marked_kept : (firsts actions : List ℕ) (marks : List Bool) (settled settled' k : ℕ) (b : Bool) → AreKids firsts actions marks settled
+    → settled' ≡ count_by (λ m. m) (set marks k b) → AreKids firsts actions (set marks k b) settled'
+marked_kept firsts actions marks settled settled' k b h is = record {
+  some = h.some;
+  root_is = h.root_is;
+  begins = h.begins;
+  ends = h.ends;
+  ordered = h.ordered;
+  rising = h.rising;
+  numbered = h.numbered;
+  one_each = length-set marks k b ∙ h.one_each;
+  settled_is = is;
+}
+
+pub settled_kept : (firsts actions : List ℕ) (marks : List Bool) (settled settled' k : ℕ) → AreKids firsts actions marks settled
+    → k < length actions → get_or marks k true ≡ false → settled' ≡ settled + 1 → AreKids firsts actions (set marks k true) settled'
+settled_kept firsts actions marks settled settled' k h lt unset more =
+    let each = h.one_each in
+    let was = h.settled_is in
+    let now = count_settled marks k (omega (arith, lt, each)) unset in
+    marked_kept firsts actions marks settled settled' k true h (omega (arith, more, was, now))
+
+pub reopened_kept : (firsts actions : List ℕ) (marks : List Bool) (settled settled' k : ℕ) → AreKids firsts actions marks settled
+    → k < length actions → get_or marks k false ≡ true → settled' + 1 ≡ settled → AreKids firsts actions (set marks k false) settled'
+reopened_kept firsts actions marks settled settled' k h lt was_set less =
+    let each = h.one_each in
+    let was = h.settled_is in
+    let now = count_reopened marks k (omega (arith, lt, each)) was_set in
+    marked_kept firsts actions marks settled settled' k false h (omega (arith, less, was, now))
+
+-- a mark that is set is one of those that are counted
+pub some_settled : (marks : List Bool) (k : ℕ) → k < length marks → get_or marks k false ≡ true → 0 < count_by (λ m. m) marks
+some_settled marks k lt was = let h = count_reopened marks k lt was in omega (arith, h)
 
 -- ---- marks that are taken back
 
