@@ -174,10 +174,10 @@ chunks_put (c ∷ cs) n i e w h lt len room =
 
 -- an empty chunk at the end holds nothing
 pub items_more : {T Z : Type 0} (cs : List (Vec T Z)) (w : Vec T Z) → w.items ≡ [] → items_in (cs ++ w ∷ []) ≡ items_in cs
-items_more {T} cs w none =
-    flat_map-append (λ c. c.items) cs (w ∷ [])
+items_more {T} {Z} cs w none =
+    flat_map-append (λ (c : Vec T Z). c.items) cs (w ∷ [])
     ∙ (ap (λ (ys : List T). items_in cs ++ (ys ++ [])) none ∙ append-nil (items_in cs))
 
 pub chunks_more : {T Z : Type 0} (cs : List (Vec T Z)) (n : ℕ) (w : Vec T Z) → w.items ≡ [] → CHUNK ≤ vec_capacity w → AreChunks n cs → AreChunks n (cs ++ w ∷ [])
-chunks_more [] n w none room h = (let e = ap length none in omega (arith, h, e), room, omega (arith, h))
+chunks_more [] n w none room h = let e = ap length none in (omega (arith, h, e), room, omega (arith, h))
 chunks_more (c ∷ cs) n w none room h = (h.0, h.1, chunks_more cs (n - CHUNK) w none room h.2)

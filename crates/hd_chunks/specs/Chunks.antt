@@ -9,7 +9,7 @@ pub record ChunksView (T : Type 0) : Type 0 where
 
 -- the items of chunks, one chunk after the other
 abbrev pub items_in : {T Z : Type 0} → List (Vec T Z) → List T
-items_in chunks = flat_map (λ c. c.items) chunks
+items_in {T} {Z} chunks = flat_map (λ (c : Vec T Z). c.items) chunks
 
 -- chunks hold n items: each is full while items are left, and has the memory of a full one
 abbrev pub AreChunks : {T Z : Type 0} → ℕ → List (Vec T Z) → Type 0

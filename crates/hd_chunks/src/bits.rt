@@ -1,9 +1,8 @@
 //! A list of bits in chunks of words.
 ghost use Rattle.std.specs.Prelude.{◌≡◌, ◌≢◌, ℕ, ◌+◌, ◌-◌, ◌*◌, ◌<◌, ◌≤◌, ◌==◌, ◌++◌, [], ◌∷◌, Bool, OnOk, IsOk, length, slice_index_or, slice_set, true};
 ghost use Rattle.hd_chunks.specs.Bits.{BitsView, bit_in, bits_in};
-ghost use Rattle.hd_chunks.specs.declared.chunks.TheConstants.{MOST_ITEMS};
 
-use crate::chunks::{Chunks, MOST_ITEMS};
+use crate::chunks::Chunks;
 use hd_base::NoMemory;
 use std::alloc::Global;
 use std::marker::Model;

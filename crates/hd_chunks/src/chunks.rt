@@ -1,6 +1,6 @@
 //! A list in chunks.
-ghost use Rattle.std.specs.Prelude.{◌≡◌, ℕ, ◌+◌, ◌-◌, ◌*◌, ◌<◌, ◌≤◌, ◌==◌, ◌++◌, [], ◌∷◌, List, OnOk, IsOk, length, slice_get, slice_index_or, slice_set, option_copied};
-ghost use Rattle.hd_chunks.specs.Chunks.{ChunksView, items_in, AreChunks};
+ghost use Rattle.std.specs.Prelude.{◌≡◌, ℕ, ◌+◌, ◌*◌, ◌<◌, ◌≤◌, ◌==◌, ◌++◌, [], ◌∷◌, OnOk, IsOk, length, slice_get, slice_index_or, slice_set, option_copied};
+ghost use Rattle.hd_chunks.specs.Chunks.{items_in, AreChunks};
 
 use crate::iter::Iter;
 use hd_base::NoMemory;
@@ -25,6 +25,10 @@ pub struct Chunks<T> {
 }
 
 impl<T> Model for Chunks<T> {
+    ghost use Rattle.std.specs.Prelude.{◌≡◌, ◌-◌, ◌*◌, ◌≤◌, length};
+    ghost use Rattle.hd_chunks.specs.declared.chunks.TheConstants.{CHUNK, MOST_ITEMS};
+    ghost use Rattle.hd_chunks.specs.Chunks.{ChunksView, items_in, AreChunks};
+
     ghost Value = { ChunksView T };
 
     ghost view = { λ c. record {

@@ -30,12 +30,9 @@ other_action : (k q : Kid) → k.action ≢ q.action → same_kid k q ≡ false
 other_action k q ne = and_right (k.parent == q.parent) (k.action == q.action) (ne_eqb k.action q.action ne)
 
 -- a kid that has the parent n is one of entry n
-entry_of : (firsts : List ℕ) (j n : ℕ) → length firsts ≤ ROOT_PARENT → n ≢ ROOT_PARENT → parent_after (begun firsts j) ≡ n → begun firsts j ≡ suc n
-entry_of firsts j n few other is =
-    elim (begun firsts j) as (λ b. parent_after b ≡ n → b ≡ suc n) [
-      | zero ↦ λ e. absurd (other (sym e))
-      | suc m ↦ λ e. ap suc e
-    ] is
+entry_of : (begun_there n : ℕ) → n ≢ ROOT_PARENT → parent_after begun_there ≡ n → begun_there ≡ suc n
+entry_of zero n other is = absurd (other (sym is))
+entry_of (suc m) n other is = ap suc is
 
 -- a kid at a place that has another parent, or another action, is another one
 other_at : (firsts actions : List ℕ) (k : Kid) (j : ℕ) → j < length actions → (parent_after (begun firsts j) ≡ k.parent → get_or actions j 0 ≢ k.action)
@@ -57,7 +54,7 @@ kid_found firsts actions marks settled low high i k h other row from below is =
     let len = length-kids_by firsts actions in
     position_found (same_kid k) (kids_by firsts actions) i root (omega (arith, len, lt))
     (λ j order. other_at firsts actions k j (omega (arith, order, lt)) (λ same e.
-    let there = entry_of firsts j k.parent h.numbered other same in
+    let there = entry_of (begun firsts j) k.parent other same in
     let less = h.rising j i order lt (there ∙ sym (row.inside i from below)) in
     omega (arith, less, e, is)))
     (subst (λ (q : Kid). same_kid k q ≡ true) (sym (get_or-kids_by firsts actions i root lt))
@@ -75,7 +72,7 @@ kid_missing firsts actions marks settled low high k h other row none =
     (λ j lt.
     let among : j < length actions = omega (arith, len, lt) in
     other_at firsts actions k j among (λ same.
-    let at = row.outside j among (entry_of firsts j k.parent h.numbered other same) in
+    let at = row.outside j among (entry_of (begun firsts j) k.parent other same) in
     none j at.0 at.1))
 
 -- what is no entry has no kids
@@ -85,7 +82,7 @@ kid_unknown firsts actions marks settled k h other far =
     let len = length-kids_by firsts actions in
     position_none (same_kid k) (kids_by firsts actions) root
     (λ j lt. other_at firsts actions k j (omega (arith, len, lt)) (λ same.
-    let e = entry_of firsts j k.parent h.numbered other same in
+    let e = entry_of (begun firsts j) k.parent other same in
     let few = begun_few firsts j in
     absurd (omega (arith, e, few, far))))
 

@@ -1,7 +1,6 @@
 //! Laws over the definitions.
-ghost use Rattle.std.specs.Prelude.{◌≡◌, ℕ, ◌<◌, ◌≤◌, Bool, true, false, List, length, slice_set, slice_index_or};
-ghost use Rattle.std.specs.List.{AllByRecursion, count_by, fold};
-ghost use Rattle.hd_kids.specs.Kids.{KidsView, with_mark};
+ghost use Rattle.std.specs.Prelude.{◌≡◌, ℕ, Bool, true, false, List, slice_set, slice_index_or};
+ghost use Rattle.std.specs.List.{AllByRecursion, fold};
 
 /// Marks that were set where none was are taken back, in any order: what is left are the marks before.
 pub fn marks_are_taken_back()

@@ -31,7 +31,7 @@ impl Model for KidTable {
 }
 
 impl KidTable {
-    ghost use Rattle.std.specs.Prelude.{◌≡◌, ◌↔◌, ◌-◌, ◌<◌, ◌≤◌, [], ◌∷◌, true, false, IfOk, OnOk, IsOk, IfSome, IfNone, IsTrue, length, slice_index_or};
+    ghost use Rattle.std.specs.Prelude.{◌≡◌, ◌↔◌, ◌-◌, ◌<◌, ◌≤◌, [], ◌∷◌, true, false, IfOk, OnOk, IsOk, IfSome, IsTrue, length, slice_index_or};
     ghost use Rattle.std.specs.List.{position};
     ghost use Rattle.hd_task.specs.declared.plan.TheConstants.{ROOT_PARENT};
     ghost use Rattle.hd_chunks.specs.declared.chunks.TheConstants.{MOST_ITEMS};
