@@ -25,17 +25,18 @@ use Rattle.hd_task.specs.declared.plan.TheConstants.{ROOT_PARENT}
 use Rattle.hd_task.specs.Plans.{Node, exec, node}
 use Rattle.hd_task.specs.Expansions.{followed_by, applicable_at, children, generated, bound_of}
 use Rattle.hd_task.specs.Entries.{plan_of, plans_of}
-use Rattle.hd_task.specs.Covers.{zero_estimate, Reaches, IsJustified}
+use Rattle.hd_task.specs.Covers.{IsBounded, Dead, Reaches, IsJustified}
+use Rattle.hd_hmax.specs.Rounds.{hmax}
 use Rattle.hd_task.proofs.Growing.{bound_grows}
 use Rattle.hd_node.specs.Children.{ChildView}
 use Rattle.hd_node.specs.Expansion.{ExpansionView}
-use Rattle.hd_node.specs.Estimate.{EstimateView}
+use Rattle.hd_hmax.specs.Estimate.{EstimateView}
 use Rattle.hd_node.specs.declared.batch.By.{By}
 use Rattle.hd_node.specs.declared.batch.By.TheVariants.{Entry, Here}
 use Rattle.hd_node.specs.declared.batch.Outcome.{Outcome}
 use Rattle.hd_node.specs.declared.batch.Outcome.TheVariants.{Expanded, Duplicate, Bounded}
 use Rattle.hd_node.specs.Children.{children_at}
-use Rattle.hd_node.specs.EstimateValue.{estimated}
+use Rattle.hd_hmax.specs.Value.{estimated}
 use Rattle.hd_node.specs.Outcome.{kid_of}
 use Rattle.hd_node.proofs.Steps.{children-actions}
 use Rattle.hd_book.specs.declared.refusal.Refusal.{Refusal}
@@ -149,23 +150,25 @@ dominates-true (Some a) (Some r) e =
     let parts = and_parts (same_state a.state r.state) (nat_le a.cost r.cost) e in
     record { better = a; worse = r; is_better = refl; is_worse = refl; same_state = same_state-true a.state r.state parts.0; no_dearer = leb-true a.cost r.cost parts.1 }
 
--- what a bound test says
-record HasReached (bound : Option ℕ) (o : Option Node) (v : ℕ) : Type 0 where
+-- what a bound test says of a node
+record HasReached (bound : Option ℕ) (r : Node) (v : ℕ) : Type 0 where
   limit : ℕ
-  at : Node
   is_limit : bound ≡ Some limit
+  reached : limit ≤ r.cost + v
+
+reaches-true : (bound : Option ℕ) (r : Node) (v : ℕ) → reaches bound (Some r) (Some v) ≡ true → HasReached bound r v
+reaches-true None r v e = absurd (true≢false (sym e))
+reaches-true (Some limit) r v e = record { limit = limit; is_limit = refl; reached = leb-true limit (r.cost + v) e }
+
+-- a node that is there, and has a state
+record IsThere (o : Option Node) (s : State) : Type 0 where
+  at : Node
   is_at : o ≡ Some at
-  reached : limit ≤ at.cost + v
+  same : at.state ≡ s
 
-reaches-true : (bound : Option ℕ) (o : Option Node) (v : ℕ) → reaches bound o (Some v) ≡ true → HasReached bound o v
-reaches-true None o v e = absurd (true≢false (sym e))
-reaches-true (Some limit) None v e = absurd (true≢false (sym e))
-reaches-true (Some limit) (Some r) v e =
-    record { limit = limit; at = r; is_limit = refl; is_at = refl; reached = leb-true limit (r.cost + v) e }
-
-has_state-true : (o : Option Node) (s : State) (r : Node) → o ≡ Some r → has_state o s ≡ true → r.state ≡ s
-has_state-true None s r is e = absurd (true≢false (sym e))
-has_state-true (Some x) s r is e = ap (λ (y : Node). y.state) (sym (same_Some x r is)) ∙ same_state-true x.state s e
+there : (o : Option Node) (s : State) → has_state o s ≡ true → IsThere o s
+there None s e = absurd (true≢false (sym e))
+there (Some r) s e = record { at = r; is_at = refl; same = same_state-true r.state s e }
 
 -- a test that refuses where it fails
 passes : (b : Bool) (x : Refusal) → cond b None (Some x) ≡ None → b ≡ true
@@ -373,11 +376,11 @@ module _ (t : Task) (entries0 : List Kid) (marks0 : List Bool) (kept0 : IsKept (
     abbrev p : List ℕ
     p = get_or (generated t E) (place_of now k) []
 
-    mark_follows : (o : Outcome) → kid_of o ≡ k → expanded_node (Some o) ≡ None → is_marked before k ≡ false → is_settled_by earlier k ≡ false → IsJustified t zero_estimate E p → Follows (earlier ++ o ∷ []) entries (set marks (place_of now k) true)
+    mark_follows : (o : Outcome) → kid_of o ≡ k → expanded_node (Some o) ≡ None → is_marked before k ≡ false → is_settled_by earlier k ≡ false → IsJustified t (hmax t) E p → Follows (earlier ++ o ∷ []) entries (set marks (place_of now k) true)
     mark_follows o is_k no_node unmarked other just = record {
       kept = record {
         named = f.kept.named;
-        marked = settled_marks t zero_estimate E marks (place_of now k) f.kept.marked within_marks (open_now unmarked other) just;
+        marked = settled_marks t (hmax t) E marks (place_of now k) f.kept.marked within_marks (open_now unmarked other) just;
         short = f.kept.short;
       };
       more = f.more;
@@ -403,7 +406,7 @@ module _ (t : Task) (entries0 : List Kid) (marks0 : List Bool) (kept0 : IsKept (
     }
 
     -- a plan of the list has the state at no greater cost
-    dominated : (a : Option Node) → ((r : Node) → a ≡ Some r → HasPlan t E r) → dominates a (node_of before k) ≡ true → IsJustified t zero_estimate E p
+    dominated : (a : Option Node) → ((r : Node) → a ≡ Some r → HasPlan t E r) → dominates a (node_of before k) ≡ true → IsJustified t (hmax t) E p
     dominated a plan_for e =
         let d = dominates-true a (node_of before k) e in
         let q = plan_for d.better d.is_better in
@@ -424,16 +427,25 @@ module _ (t : Task) (entries0 : List Kid) (marks0 : List Bool) (kept0 : IsKept (
     plan_by (Entry n) r e = older_plan r (entry_plan t old n r e)
     plan_by (Here i) r e = let q = f.nodes i r e in record { plan = q.0; among = q.1; executes = q.2 }
 
-    -- the cost reaches the bound
-    bounded : (h : EstimateView) → reaches (bound_of t old) (node_of before k) (estimated h.value) ≡ true → IsJustified t zero_estimate E p
-    bounded h e =
-        let zero_value : estimated h.value ≡ Some 0 = h.estimates in
-        let d = reaches-true (bound_of t old) (node_of before k) 0 (ap (reaches (bound_of t old) (node_of before k)) (sym zero_value) ∙ e) in
+    -- the estimate is infinite, or the cost and the estimate reach the bound
+    within_bound : (r : Node) (estimate : Option ℕ) → reaches (bound_of t old) (Some r) estimate ≡ true → IsBounded (bound_of t E) r.cost estimate
+    within_bound r None e = Dead refl
+    within_bound r (Some v) e =
+        let d = reaches-true (bound_of t old) r v e in
         let grown = bound_grows t old f.more d.limit d.is_limit in
+        Reaches grown.0 v (ap (bound_of t) f.tail ∙ grown.1) refl (omega (arith, grown.2, d.reached))
+
+    bounded : (h : EstimateView) → h.task ≡ t → has_state (node_of before k) h.state ≡ true → reaches (bound_of t old) (node_of before k) (estimated h.value) ≡ true → IsJustified t (hmax t) E p
+    bounded h own same e =
+        let d = there (node_of before k) h.state same in
+        let value : estimated h.value ≡ hmax t d.at.state = h.estimates ∙ (ap (λ (u : Task). hmax u h.state) own ∙ ap (hmax t) (sym d.same)) in
+        let test : reaches (bound_of t old) (Some d.at) (estimated h.value) ≡ true =
+        ap (λ (o : Option Node). reaches (bound_of t old) o (estimated h.value)) (sym d.is_at) ∙ e
+        in
         record {
           end = d.at;
           executes = sym leads ∙ d.is_at;
-          why = inr (Reaches grown.0 0 (ap (bound_of t) f.tail ∙ grown.1) refl (omega (arith, grown.2, d.reached)));
+          why = inr (subst (IsBounded (bound_of t E) d.at.cost) value (within_bound d.at (estimated h.value) test));
         }
 
     -- ---- the kid is expanded
@@ -462,11 +474,11 @@ module _ (t : Task) (entries0 : List Kid) (marks0 : List Bool) (kept0 : IsKept (
       new_plans : expansions after ≡ E ++ p ∷ []
       new_plans = ap (λ x. unwrap_or x []) names
 
-      new_marks : IsMarked t zero_estimate (expansions after) after.marks
+      new_marks : IsMarked t (hmax t) (expansions after) after.marks
       new_marks =
-          subst (λ xs. IsMarked t zero_estimate xs after.marks) (sym new_plans)
-          (subst (λ n. IsMarked t zero_estimate (E ++ p ∷ []) (set marks (place_of now k) true ++ replicate n false)) as_many
-          (expanded_marks t zero_estimate E marks (place_of now k) f.kept.marked within_marks (open_now unmarked other)))
+          subst (λ xs. IsMarked t (hmax t) xs after.marks) (sym new_plans)
+          (subst (λ n. IsMarked t (hmax t) (E ++ p ∷ []) (set marks (place_of now k) true ++ replicate n false)) as_many
+          (expanded_marks t (hmax t) E marks (place_of now k) f.kept.marked within_marks (open_now unmarked other)))
 
       expanded_follows : Follows (earlier ++ o ∷ []) (entries ++ k ∷ []) (set marks (place_of now k) true ++ replicate (length e.children) false)
       expanded_follows = record {
@@ -560,9 +572,9 @@ module _ (t : Task) (entries0 : List Kid) (marks0 : List Bool) (kept0 : IsKept (
   one_follows earlier (Bounded k h) entries marks f free own room =
       let a = accepted (knows_parent before k) (is_posted before k) (is_marked before k || is_settled_by earlier k) (refusal_by before earlier (Bounded k h)) free in
       let closed = or_parts (is_marked before k) (is_settled_by earlier k) a.is_open in
+      let both = passes_both (has_state (node_of before k) h.state) (reaches (bound_of t old) (node_of before k) (estimated h.value)) BelowBound StateDiffers a.nothing in
       mark_follows earlier entries marks f k a.is_posted (Bounded k h) refl refl closed.0 closed.1
-      (bounded earlier entries marks f k a.is_posted h
-      (passes_both (has_state (node_of before k) h.state) (reaches (bound_of t old) (node_of before k) (estimated h.value)) BelowBound StateDiffers a.nothing).1)
+      (bounded earlier entries marks f k a.is_posted h own both.0 both.1)
 
   same_task : (o : Outcome) (entries : List Kid) (marks : List Bool) → settled (record { task = t; entries = entries; marks = marks }) o ≡ record { task = t; entries = (settled (record { task = t; entries = entries; marks = marks }) o).entries; marks = (settled (record { task = t; entries = entries; marks = marks }) o).marks }
   same_task (Expanded e) entries marks = refl
@@ -618,4 +630,4 @@ accepted_kept b outcomes kept own free room =
 
 -- a book without entries
 pub first_kept : (t : Task) → IsKept (record { task = t; entries = []; marks = false ∷ [] })
-first_kept t = record { named = refl; marked = none_marked t zero_estimate; short = omega arith }
+first_kept t = record { named = refl; marked = none_marked t (hmax t); short = omega arith }

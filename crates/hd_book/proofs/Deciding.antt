@@ -5,8 +5,10 @@ use Rattle.std.proofs.lemmas.List.Sums.{sum_by-cons, count_by-le-length}
 use Rattle.std.proofs.lemmas.List.Elements.{All-nil, All-cons}
 use Rattle.hd_task.specs.declared.task.Task.{Task}
 use Rattle.hd_task.specs.Expansions.{generated}
-use Rattle.hd_task.specs.Covers.{IsCovered, zero_estimate}
-use Rattle.hd_task.proofs.Optimal.{each_optimal, no_plan, zero_admissible, goal_plan_valid}
+use Rattle.hd_task.specs.Covers.{IsCovered}
+use Rattle.hd_hmax.specs.Rounds.{hmax}
+use Rattle.hd_task.proofs.Optimal.{each_optimal, no_plan, goal_plan_valid}
+use Rattle.hd_hmax.proofs.Admissible.{hmax_admissible}
 use Rattle.hd_book.specs.declared.content.Content.{Content}
 use Rattle.hd_book.specs.declared.verdict.Verdict.{Verdict}
 use Rattle.hd_book.specs.declared.verdict.Verdict.TheVariants.{Optimal, NoPlan, RangeLeft}
@@ -28,14 +30,14 @@ all_set (m ∷ marks) e =
       | false ↦ λ is. let none = ap (λ (b : Bool). let n : ℕ = cond b 1 0 in n) is in absurd (omega (arith, e, sum, none, few))
     ] refl
 
-pub covered_when_full : (c : Content) → IsHeld c → settled_count (state_of c) ≡ length (generated c.task.now (expansions (state_of c))) → IsCovered c.task.now zero_estimate (expansions (state_of c))
+pub covered_when_full : (c : Content) → IsHeld c → settled_count (state_of c) ≡ length (generated c.task.now (expansions (state_of c))) → IsCovered c.task.now (hmax c.task.now) (expansions (state_of c))
 covered_when_full c h e =
-    all_marked c.task.now zero_estimate (expansions (state_of c)) (state_of c).marks h.kept.marked (all_set (state_of c).marks (e ∙ sym h.kept.marked.one_each))
+    all_marked c.task.now (hmax c.task.now) (expansions (state_of c)) (state_of c).marks h.kept.marked (all_set (state_of c).marks (e ∙ sym h.kept.marked.one_each))
 
-pub answer_true : (t : Task) (expanded : List (List ℕ)) (v : Verdict) → IsCovered t zero_estimate expanded → IsAnswer t expanded v → IsTrueAnswer t v
+pub answer_true : (t : Task) (expanded : List (List ℕ)) (v : Verdict) → IsCovered t (hmax t) expanded → IsAnswer t expanded v → IsTrueAnswer t v
 answer_true t expanded (Optimal p) covered a =
-    each_optimal t zero_estimate (zero_admissible t) expanded a.0 covered a.1.cost a.1.bound p a.1.meets
+    each_optimal t (hmax t) (hmax_admissible t) expanded a.0 covered a.1.cost a.1.bound p a.1.meets
 answer_true t expanded NoPlan covered a =
-    no_plan t zero_estimate (zero_admissible t) expanded a.0 covered a.1
+    no_plan t (hmax t) (hmax_admissible t) expanded a.0 covered a.1
 answer_true t expanded (RangeLeft d None) covered a = tt
 answer_true t expanded (RangeLeft d (Some p)) covered a = (a.1.cost, goal_plan_valid t p a.1.cost a.1.meets)

@@ -4,7 +4,8 @@ use Rattle.std.specs.Prelude.{◌≡◌, ◌≢◌, ℕ, ◌<◌, Bool, ◌==◌
 use Rattle.hd_task.specs.declared.task.Task.{Task}
 use Rattle.hd_task.specs.Plans.{exec, IsValidAt}
 use Rattle.hd_task.specs.Expansions.{goal_cost, bound_of, departures_of}
-use Rattle.hd_task.specs.Covers.{IsCovered, zero_estimate}
+use Rattle.hd_task.specs.Covers.{IsCovered}
+use Rattle.hd_hmax.specs.Rounds.{hmax}
 use Rattle.hd_task.specs.Verdicts as said
 use Rattle.hd_book.specs.declared.verdict.Verdict.{Verdict}
 use Rattle.hd_book.specs.declared.verdict.Verdict.TheVariants.{Optimal, NoPlan, RangeLeft}
@@ -43,7 +44,7 @@ is_over b = settled_count b == posted_count b
 
 -- each plan that the entries of a book generate is expanded, or need not be
 abbrev pub IsCoveredBook : BookState → Type 0
-IsCoveredBook b = IsCovered b.task zero_estimate (expansions b)
+IsCoveredBook b = IsCovered b.task (hmax b.task) (expansions b)
 
 -- a plan is valid, if there is one
 abbrev pub IsValidPlan : Task → Option (List ℕ) → Type 0

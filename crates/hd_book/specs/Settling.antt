@@ -13,12 +13,12 @@ use Rattle.hd_task.specs.declared.plan.TheConstants.{ROOT_PARENT}
 use Rattle.hd_task.specs.Plans.{Node, exec, node}
 use Rattle.hd_task.specs.Expansions.{bound_of}
 use Rattle.hd_task.specs.Entries.{plan_of, plans_of}
-use Rattle.hd_task.specs.Covers.{zero_estimate}
+use Rattle.hd_hmax.specs.Rounds.{hmax}
 use Rattle.hd_node.specs.declared.batch.By.{By}
 use Rattle.hd_node.specs.declared.batch.By.TheVariants.{Entry, Here}
 use Rattle.hd_node.specs.declared.batch.Outcome.{Outcome}
 use Rattle.hd_node.specs.declared.batch.Outcome.TheVariants.{Expanded, Duplicate, Bounded}
-use Rattle.hd_node.specs.EstimateValue.{estimated}
+use Rattle.hd_hmax.specs.Value.{estimated}
 use Rattle.hd_node.specs.Outcome.{kid_of}
 use Rattle.hd_book.specs.declared.refusal.Refusal.{Refusal}
 use Rattle.hd_book.specs.declared.refusal.Refusal.TheVariants.{UnknownParent, NotAKid, SettledBefore, StateDiffers, NotDominated, BelowBound}
@@ -40,7 +40,7 @@ expansions b = unwrap_or (plans_of b.entries) []
 -- what every book keeps: its entries name the plans of a legal list, and each mark is justified
 pub record IsKept (b : BookState) : Type 0 where
   pub named : plans_of b.entries ≡ Some (expansions b)
-  pub marked : IsMarked b.task zero_estimate (expansions b) b.marks
+  pub marked : IsMarked b.task (hmax b.task) (expansions b) b.marks
   pub short : length b.entries < ROOT_PARENT
 
 -- ---- kids of a book

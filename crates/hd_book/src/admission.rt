@@ -5,13 +5,14 @@ ghost use Rattle.hd_node.specs.Outcome.{kid_of};
 ghost use Rattle.hd_book.specs.Settling.{expansions, knows_parent, is_posted, is_marked, node_of, node_by, same_state, dominates, reaches, refusal_by, is_settled_by, refusal_of, first_refusal};
 ghost use Rattle.hd_task.specs.Expansions.{is_applicable, bound_of};
 ghost use Rattle.hd_task.specs.declared.plan.Kid.{Kid};
-ghost use Rattle.hd_node.specs.EstimateValue.{estimated};
+ghost use Rattle.hd_hmax.specs.Value.{estimated};
 ghost use Rattle.hd_book.specs.Holding.{has, node_at, state_of, IsHeld};
 
 use crate::Refusal;
 use crate::content::Content;
 use crate::entry::{Best, Entry, Place};
-use hd_node::{By, EstimateValue, Outcome};
+use hd_hmax::EstimateValue;
+use hd_node::{By, Outcome};
 use hd_pack::{Layout, Led, Packed, leads, pack};
 use hd_task::{ActionId, Kid, NoMemory, ROOT_ACTION, ROOT_PARENT, Task};
 use hd_zobrist::Words;

@@ -1,7 +1,8 @@
 //! What the parts of a book answer.
 ghost use Rattle.std.specs.Prelude.{◌≡◌, ◌==◌, ◌<◌, ◌≤◌, ◌^◌, [], IsFalse, length, map, slice_get, slice_index_or, is_some, option_map, IfOk, IfSome};
 ghost use Rattle.hd_task.specs.Expansions.{generated};
-ghost use Rattle.hd_task.specs.Covers.{IsCovered, zero_estimate};
+ghost use Rattle.hd_task.specs.Covers.{IsCovered};
+ghost use Rattle.hd_hmax.specs.Rounds.{hmax};
 ghost use Rattle.hd_book.specs.Settling.{expansions, IsKept};
 ghost use Rattle.hd_book.specs.Holding.{kid_at, settled_count, state_of, IsHeld};
 ghost use Rattle.hd_book.specs.Answers.{IsAnswer, IsBoundPlanOf, IsTrueAnswer};
@@ -79,7 +80,8 @@ impl<'t> Content<'t> {
             == length (generated self.now.task.now (expansions (state_of self.now))))) }
         ensures kept { IsKept (state_of self.now) }
         ensures covered { IfOk result (λ v. IfSome v
-            (λ _. IsCovered self.now.task.now zero_estimate (expansions (state_of self.now)))) }
+            (λ _. IsCovered self.now.task.now (hmax self.now.task.now)
+            (expansions (state_of self.now)))) }
         ensures answer { IfOk result (λ v. IfSome v (IsAnswer self.now.task.now
             (expansions (state_of self.now)))) }
         ensures is_true { IfOk result (λ v. IfSome v (IsTrueAnswer self.now.task.now)) }

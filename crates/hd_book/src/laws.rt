@@ -6,7 +6,8 @@ ghost use Rattle.hd_task.specs.declared.plan.TheConstants.{ROOT_PARENT};
 ghost use Rattle.hd_task.specs.Plans.{exec};
 ghost use Rattle.hd_task.specs.Expansions.{generated, goal_cost, bound_of, departures_of};
 ghost use Rattle.hd_task.specs.Entries.{plan_of};
-ghost use Rattle.hd_task.specs.Covers.{IsCovered, zero_estimate};
+ghost use Rattle.hd_task.specs.Covers.{IsCovered};
+ghost use Rattle.hd_hmax.specs.Rounds.{hmax};
 ghost use Rattle.hd_task.specs.Verdicts.{IsTrueVerdict, Optimal, NoPlan};
 ghost use Rattle.hd_node.specs.declared.batch.Outcome.{Outcome};
 ghost use Rattle.hd_book.specs.Kids.{posted_by};
@@ -36,7 +37,7 @@ pub fn books_are_kept()
 /// A kept book in which all kids are marked is covered; where nothing departs, it has the last word.
 pub fn full_books_decide()
     ensures covered { (b : BookState)
-        → IsKept b → All (λ m. m ≡ true) b.marks → IsCovered b.task zero_estimate (expansions b) }
+        → IsKept b → All (λ m. m ≡ true) b.marks → IsCovered b.task (hmax b.task) (expansions b) }
     ensures optimal { (b : BookState) (c : ℕ) → IsKept b → All (λ m. m ≡ true) b.marks
         → departures_of b.task (expansions b) ≡ [] → bound_of b.task (expansions b) ≡ Some c
         → (p : List ℕ)

@@ -3,7 +3,8 @@ ghost use Rattle.std.specs.Prelude.{◌≡◌};
 ghost use Rattle.hd_hmax.specs.Value.{estimated};
 ghost use Rattle.hd_hmax.specs.Rounds.{hmax};
 
-use hd_task::{State, Task};
+use hd_pack::Packed;
+use hd_task::Task;
 use std::marker::Model;
 
 /// A lower bound on the cost from a state to the goal.
@@ -18,7 +19,7 @@ pub enum EstimateValue {
 #[derive(Debug, Drop)]
 pub struct Estimate<'t> {
     task: &'t Task,
-    state: State,
+    state: Packed,
     value: EstimateValue,
     // The value is that of the state.
     ghost estimates: { estimated value ≡ hmax task.now state },
@@ -43,7 +44,7 @@ impl<'t> Model for Estimate<'t> {
 
 impl<'t> Estimate<'t> {
     /// The estimate of a state, whose value is known.
-    pub fn of(task: &'t Task, state: State, value: EstimateValue) -> Estimate<'t>
+    pub fn of(task: &'t Task, state: Packed, value: EstimateValue) -> Estimate<'t>
         requires { estimated value ≡ hmax task.now state }
         ensures task { result.task ≡ task.now }
         ensures state { result.state ≡ state }
@@ -53,7 +54,7 @@ impl<'t> Estimate<'t> {
     }
 
     /// The state that it is of.
-    pub fn state(&self) -> &State
+    pub fn state(&self) -> &Packed
         ensures { result.now ≡ self.now.state }
     {
         &self.state

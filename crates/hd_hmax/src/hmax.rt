@@ -12,6 +12,7 @@ use crate::prices::prices_of;
 use crate::rounds::all_rounds;
 use crate::{Estimate, EstimateValue};
 use hd_base::NoMemory;
+use hd_pack::{Layout, Packed, pack};
 use hd_task::{Reads, State, Task};
 use std::alloc::Global;
 use std::marker::Model;
@@ -92,11 +93,30 @@ impl<'t> Hmax<'t> {
         value_of(self.costs.dearest(self.task.goal.literals.as_slice()))
     }
 
-    /// The estimate of a state, with a copy of the state.
+    /// The estimate of a state, which keeps the state packed.
+    ///
+    /// # Errors
+    /// `NoMemory` where there is no room for the packed state.
+    pub fn estimate(&mut self, alloc: Global, state: &State) -> Result<Estimate<'t>, NoMemory>
+        requires of_task { IsStateOf self.old.task state.now }
+        ensures of_task { IfOk result (λ e. e.task ≡ self.old.task) }
+        ensures of_state { IfOk result (λ e. e.state ≡ state.now) }
+        ensures task { self.new.task ≡ self.old.task }
+    {
+        let value = self.value(state);
+        let state = pack(alloc, &Layout::new(self.task), state)?;
+        Ok(Estimate::of(self.task, state, value))
+    }
+
+    /// The estimate of a packed state, with a copy of it.
     ///
     /// # Errors
     /// `NoMemory` where there is no room for the copy.
-    pub fn estimate(&mut self, alloc: Global, state: &State) -> Result<Estimate<'t>, NoMemory>
+    pub fn estimate_packed(
+        &mut self,
+        alloc: Global,
+        state: &Packed,
+    ) -> Result<Estimate<'t>, NoMemory>
         requires of_task { IsStateOf self.old.task state.now }
         ensures of_task { IfOk result (λ e. e.task ≡ self.old.task) }
         ensures of_state { IfOk result (λ e. e.state ≡ state.now) }

@@ -3,8 +3,9 @@ ghost use Rattle.std.specs.Prelude.{◌≡◌, ◌≤◌, length};
 ghost use Rattle.hd_node.specs.declared.batch.TheConstants.{MAX_OUTCOMES};
 ghost use Rattle.hd_node.specs.Outcome.{kid_of};
 
-use crate::{Estimate, Expansion};
+use crate::Expansion;
 use hd_base::Sequence;
+use hd_hmax::Estimate;
 use hd_task::Kid;
 
 /// The greatest number of outcomes in a batch.

@@ -4,7 +4,6 @@
 
 mod batch;
 mod child;
-mod estimate;
 mod expansion;
 mod exploring;
 mod hashed;
@@ -13,7 +12,6 @@ mod parcel;
 
 pub use batch::{Batch, By, MAX_OUTCOMES, Outcome};
 pub use child::Child;
-pub use estimate::{Estimate, EstimateValue};
 pub use expansion::{Expansion, ExpansionParts};
 pub use hashed::Hashed;
 pub use parcel::Parcel;

@@ -2,7 +2,8 @@
 use Rattle.std.specs.Prelude.{ℕ, List}
 use Rattle.hd_task.specs.declared.task.Task.{Task}
 use Rattle.hd_task.specs.Expansions.{IsLegal}
-use Rattle.hd_task.specs.Covers.{IsCovered, zero_estimate}
+use Rattle.hd_task.specs.Covers.{IsCovered}
+use Rattle.hd_hmax.specs.Rounds.{hmax}
 use Rattle.hd_book.specs.declared.verdict.Verdict.{Verdict}
 use Rattle.hd_book.specs.Answers as book
 
@@ -10,5 +11,5 @@ use Rattle.hd_book.specs.Answers as book
 pub record IsAnswer (t : Task) (v : Verdict) : Type 0 where
   pub expanded : List (List ℕ)
   pub legal : IsLegal t expanded
-  pub covered : IsCovered t zero_estimate expanded
+  pub covered : IsCovered t (hmax t) expanded
   pub answers : book.IsAnswer t expanded v

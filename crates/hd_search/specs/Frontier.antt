@@ -6,4 +6,4 @@ use Rattle.hd_search.specs.declared.frontier.Frontier.{Frontier}
 
 -- all of them are of a task
 abbrev pub IsOfTask : Task → Frontier → Type 0
-IsOfTask t f = (k : ℕ) → IfSome (get f.parcels k) (λ p. p.task ≡ t)
+IsOfTask t f = (k : ℕ) → IfSome (get f.parcels k) (λ w. w.parcel.task ≡ t)

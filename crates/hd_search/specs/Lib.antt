@@ -1,3 +1,5 @@
 pub mod Answer
+pub mod Expanding
 pub mod Frontier
+pub mod Judged
 pub mod Refused

@@ -26,9 +26,14 @@ impl Closed {
         }
     }
 
-    /// The entry that has a state, if one has.
-    pub fn find(&self, state: &Hashed) -> Option<Known> {
-        self.states.get(state).copied()
+    /// The entry that has a state at no greater cost, if one has.
+    pub fn dominating(&self, state: &Hashed, cost: u64) -> Option<u64> {
+        let known = self.states.get(state)?;
+        if known.cost <= cost {
+            Some(known.entry)
+        } else {
+            None
+        }
     }
 
     /// Closes a state.

@@ -4,13 +4,14 @@ ghost use Rattle.hd_book.specs.Answers.{IsTrueAnswer};
 ghost use Rattle.hd_search.specs.Answer.{IsAnswer};
 ghost use Rattle.hd_book.specs.Settling.{IsOf};
 ghost use Rattle.hd_book.specs.declared.refusal.Refusal.TheVariants as Refusal;
+ghost use Rattle.hd_search.specs.Expanding.{IsLookupOf};
 ghost use Rattle.hd_search.specs.Frontier.{IsOfTask};
 ghost use Rattle.hd_search.specs.Refused.{HasOut, IsOpen, Tells};
 
 use crate::closed::{Closed, Known};
 use crate::expanding::Expanding;
-use crate::frontier::Frontier;
-use crate::judging::{batch_of, closed_by, outcome_of};
+use crate::frontier::{Frontier, Waiting};
+use crate::judging::{Judged, batch_of, closed_by, judge};
 use hd_base::NoMemory;
 use hd_book::{Book, Redeemed, Refusal, Ticket, Verdict};
 use hd_node::{Outcome, Parcel};
@@ -54,7 +55,7 @@ fn commit_alone<'t>(
     }
 }
 
-/// Redeems a ticket that is out: what its batch releases waits from now on.
+/// Redeems a ticket that is out: what its batch releases waits from now on, by the total of the parcel that it comes from.
 ///
 /// # Errors
 /// `NoMemory` alone.
@@ -62,6 +63,7 @@ fn release<'t>(
     book: &mut Book<'t>,
     frontier: &mut Frontier<'t>,
     ticket: Ticket,
+    total: u128,
 ) -> Result<(), Refusal>
     requires waiting { IsOfTask book.old.state.task frontier.old }
     requires running { IsOpen book.old }
@@ -73,11 +75,11 @@ fn release<'t>(
 {
     let Redeemed::Released(receipt, parcels) = book.redeem(ticket)?;
     book.present(receipt)?;
-    frontier.push_all(parcels)?;
+    frontier.push_all(parcels, total)?;
     Ok(())
 }
 
-/// Settles a parcel: its outcome is committed alone, and the ticket redeemed.
+/// Goes on with a parcel that is taken: it waits on, or its outcome is committed alone and the ticket redeemed.
 fn settle<'t>(
     alloc: Global,
     task: &'t Task,
@@ -85,24 +87,30 @@ fn settle<'t>(
     frontier: &mut Frontier<'t>,
     closed: &mut Closed,
     expanding: &mut Expanding<'t>,
-    parcel: Parcel<'t>,
+    waiting: Waiting<'t>,
 ) -> Result<(), Refusal>
     requires task { book.old.state.task ≡ task.now }
     requires running { IsOpen book.old }
-    requires parcel { parcel.task ≡ task.now }
-    requires waiting { IsOfTask task.now frontier.old }
-    requires index { expanding.old.successors.task ≡ task.now }
+    requires parcel { waiting.parcel.task ≡ task.now }
+    requires frontier { IsOfTask task.now frontier.old }
+    requires lookup { IsLookupOf task.now expanding.old }
     ensures task { book.new.state.task ≡ task.now }
     ensures running { IsOpen book.new }
-    ensures waiting { OnOk result (IsOfTask task.now frontier.new) }
-    ensures index { expanding.new.successors.task ≡ task.now }
+    ensures frontier { OnOk result (IsOfTask task.now frontier.new) }
+    ensures lookup { IsLookupOf task.now expanding.new }
     ensures told { IfErr result (Tells task.now) }
 {
-    let cost = parcel.cost();
-    let outcome = outcome_of(alloc, task, closed, expanding, book.bound(), parcel)?;
+    let (cost, total) = (waiting.parcel.cost(), waiting.rank.total);
+    let outcome = match judge(alloc, task, closed, expanding, book.bound(), waiting)? {
+        Judged::Settled(outcome) => outcome,
+        Judged::Waits(waiting) => {
+            frontier.wait(waiting)?;
+            return Ok(());
+        }
+    };
     let state = closed_by(alloc, &outcome)?;
     let (entry, ticket) = commit_alone(alloc, book, outcome)?;
-    release(book, frontier, ticket)?;
+    release(book, frontier, ticket, total)?;
     if let Some(state) = state {
         closed.close(state, Known { entry, cost })?;
     }
@@ -111,8 +119,9 @@ fn settle<'t>(
 
 /// Searches a task to the end: the book of the whole search.
 ///
-/// The parcels that wait stand in one list. That of least cost is taken, the earliest of equal ones, and committed alone: as a
-/// duplicate, else as bounded, else expanded.
+/// The parcels that wait stand in one list. That of the least cost plus estimate (h-max) is taken, the earliest of equal ones,
+/// and committed alone: as a duplicate, else as bounded, else expanded. It is estimated when it is first taken, unless it is a
+/// duplicate: until then it waits by the cost plus estimate of the parcel that it comes from, which its own is never below.
 ///
 /// # Errors
 /// Why the book refuses, or `NoMemory`: `Full` only where as many plans are expanded as there may be entries, `Halted` and
@@ -126,9 +135,9 @@ pub fn searched<'t>(alloc: Global, task: &'t Task) -> Result<Book<'t>, Refusal>
     let mut frontier = Frontier::empty(alloc);
     let mut closed = Closed::empty(alloc);
     let mut expanding = Expanding::of(alloc, task)?;
-    frontier.push(root(alloc, task, &expanding.words)?)?;
+    frontier.push(root(alloc, task, &expanding.words)?, 0)?;
     for _turn in 0..u64::MAX {
-        let Some(parcel) = frontier.pop() else {
+        let Some(waiting) = frontier.pop() else {
             break;
         };
         settle(
@@ -138,7 +147,7 @@ pub fn searched<'t>(alloc: Global, task: &'t Task) -> Result<Book<'t>, Refusal>
             &mut frontier,
             &mut closed,
             &mut expanding,
-            parcel,
+            waiting,
         )?;
     }
     Ok(book)

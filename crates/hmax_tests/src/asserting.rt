@@ -2,8 +2,8 @@
 ghost use Rattle.std.specs.Prelude.{◌≡◌};
 ghost use Rattle.hd_task.specs.Plans.{IsStateOf};
 
-use hd_hmax::{EstimateValue, Hmax};
-use hd_pack::{Layout, pack};
+use hd_hmax::{Estimate, EstimateValue, Hmax};
+use hd_pack::{Layout, pack, unpack};
 use hd_task::{State, Task};
 use std::alloc::Global;
 use std::process::Abort;
@@ -33,8 +33,23 @@ fn assert_values(
     Ok(())
 }
 
-/// Asserts what the estimate of a state is, and that it keeps the state.
+/// Asserts what an estimate is, and that it keeps a state.
 fn assert_kept(
+    rt: &impl Abort,
+    alloc: Global,
+    task: &Task,
+    estimate: &Estimate,
+    state: &State,
+    wanted: EstimateValue,
+) -> Result<(), Fail> {
+    let kept = unpack(alloc, &Layout::new(task), estimate.state())?;
+    assert_eq!(rt; estimate.value(), wanted);
+    assert!(rt; kept == *state);
+    Ok(())
+}
+
+/// Asserts what the estimates of a state are, that of the state as it is and that of the packed one.
+fn assert_estimates(
     rt: &impl Abort,
     alloc: Global,
     task: &Task,
@@ -42,11 +57,12 @@ fn assert_kept(
     wanted: EstimateValue,
 ) -> Result<(), Fail> {
     assert_sizes(rt, task, state);
+    let packed = pack(alloc, &Layout::new(task), state)?;
     let mut hmax = Hmax::new(alloc, task)?;
-    let estimate = hmax.estimate(alloc, state)?;
-    assert_eq!(rt; estimate.value(), wanted);
-    assert!(rt; *estimate.state() == *state);
-    Ok(())
+    let plain = hmax.estimate(alloc, state)?;
+    assert_kept(rt, alloc, task, &plain, state, wanted)?;
+    let same = hmax.estimate_packed(alloc, &packed)?;
+    assert_kept(rt, alloc, task, &same, state, wanted)
 }
 
 /// Asserts what the estimate of a state is, however it is asked for.
@@ -58,5 +74,5 @@ pub fn assert_estimate(
     wanted: EstimateValue,
 ) -> Result<(), Fail> {
     assert_values(rt, alloc, task, state, wanted)?;
-    assert_kept(rt, alloc, task, state, wanted)
+    assert_estimates(rt, alloc, task, state, wanted)
 }

@@ -5,10 +5,10 @@ ghost use Rattle.hd_book.specs.Settling.{IsOf};
 
 use crate::outcomes::{Pair, ROOT, Row, batch_of};
 use crate::scripts::{
-    Comes, Line, Says, Script, assert_counts, assert_refused, assert_script, assert_spent,
-    assert_taken,
+    Comes, Line, Says, Script, assert_counts, assert_refused, assert_spent, assert_taken,
 };
-use crate::tasks::{counting, idle_actions, one_step, two_steps, two_ways};
+use crate::tasks::{idle_actions, two_steps};
+use crate::trials::{Trial, Which, assert_trial};
 use hd_book::{Book, Redeemed, Refusal};
 use hd_node::{Batch, By};
 use hd_task::{ROOT_PARENT, Task};
@@ -38,29 +38,9 @@ fn a_refusal_prints_its_number_and_name(rt: HostRuntime) -> Result<(), Fail> {
 
 // ---- the tasks of the scripts
 
-/// A task of the tests.
-#[derive(Clone, Copy)]
-enum Which {
-    TwoSteps,
-    OneStep,
-    /// It counts, from this number on.
-    Counting(i64),
-    TwoWays,
-}
-
-fn task_of(rt: &impl Abort, alloc: Global, which: Which) -> Result<Task, Fail> {
-    match which {
-        Which::TwoSteps => two_steps(rt, alloc),
-        Which::OneStep => one_step(rt, alloc),
-        Which::Counting(value) => counting(rt, alloc, value),
-        Which::TwoWays => two_ways(rt, alloc),
-    }
-}
-
-/// Makes a task and follows a script: a function that owns a task is dear to prove, so there is one.
+/// Follows a script with a task.
 fn assert_on(rt: &impl Abort, alloc: Global, which: Which, script: &Script) -> Result<(), Fail> {
-    let task = task_of(rt, alloc, which)?;
-    assert_script(rt, alloc, &task, script)
+    assert_trial(rt, alloc, which, Trial::Book(script))
 }
 
 /// As many entries as there are numbers for.
@@ -413,6 +393,115 @@ const SEVERAL: Script = Script {
 #[test]
 fn a_batch_settles_by_its_own_outcomes(rt: HostRuntime) -> Result<(), Fail> {
     assert_on(&rt, rt.alloc(), Which::TwoWays, &SEVERAL)
+}
+
+// ---- estimates
+
+/// The root of the task with two atoms.
+const ROOT_OF_ATOMS: Line = Line::Batch(
+    &[Row::Root],
+    Comes::Released(0, 1, &[((0, 0), 1), ((0, 1), 1)]),
+    [1, 3, 1, 1, 1],
+);
+
+/// b alone, at a cost of 1: it is estimated at 1.
+const B_ALONE: Row = Row::Bounded((0, 1), &[false, true]);
+
+/// The bound is 2, which the cost and the estimate of b alone reach and do not pass.
+const AT_THE_BOUND: Script = Script {
+    lines: &[
+        ROOT_OF_ATOMS,
+        Line::Refused(&[B_ALONE], Refusal::BelowBound),
+        Line::Batch(
+            &[TO_A],
+            Comes::Released(1, 2, &[((1, 1), 2)]),
+            [2, 4, 2, 2, 2],
+        ),
+        Line::Batch(
+            &[Row::Expanded((1, 1), &[true, true], 2)],
+            Comes::Released(2, 3, &[]),
+            [3, 4, 3, 3, 3],
+        ),
+        Line::Batch(&[B_ALONE], Comes::Released(3, 3, &[]), [3, 4, 4, 3, 4]),
+    ],
+    entries: &[ROOT, (0, 0), (1, 1)],
+    bound: Some(2),
+    says: Says::Optimal(&[0, 1]),
+    ..ALONE
+};
+
+#[test]
+fn a_kid_is_bounded_where_it_reaches_the_bound(rt: HostRuntime) -> Result<(), Fail> {
+    assert_on(&rt, rt.alloc(), Which::TwoAtoms, &AT_THE_BOUND)
+}
+
+/// The bound is 6: k at a cost of 1 is estimated at 2, m and k at a cost of 6 at 1.
+const BELOW_THE_BOUND: Script = Script {
+    lines: &[
+        ROOT_OF_WAYS,
+        DEAR,
+        Line::Batch(
+            &[Row::Expanded((1, 3), &[true, false, true], 6)],
+            Comes::Released(2, 3, &[((2, 1), 7), ((2, 3), 7)]),
+            [3, 7, 3, 3, 3],
+        ),
+        Line::Refused(
+            &[Row::Bounded((0, 1), &[false, true, false])],
+            Refusal::BelowBound,
+        ),
+        Line::Batch(
+            &[Row::Bounded((1, 1), &[true, true, false])],
+            Comes::Released(3, 3, &[]),
+            [3, 7, 4, 3, 4],
+        ),
+    ],
+    entries: &[ROOT, (0, 0), (1, 3)],
+    bound: Some(6),
+    ..ALONE
+};
+
+#[test]
+fn a_kid_below_the_bound_is_not_bounded(rt: HostRuntime) -> Result<(), Fail> {
+    assert_on(&rt, rt.alloc(), Which::TwoWays, &BELOW_THE_BOUND)
+}
+
+/// Without a there is no way to the goal, and no bound is asked for. The estimate of that state settles no other kid.
+const DEAD: Script = Script {
+    lines: &[
+        ROOT_OF_ATOMS,
+        Line::Refused(
+            &[Row::Bounded((0, 1), &[false, false])],
+            Refusal::StateDiffers,
+        ),
+        Line::Refused(&[Row::Bounded((0, 1), &[true, true])], Refusal::BelowBound),
+        Line::Batch(
+            &[Row::Bounded((0, 0), &[false, false])],
+            Comes::Released(1, 1, &[]),
+            [1, 3, 2, 1, 2],
+        ),
+    ],
+    ..ALONE
+};
+
+#[test]
+fn a_kid_without_a_way_to_the_goal_is_settled(rt: HostRuntime) -> Result<(), Fail> {
+    assert_on(&rt, rt.alloc(), Which::Trap, &DEAD)
+}
+
+const DEAD_ROOT: Script = Script {
+    lines: &[Line::Batch(
+        &[Row::Bounded(ROOT, &[false, false])],
+        Comes::Released(0, 0, &[]),
+        [0, 1, 1, 0, 1],
+    )],
+    entries: &[],
+    says: Says::NoPlan,
+    ..ALONE
+};
+
+#[test]
+fn a_root_without_a_way_to_the_goal_is_settled(rt: HostRuntime) -> Result<(), Fail> {
+    assert_on(&rt, rt.alloc(), Which::OneStep, &DEAD_ROOT)
 }
 
 // ---- the largest batch

@@ -1,7 +1,8 @@
 //! Expansions of a small task, and each public function of hd_node once on its happy path.
 use crate::outcomes::{Pair, ROOT, Row, batch_of, estimate, expansion, kid, parcel};
 use crate::tasks::{state, three_actions, two_steps};
-use hd_node::{Batch, By, Child, Estimate, EstimateValue, Expansion, Hashed, Parcel};
+use hd_hmax::{Estimate, EstimateValue};
+use hd_node::{Batch, By, Child, Expansion, Hashed, Parcel};
 use hd_pack::{Layout, Packed, pack};
 use hd_task::{DepartsBy, GoalTest, State, Task};
 use hd_zobrist::Words;
@@ -77,17 +78,17 @@ fn outcomes_name_their_kids(rt: HostRuntime) -> Result<(), Fail> {
     assert_batch(&rt, rt.alloc(), &task)
 }
 
-/// Asserts that an estimate is 0, and of a state.
-fn assert_zero(rt: &impl Abort, estimate: &Estimate, start: &Packed) {
-    assert!(rt; estimate.value() == EstimateValue::Cost(0));
+/// Asserts that an estimate is 2, and of a state.
+fn assert_two(rt: &impl Abort, estimate: &Estimate, start: &Packed) {
+    assert!(rt; estimate.value() == EstimateValue::Cost(2));
     assert!(rt; *estimate.state() == *start);
 }
 
-/// Asserts that the estimate of the state that a task starts in is 0.
+/// Asserts that the estimate of the state that a task starts in is 2.
 fn assert_estimate(rt: &impl Abort, alloc: Global, task: &Task) -> Result<(), Fail> {
     let start = packed(alloc, task, &task.initial)?;
     let estimate = estimate(rt, alloc, task, &task.initial)?;
-    assert_zero(rt, &estimate, &start);
+    assert_two(rt, &estimate, &start);
     Ok(())
 }
 

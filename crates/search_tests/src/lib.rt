@@ -1,5 +1,5 @@
-//! Tests of the libraries that searches stand on: hd_task, hd_zobrist, hd_pack, hd_successors, hd_node and
-//! hd_book.
+//! Tests of searches and of the libraries that they stand on: hd_task, hd_zobrist, hd_pack, hd_successors, hd_node,
+//! hd_book and hd_search.
 #![tactic(auto)]
 
 #[cfg(test)]
@@ -21,8 +21,12 @@ mod packing;
 #[cfg(test)]
 mod scripts;
 #[cfg(test)]
+mod searches;
+#[cfg(test)]
 mod stepping;
 #[cfg(test)]
 mod successors;
 #[cfg(test)]
 mod tasks;
+#[cfg(test)]
+mod trials;

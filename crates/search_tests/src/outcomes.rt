@@ -5,8 +5,8 @@ ghost use Rattle.hd_task.specs.Plans.{IsStateOf};
 ghost use Rattle.hd_book.specs.Settling.{IsOf};
 
 use crate::tasks::state;
-use hd_node::{Batch, By, Estimate, Expansion, MAX_OUTCOMES, Outcome, Parcel};
-use hd_pack::{Layout, pack};
+use hd_hmax::{Estimate, Hmax};
+use hd_node::{Batch, By, Expansion, MAX_OUTCOMES, Outcome, Parcel};
 use hd_successors::Successors;
 use hd_task::{Kid, ROOT_ACTION, ROOT_PARENT, State, Task};
 use hd_zobrist::Words;
@@ -115,7 +115,8 @@ pub fn estimate<'t>(
     ensures { IfOk result (λ h. h.task ≡ task.now) }
 {
     assert_sizes(rt, task, state);
-    Ok(Estimate::of(task, pack(alloc, &Layout::new(task), state)?))
+    let mut hmax = Hmax::new(alloc, task)?;
+    Ok(hmax.estimate(alloc, state)?)
 }
 
 /// The outcome of a row.

@@ -136,7 +136,7 @@ pub fn assert_counts(rt: &impl Abort, book: &Book, counted: Counted) {
     assert!(rt; counts.commits == counted[4]);
 }
 
-fn assert_entries(rt: &impl Abort, book: &Book, entries: &[Pair]) {
+pub fn assert_entries(rt: &impl Abort, book: &Book, entries: &[Pair]) {
     for (number, pair) in entries.iter().enumerate() {
         assert!(rt; book.entry(number as u64) == Some(kid(*pair)));
     }
@@ -161,7 +161,7 @@ fn is_said(verdict: &Option<Verdict>, says: Says) -> bool {
     }
 }
 
-fn assert_verdict(rt: &impl Abort, book: &Book, says: Says) -> Result<(), Fail> {
+pub fn assert_verdict(rt: &impl Abort, book: &Book, says: Says) -> Result<(), Fail> {
     let verdict = book.verdict()?;
     assert!(rt; is_said(&verdict, says));
     Ok(())

@@ -176,23 +176,15 @@ pub fn task_from(
     Ok(Task::new(names, atoms, fluents, initial, actions, goal, metric))
 }
 
-/// The names of a task's schemas and atoms, its atoms at first, the one that is its goal, and whether its actions say what
-/// they cost.
+/// The names of a task's schemas and atoms, its atoms at first, the literals that are its goal, and whether its actions say
+/// what they cost.
 #[derive(Clone, Copy)]
 struct Outline {
     schemas: &'static str,
     predicates: &'static str,
     atoms: &'static [bool],
-    goal: u32,
+    goal: &'static [Literal],
     metric: bool,
-}
-
-fn goal_of(alloc: Global, atom: u32) -> Result<Condition, Fail> {
-    let goal = Literal {
-        atom,
-        positive: true,
-    };
-    Ok(when(alloc, list(alloc, &[goal])?))
 }
 
 /// The task that its parts give, which the tests' parts always do.
@@ -208,7 +200,7 @@ fn task_of(
     fluents: &[i64],
     rows: &[Row],
 ) -> Result<Task, Fail> {
-    let goal = goal_of(alloc, outline.goal)?;
+    let goal = when(alloc, list(alloc, outline.goal)?);
     let initial = state(alloc, outline.atoms, fluents)?;
     let names = names(alloc, outline.schemas, outline.predicates)?;
     let actions = actions_of(alloc, rows)?;
@@ -228,6 +220,11 @@ const NOT_FIRST: Literal = Literal {
 
 const SECOND: Literal = Literal {
     atom: 1,
+    positive: true,
+};
+
+const THIRD: Literal = Literal {
+    atom: 2,
     positive: true,
 };
 
@@ -261,7 +258,7 @@ const TWO_STEPS: Outline = Outline {
     schemas: "set-a set-b",
     predicates: "a b",
     atoms: &[false, false],
-    goal: 1,
+    goal: &[SECOND],
     metric: false,
 };
 
@@ -338,7 +335,7 @@ const TWO_WAYS: Outline = Outline {
     schemas: "dear near join fin",
     predicates: "m k g",
     atoms: &[false, false, false],
-    goal: 2,
+    goal: &[THIRD],
     metric: true,
 };
 
@@ -346,6 +343,71 @@ const TWO_WAYS: Outline = Outline {
 /// reaches the goal.
 pub fn two_ways(rt: &impl Abort, alloc: Global) -> Result<Task, Fail> {
     task_of(rt, alloc, TWO_WAYS, &[], &[DEAR, NEAR, JOIN, FIN])
+}
+
+const PUT_B: Row = Row {
+    needs: &[NOT_SECOND],
+    adds: &[1],
+    ..IDLE
+};
+
+const TWO_ATOMS: Outline = Outline {
+    schemas: "put-a put-b",
+    goal: &[FIRST, SECOND],
+    ..TWO_STEPS
+};
+
+/// `put-a` makes a true where it is false, `put-b` makes b true where that is. Each costs 1, and the goal is both.
+pub fn two_atoms(rt: &impl Abort, alloc: Global) -> Result<Task, Fail> {
+    task_of(rt, alloc, TWO_ATOMS, &[], &[SET_A, PUT_B])
+}
+
+const LOSE: Row = Row {
+    needs: &[FIRST],
+    deletes: &[0],
+    ..IDLE
+};
+
+const TRAP: Outline = Outline {
+    schemas: "lose win",
+    atoms: &[true, false],
+    ..TWO_STEPS
+};
+
+/// a is true at first. `lose` needs a and makes it false; `win` needs a and makes b true. Each costs 1, and the goal is b: there
+/// is no way to it without a.
+pub fn trap(rt: &impl Abort, alloc: Global) -> Result<Task, Fail> {
+    task_of(rt, alloc, TRAP, &[], &[LOSE, SET_B])
+}
+
+const GET: Row = Row { adds: &[1], ..IDLE };
+
+const DROP: Row = Row {
+    needs: &[SECOND],
+    deletes: &[0],
+    ..IDLE
+};
+
+const GET_AND_DROP: Outline = Outline {
+    schemas: "get drop",
+    atoms: &[true, false],
+    goal: &[NOT_FIRST],
+    ..TWO_STEPS
+};
+
+/// a is true at first. `get` makes b true; `drop` needs b and makes a false. Each costs 1, and the goal is that a is false.
+pub fn get_and_drop(rt: &impl Abort, alloc: Global) -> Result<Task, Fail> {
+    task_of(rt, alloc, GET_AND_DROP, &[], &[GET, DROP])
+}
+
+const GET_ALONE: Outline = Outline {
+    schemas: "get",
+    ..GET_AND_DROP
+};
+
+/// The same without `drop`.
+pub fn get_alone(rt: &impl Abort, alloc: Global) -> Result<Task, Fail> {
+    task_of(rt, alloc, GET_ALONE, &[], &[GET])
 }
 
 const UP: Row = Row {
@@ -374,7 +436,7 @@ fn idle_rows(alloc: Global, count: u32) -> Result<Sequence<Action>, Fail> {
 
 /// So many actions that do nothing, each at a cost of 1; the goal is b, which nothing adds.
 pub fn idle_actions(rt: &impl Abort, alloc: Global, count: u32) -> Result<Task, Fail> {
-    let goal = goal_of(alloc, 1)?;
+    let goal = when(alloc, list(alloc, &[SECOND])?);
     let initial = state(alloc, &[false, false], &[])?;
     let names = names(alloc, "idle", "a b")?;
     let actions = idle_rows(alloc, count)?;

@@ -1,6 +1,7 @@
 use Rattle.std.proofs.Common.{sym, ap, subst, ◌∙◌}
 use Rattle.std.specs.Prelude.{IfSome, is_some}
-use Rattle.hd_task.specs.Covers.{IsCovered, zero_estimate}
+use Rattle.hd_task.specs.Covers.{IsCovered}
+use Rattle.hd_hmax.specs.Rounds.{hmax}
 use Rattle.hd_book.specs.Settling.{expansions}
 use Rattle.hd_book.specs.Answers as book
 use Rattle.hd_search.specs.Answer.{IsAnswer}
@@ -14,7 +15,7 @@ returns-in-Some-clause-answer c =
     (record {
       expanded = expansions s;
       legal = said.kept.marked.legal;
-      covered = subst (λ o. IfSome o (λ _. IsCovered s.task zero_estimate (expansions s))) c.in-Some.is said.covered;
+      covered = subst (λ o. IfSome o (λ _. IsCovered s.task (hmax s.task) (expansions s))) c.in-Some.is said.covered;
       answers = subst (λ o. IfSome o (book.IsAnswer s.task (expansions s))) c.in-Some.is said.answer;
     })
 

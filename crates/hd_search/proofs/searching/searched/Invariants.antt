@@ -1,4 +1,5 @@
 use Rattle.std.proofs.Common.{◌≡◌}
+use Rattle.hd_search.specs.Expanding.{IsLookupOf}
 use Rattle.hd_search.specs.Frontier.{IsOfTask}
 use Rattle.hd_search.specs.Refused.{IsOpen}
 use Rattle.hd_search.proofs.searching.searched.Given as goal
@@ -8,5 +9,5 @@ invariant-loop-turn l = record {
   same : l.book.state.task ≡ l.task;
   running : IsOpen l.book;
   waiting : IsOfTask l.task l.frontier;
-  index : l.expanding.successors.task ≡ l.task;
+  lookup : IsLookupOf l.task l.expanding;
 }
