@@ -12,12 +12,12 @@ use crate::Refusal;
 use crate::content::Content;
 use crate::entry::{Best, Entry, Place};
 use hd_hmax::EstimateValue;
+use hd_kids::KidTable;
 use hd_node::{By, Outcome};
 use hd_pack::{Layout, Led, Packed, leads, pack};
 use hd_task::{ActionId, Kid, NoMemory, ROOT_ACTION, ROOT_PARENT, Task};
 use hd_zobrist::Words;
 use std::alloc::Global;
-use std::collections::HashSet;
 
 /// Where an action leads from an entry, if it is applicable there.
 fn step_from(
@@ -88,7 +88,7 @@ impl<'t> Content<'t> {
             let state = pack(self.alloc, &Layout::new(self.task), &self.task.initial)?;
             return Ok(Some(Place { state, cost: 0 }));
         }
-        let parent = &self.entries[kid.parent as usize];
+        let parent = self.entries.at(kid.parent as usize);
         step_from(self.alloc, self.task, &self.words, parent, kid.action)
     }
 
@@ -168,55 +168,67 @@ impl<'t> Content<'t> {
         }
     }
 
-    /// Whether a posted kid is settled, by the book or among the kids that are seen.
-    fn is_settled(&self, seen: &HashSet<Kid>, kid: Kid) -> bool
-        requires held { IsHeld self.now }
-        requires posted { is_posted (state_of self.now) kid ≡ true }
-        ensures { result ≡ (is_marked (state_of self.now) kid || has seen.now.keys kid) }
-    {
-        self.settled.contains(&kid) || seen.contains(&kid)
-    }
-
-    /// Why an outcome is refused, where `seen` has the kids of the outcomes before it in its batch.
-    fn refusal_of(
-        &self,
-        seen: &HashSet<Kid>,
-        earlier: &[Outcome<'t>],
-        outcome: &Outcome<'t>,
-    ) -> Result<Option<Refusal>, NoMemory>
-        requires held { IsHeld self.now }
-        requires seen { (k : Kid) → has seen.now.keys k ≡ is_settled_by earlier.now k }
-        ensures { IfOk result (λ r. r ≡ refusal_of (state_of self.now) earlier.now outcome.now) }
+    /// Whether an outcome is right, where the kids of the outcomes before it in its batch are marked.
+    fn judged(&self, earlier: &[Outcome<'t>], outcome: &Outcome<'t>) -> Result<Judged, NoMemory>
+        requires read { IsRead self.now }
+        requires marked { self.now.kids.marks ≡ marks_after (before self.now) earlier.now }
+        ensures { IfOk result (λ j. j ≡ judged (before self.now) earlier.now outcome.now) }
     {
         let kid = outcome.kid();
         if !self.knows_parent(kid) {
-            return Ok(Some(Refusal::UnknownParent));
+            return Ok(Judged::Refused(Refusal::UnknownParent));
+        }
+        let Some(place) = self.kids.place_of(kid) else {
+            return Ok(Judged::Refused(Refusal::NotAKid));
+        };
+        if self.kids.is_settled(place) {
+            return Ok(Judged::Refused(Refusal::SettledBefore));
         }
         let Some(reached) = self.reach(kid)? else {
-            return Ok(Some(Refusal::NotAKid));
+            unreachable!();
         };
-        if self.is_settled(seen, kid) {
-            return Ok(Some(Refusal::SettledBefore));
+        match self.refusal_by(earlier, outcome, &reached) {
+            Some(refusal) => Ok(Judged::Refused(refusal)),
+            None => Ok(Judged::Right(place)),
         }
-        Ok(self.refusal_by(earlier, outcome, &reached))
     }
 
-    /// The first refusal of the outcomes of a batch.
-    pub(crate) fn first_refusal(
-        &self,
+    /// Marks the kids of outcomes, or tells why the first one that is not right is refused. Where it marks not all, it marks none.
+    pub(crate) fn mark_all(
+        &mut self,
         outcomes: &[Outcome<'t>],
-    ) -> Result<Option<Refusal>, NoMemory>
-        requires held { IsHeld self.now }
-        ensures { IfOk result (λ r. r ≡ first_refusal (state_of self.now) [] outcomes.now) }
-    {
-        let mut seen = HashSet::new(self.alloc);
-        for (place, outcome) in outcomes.iter().enumerate() {
-            let earlier = &outcomes[..place];
-            if let Some(refusal) = self.refusal_of(&seen, earlier, outcome)? {
-                return Ok(Some(refusal));
+    ) -> Result<Option<Refusal>, NoMemory> {
+        for (number, outcome) in outcomes.iter().enumerate() {
+            let earlier = &outcomes[..number];
+            match self.judged(earlier, outcome) {
+                Ok(Judged::Right(place)) => self.kids.settle(place),
+                Ok(Judged::Refused(refusal)) => {
+                    take_back(&mut self.kids, earlier);
+                    return Ok(Some(refusal));
+                }
+                Err(error) => {
+                    take_back(&mut self.kids, earlier);
+                    return Err(error);
+                }
             }
-            seen.insert(outcome.kid())?;
         }
         Ok(None)
+    }
+}
+
+/// What an outcome is.
+enum Judged {
+    /// Its kid stands at this place, and is not settled yet.
+    Right(usize),
+    /// It is refused.
+    Refused(Refusal),
+}
+
+/// Takes back the marks of the kids of outcomes.
+fn take_back(kids: &mut KidTable, outcomes: &[Outcome]) {
+    for outcome in outcomes {
+        if let Some(place) = kids.place_of(outcome.kid()) {
+            kids.reopen(place);
+        }
     }
 }

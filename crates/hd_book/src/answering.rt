@@ -25,8 +25,8 @@ impl<'t> Content<'t> {
     {
         Counts {
             entries: self.entries.len() as u64,
-            posted: self.posted,
-            settled: self.settled.len() as u64,
+            posted: self.kids.posted(),
+            settled: self.kids.settled(),
             acknowledged: self.entries.len() as u64,
             commits: self.tickets.len() as u64,
         }
@@ -39,11 +39,10 @@ impl<'t> Content<'t> {
         ensures { IfOk result (λ p. p ≡ slice_index_or (expansions (state_of self.now)) entry []) }
     {
         let mut actions = Vec::new(self.alloc);
-        let mut number = entry;
-        while self.entries[number].kid.parent != ROOT_PARENT {
-            let kid = self.entries[number].kid;
+        let mut kid = self.entries.at(entry).kid;
+        while kid.parent != ROOT_PARENT {
             actions.push(ActionId(kid.action))?;
-            number = kid.parent as usize;
+            kid = self.entries.at(kid.parent as usize).kid;
         }
         actions.reverse();
         Ok(Plan::from_vec(actions))

@@ -1,6 +1,7 @@
 //! The book of a search.
 use crate::content::Content;
 use crate::{Counts, Receipt, Redeemed, Refusal, Ticket, Verdict};
+use hd_kids::KidTable;
 use hd_node::Batch;
 use hd_task::{Kid, NoMemory, Task};
 use hd_zobrist::Words;
@@ -51,8 +52,9 @@ impl<'t> Book<'t> {
         ensures { IfOk result (λ b. b ≡ empty_book task.now most) }
     {
         let words = Words::new(alloc, task)?;
+        let kids = KidTable::new(alloc)?;
         Ok(Book {
-            content: Box::new(alloc, Content::new(alloc, task, words, most))?,
+            content: Box::new(alloc, Content::new(alloc, task, words, kids, most))?,
         })
     }
 

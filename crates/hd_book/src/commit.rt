@@ -10,13 +10,11 @@ ghost use Rattle.hd_book.specs.Refusing.{has_room, refusal_to, IsRefusalTo};
 ghost use Rattle.hd_book.specs.declared.refusal.Refusal.TheVariants as Refusal;
 
 use crate::content::Content;
-use crate::entry::{Entry, Outgoing};
-use crate::settling::{best_after, departure_after, enter, kids_of, push_reserved, settle};
+use crate::entry::Outgoing;
+use crate::settling::{best_after, departure_after, enter, kids_of};
 use crate::{Refusal, Ticket};
 use hd_node::{Batch, Outcome, Parcel};
-use hd_task::{Kid, NoMemory, Sequence};
-use std::alloc::Global;
-use std::collections::HashSet;
+use hd_task::{NoMemory, Sequence};
 
 /// How many outcomes are expansions.
 fn count_entries(outcomes: &[Outcome]) -> usize
@@ -32,51 +30,29 @@ fn count_entries(outcomes: &[Outcome]) -> usize
     count
 }
 
-/// Makes room for what outcomes add, and a `Vec` for the parcels of their kids.
-fn make_room<'t>(
-    alloc: Global,
-    entries: &mut Vec<Entry>,
-    tickets: &mut Vec<Option<Outgoing<'t>>>,
-    settled: &mut HashSet<Kid>,
-    outcomes: &[Outcome<'t>],
-) -> Result<Vec<Parcel<'t>>, Refusal>
-    requires fits { kids_in outcomes.now < 2 ^ 64 }
-    ensures entries { entries.new.items ≡ entries.old.items }
-    ensures tickets { tickets.new.items ≡ tickets.old.items }
-    ensures settled { OnErr result (settled.new.keys ≡ settled.old.keys) }
-    ensures reordered { OnOk result ((k : Kid) → has settled.new.keys k ≡ has settled.old.keys k) }
-    ensures err { IfErr result (λ r. r ≡ Refusal.NoMemory) }
-    ensures room_entries { OnOk result (vec_len entries.new +
-        length (flat_map entry_of outcomes.now) ≤ vec_capacity entries.new) }
-    ensures room_tickets { OnOk result (vec_len tickets.new < vec_capacity tickets.new) }
-    ensures room_settled { OnOk result (length outcomes.now ≤ spare settled.new) }
-    ensures parcels { IfOk result (λ ps.
-        (ps.items ≡ []) × (kids_in outcomes.now ≤ vec_capacity ps)) }
-{
-    entries.reserve(count_entries(outcomes))?;
-    tickets.reserve(1)?;
-    let parcels = Vec::with_capacity(alloc, kids_of(outcomes))?;
-    settled.reserve(outcomes.len())?;
-    Ok(parcels)
-}
-
 impl<'t> Content<'t> {
-    /// Why a batch of these outcomes is refused, memory aside.
-    fn refusal_to(&self, outcomes: &[Outcome<'t>]) -> Result<Option<Refusal>, NoMemory>
+    /// Why each batch of as many expansions is refused.
+    fn refusal_to_all(&self, outcomes: &[Outcome<'t>]) -> Option<Refusal>
         requires held { IsHeld self.now }
-        ensures answer { IfOk result (λ r. r ≡ refusal_to (view_of self.now) outcomes.now) }
-        // Memory is asked for only where the book is not halted and has room.
-        ensures asked { OnErr result ((self.now.halted ≡ false)
-            × (has_room (view_of self.now) outcomes.now ≡ true)) }
+        ensures { result ≡ refusal_to_all (view_of self.now) outcomes.now }
     {
         if self.halted {
-            return Ok(Some(Refusal::Halted));
+            return Some(Refusal::Halted);
         }
         let entries = self.entries.len() as u64;
         if entries.saturating_add(count_entries(outcomes) as u64) > self.most {
-            return Ok(Some(Refusal::Full));
+            return Some(Refusal::Full);
         }
-        self.first_refusal(outcomes)
+        None
+    }
+
+    /// Makes room for what outcomes add, and a `Vec` for the parcels of their kids.
+    fn make_room(&mut self, outcomes: &[Outcome<'t>]) -> Result<Vec<Parcel<'t>>, NoMemory> {
+        let (entries, kids) = (count_entries(outcomes), kids_of(outcomes));
+        self.entries.reserve(entries)?;
+        self.kids.reserve(entries, kids)?;
+        self.tickets.reserve(1)?;
+        Vec::with_capacity(self.alloc, kids)
     }
 
     /// Makes room for a batch of these outcomes, and a `Vec` for the parcels of their kids; or refuses it.
@@ -104,16 +80,14 @@ impl<'t> Content<'t> {
         ensures parcels { IfOk result (λ ps.
             (ps.items ≡ []) × (kids_in outcomes.now ≤ vec_capacity ps)) }
     {
-        if let Some(refusal) = self.refusal_to(outcomes)? {
+        if let Some(refusal) = self.refusal_to_all(outcomes) {
             return Err(refusal);
         }
-        make_room(
-            self.alloc,
-            &mut self.entries,
-            &mut self.tickets,
-            &mut self.settled,
-            outcomes,
-        )
+        let parcels = self.make_room(outcomes)?;
+        match self.mark_all(outcomes)? {
+            Some(refusal) => Err(refusal),
+            None => Ok(parcels),
+        }
     }
 
     /// Adds a batch that is not refused; there is room for it.
@@ -149,16 +123,20 @@ impl<'t> Content<'t> {
         let first = self.entries.len();
         self.best = best_after(self.best, first, &outcomes);
         self.departure = departure_after(self.departure, first, &outcomes);
-        settle(&mut self.settled, &outcomes);
-        enter(self.task, &mut self.entries, &mut parcels, outcomes);
-        self.posted = self.posted.saturating_add(parcels.len() as u64);
+        enter(
+            self.task,
+            &mut self.entries,
+            &mut self.kids,
+            &mut parcels,
+            outcomes,
+        );
         let number = self.tickets.len() as u64;
         let released = Outgoing {
             first: first as u64,
             end: self.entries.len() as u64,
             parcels: Sequence::from_vec(parcels),
         };
-        push_reserved(&mut self.tickets, Some(released));
+        self.tickets.push_reserved(Some(released));
         number
     }
 

@@ -1,9 +1,10 @@
 //! The parts of a book.
 use crate::entry::{Best, Entry, Outgoing};
-use hd_task::{Departure, Kid, Task};
+use hd_chunks::Chunks;
+use hd_kids::KidTable;
+use hd_task::{Departure, Task};
 use hd_zobrist::Words;
 use std::alloc::Global;
-use std::collections::HashSet;
 
 /// The parts of a book.
 #[derive(Debug, Drop)]
@@ -14,11 +15,9 @@ pub(crate) struct Content<'t> {
     pub(crate) words: Words,
     /// How many entries there may be.
     pub(crate) most: u64,
-    pub(crate) entries: Vec<Entry>,
-    /// The kids that are settled.
-    pub(crate) settled: HashSet<Kid>,
-    /// How many kids are posted.
-    pub(crate) posted: u64,
+    pub(crate) entries: Chunks<Entry>,
+    /// What the entries have posted, and what of it is settled.
+    pub(crate) kids: KidTable,
     pub(crate) best: Option<Best>,
     /// The first departure.
     pub(crate) departure: Option<Departure>,
@@ -31,12 +30,17 @@ impl<'t> Content<'t> {
     ghost use Rattle.std.specs.Prelude.{◌≡◌, [], None, false};
 
     /// The parts of a book without entries.
-    pub(crate) fn new(alloc: Global, task: &'t Task, words: Words, most: u64) -> Content<'t>
+    pub(crate) fn new(
+        alloc: Global,
+        task: &'t Task,
+        words: Words,
+        kids: KidTable,
+        most: u64,
+    ) -> Content<'t>
         ensures task { result.task.now ≡ task.now }
         ensures most { result.most ≡ most }
         ensures entries { result.entries.items ≡ [] }
-        ensures settled { result.settled.keys ≡ [] }
-        ensures posted { result.posted ≡ 1 }
+        ensures kids { result.kids ≡ kids }
         ensures best { result.best ≡ None }
         ensures departure { result.departure ≡ None }
         ensures tickets { result.tickets.items ≡ [] }
@@ -47,9 +51,8 @@ impl<'t> Content<'t> {
             alloc,
             words,
             most,
-            entries: Vec::new(alloc),
-            settled: HashSet::new(alloc),
-            posted: 1,
+            entries: Chunks::new(alloc),
+            kids,
             best: None,
             departure: None,
             tickets: Vec::new(alloc),

@@ -13,9 +13,10 @@ ghost use Rattle.hd_book.specs.Growing.{entered, entered_by, better, best_by, de
 
 use crate::content::Content;
 use crate::entry::{Best, Entry};
+use hd_chunks::Chunks;
+use hd_kids::KidTable;
 use hd_node::{Child, Expansion, Outcome, Parcel};
-use hd_task::{Departure, GoalTest, Kid, Task};
-use std::collections::HashSet;
+use hd_task::{Departure, GoalTest, Task};
 
 /// How many kids the expansions among outcomes have.
 pub(crate) fn kids_of(outcomes: &[Outcome]) -> usize
@@ -108,32 +109,6 @@ fn first_departure(expansion: &Expansion, entry: u64) -> Option<Departure>
     }
 }
 
-/// Adds the kids of outcomes to those that are settled.
-pub(crate) fn settle(settled: &mut HashSet<Kid>, outcomes: &[Outcome])
-    requires room { length outcomes.now ≤ spare settled.old }
-    ensures { (k : Kid) → has settled.new.keys k ≡ (has settled.old.keys k
-        || is_settled_by outcomes.now k) }
-{
-    for outcome in outcomes {
-        match settled.insert(outcome.kid()) {
-            Ok(_) => {}
-            Err(_) => unreachable!(),
-        }
-    }
-}
-
-/// Pushes to a `Vec` that has room.
-pub(crate) fn push_reserved<T: Drop>(items: &mut Vec<T>, item: T)
-    requires { vec_len items.old < vec_capacity items.old }
-    ensures items { items.new.items ≡ items.old.items ++ item ∷ [] }
-    ensures capacity { vec_capacity items.old ≤ vec_capacity items.new }
-{
-    match items.push(item) {
-        Ok(()) => {}
-        Err(_) => unreachable!(),
-    }
-}
-
 /// Pushes the kids of an entry as parcels.
 fn release<'t>(parcels: &mut Vec<Parcel<'t>>, task: &'t Task, entry: u64, children: Vec<Child>)
     requires room { vec_len parcels.old + length children.items ≤ vec_capacity parcels.old }
@@ -147,14 +122,32 @@ fn release<'t>(parcels: &mut Vec<Parcel<'t>>, task: &'t Task, entry: u64, childr
     ensures tasks { AllByRecursion (IsParcelOf task.now) parcels.new.items }
 {
     for child in children {
-        push_reserved(parcels, Parcel::of_child(task, entry, child));
+        parcels.push_reserved(Parcel::of_child(task, entry, child));
     }
 }
 
-/// Adds an expansion to the entries, and its kids to the parcels.
+/// Posts the children of an expansion, as the kids of an entry more.
+fn post(kids: &mut KidTable, children: &[Child])
+    requires entry_room { 0 < kids.old.entry_room }
+    requires kid_room { length children.now ≤ kids.old.kid_room }
+    requires few { kids.old.entries < ROOT_PARENT }
+    requires rising { AllPairs (λ (c d : ChildView). c.action < d.action) children.now }
+    ensures kids { kids.new.kids ≡ kids.old.kids
+        ++ kids_of kids.old.entries (map (λ (c : ChildView). c.action) children.now) }
+    ensures marks { kids.new.marks ≡ kids.old.marks ++ replicate (length children.now) false }
+    ensures entries { kids.new.entries ≡ kids.old.entries + 1 }
+{
+    kids.enter();
+    for child in children {
+        kids.post(child.action());
+    }
+}
+
+/// Adds an expansion to the entries, posts its kids, and adds them to the parcels.
 fn enter_expansion<'t>(
     task: &'t Task,
-    entries: &mut Vec<Entry>,
+    entries: &mut Chunks<Entry>,
+    kids: &mut KidTable,
     parcels: &mut Vec<Parcel<'t>>,
     expansion: Expansion<'t>,
 )
@@ -177,21 +170,20 @@ fn enter_expansion<'t>(
 {
     let parts = expansion.into_parts();
     let entry = entries.len() as u64;
+    post(kids, parts.children.as_slice());
     release(parcels, task, entry, parts.children.into_vec());
-    push_reserved(
-        entries,
-        Entry {
-            kid: parts.kid,
-            state: parts.state,
-            cost: parts.cost,
-        },
-    );
+    entries.push(Entry {
+        kid: parts.kid,
+        state: parts.state,
+        cost: parts.cost,
+    });
 }
 
 /// Adds an outcome to the entries, if it is an expansion, and its kids to the parcels.
 fn enter_outcome<'t>(
     task: &'t Task,
-    entries: &mut Vec<Entry>,
+    entries: &mut Chunks<Entry>,
+    kids: &mut KidTable,
     parcels: &mut Vec<Parcel<'t>>,
     outcome: Outcome<'t>,
 )
@@ -209,7 +201,7 @@ fn enter_outcome<'t>(
     ensures tasks { AllByRecursion (IsParcelOf task.now) parcels.new.items }
 {
     match outcome {
-        Outcome::Expanded(expansion) => enter_expansion(task, entries, parcels, expansion),
+        Outcome::Expanded(expansion) => enter_expansion(task, entries, kids, parcels, expansion),
         Outcome::Duplicate(_, _) => {}
         Outcome::Bounded(_, _) => {}
     }
@@ -218,7 +210,8 @@ fn enter_outcome<'t>(
 /// Adds the expansions among outcomes of a task to the entries, and their kids to the parcels.
 pub(crate) fn enter<'t>(
     task: &'t Task,
-    entries: &mut Vec<Entry>,
+    entries: &mut Chunks<Entry>,
+    kids: &mut KidTable,
     parcels: &mut Vec<Parcel<'t>>,
     outcomes: Vec<Outcome<'t>>,
 )
@@ -234,6 +227,6 @@ pub(crate) fn enter<'t>(
     ensures tasks { AllByRecursion (IsParcelOf task.now) parcels.new.items }
 {
     for outcome in outcomes {
-        enter_outcome(task, entries, parcels, outcome);
+        enter_outcome(task, entries, kids, parcels, outcome);
     }
 }
