@@ -1,5 +1,5 @@
 -- Counts of what slots hold, by groups. (Our own.)
-use Rattle.std.specs.Prelude.{◌≡◌, ℕ, ◌+◌, ◌*◌, ◌/◌, ◌<◌, ◌≤◌, List, Option, length, take, sum, slice_index}
+use Rattle.std.specs.Prelude.{◌≡◌, ℕ, ◌+◌, ◌*◌, ◌/◌, ◌^◌, ◌<◌, ◌≤◌, List, Option, length, take, sum, slice_index}
 use Rattle.hd_open.specs.declared.counts.Counts.{Counts}
 use Rattle.hd_open.specs.declared.counts.TheConstants.{GROUP}
 use Rattle.hd_open.specs.Live.{live, place_at}
@@ -44,10 +44,10 @@ pub record AreRaised (c d : Counts) (arrival : ℕ) : Type 0 where
 
 -- one more can be counted anywhere
 pub record AreBelowLimit (c : Counts) : Type 0 where
-  pub fine : (i : ℕ) → slice_index c.fine.items i < usize.MAX
-  pub middle : (i : ℕ) → slice_index c.middle.items i < usize.MAX
-  pub coarse : (i : ℕ) → slice_index c.coarse.items i < usize.MAX
-  pub all : c.all < usize.MAX
+  pub fine : (i : ℕ) → slice_index c.fine.items i + 1 < 2 ^ 64
+  pub middle : (i : ℕ) → slice_index c.middle.items i + 1 < 2 ^ 64
+  pub coarse : (i : ℕ) → slice_index c.coarse.items i + 1 < 2 ^ 64
+  pub all : c.all + 1 < 2 ^ 64
 
 -- one less can be counted at an arrival
 pub record AreSome (c : Counts) (arrival : ℕ) : Type 0 where

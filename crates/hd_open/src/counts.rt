@@ -1,5 +1,5 @@
 //! How many slots hold a node, counted by groups, so that a place is found without going through all of them.
-ghost use Rattle.std.specs.Prelude.{◌≡◌, ◌+◌, ◌*◌, ◌/◌, ◌<◌, ◌≤◌, ℕ, length, sum, take, slice_index, OnOk};
+ghost use Rattle.std.specs.Prelude.{◌≡◌, ◌+◌, ◌*◌, ◌^◌, ◌<◌, ◌≤◌, ℕ, length, sum, take, slice_index, OnOk};
 ghost use Rattle.hd_open.specs.Counts.{IsRaised, AreRaised, AreSame, AreSome, AreBelowLimit, IsCovering, HasRoom};
 
 use hd_base::NoMemory;
@@ -35,7 +35,7 @@ fn cover_place(counts: &mut Vec<usize>, place: usize) -> Result<(), NoMemory>
 /// Counts one more at a place.
 fn raise_place(counts: &mut Vec<usize>, place: usize)
     requires within { place < length counts.old.items }
-    requires fits { slice_index counts.old.items place < usize.MAX }
+    requires fits { slice_index counts.old.items place + 1 < 2 ^ 64 }
     ensures raised { IsRaised counts.old.items counts.new.items place }
     ensures len { length counts.new.items ≡ length counts.old.items }
 {
@@ -56,7 +56,7 @@ fn lower_place(counts: &mut Vec<usize>, place: usize)
 pub(crate) fn sum_between(counts: &[usize], from: usize, to: usize) -> usize
     requires order { from ≤ to }
     requires within { to ≤ length counts.now }
-    requires fits { sum counts.now ≤ usize.MAX }
+    requires fits { (m : ℕ) → sum (take m counts.now) < 2 ^ 64 }
     ensures { sum (take from counts.now) + result ≡ sum (take to counts.now) }
 {
     let mut total = 0;

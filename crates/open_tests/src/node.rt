@@ -17,7 +17,7 @@ impl Waits for Node {
 }
 
 /// A node with a total.
-pub fn node(name: u64, sum: u128) -> Node {
+pub fn node_of(name: u64, sum: u128) -> Node {
     Node {
         name,
         sum: Some(sum),

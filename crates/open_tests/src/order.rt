@@ -1,5 +1,5 @@
 //! Tests of which node is the best one.
-use crate::node::{Node, dead, node};
+use crate::node::{Node, dead, node_of};
 use hd_open::OpenList;
 use std::alloc::{AllocError, Global};
 use std::test::Fail;
@@ -35,14 +35,14 @@ fn comes_as(list: &mut OpenList<Node>, place: usize, names: &[u64]) -> bool {
 
 #[test]
 fn the_least_total_comes_first(rt: HostRuntime) -> Result<(), Fail> {
-    let mut list = list_of(rt.alloc(), &[node(0, 9), node(1, 3), node(2, 7), node(3, 4)])?;
+    let mut list = list_of(rt.alloc(), &[node_of(0, 9), node_of(1, 3), node_of(2, 7), node_of(3, 4)])?;
     assert!(rt; comes_as(&mut list, 1, &[1, 3, 2, 0]));
     Ok(())
 }
 
 #[test]
 fn of_equal_totals_the_earliest_comes_first(rt: HostRuntime) -> Result<(), Fail> {
-    let mut list = list_of(rt.alloc(), &[node(0, 5), node(1, 4), node(2, 5), node(3, 4)])?;
+    let mut list = list_of(rt.alloc(), &[node_of(0, 5), node_of(1, 4), node_of(2, 5), node_of(3, 4)])?;
     assert!(rt; comes_as(&mut list, 1, &[1, 3, 0, 2]));
     Ok(())
 }
@@ -51,7 +51,7 @@ fn of_equal_totals_the_earliest_comes_first(rt: HostRuntime) -> Result<(), Fail>
 fn nodes_without_a_total_come_last(rt: HostRuntime) -> Result<(), Fail> {
     let mut list = list_of(
         rt.alloc(),
-        &[dead(0), node(1, u128::MAX), dead(2), node(3, 0)],
+        &[dead(0), node_of(1, u128::MAX), dead(2), node_of(3, 0)],
     )?;
     assert!(rt; comes_as(&mut list, 3, &[3, 1, 0, 2]));
     Ok(())
@@ -67,8 +67,8 @@ fn an_empty_list_has_no_best_node(rt: HostRuntime) -> Result<(), Fail> {
 
 #[test]
 fn the_best_node_stays_when_it_is_asked_for(rt: HostRuntime) -> Result<(), Fail> {
-    let mut list = list_of(rt.alloc(), &[node(0, 2), node(1, 1)])?;
+    let mut list = list_of(rt.alloc(), &[node_of(0, 2), node_of(1, 1)])?;
     assert!(rt; list.best() == Some(1) && list.best() == Some(1) && list.len() == 2);
-    assert!(rt; list.get(1) == Some(&node(1, 1)));
+    assert!(rt; list.get(1) == Some(&node_of(1, 1)));
     Ok(())
 }

@@ -1,5 +1,5 @@
 //! Tests of places in the order of arrival.
-use crate::node::{Node, node};
+use crate::node::{Node, node_of};
 use hd_open::OpenList;
 use std::alloc::{AllocError, Global};
 use std::test::Fail;
@@ -8,7 +8,7 @@ use std::test::Fail;
 fn falling(alloc: Global, count: u64) -> Result<OpenList<Node>, Fail> {
     let mut list = OpenList::empty(alloc);
     for name in 0..count {
-        if list.push(node(name, u128::from(u64::MAX - name))).is_err() {
+        if list.push(node_of(name, u128::from(u64::MAX - name))).is_err() {
             return Err(AllocError.into());
         }
     }
@@ -33,7 +33,7 @@ fn lift(list: &mut OpenList<Node>, place: usize) -> Option<Node> {
 #[test]
 fn places_are_counted_without_those_that_left(rt: HostRuntime) -> Result<(), Fail> {
     let mut list = falling(rt.alloc(), 5)?;
-    assert!(rt; list.remove(1) == Some(node(1, u128::from(u64::MAX - 1))) && list.len() == 4);
+    assert!(rt; list.remove(1) == Some(node_of(1, u128::from(u64::MAX - 1))) && list.len() == 4);
     assert!(rt; name_at(&list, 0) == Some(0) && name_at(&list, 1) == Some(2));
     assert!(rt; name_at(&list, 3) == Some(4) && name_at(&list, 4) == None);
     assert!(rt; list.remove(4) == None && list.best() == Some(3));
@@ -43,10 +43,10 @@ fn places_are_counted_without_those_that_left(rt: HostRuntime) -> Result<(), Fai
 #[test]
 fn a_node_is_put_back_at_its_place(rt: HostRuntime) -> Result<(), Fail> {
     let mut list = falling(rt.alloc(), 5)?;
-    assert!(rt; lift(&mut list, 2) == Some(node(2, u128::from(u64::MAX - 2))));
+    assert!(rt; lift(&mut list, 2) == Some(node_of(2, u128::from(u64::MAX - 2))));
     assert!(rt; list.len() == 5 && name_at(&list, 2) == Some(2) && list.best() == Some(4));
     let taken = list.take_best();
-    assert!(rt; taken == Some(node(4, u128::from(u64::MAX - 4))) && list.best() == Some(3));
+    assert!(rt; taken == Some(node_of(4, u128::from(u64::MAX - 4))) && list.best() == Some(3));
     Ok(())
 }
 
