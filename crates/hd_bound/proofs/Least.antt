@@ -48,7 +48,7 @@ module _ (start : ℕ) where
       ap (λ xs. least (least (least_offered start views) w.offers) xs) (sym same) ∙ least_comm (least_offered start views) w.offers u.offers
   least_offered-set (u ∷ views) (suc seat) v w at =
       least_comm (least_offered start (set views seat w)) u.offers v.offers
-          ∙ (ap (λ n. least n u.offers) (least_offered-set views seat v w at) ∙ least_comm (least_offered start views) w.offers u.offers)
+      ∙ (ap (λ n. least n u.offers) (least_offered-set views seat v w at) ∙ least_comm (least_offered start views) w.offers u.offers)
 
   -- a seat that has offered nothing, behind the others
   pub least_offered-push : (views : List Offers) (w : Offers) → w.offers ≡ [] → least_offered start (views ++ w ∷ []) ≡ least_offered start views

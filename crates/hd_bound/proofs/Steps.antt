@@ -25,11 +25,11 @@ least_after_offer start views seat v w cost at is =
     let after : ℕ = least_offered start (set views seat w) in
     let here : get_elem? (set views seat w) seat ≡ some w = set_here views seat w (get_elem-within views seat v at).0 in
     let swap : least after v.offers ≡ min cost before =
-        least_offered-set start views seat v w at
-            ∙ (ap (least before) is ∙ (least-append before v.offers (cost ∷ []) ∙ (least-min cost before v.offers ∙ ap (min cost) (least_offered_has start views seat v at)))) in
+    least_offered-set start views seat v w at
+    ∙ (ap (least before) is ∙ (least-append before v.offers (cost ∷ []) ∙ (least-min cost before v.offers ∙ ap (min cost) (least_offered_has start views seat v at)))) in
     let has : min cost (least after v.offers) ≡ after =
-        sym (least-min cost after v.offers)
-            ∙ (sym (least-append after v.offers (cost ∷ [])) ∙ (ap (least after) (sym is) ∙ least_offered_has start (set views seat w) seat w here)) in
+    sym (least-min cost after v.offers)
+    ∙ (sym (least-append after v.offers (cost ∷ [])) ∙ (ap (least after) (sym is) ∙ least_offered_has start (set views seat w) seat w here)) in
     omega arith
 
 -- a seat has offered nothing more
@@ -42,7 +42,7 @@ least_after_look start views seat v w at is =
     let after : ℕ = least_offered start (set views seat w) in
     let here : get_elem? (set views seat w) seat ≡ some w = set_here views seat w (get_elem-within views seat v at).0 in
     sym (least_offered_has start (set views seat w) seat w here)
-        ∙ (ap (least after) is ∙ (least_offered-set start views seat v w at ∙ (ap (least before) is ∙ least_offered_has start views seat v at)))
+    ∙ (ap (least after) is ∙ (least_offered-set start views seat v w at ∙ (ap (least before) is ∙ least_offered_has start views seat v at)))
 
 -- a seat has taken in what another offered
 least_after_join :
@@ -56,15 +56,15 @@ least_after_join start views seat other v w both spent at apart there is none_le
     let new : ℕ = least_offered start (set (set views seat both) other spent) in
     let before : get_elem? views other ≡ some w = sym (set_else views seat other both apart) ∙ there in
     let here : get_elem? (set (set views seat both) other spent) seat ≡ some both =
-        set_else (set views seat both) other seat spent (λ e. apart (sym e)) ∙ set_here views seat both (get_elem-within views seat v at).0 in
+    set_else (set views seat both) other seat spent (λ e. apart (sym e)) ∙ set_here views seat both (get_elem-within views seat v at).0 in
     let first : least mid v.offers ≡ old =
-        least_offered-set start views seat v both at
-            ∙ (ap (least old) is
-            ∙ (least-append old v.offers w.offers
-            ∙ (ap (λ n. least n v.offers) (least_offered_has start views other w before) ∙ least_offered_has start views seat v at))) in
+    least_offered-set start views seat v both at
+    ∙ (ap (least old) is
+    ∙ (least-append old v.offers w.offers
+    ∙ (ap (λ n. least n v.offers) (least_offered_has start views other w before) ∙ least_offered_has start views seat v at))) in
     let second : least new w.offers ≡ mid = least_offered-set start (set views seat both) other w spent there ∙ ap (least mid) none_left in
     let has : least (least new w.offers) v.offers ≡ new =
-        sym (least-append new v.offers w.offers) ∙ (ap (least new) (sym is) ∙ least_offered_has start (set (set views seat both) other spent) seat both here) in
+    sym (least-append new v.offers w.offers) ∙ (ap (least new) (sym is) ∙ least_offered_has start (set (set views seat both) other spent) seat both here) in
     sym has ∙ (ap (λ n. least n v.offers) second ∙ first)
 
 -- ---- what seats know, after a step
@@ -199,8 +199,8 @@ settles start seat v s n k at all read =
     let whole = k.whole in
     let left : parts_in others ≡ 0 = omega arith in
     let idle : (j : ℕ) (u : Offers) → get_elem? others j ≡ some u → u.offers ≡ [] =
-        λ j u there. ⊎_elim (λ here. ap (λ (x : Offers). x.offers) (sym here.1))
-            (λ else. (k.seats j u else.1).idle (sum_by_zero (λ (x : Offers). x.parts) others j u left there)) (at_set s.views seat j nothing u there) in
+    λ j u there. ⊎_elim (λ here. ap (λ (x : Offers). x.offers) (sym here.1))
+    (λ else. (k.seats j u else.1).idle (sum_by_zero (λ (x : Offers). x.parts) others j u left there)) (at_set s.views seat j nothing u there) in
     let found : n ≡ least_offered start s.views =
-        some-injective n (least_offered start s.views) (sym read ∙ ap (λ (ws : List ℕ). get_elem? ws 0) k.word) in
+    some-injective n (least_offered start s.views) (sym read ∙ ap (λ (ws : List ℕ). get_elem? ws 0) k.word) in
     found ∙ (sym (least_offered-set start s.views seat v nothing at) ∙ ap (λ m. least m v.offers) (least_offered_none start others idle))

@@ -2,7 +2,7 @@
 ghost use Rattle.std.specs.Prelude.{◌≡◌, ◌+◌, ◌≤◌, ◌<◌, ◌++◌, [], ◌∷◌, IfOk};
 ghost use Rattle.hd_bound.specs.Bound.{bound_in, word_of, least, less_part, one_part};
 
-use crate::rule::{ALL_PARTS, NO_BOUND, Least, Loaded, Offered, Offers, Part};
+use crate::rule::{ALL_PARTS, Least, Loaded, NO_BOUND, Offered, Offers, Part};
 use atomic_table::{Seat, Table};
 use hd_base::NoMemory;
 use std::alloc::Global;

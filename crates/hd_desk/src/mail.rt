@@ -58,8 +58,8 @@ impl<K, T: Sent<K>> Mailboxes<K, T> {
         requires of { IsFor self.now hands.old }
         requires to { to < length self.now }
         requires fits { T.of item ≡ hands.old.of }
-        ensures put { OnOk result (hands.new ≡ put_into to item.entry hands.old) }
-        ensures back { IfErr result (λ x. x ≡ item.entry) }
+        ensures put { OnOk result (hands.new ≡ put_into to item hands.old) }
+        ensures back { IfErr result (λ x. x ≡ item) }
         ensures err { OnErr result (hands.new ≡ hands.old) }
     {
         let pass = &mut hands.passes[to];

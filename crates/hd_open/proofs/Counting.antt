@@ -76,13 +76,13 @@ module _ {A : Type 0} where
   all_middle slots c k =
       let covers = k.covering.middle in
       sym (sum_all c.middle.items (length c.middle.items) (omega arith))
-          ∙ (k.middle (length c.middle.items) ∙ (sum_all c.fine.items (32 * length c.middle.items) covers ∙ all_fine slots c k))
+      ∙ (k.middle (length c.middle.items) ∙ (sum_all c.fine.items (32 * length c.middle.items) covers ∙ all_fine slots c k))
 
   pub all_coarse : (slots : List (Option A)) (c : Counts) → AreCounts slots c → sum c.coarse.items ≡ length (live slots)
   all_coarse slots c k =
       let covers = k.covering.coarse in
       sym (sum_all c.coarse.items (length c.coarse.items) (omega arith))
-          ∙ (k.coarse (length c.coarse.items) ∙ (sum_all c.middle.items (32 * length c.coarse.items) covers ∙ all_middle slots c k))
+      ∙ (k.coarse (length c.coarse.items) ∙ (sum_all c.middle.items (32 * length c.coarse.items) covers ∙ all_middle slots c k))
 
   -- a count where a node stands is no nought
   pub some_counted : (slots : List (Option A)) (c : Counts) (i : ℕ) (x : A) → AreCounts slots c → slice_get slots i ≡ Some (Some x) → AreSome c i

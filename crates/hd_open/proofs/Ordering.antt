@@ -23,7 +23,7 @@ nat_cmp_not_greater a b no =
       | inl same ↦ omega arith
       | inr other ↦ elim other [
         | inl less ↦ omega arith
-        | inr more ↦ (let is : is_gt Greater ≡ false = subst (λ o. is_gt o ≡ false) (nat_cmp_greater a b more) no in absurd (cc))
+        | inr more ↦ (let is : is_gt Greater ≡ false = subst (λ (o : Ordering). is_gt o ≡ false) (nat_cmp_greater a b more) no in absurd (cc))
       ]
     ]
 
@@ -32,27 +32,27 @@ nat_cmp_same a b yes =
     elim (cases_order a b) [
       | inl same ↦ same
       | inr other ↦ elim other [
-        | inl less ↦ (let is : is_eq Less ≡ true = subst (λ o. is_eq o ≡ true) (nat_cmp_less a b less) yes in absurd (cc))
-        | inr more ↦ (let is : is_eq Greater ≡ true = subst (λ o. is_eq o ≡ true) (nat_cmp_greater a b more) yes in absurd (cc))
+        | inl less ↦ (let is : is_eq Less ≡ true = subst (λ (o : Ordering). is_eq o ≡ true) (nat_cmp_less a b less) yes in absurd (cc))
+        | inr more ↦ (let is : is_eq Greater ≡ true = subst (λ (o : Ordering). is_eq o ≡ true) (nat_cmp_greater a b more) yes in absurd (cc))
       ]
     ]
 
 pub entry_cmp_not_greater : (t a u b : ℕ) → is_gt (entry_cmp (t, a) (u, b)) ≡ false → IsNotAfter (Some t) a (Some u) b
 entry_cmp_not_greater t a u b no =
     elim (cases_order t u) [
-      | inl same ↦ (let is : is_gt (nat_cmp a b) ≡ false = subst (λ o. is_gt (ordering_then o (nat_cmp a b)) ≡ false) (nat_cmp_equal t u same) no in inr (ap Some same, nat_cmp_not_greater a b is))
+      | inl same ↦ (let is : is_gt (nat_cmp a b) ≡ false = subst (λ (o : Ordering). is_gt (ordering_then o (nat_cmp a b)) ≡ false) (nat_cmp_equal t u same) no in inr (ap Some same, nat_cmp_not_greater a b is))
       | inr other ↦ elim other [
         | inl less ↦ inl (lt-ltb t u less)
-        | inr more ↦ (let is : is_gt Greater ≡ false = subst (λ o. is_gt (ordering_then o (nat_cmp a b)) ≡ false) (nat_cmp_greater t u more) no in absurd (cc))
+        | inr more ↦ (let is : is_gt Greater ≡ false = subst (λ (o : Ordering). is_gt (ordering_then o (nat_cmp a b)) ≡ false) (nat_cmp_greater t u more) no in absurd (cc))
       ]
     ]
 
 pub entry_cmp_same : (t a u b : ℕ) → is_eq (entry_cmp (t, a) (u, b)) ≡ true → (t ≡ u) × (a ≡ b)
 entry_cmp_same t a u b yes =
     elim (cases_order t u) [
-      | inl same ↦ (let is : is_eq (nat_cmp a b) ≡ true = subst (λ o. is_eq (ordering_then o (nat_cmp a b)) ≡ true) (nat_cmp_equal t u same) yes in (same, nat_cmp_same a b is))
+      | inl same ↦ (let is : is_eq (nat_cmp a b) ≡ true = subst (λ (o : Ordering). is_eq (ordering_then o (nat_cmp a b)) ≡ true) (nat_cmp_equal t u same) yes in (same, nat_cmp_same a b is))
       | inr other ↦ elim other [
-        | inl less ↦ (let is : is_eq Less ≡ true = subst (λ o. is_eq (ordering_then o (nat_cmp a b)) ≡ true) (nat_cmp_less t u less) yes in absurd (cc))
-        | inr more ↦ (let is : is_eq Greater ≡ true = subst (λ o. is_eq (ordering_then o (nat_cmp a b)) ≡ true) (nat_cmp_greater t u more) yes in absurd (cc))
+        | inl less ↦ (let is : is_eq Less ≡ true = subst (λ (o : Ordering). is_eq (ordering_then o (nat_cmp a b)) ≡ true) (nat_cmp_less t u less) yes in absurd (cc))
+        | inr more ↦ (let is : is_eq Greater ≡ true = subst (λ (o : Ordering). is_eq (ordering_then o (nat_cmp a b)) ≡ true) (nat_cmp_greater t u more) yes in absurd (cc))
       ]
     ]

@@ -15,7 +15,7 @@ pub record IsPlaced {A : Type 0} (before after : List (Option A)) (arrival : ℕ
 module _ {A : Type 0} where
   pub live-append : (xs ys : List (Option A)) → live (xs ++ ys) ≡ live xs ++ live ys
   live-append [] ys = refl
-  live-append (Some x ∷ xs) ys = ap (λ zs. x ∷ zs) (live-append xs ys)
+  live-append (Some x ∷ xs) ys = ap (λ (zs : List A). x ∷ zs) (live-append xs ys)
   live-append (None ∷ xs) ys = live-append xs ys
 
   -- ---- places
@@ -56,7 +56,7 @@ module _ {A : Type 0} where
 
   -- all nodes stand before the end
   pub place_all : (slots : List (Option A)) (m : ℕ) → length slots ≤ m → place_at slots m ≡ length (live slots)
-  place_all slots m le = ap (λ xs. length (live xs)) (take_all m slots le)
+  place_all slots m le = ap (λ (xs : List (Option A)). length (live xs)) (take_all m slots le)
 
   pub place_at-le-all : (slots : List (Option A)) (m : ℕ) → place_at slots m ≤ length (live slots)
   place_at-le-all [] zero = omega arith
@@ -104,14 +104,14 @@ module _ {A : Type 0} where
   live-set-none [] i x at = absurd (none-some (Some x) at)
   live-set-none (Some y ∷ slots) zero x at = refl
   live-set-none (None ∷ slots) zero x at = absurd (cc)
-  live-set-none (Some y ∷ slots) (suc i) x at = ap (λ zs. y ∷ zs) (live-set-none slots i x at)
+  live-set-none (Some y ∷ slots) (suc i) x at = ap (λ (zs : List A). y ∷ zs) (live-set-none slots i x at)
   live-set-none (None ∷ slots) (suc i) x at = live-set-none slots i x at
 
   pub live-set-some : (slots : List (Option A)) (i : ℕ) (x : A) → slice_get slots i ≡ Some None → live (set slots i (Some x)) ≡ insert (live slots) (place_at slots i) x
   live-set-some [] i x at = absurd (cc)
   live-set-some (Some y ∷ slots) zero x at = absurd (cc)
   live-set-some (None ∷ slots) zero x at = refl
-  live-set-some (Some y ∷ slots) (suc i) x at = ap (λ zs. y ∷ zs) (live-set-some slots i x at)
+  live-set-some (Some y ∷ slots) (suc i) x at = ap (λ (zs : List A). y ∷ zs) (live-set-some slots i x at)
   live-set-some (None ∷ slots) (suc i) x at = live-set-some slots i x at
 
   -- a node comes to an empty slot
@@ -132,7 +132,7 @@ module _ {A : Type 0} where
 
   pub placed_set : (slots : List (Option A)) (i : ℕ) (x : A) → slice_get slots i ≡ Some None → IsPlaced slots (set slots i (Some x)) i
   placed_set slots i x at = record {
-    up_to = λ m le. ap (λ xs. length (live xs)) (take-set-le m slots i (Some x) le);
+    up_to = λ m le. ap (λ (xs : List (Option A)). length (live xs)) (take-set-le m slots i (Some x) le);
     behind = λ m behind. place_set_behind slots i x m at behind;
     all = all_set slots i x at;
   }
@@ -145,19 +145,19 @@ module _ {A : Type 0} where
 
   set-set_same : (slots : List (Option A)) (i : ℕ) (y : Option A) (x : Option A) → slice_get slots i ≡ Some x → set (set slots i y) i x ≡ slots
   set-set_same [] i y x at = absurd (none-some x at)
-  set-set_same (z ∷ slots) zero y x at = ap (λ w. w ∷ slots) (sym (same_Some z x at))
-  set-set_same (z ∷ slots) (suc i) y x at = ap (λ ws. z ∷ ws) (set-set_same slots i y x at)
+  set-set_same (z ∷ slots) zero y x at = ap (λ (w : Option A). w ∷ slots) (sym (same_Some z x at))
+  set-set_same (z ∷ slots) (suc i) y x at = ap (λ (ws : List (Option A)). z ∷ ws) (set-set_same slots i y x at)
 
   pub emptied : (slots : List (Option A)) (i : ℕ) (x : A) → slice_get slots i ≡ Some (Some x) → slice_get (set slots i None) i ≡ Some None
   emptied slots i x at = slice_get-set_here slots i None (slice_get_within slots i (Some x) at)
 
   pub placed_left : (slots : List (Option A)) (i : ℕ) (x : A) → slice_get slots i ≡ Some (Some x) → IsPlaced (set slots i None) slots i
   placed_left slots i x at =
-      subst (λ after. IsPlaced (set slots i None) after i) (set-set_same slots i None (Some x) at) (placed_set (set slots i None) i x (emptied slots i x at))
+      subst (λ (after : List (Option A)). IsPlaced (set slots i None) after i) (set-set_same slots i None (Some x) at) (placed_set (set slots i None) i x (emptied slots i x at))
 
   pub placed_push : (slots : List (Option A)) (x : A) → IsPlaced slots (slots ++ Some x ∷ []) (length slots)
   placed_push slots x = record {
-    up_to = λ m le. ap (λ xs. length (live xs)) (take-append-le m slots (Some x ∷ []) le);
+    up_to = λ m le. ap (λ (xs : List (Option A)). length (live xs)) (take-append-le m slots (Some x ∷ []) le);
     behind = λ m behind.
         let longer = length-append slots (Some x ∷ []) in
         let after = place_all (slots ++ Some x ∷ []) m (omega arith) in

@@ -1,6 +1,8 @@
 -- What a queue has, after entries have come and gone.
 use Rattle.std.proofs.Common.{◌≡◌, ◌⊎◌, ℕ, ◌+◌, ◌≤◌, Bool, true, false, cond, List, [], ◌∷◌, ◌++◌, Option, Some, None, length, set, slice_get, IsTrue, refl, sym, ap, ◌∙◌, subst, inl, inr, ⊎_elim, arith}
 use Rattle.std.specs.Ordering.{nat_cmp, is_eq, is_gt}
+use Rattle.std.specs.List.{list_any}
+use Rattle.std.specs.BTreeMap.{is_at}
 use Rattle.std.specs.BTreeSet.{BTreeSet, contains, Updates, IsLowerBound}
 use Rattle.std.proofs.lemmas.Option.{none-some, same_Some}
 use Rattle.hd_open.specs.declared.queue.Queue.{Queue}
@@ -32,8 +34,8 @@ added_dead q r a up same None k yes = up.0 k ∙ cond_stays (is_eq (nat_cmp a k)
 pub same_entries :
     (q r : Queue) → r.finite.keys ≡ q.finite.keys → r.dead.keys ≡ q.dead.keys
     → (g : Option ℕ) (k : ℕ) → has r g k ≡ has q g k
-same_entries q r f d (Some u) k = ap (λ ks. contains entry_cmp (record { keys = ks }) (u, k)) f
-same_entries q r f d None k = ap (λ ks. contains nat_cmp (record { keys = ks }) k) d
+same_entries q r f d (Some u) k = ap (λ (ks : List (ℕ × ℕ)). list_any (is_at (entry_cmp (u, k))) ks) f
+same_entries q r f d None k = ap (λ (ks : List ℕ). list_any (is_at (nat_cmp k)) ks) d
 
 -- ---- the first one
 
@@ -47,13 +49,13 @@ pub least_dead :
     (q : Queue) (a : ℕ) → q.finite.keys ≡ [] → IsLowerBound nat_cmp q.dead a
     → (g : Option ℕ) (k : ℕ) → has q g k ≡ true → IsNotAfter None a g k
 least_dead q a none least (Some u) k yes =
-    let no : has q (Some u) k ≡ false = ap (λ ks. contains entry_cmp (record { keys = ks }) (u, k)) none in absurd (cc)
+    let no : has q (Some u) k ≡ false = ap (λ (ks : List (ℕ × ℕ)). list_any (is_at (entry_cmp (u, k))) ks) none in absurd (cc)
 least_dead q a none least None k yes = inr (refl, nat_cmp_not_greater a k (least k yes))
 
 pub has_none :
     (q : Queue) → q.finite.keys ≡ [] → q.dead.keys ≡ [] → (g : Option ℕ) (k : ℕ) → has q g k ≡ false
-has_none q f d (Some u) k = ap (λ ks. contains entry_cmp (record { keys = ks }) (u, k)) f
-has_none q f d None k = ap (λ ks. contains nat_cmp (record { keys = ks }) k) d
+has_none q f d (Some u) k = ap (λ (ks : List (ℕ × ℕ)). list_any (is_at (entry_cmp (u, k))) ks) f
+has_none q f d None k = ap (λ (ks : List ℕ). list_any (is_at (nat_cmp k)) ks) d
 
 -- ---- the first one goes
 
@@ -98,8 +100,8 @@ module _ {A : Type 0} (total : A → Option ℕ) where
       → IsQueued total (slots ++ Some x ∷ []) q
   queued_push slots q x queued new k y at =
       ⊎_elim (λ last.
-          let same : x ≡ y = same_Some x y last.1 in
-          subst (λ (i : ℕ). has q (total y) i ≡ true) last.0 (subst (λ (z : A). has q (total z) (length slots) ≡ true) same new))
+      let same : x ≡ y = same_Some x y last.1 in
+      subst (λ (i : ℕ). has q (total y) i ≡ true) last.0 (subst (λ (z : A). has q (total z) (length slots) ≡ true) same new))
       (λ else. queued k y else) (slice_get-push_else slots k (Some x) (Some y) at)
 
   -- a node goes
@@ -113,9 +115,9 @@ module _ {A : Type 0} (total : A → Option ℕ) where
       → IsQueued total slots q → has q t i ≡ true → t ≡ total x → IsQueued total (set slots i (Some x)) q
   queued_back slots q i x t queued waiting is k y at =
       ⊎_elim (λ here.
-          let same : x ≡ y = same_Some x y here.1 in
-          let now : has q (total x) i ≡ true = subst (λ (u : Option ℕ). has q u i ≡ true) is waiting in
-          subst (λ (j : ℕ). has q (total y) j ≡ true) here.0 (subst (λ (z : A). has q (total z) i ≡ true) same now))
+      let same : x ≡ y = same_Some x y here.1 in
+      let now : has q (total x) i ≡ true = subst (λ (u : Option ℕ). has q u i ≡ true) is waiting in
+      subst (λ (j : ℕ). has q (total y) j ≡ true) here.0 (subst (λ (z : A). has q (total z) i ≡ true) same now))
       (λ else. queued k y else) (slice_get-set_else slots i k (Some x) (Some y) at)
 
   -- where the queue has nothing, there are no nodes

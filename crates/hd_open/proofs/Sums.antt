@@ -13,12 +13,12 @@ sum-cons x xs = sum_by-cons (λ (y : ℕ). y) x xs
 -- one number more
 pub sum-take_more : (xs : List ℕ) (i : ℕ) → sum (take (i + 1) xs) ≡ sum (take i xs) + get_or xs i 0
 sum-take_more [] zero = refl
-sum-take_more [] (suc i) = refl
+sum-take_more [] (suc i) = let shift : suc i + 1 ≡ suc (i + 1) = omega arith in ap (λ (n : ℕ). sum (take n [])) shift
 sum-take_more (x ∷ xs) zero = let first = sum-cons x [] in omega arith
 sum-take_more (x ∷ xs) (suc i) =
     let shift : suc i + 1 ≡ suc (i + 1) = omega arith in
     let more : sum (take (suc i + 1) (x ∷ xs)) ≡ x + sum (take (i + 1) xs) =
-        ap (λ (n : ℕ). sum (take n (x ∷ xs))) shift ∙ sum-cons x (take (i + 1) xs) in
+    ap (λ (n : ℕ). sum (take n (x ∷ xs))) shift ∙ sum-cons x (take (i + 1) xs) in
     let this = sum-cons x (take i xs) in
     let rest = sum-take_more xs i in
     omega arith
@@ -65,10 +65,10 @@ sum_less xs m less =
 sum-take-set : (xs : List ℕ) (i a m : ℕ) → i < length xs → i < m → sum (take m (set xs i a)) + get_or xs i 0 ≡ sum (take m xs) + a
 sum-take-set xs i a m within behind =
     let there : i < length (take m xs) =
-        elim (cases_lt m (length xs)) [
-          | inl lt ↦ (let len = length-take-le m xs (omega arith) in omega arith)
-          | inr le ↦ subst (λ (ys : List ℕ). i < length ys) (sym (take_all m xs le)) within
-        ] in
+    elim (cases_lt m (length xs)) [
+      | inl lt ↦ (let len = length-take-le m xs (omega arith) in omega arith)
+      | inr le ↦ subst (λ (ys : List ℕ). i < length ys) (sym (take_all m xs le)) within
+    ] in
     let changed = sum_by-set (λ (y : ℕ). y) (take m xs) i a 0 there in
     let read : get_or (take m xs) i 0 ≡ get_or xs i 0 = get_or-take m xs i 0 behind in
     let moved : sum (take m (set xs i a)) ≡ sum (set (take m xs) i a) = ap sum (take-set-lt m xs i a behind) in

@@ -1,5 +1,5 @@
 //! The open list.
-ghost use Rattle.std.specs.Prelude.{◌≡◌, ◌+◌, ◌<◌, ◌++◌, [], ◌∷◌, Some, None, length, slice_get, is_some, option_copied, IfSome, IfNone, IfErr, OnOk, OnErr, MatchOption};
+ghost use Rattle.std.specs.Prelude.{◌≡◌, ◌++◌, [], ◌∷◌, None, length, slice_get, option_copied, IfSome, IfNone, IfErr, OnOk, OnErr};
 ghost use Rattle.std.specs.List.{insert, remove};
 ghost use Rattle.hd_open.specs.Totals.{IsBest};
 ghost use Rattle.hd_open.specs.Open.{TakesBest, TakesAt, IsGapOf};
@@ -61,8 +61,8 @@ impl<T: Waits> OpenList<T> {
     /// # Errors
     /// The node, where there is no room for it; no other node has come or gone.
     pub fn push(&mut self, node: T) -> Result<(), (T, NoMemory)>
-        ensures nodes { OnOk result (self.new.nodes ≡ self.old.nodes ++ node.entry ∷ []) }
-        ensures back { IfErr result (λ r. r.0 ≡ node.entry) }
+        ensures nodes { OnOk result (self.new.nodes ≡ self.old.nodes ++ node ∷ []) }
+        ensures back { IfErr result (λ r. r.0 ≡ node) }
         ensures err { OnErr result (self.new.nodes ≡ self.old.nodes) }
         ensures gap { self.new.gap ≡ None }
     {
@@ -134,7 +134,6 @@ impl<T: Waits> OpenList<T> {
         self.gap = Some(Gap { arrival, total });
         Some(node)
     }
-
 }
 
 impl<T: Waits + Drop> OpenList<T> {
@@ -142,13 +141,18 @@ impl<T: Waits + Drop> OpenList<T> {
     pub fn put_back(&mut self, node: T)
         requires { IsGapOf (T.total node) self.old.gap }
         ensures nodes { IfSome self.old.gap (λ g. self.new.nodes
-            ≡ insert self.old.nodes g.0 node.entry) }
+            ≡ insert self.old.nodes g.0 node) }
         ensures gap { self.new.gap ≡ None }
     {
         let Some(gap) = self.gap else {
             unreachable!();
         };
         self.gap = None;
-        put_into(self.slots.as_mut_slice(), &mut self.counts, gap.arrival, node);
+        put_into(
+            self.slots.as_mut_slice(),
+            &mut self.counts,
+            gap.arrival,
+            node,
+        );
     }
 }

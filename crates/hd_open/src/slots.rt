@@ -131,8 +131,8 @@ pub(crate) fn append<T>(
 ) -> Result<(), (T, NoMemory)>
     requires counted { AreCounts slots.old.items counts.old }
     requires room { HasRoom counts.old (length slots.old.items) }
-    ensures slots { OnOk result (slots.new.items ≡ slots.old.items ++ Some node.entry ∷ []) }
-    ensures back { IfErr result (λ r. r.0 ≡ node.entry) }
+    ensures slots { OnOk result (slots.new.items ≡ slots.old.items ++ Some node ∷ []) }
+    ensures back { IfErr result (λ r. r.0 ≡ node) }
     ensures err { OnErr result (slots.new.items ≡ slots.old.items) }
     ensures counted { AreCounts slots.new.items counts.new }
 {
@@ -175,7 +175,7 @@ pub(crate) fn put_into<T: Drop>(
 )
     requires counted { AreCounts slots.old counts.old }
     requires empty { slice_get slots.old arrival ≡ Some None }
-    ensures slots { slots.new ≡ slice_set slots.old arrival (Some node.entry) }
+    ensures slots { slots.new ≡ slice_set slots.old arrival (Some node) }
     ensures counted { AreCounts slots.new counts.new }
 {
     counts.raise(arrival);

@@ -35,14 +35,20 @@ fn comes_as(list: &mut OpenList<Node>, place: usize, names: &[u64]) -> bool {
 
 #[test]
 fn the_least_total_comes_first(rt: HostRuntime) -> Result<(), Fail> {
-    let mut list = list_of(rt.alloc(), &[node_of(0, 9), node_of(1, 3), node_of(2, 7), node_of(3, 4)])?;
+    let mut list = list_of(
+        rt.alloc(),
+        &[node_of(0, 9), node_of(1, 3), node_of(2, 7), node_of(3, 4)],
+    )?;
     assert!(rt; comes_as(&mut list, 1, &[1, 3, 2, 0]));
     Ok(())
 }
 
 #[test]
 fn of_equal_totals_the_earliest_comes_first(rt: HostRuntime) -> Result<(), Fail> {
-    let mut list = list_of(rt.alloc(), &[node_of(0, 5), node_of(1, 4), node_of(2, 5), node_of(3, 4)])?;
+    let mut list = list_of(
+        rt.alloc(),
+        &[node_of(0, 5), node_of(1, 4), node_of(2, 5), node_of(3, 4)],
+    )?;
     assert!(rt; comes_as(&mut list, 1, &[1, 3, 0, 2]));
     Ok(())
 }

@@ -8,7 +8,10 @@ use std::test::Fail;
 fn falling(alloc: Global, count: u64) -> Result<OpenList<Node>, Fail> {
     let mut list = OpenList::empty(alloc);
     for name in 0..count {
-        if list.push(node_of(name, u128::from(u64::MAX - name))).is_err() {
+        if list
+            .push(node_of(name, u128::from(u64::MAX - name)))
+            .is_err()
+        {
             return Err(AllocError.into());
         }
     }
