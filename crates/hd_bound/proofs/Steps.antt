@@ -4,7 +4,7 @@ use Rattle.std.specs.List.{sum_by}
 use Rattle.std.proofs.lemmas.List.Sums.{sum_by_push}
 use mathlib.Core.Option.{some, none, some-injective, some-ne-none}
 use lib.ListN.{get_elem?}
-use Rattle.atomic_table.specs.Table.{State, Me, step, keeps, Allows, Splits, Joins, opening}
+use Rattle.atomic_table.specs.Table.{State, Me, step, keeps, Allows, Splits, Joins, opening, Final, Seen}
 use Rattle.atomic_table.proofs.Lists.{at_set, at_snoc, set_here, set_else}
 use Rattle.hd_bound.specs.declared.rule.Offers.{Offers}
 use Rattle.hd_bound.specs.declared.rule.TheConstants.{ALL_PARTS, NO_BOUND}
@@ -204,3 +204,11 @@ settles start seat v s n k at all read =
     let found : n ≡ least_offered start s.views =
     some-injective n (least_offered start s.views) (sym read ∙ ap (λ (ws : List ℕ). get_elem? ws 0) k.word) in
     found ∙ (sym (least_offered-set start s.views seat v nothing at) ∙ ap (λ m. least m v.offers) (least_offered_none start others idle))
+
+-- the same, of a table that is closed
+pub settled :
+    (start seat n : ℕ) (v : Offers) (words : List ℕ) (slots : List (Unit {0}))
+    → Final (Seen (IsLeast start) seat v) words slots → v.parts ≡ ALL_PARTS → get_elem? words 0 ≡ some n
+    → n ≡ least start v.offers
+settled start seat n v words slots f all read =
+    settles start seat v f.0 n f.1.0 f.1.1 all (ap (λ (ws : List ℕ). get_elem? ws 0) f.2 ∙ read)

@@ -1,6 +1,6 @@
 -- A bound that threads share, as contracts see it. (The shared bound of parallel branch and bound; that the word is exactly the least
 -- of all offers is our own.)
-use Rattle.std.specs.Prelude.{ℕ, ◌-◌, ◌==◌, List, [], ◌∷◌, Option, Some, None, cond, min}
+use Rattle.std.specs.Prelude.{◌≡◌, ℕ, ◌-◌, ◌==◌, List, [], ◌∷◌, Option, Some, None, cond, min}
 use Rattle.atomic_table.specs.Seated.{TableId}
 use Rattle.hd_bound.specs.declared.rule.TheConstants.{NO_BOUND}
 
@@ -15,6 +15,11 @@ pub record SeatView : Type 0 where
   pub parts : ℕ
   pub seen : ℕ
   pub offers : List ℕ
+
+-- a table of one word, and no slots
+pub record IsOneWord (t : TableId) : Type 0 where
+  pub words : t.words ≡ 1
+  pub slots : t.slots ≡ 0
 
 -- the bound that a word says: none where it is the greatest number
 abbrev pub bound_in : ℕ → Option ℕ

@@ -15,10 +15,9 @@ pub struct BoundWord {
 }
 
 impl Model for BoundWord {
-    ghost use Rattle.std.specs.Prelude.{◌≡◌};
     ghost use Rattle.std.specs.Coded.{codes};
     ghost use Rattle.atomic_table.specs.Seated.{table_id_coded};
-    ghost use Rattle.hd_bound.specs.Bound.{BoundView};
+    ghost use Rattle.hd_bound.specs.Bound.{BoundView, IsOneWord};
 
     ghost Value = { BoundView };
 
@@ -26,7 +25,7 @@ impl Model for BoundWord {
 
     ghost view = { λ b. record { of = b.table.shared.table_id; start = b.table.shared.key } };
 
-    ghost invariant = { λ b. b.table.shared.table_id.words ≡ 1 };
+    ghost invariant = { λ b. IsOneWord b.table.shared.table_id };
 }
 
 /// A thread's seat at a bound word: with it the thread offers costs, and reads the bound.
@@ -91,8 +90,7 @@ impl BoundWord {
         ensures by_cost { seat.new.seen ≤ cost }
         ensures by_seen { seat.new.seen ≤ seat.old.seen }
     {
-        let _found = self
-            .table
+        self.table
             .shared
             .fetch_min::<Offered>(&mut seat.seat, 0, cost);
     }

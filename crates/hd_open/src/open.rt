@@ -98,9 +98,8 @@ impl<T: Waits> OpenList<T> {
     {
         self.gap = None;
         let arrival = best_arrival(self.slots.as_slice(), &mut self.queue)?;
-        let node = take_from(self.slots.as_mut_slice(), &mut self.counts, arrival);
-        let total = node.total();
-        self.gap = Some(Gap { arrival, total });
+        let (node, gap) = take_from(self.slots.as_mut_slice(), &mut self.counts, arrival);
+        self.gap = Some(gap);
         Some(node)
     }
 
@@ -129,9 +128,8 @@ impl<T: Waits> OpenList<T> {
             return None;
         }
         let arrival = arrival_of(self.slots.as_slice(), &self.counts, place);
-        let node = take_from(self.slots.as_mut_slice(), &mut self.counts, arrival);
-        let total = node.total();
-        self.gap = Some(Gap { arrival, total });
+        let (node, gap) = take_from(self.slots.as_mut_slice(), &mut self.counts, arrival);
+        self.gap = Some(gap);
         Some(node)
     }
 }
@@ -148,11 +146,7 @@ impl<T: Waits + Drop> OpenList<T> {
             unreachable!();
         };
         self.gap = None;
-        put_into(
-            self.slots.as_mut_slice(),
-            &mut self.counts,
-            gap.arrival,
-            node,
-        );
+        let slots = self.slots.as_mut_slice();
+        put_into(slots, &mut self.counts, gap.arrival, node);
     }
 }

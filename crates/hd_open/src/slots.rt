@@ -151,17 +151,25 @@ pub(crate) fn append<T>(
     }
 }
 
-/// Takes the node out of a slot.
-pub(crate) fn take_from<T>(slots: &mut [Option<T>], counts: &mut Counts, arrival: usize) -> T
+/// Takes the node out of a slot, which is a gap from then on.
+pub(crate) fn take_from<T: Waits>(
+    slots: &mut [Option<T>],
+    counts: &mut Counts,
+    arrival: usize,
+) -> (T, Gap)
     requires counted { AreCounts slots.old counts.old }
     requires filled { IsFilled slots.old arrival }
-    ensures node { slice_get slots.old arrival ≡ Some (Some result) }
+    ensures node { slice_get slots.old arrival ≡ Some (Some result.0) }
+    ensures gap { result.1 ≡ record { arrival = arrival; total = T.total result.0 } }
     ensures slots { slots.new ≡ slice_set slots.old arrival None }
     ensures counted { AreCounts slots.new counts.new }
 {
     counts.lower(arrival);
     match slots[arrival].take() {
-        Some(node) => node,
+        Some(node) => {
+            let total = node.total();
+            (node, Gap { arrival, total })
+        }
         None => unreachable!(),
     }
 }
