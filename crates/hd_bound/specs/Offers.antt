@@ -5,12 +5,20 @@ use mathlib.Core.Option.{some}
 use lib.ListN.{get_elem?}
 use Rattle.atomic_table.specs.Table.{State, Me, Step}
 use Rattle.hd_bound.specs.declared.rule.Offers.{Offers}
-use Rattle.hd_bound.specs.declared.rule.TheConstants.{ALL_PARTS}
+use Rattle.hd_bound.specs.declared.rule.TheConstants.{ALL_PARTS, NO_BOUND}
 use Rattle.hd_bound.specs.Bound.{least}
 
 -- what a seat knows
 abbrev pub knows : ℕ → ℕ → List ℕ → Offers
 knows parts seen offers = record { parts = parts; seen = seen; offers = offers }
+
+-- what the first seat knows: it has all parts, and has seen what the word starts with
+abbrev pub fresh_seat : ℕ → Offers
+fresh_seat start = knows ALL_PARTS start []
+
+-- what a seat knows whose parts another has taken in
+abbrev pub spent_seat : Offers
+spent_seat = knows 0 NO_BOUND []
 
 -- how many parts seats have together
 abbrev pub parts_in : List Offers → ℕ

@@ -1,6 +1,6 @@
 //! The rule of the bound word, and the steps that its seats take.
 ghost use Rattle.std.specs.Prelude.{◌+◌, ◌-◌, ◌++◌, [], min};
-ghost use Rattle.hd_bound.specs.Offers.{knows, IsLeast, HasLoaded, HasOffered};
+ghost use Rattle.hd_bound.specs.Offers.{knows, fresh_seat, spent_seat, IsLeast, HasLoaded, HasOffered};
 
 use atomic_table::{Join, Play, Split, TableRule};
 use std::collections::LinkedList;
@@ -25,7 +25,7 @@ pub(crate) struct Least;
 impl TableRule<(), Offers, u64> for Least {
     ghost holds = { IsLeast };
 
-    ghost first = { λ start. knows ALL_PARTS start [] };
+    ghost first = { fresh_seat };
 }
 
 /// The word is read.
@@ -54,5 +54,5 @@ impl Split<Offers> for Part {
 impl Join<Offers> for Part {
     ghost both = { λ v w. knows (v.parts + w.parts) (min v.seen w.seen) (v.offers ++ w.offers) };
 
-    ghost spent = { knows 0 NO_BOUND [] };
+    ghost spent = { spent_seat };
 }

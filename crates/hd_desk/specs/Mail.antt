@@ -12,6 +12,14 @@ module _ {K A : Type 0} where
   abbrev pub post : ℕ → Option K → List A → List A → Post K A
   post parts of put taken = record { parts = parts; of = of; put = put; taken = taken }
 
+  -- what the first pass knows: it has all parts, and nothing has gone through
+  abbrev pub fresh_pass : Post K A
+  fresh_pass = post ALL_PARTS None [] []
+
+  -- what a pass knows whose parts another has taken in
+  abbrev pub spent_pass : Post K A
+  spent_pass = post 0 None [] []
+
   -- how many parts passes have together
   abbrev pub parts_in : List (Post K A) → ℕ
   parts_in views = sum_by (λ v. v.parts) views

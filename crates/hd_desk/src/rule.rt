@@ -1,6 +1,6 @@
 //! The rule of a mailbox, and the steps that its passes take.
-ghost use Rattle.std.specs.Prelude.{◌≡◌, ◌+◌, ◌-◌, ◌++◌, [], None};
-ghost use Rattle.hd_desk.specs.Mail.{post, IsFair, IsEven, HasPut, HasTaken, HasNamed};
+ghost use Rattle.std.specs.Prelude.{◌≡◌, ◌+◌, ◌-◌, ◌++◌, []};
+ghost use Rattle.hd_desk.specs.Mail.{post, fresh_pass, spent_pass, IsFair, IsEven, HasPut, HasTaken, HasNamed};
 
 use crossbeam_queue::RuledArrayQueue;
 use crossbeam_queue::protocol::{Join, Lesson, Outcome, Protocol, Split};
@@ -31,7 +31,7 @@ pub(crate) struct Fair;
 impl<K, T: Sent<K>> Protocol<T, Post<K, T>> for Fair {
     ghost holds = { IsFair T.of };
 
-    ghost first = { post ALL_PARTS None [] [] };
+    ghost first = { fresh_pass };
 }
 
 /// An item is put in.
@@ -75,7 +75,7 @@ impl<K, T: Sent<K>> Split<Post<K, T>> for Part {
 impl<K, T: Sent<K>> Join<Post<K, T>> for Part {
     ghost both = { λ v w. post (v.parts + w.parts) v.of (v.put ++ w.put) (v.taken ++ w.taken) };
 
-    ghost spent = { post 0 None [] [] };
+    ghost spent = { spent_pass };
 }
 
 /// A mailbox as a queue under the rule.

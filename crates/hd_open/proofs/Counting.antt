@@ -4,7 +4,7 @@ use Rattle.std.proofs.lemmas.Bool.{cases_lt}
 use Rattle.hd_open.specs.declared.counts.Counts.{Counts}
 use Rattle.hd_open.specs.Live.{live, place_at}
 use Rattle.hd_open.specs.Counts.{IsRaised, AreRaised, AreSame, AreSome, AreBelowLimit, IsCovering, HasRoom, AreCounts, IsSummed}
-use Rattle.hd_open.proofs.Sums.{sum-take_more, sum-take-le, sum_all}
+use Rattle.hd_open.proofs.Sums.{sum_take_more, sum-take-le, sum_all}
 use Rattle.hd_open.proofs.Places.{IsPlaced, place_more_some, place_at-le, place_at-le-all, place_all}
 
 -- groups of lists that have one more at a place
@@ -93,7 +93,7 @@ module _ {A : Type 0} where
             let g : ℕ = i / 32 in
             let a = sum_fine slots c g k in
             let b = sum_fine slots c (g + 1) k in
-            let more = sum-take_more c.fine.items g in
+            let more = sum_take_more c.fine.items g in
             let from = place_at-le slots (32 * g) i (omega arith) in
             let to = place_at-le slots (i + 1) (32 * (g + 1)) (omega arith) in
             omega arith;
@@ -101,7 +101,7 @@ module _ {A : Type 0} where
             let g : ℕ = i / 32 / 32 in
             let a = sum_middle slots c g k in
             let b = sum_middle slots c (g + 1) k in
-            let more = sum-take_more c.middle.items g in
+            let more = sum_take_more c.middle.items g in
             let from = place_at-le slots (32 * (32 * g)) i (omega arith) in
             let to = place_at-le slots (i + 1) (32 * (32 * (g + 1))) (omega arith) in
             omega arith;
@@ -109,7 +109,7 @@ module _ {A : Type 0} where
             let g : ℕ = i / 32 / 32 / 32 in
             let a = sum_coarse slots c g k in
             let b = sum_coarse slots c (g + 1) k in
-            let more = sum-take_more c.coarse.items g in
+            let more = sum_take_more c.coarse.items g in
             let from = place_at-le slots (32 * (32 * (32 * g))) i (omega arith) in
             let to = place_at-le slots (i + 1) (32 * (32 * (32 * (g + 1)))) (omega arith) in
             omega arith;
@@ -122,17 +122,17 @@ module _ {A : Type 0} where
       let is : c.all ≡ length (live slots) = k.all in
       record {
         fine = λ i.
-            let more = sum-take_more c.fine.items i in
+            let more = sum_take_more c.fine.items i in
             let a = sum_fine slots c (i + 1) k in
             let all = place_at-le-all slots (32 * (i + 1)) in
             omega arith;
         middle = λ i.
-            let more = sum-take_more c.middle.items i in
+            let more = sum_take_more c.middle.items i in
             let a = sum_middle slots c (i + 1) k in
             let all = place_at-le-all slots (32 * (32 * (i + 1))) in
             omega arith;
         coarse = λ i.
-            let more = sum-take_more c.coarse.items i in
+            let more = sum_take_more c.coarse.items i in
             let a = sum_coarse slots c (i + 1) k in
             let all = place_at-le-all slots (32 * (32 * (32 * (i + 1)))) in
             omega arith;

@@ -11,16 +11,16 @@ sum-cons : (x : ℕ) (xs : List ℕ) → sum (x ∷ xs) ≡ x + sum xs
 sum-cons x xs = sum_by-cons (λ (y : ℕ). y) x xs
 
 -- one number more
-pub sum-take_more : (xs : List ℕ) (i : ℕ) → sum (take (i + 1) xs) ≡ sum (take i xs) + get_or xs i 0
-sum-take_more [] zero = refl
-sum-take_more [] (suc i) = let shift : suc i + 1 ≡ suc (i + 1) = omega arith in ap (λ (n : ℕ). sum (take n [])) shift
-sum-take_more (x ∷ xs) zero = let first = sum-cons x [] in omega arith
-sum-take_more (x ∷ xs) (suc i) =
+pub sum_take_more : (xs : List ℕ) (i : ℕ) → sum (take (i + 1) xs) ≡ sum (take i xs) + get_or xs i 0
+sum_take_more [] zero = refl
+sum_take_more [] (suc i) = let shift : suc i + 1 ≡ suc (i + 1) = omega arith in ap (λ (n : ℕ). sum (take n [])) shift
+sum_take_more (x ∷ xs) zero = let first = sum-cons x [] in omega arith
+sum_take_more (x ∷ xs) (suc i) =
     let shift : suc i + 1 ≡ suc (i + 1) = omega arith in
     let more : sum (take (suc i + 1) (x ∷ xs)) ≡ x + sum (take (i + 1) xs) =
     ap (λ (n : ℕ). sum (take n (x ∷ xs))) shift ∙ sum-cons x (take (i + 1) xs) in
     let this = sum-cons x (take i xs) in
-    let rest = sum-take_more xs i in
+    let rest = sum_take_more xs i in
     omega arith
 
 -- sums only grow
@@ -41,13 +41,13 @@ sum-take-le (x ∷ xs) (suc m) (suc n) le =
     omega arith
 
 -- a nought behind the others
-pub sum-take-push_zero : (xs : List ℕ) (m : ℕ) → sum (take m (xs ++ 0 ∷ [])) ≡ sum (take m xs)
-sum-take-push_zero [] zero = refl
-sum-take-push_zero [] (suc zero) = refl
-sum-take-push_zero [] (suc (suc m)) = refl
-sum-take-push_zero (x ∷ xs) zero = refl
-sum-take-push_zero (x ∷ xs) (suc m) =
-    sum-cons x (take m (xs ++ 0 ∷ [])) ∙ (ap (λ (n : ℕ). x + n) (sum-take-push_zero xs m) ∙ sym (sum-cons x (take m xs)))
+pub sum_take_push_zero : (xs : List ℕ) (m : ℕ) → sum (take m (xs ++ 0 ∷ [])) ≡ sum (take m xs)
+sum_take_push_zero [] zero = refl
+sum_take_push_zero [] (suc zero) = refl
+sum_take_push_zero [] (suc (suc m)) = refl
+sum_take_push_zero (x ∷ xs) zero = refl
+sum_take_push_zero (x ∷ xs) (suc m) =
+    sum-cons x (take m (xs ++ 0 ∷ [])) ∙ (ap (λ (n : ℕ). x + n) (sum_take_push_zero xs m) ∙ sym (sum-cons x (take m xs)))
 
 -- all of them
 pub sum_all : (xs : List ℕ) (m : ℕ) → length xs ≤ m → sum (take m xs) ≡ sum xs

@@ -18,6 +18,7 @@ pub(crate) struct Counts {
 }
 
 /// A count more, which is 0, if this place has none.
+#[tactic(auto, using(crate::proofs::Sums::sum_take_push_zero))]
 fn cover_place(counts: &mut Vec<usize>, place: usize) -> Result<(), NoMemory>
     requires { place ≤ length counts.old.items }
     ensures same { (m : ℕ) → sum (take m counts.new.items) ≡ sum (take m counts.old.items) }
@@ -33,6 +34,7 @@ fn cover_place(counts: &mut Vec<usize>, place: usize) -> Result<(), NoMemory>
 }
 
 /// Counts one more at a place.
+#[tactic(auto, using(crate::proofs::Sums::raised_by_one))]
 fn raise_place(counts: &mut Vec<usize>, place: usize)
     requires within { place < length counts.old.items }
     requires fits { slice_index counts.old.items place + 1 < 2 ^ 64 }
@@ -43,6 +45,7 @@ fn raise_place(counts: &mut Vec<usize>, place: usize)
 }
 
 /// Counts one less at a place.
+#[tactic(auto, using(crate::proofs::Sums::lowered_by_one))]
 fn lower_place(counts: &mut Vec<usize>, place: usize)
     requires within { place < length counts.old.items }
     requires some { 0 < slice_index counts.old.items place }
@@ -53,6 +56,7 @@ fn lower_place(counts: &mut Vec<usize>, place: usize)
 }
 
 /// The sum of the counts from one place up to another.
+#[tactic(auto, using(crate::proofs::Sums::sum_take_more))]
 pub(crate) fn sum_between(counts: &[usize], from: usize, to: usize) -> usize
     requires order { from ≤ to }
     requires within { to ≤ length counts.now }
@@ -67,6 +71,7 @@ pub(crate) fn sum_between(counts: &[usize], from: usize, to: usize) -> usize
 }
 
 /// From a place on, the first one whose count is more than what is left when the counts before it are taken off, and what is left there.
+#[tactic(auto, using(crate::proofs::Sums::sum_take_more, crate::proofs::Sums::sum_less))]
 pub(crate) fn skip(counts: &[usize], from: usize, more: usize) -> (usize, usize)
     requires { sum (take from counts.now) + more < sum counts.now }
     ensures within { result.0 < length counts.now }

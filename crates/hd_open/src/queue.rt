@@ -25,6 +25,7 @@ impl Queue {
     }
 
     /// One arrival more.
+    #[tactic(auto, using(crate::proofs::Queueing::added_finite, crate::proofs::Queueing::added_dead))]
     pub(crate) fn add(&mut self, total: Option<u128>, arrival: usize) -> Result<(), NoMemory>
         ensures added { OnOk result (has self.new total arrival ≡ true) }
         ensures stays { (g : Option ℕ) (k : ℕ) → has self.old g k ≡ true → has self.new g k ≡ true }
@@ -41,6 +42,7 @@ impl Queue {
     }
 
     /// The first one.
+    #[tactic(auto, using(crate::proofs::Queueing::least_finite, crate::proofs::Queueing::least_dead, crate::proofs::Queueing::has_none))]
     pub(crate) fn first(&self) -> Option<(Option<u128>, usize)>
         ensures first { IfSome result (λ r. IsFirst self.now r.0 r.1) }
         ensures least { IfSome result (λ r. (g : Option ℕ) (k : ℕ) → has self.now g k ≡ true
@@ -57,6 +59,7 @@ impl Queue {
     }
 
     /// Drops the first one.
+    #[tactic(auto, using(crate::proofs::Queueing::dropped_finite, crate::proofs::Queueing::dropped_dead))]
     pub(crate) fn drop_first(&mut self, total: Option<u128>, arrival: usize)
         requires { IsFirst self.old total arrival }
         ensures stays { (g : Option ℕ) (k : ℕ) → has self.old g k ≡ true

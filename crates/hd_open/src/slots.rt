@@ -105,6 +105,7 @@ fn is_at<T: Waits>(slots: &[Option<T>], arrival: usize, total: Option<u128>) -> 
 }
 
 /// The arrival of the best node. Entries of the queue whose nodes have left are dropped on the way.
+#[tactic(auto, using(crate::proofs::Queueing::queued_dropped, crate::proofs::Queueing::queued_best, crate::proofs::Queueing::queued_none))]
 pub(crate) fn best_arrival<T: Waits>(slots: &[Option<T>], queue: &mut Queue) -> Option<usize>
     requires { IsQueued T.total slots.now queue.old }
     ensures kept { IsQueued T.total slots.now queue.new }
