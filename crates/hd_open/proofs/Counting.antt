@@ -5,7 +5,7 @@ use Rattle.hd_open.specs.declared.counts.Counts.{Counts}
 use Rattle.hd_open.specs.Live.{live, place_at}
 use Rattle.hd_open.specs.Counts.{IsRaised, AreRaised, AreSame, AreSome, AreBelowLimit, IsCovering, HasRoom, AreCounts, IsSummed}
 use Rattle.hd_open.proofs.Sums.{sum_take_more, sum-take-le, sum_all}
-use Rattle.hd_open.proofs.Places.{IsPlaced, place_more_some, place_at-le, place_at-le-all, place_all}
+use Rattle.hd_open.proofs.Places.{IsPlaced, place_more_some, place_at-le, place_at-le-all, place_all, length-live-le}
 
 -- groups of lists that have one more at a place
 summed_raised : (low low' high high' : List ℕ) (i : ℕ) → IsSummed low high → IsRaised low low' i → IsRaised high high' (i / 32) → IsSummed low' high'
@@ -146,3 +146,26 @@ module _ {A : Type 0} where
       let b = k.middle in
       let d = k.coarse in
       record { fine = omega arith; middle = omega arith; coarse = omega arith }
+
+  -- ---- sums fit
+
+  pub fits_fine : (slots : List (Option A)) (c : Counts) → AreCounts slots c → length slots < 2 ^ 64 → (m : ℕ) → sum (take m c.fine.items) < 2 ^ 64
+  fits_fine slots c k few m =
+      let a = sum_fine slots c m k in
+      let all = place_at-le-all slots (32 * m) in
+      let live_few = length-live-le slots in
+      omega arith
+
+  pub fits_middle : (slots : List (Option A)) (c : Counts) → AreCounts slots c → length slots < 2 ^ 64 → (m : ℕ) → sum (take m c.middle.items) < 2 ^ 64
+  fits_middle slots c k few m =
+      let a = sum_middle slots c m k in
+      let all = place_at-le-all slots (32 * (32 * m)) in
+      let live_few = length-live-le slots in
+      omega arith
+
+  pub fits_coarse : (slots : List (Option A)) (c : Counts) → AreCounts slots c → length slots < 2 ^ 64 → (m : ℕ) → sum (take m c.coarse.items) < 2 ^ 64
+  fits_coarse slots c k few m =
+      let a = sum_coarse slots c m k in
+      let all = place_at-le-all slots (32 * (32 * (32 * m))) in
+      let live_few = length-live-le slots in
+      omega arith

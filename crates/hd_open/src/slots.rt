@@ -58,6 +58,8 @@ pub(crate) fn place_of<T>(slots: &[Option<T>], counts: &Counts, arrival: usize) 
     requires within { arrival ≤ length slots.now }
     ensures { result ≡ place_at slots.now arrival }
 {
+    // So that it is known that the sums fit.
+    let _count = slots.len();
     let group = arrival / GROUP;
     let greater = group / GROUP;
     let greatest = greater / GROUP;
