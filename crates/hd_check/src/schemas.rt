@@ -6,9 +6,10 @@ ghost use Rattle.hd_check.specs.Schemas.{body_fault, body_of, schema_by, action_
 use crate::conditions::condition_of;
 use crate::context::Context;
 use crate::effects::{Effects, effects_of};
+use crate::fault::Stop;
 use hd_base::{Name, Sequence};
 use hd_lifted::{Condition, Schema};
-use hd_names::{Scope, Stop, Table, declare, table_of};
+use hd_names::{Scope, Table, declare, table_of};
 use hd_pddl::Action;
 use hd_terms::ItemKind;
 use std::alloc::{AllocError, Global};

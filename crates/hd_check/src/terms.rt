@@ -1,15 +1,16 @@
 //! Terms, atoms and fluents.
 ghost use Rattle.std.specs.Prelude.{◌≡◌, Some, length};
-ghost use Rattle.hd_names.specs.Fault.{StopsAt};
+ghost use Rattle.hd_check.specs.Fault.{StopsAt};
 ghost use Rattle.hd_check.specs.Lifting.{Lifts, within};
 ghost use Rattle.hd_check.specs.Terms.{lifted_term, term_fault, type_at, wrong_type, parameters_at, LiftsArgument, LiftsArguments, LiftsApplied};
-ghost use Rattle.hd_names.specs.declared.fault.Fault.TheVariants.{WrongArity};
+ghost use Rattle.hd_check.specs.declared.fault.Fault.TheVariants.{WrongArity};
 
 use crate::context::Context;
+use crate::fault::{Fault, Stop};
 use hd_base::Sequence;
 use hd_forms::NameAt;
 use hd_lifted::{Applied, Argument};
-use hd_names::{Fault, Stop, Table, known, spelled};
+use hd_names::{Table, known, spelled};
 use hd_terms::{Atom, ItemKind, Term};
 use std::alloc::Global;
 
