@@ -17,6 +17,7 @@ use Rattle.hd_names.specs.declared.fault.NameStop.TheVariants as named
 use Rattle.hd_names.specs.Fault as names
 use Rattle.hd_names.specs.Scope.{Climbs}
 use Rattle.hd_base.specs.Answers.{Checks}
+use Rattle.hd_base.specs.Options.{◌or◌}
 use Rattle.hd_check.specs.Fault.{StopsAt, TellsOf, name_fault, metric_use_fault, of_names}
 use Rattle.hd_check.specs.Whole.{of_text, names_in, in_text, listed_fault, ClimbsIn, TellsCycleIn, cycle, no_memory, TellsTypes, by_name, by_cycle}
 
@@ -32,14 +33,20 @@ told_of source (Err NoMemory) fault said u = tt
 -- so do names that tell theirs
 pub told_names : {R : Type 0} (source : Source) (answer : Result R NameStop) (fault : Option NameFault) (said : R)
     → Checks names.StopsAt answer fault said → Checks TellsOf (names_in source answer) (in_text source (name_fault fault)) said
-told_names source (Ok r) fault said (none, same) = (ap (λ f. in_text source (name_fault f)) none, same)
-told_names source (Err (named.At f)) fault said first = ap (λ f. in_text source (name_fault f)) first
+told_names source (Ok r) fault said (none, same) = (ap (λ (o : Option NameFault). in_text source (name_fault o)) none, same)
+told_names source (Err (named.At f)) fault said first = ap (λ (o : Option NameFault). in_text source (name_fault o)) first
 told_names source (Err named.NoMemory) fault said u = tt
 
 -- what stopped names stops the part in which they stand, at the same fault
 pub stops_part : (told : NameStop) (fault : Option NameFault) → names.StopsAt told fault → StopsAt (of_names told) (name_fault fault)
 stops_part (named.At f) fault first = ap name_fault first
 stops_part named.NoMemory fault u = tt
+
+-- so where their fault is the first of two
+pub stops_first : (told : NameStop) (fault : Option NameFault) (rest : Option Fault) → names.StopsAt told fault
+    → StopsAt (of_names told) (name_fault fault or rest)
+stops_first (named.At f) fault rest first = rw first refl
+stops_first named.NoMemory fault rest u = tt
 
 -- a type on a cycle is told of the domain
 pub told_cycle : (answer : Result (List ℕ) NameStop) (ts : List Typed) → Climbs answer ts → ClimbsIn (names_in Domain answer) ts

@@ -113,6 +113,10 @@ task_by schemas part declared = record {
 unfoldable pub task_with : DomainAst → ProblemAst → List Schema → ProblemPart → LiftedTask
 task_with d p schemas part = task_by schemas part (declared_in part.scope.types d p)
 
+-- the lifted task of these parts
+abbrev pub task_of : DomainAst → ProblemAst → Parts → LiftedTask
+task_of d p parts = task_with d p parts.schemas parts.problem
+
 -- the lifted task of a problem whose domain's part stands for this
 unfoldable pub task_behind : DomainPart → DomainAst → ProblemAst → LiftedTask
 task_behind part d p = task_with d p part.schemas (lifted_problem part.scope p)
@@ -253,7 +257,7 @@ ChecksProblem result first p = Checks TellsOf result (in_text Problem (problem_f
 
 -- the lifted task of these parts, where the metric's function is not misused
 abbrev pub ChecksUses : Result LiftedTask CheckError → Parts → DomainAst → ProblemAst → Type 0
-ChecksUses result parts d p = Checks TellsOf result (metric_fault d p) (task_with d p parts.schemas parts.problem)
+ChecksUses result parts d p = Checks TellsOf result (metric_fault d p) (task_of d p parts)
 
 -- what a part answers, told of its text
 abbrev pub of_text : {R : Type 0} → Source → Result R Stop → Result R CheckError

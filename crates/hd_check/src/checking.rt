@@ -6,7 +6,7 @@ ghost use Rattle.hd_check.specs.Fault.{TellsOf, metric_use_fault};
 ghost use Rattle.hd_check.specs.declared.fault.Source.TheVariants as sources;
 ghost use Rattle.hd_names.specs.Scope.{type_names};
 ghost use Rattle.hd_check.specs.Whole.{of_text, names_in, in_text, mismatch, goal_in, ends_in, goal_fault, problem_in, lifted_problem, fault_in_problem, problem_fault, metric_fault};
-ghost use Rattle.hd_check.specs.Whole.{lifted_objects, lifted_signatures, all_objects, declared_in, task_by, task_with};
+ghost use Rattle.hd_check.specs.Whole.{lifted_objects, lifted_signatures, all_objects, declared_in, task_by, task_of};
 ghost use Rattle.hd_check.specs.Whole.{ChecksNames, ClimbsIn, ChecksTypes, ChecksScope, ChecksActions, ChecksProblem, ChecksUses, Answers};
 
 use crate::conditions::condition_of;
@@ -217,7 +217,7 @@ fn problem_in(alloc: Global, scope: Scope, problem: &ProblemAst) -> Result<Probl
 }
 
 /// What a problem's part stands for, by the scope of its domain.
-#[tactic(auto, unfolding(crate::specs::Whole::lifted_problem, crate::specs::Whole::problem_fault))]
+#[tactic(auto, unfolding(crate::specs::Whole::lifted_problem, crate::specs::Whole::problem_fault), using(crate::proofs::Telling::stops_first))]
 fn lifted_problem(alloc: Global, scope: Scope, problem: &ProblemAst) -> Result<ProblemPart, Stop>
     ensures { LiftsIn result problem_fault lifted_problem scope problem.now }
 {
@@ -349,13 +349,13 @@ fn task_by(schemas: Sequence<Schema>, part: ProblemPart, declared: Declared) -> 
 
 /// The lifted task of a domain and a problem whose parts stand for these.
 #[tactic(auto, unfolding(crate::specs::Whole::task_with))]
-fn task_with(
+fn task_of(
     alloc: Global,
     domain: &DomainAst,
     problem: &ProblemAst,
     parts: Parts,
 ) -> Result<LiftedTask, AllocError>
-    ensures { IfOk result (λ task. task ≡ task_with domain.now problem.now parts.schemas parts.problem) }
+    ensures { IfOk result (λ task. task ≡ task_of domain.now problem.now parts) }
 {
     match declared_in(alloc, &parts.problem.scope.types, domain, problem) {
         Ok(declared) => Ok(task_by(parts.schemas, parts.problem, declared)),
@@ -386,7 +386,7 @@ fn task_by_uses(
     ensures { ChecksUses result parts domain.now problem.now }
 {
     match check_uses(domain, problem) {
-        Ok(()) => Ok(task_with(alloc, domain, problem, parts)?),
+        Ok(()) => Ok(task_of(alloc, domain, problem, parts)?),
         Err(error) => {
             drop(parts);
             Err(error)
@@ -396,6 +396,7 @@ fn task_by_uses(
 
 /// The lifted task of a domain and a problem without a fault. Its six parts are asked in the order of the faults, and each but the
 /// first takes over what the one before it found.
+#[tactic(auto, using(crate::proofs::Standing::stops_at_name, crate::proofs::Standing::stops_at_types, crate::proofs::Standing::stops_at_scope, crate::proofs::Standing::stops_at_actions, crate::proofs::Standing::stops_at_problem, crate::proofs::Standing::answers_uses))]
 fn lifted_task(
     alloc: Global,
     seed: Seed,

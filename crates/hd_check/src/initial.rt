@@ -90,6 +90,7 @@ fn check_range(value: &hd_pddl::InitialValue) -> Result<(), Stop>
 }
 
 /// Asks that a fluent has no value yet, and notes that it has one now.
+#[tactic(auto, using(crate::proofs::Telling::stops_part))]
 fn note_value(alloc: Global, given: &mut Keys, fluent: &Ground, said: &Atom) -> Result<(), Stop>
     ensures { Notes result given.old given.new fluent.now said.now }
 {

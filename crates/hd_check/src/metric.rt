@@ -12,6 +12,7 @@ use hd_terms::ItemKind;
 use std::alloc::Global;
 
 /// Asks that the metric's function is declared, without parameters.
+#[tactic(auto, using(crate::proofs::Telling::stops_first))]
 pub fn check_metric_name(
     alloc: Global,
     functions: &Table<Sequence<usize>>,

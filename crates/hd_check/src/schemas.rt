@@ -93,7 +93,7 @@ fn schema_with(
 }
 
 /// What an action stands for.
-#[tactic(auto, unfolding(crate::specs::Schemas::lifted_schema, crate::specs::Schemas::action_fault))]
+#[tactic(auto, unfolding(crate::specs::Schemas::lifted_schema, crate::specs::Schemas::action_fault), using(crate::proofs::Telling::stops_first))]
 fn schema_of(alloc: Global, scope: &Scope, action: &Action) -> Result<Schema, Stop>
     ensures { LiftsIn result action_fault lifted_schema scope.now action.now }
 {
@@ -103,6 +103,7 @@ fn schema_of(alloc: Global, scope: &Scope, action: &Action) -> Result<Schema, St
 }
 
 /// What actions stand for, in their order.
+#[tactic(auto, using(crate::proofs::Telling::stops_first))]
 pub fn schemas_of(
     alloc: Global,
     scope: &Scope,

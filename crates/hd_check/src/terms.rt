@@ -15,6 +15,7 @@ use hd_terms::{Atom, ItemKind, Term};
 use std::alloc::Global;
 
 /// What a term stands for.
+#[tactic(auto, using(crate::proofs::Telling::stops_part))]
 pub fn term_of(alloc: Global, context: Context<'_>, term: &Term) -> Result<Argument, Stop>
     ensures { Lifts result term_fault lifted_term context.entry term.now }
 {
@@ -121,6 +122,7 @@ pub fn wrong_arity(alloc: Global, name: &NameAt) -> Stop
 }
 
 /// What an atom, or a fluent, stands for, by the predicates or the functions.
+#[tactic(auto, using(crate::proofs::Telling::stops_first))]
 pub fn applied_of(
     alloc: Global,
     symbols: &Table<Sequence<usize>>,
