@@ -396,7 +396,6 @@ fn task_by_uses(
 
 /// The lifted task of a domain and a problem without a fault. Its six parts are asked in the order of the faults, and each but the
 /// first takes over what the one before it found.
-#[tactic(auto, using(crate::proofs::Standing::stops_at_name, crate::proofs::Standing::stops_at_types, crate::proofs::Standing::stops_at_scope, crate::proofs::Standing::stops_at_actions, crate::proofs::Standing::stops_at_problem, crate::proofs::Standing::answers_uses))]
 fn lifted_task(
     alloc: Global,
     seed: Seed,
