@@ -106,3 +106,21 @@ values_of n xs s is = ap (λ (s : State). s.fluents) is
 pub parts_empty : (xs : List ℕ) → xs ≡ [] → Parts 0 xs (record { atoms = []; fluents = [] })
 unfolding packed_bytes
 parts_empty xs is = record { count = refl; bytes = is; fit = tt }
+
+-- ---- a copy
+
+pub parts_copied : (n m : ℕ) (xs ys zs : List ℕ) (s u : State) → Parts n xs s → Parts m ys u → length s.atoms ≡ length u.atoms → zs ≡ ys → Parts n zs u
+parts_copied n m xs ys zs s u own other same is = record {
+  count = own.count ∙ same;
+  bytes = is ∙ other.bytes;
+  fit = other.fit;
+}
+
+pub same_length : (n m : ℕ) (xs ys : List ℕ) (s u : State) → Parts n xs s → Parts m ys u → length s.atoms ≡ length u.atoms → length s.fluents ≡ length u.fluents → length xs ≡ length ys
+same_length n m xs ys s u own other atoms fluents =
+    let one = length-bytes n xs s own in
+    let two = length-bytes m ys u other in
+    let c = own.count in
+    let d = other.count in
+    let bytes : bytes_for n ≡ bytes_for m = ap bytes_for (c ∙ (atoms ∙ sym d)) in
+    omega (arith, one, two, bytes, fluents)

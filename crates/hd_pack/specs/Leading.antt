@@ -11,6 +11,8 @@ use Rattle.hd_task.specs.Effects.{new_value}
 use Rattle.hd_zobrist.specs.Hash.{state_hash}
 use Rattle.hd_pack.specs.declared.leading.Led.{Led}
 use Rattle.hd_pack.specs.declared.leading.Led.TheVariants.{No, Departs, Next}
+use Rattle.hd_pack.specs.declared.leading.LedOver.{LedOver}
+use Rattle.hd_pack.specs.declared.leading.LedOver.TheVariants as Over
 
 -- ---- answers
 
@@ -25,6 +27,12 @@ abbrev pub led_by : ℕ → Applied → Led
 led_by cost Answer.No = No
 led_by cost (Answer.Next s c) = if cost_in_range (cost + c) then Next s (state_hash s) (cost + c) else Departs
 led_by cost Answer.Departs = Departs
+
+-- the same from what is answered where the state after it is written over another one
+abbrev pub led_over : State → LedOver → Led
+led_over s Over.No = No
+led_over s Over.Departs = Departs
+led_over s (Over.Next hash cost) = Next s hash cost
 
 -- ---- writes
 

@@ -6,7 +6,7 @@ ghost use Rattle.hd_task.specs.Plans.{IsStateOf, node};
 ghost use Rattle.hd_task.specs.Applying.{test_of, applied_of, fits_task};
 ghost use Rattle.hd_task.specs.Stepping.{step_at};
 ghost use Rattle.hd_zobrist.specs.Hash.{state_hash, changed, IsChangeOf};
-ghost use Rattle.hd_pack.specs.Leading.{led_of, led_by, with_atom, with_value, with_effect};
+ghost use Rattle.hd_pack.specs.Leading.{led_of, led_by, led_over, with_atom, with_value, with_effect};
 
 use crate::Packed;
 use hd_base::{NoMemory, total_cost};
@@ -23,6 +23,17 @@ pub enum Led {
     Departs,
     /// The state after it, the hash of that state, and the cost of the plan with it, which is in the range.
     Next(Packed, u64, u64),
+}
+
+/// Where an action leads from a packed state, at a plan of some cost, where the state after it is written over another one.
+#[derive(Clone, Copy, Debug, PartialEq, Eq)]
+pub enum LedOver {
+    /// Nowhere: its condition does not hold.
+    No,
+    /// A number leaves the range, or the plan's cost does.
+    Departs,
+    /// To the state that is written, which has this hash; and the cost of the plan with it, which is in the range.
+    Next(u64, u64),
 }
 
 /// Makes a change, and gives the hash after it.
@@ -156,6 +167,63 @@ fn take_effect(
             drop(kid);
             Ok(Led::Departs)
         }
+    }
+}
+
+/// Where an action leads where its condition holds, written over another state.
+fn take_effect_over(
+    task: &Task,
+    words: &Words,
+    state: &Packed,
+    hash: u64,
+    cost: u64,
+    action: &Action,
+    over: &mut Packed,
+) -> LedOver
+    requires holds { test_of state.now action.now.condition ≡ GoalTest.Yes }
+    requires of_task { IsStateOf task.now state.now }
+    requires room { IsStateOf task.now over.old }
+    requires fits { fits_task task.now action.now ≡ true }
+    requires is_hash { hash ≡ state_hash state.now }
+    ensures { led_over over.new result ≡ led_by cost (applied_of task.now state.now action.now) }
+{
+    let Some(step) = step_cost(task, state, action) else {
+        return LedOver::Departs;
+    };
+    let Some(sum) = total_cost(cost, step) else {
+        return LedOver::Departs;
+    };
+    over.copy_from(state);
+    match write_effects(task, words, over, hash, state, action) {
+        Some(hash) => LedOver::Next(hash, sum),
+        None => LedOver::Departs,
+    }
+}
+
+/// The same as [`leads`], where the state after it is written over another state of the task. It takes no memory: who has to compare where
+/// many actions lead keeps one packed state for it.
+///
+/// Where it leads nowhere, and where it departs, what stands in the other state is some state of the task.
+pub fn leads_over(
+    task: &Task,
+    words: &Words,
+    state: &Packed,
+    hash: u64,
+    cost: u64,
+    action: ActionId,
+    over: &mut Packed,
+) -> LedOver
+    requires known { action.0 < length task.now.actions }
+    requires of_task { IsStateOf task.now state.now }
+    requires room { IsStateOf task.now over.old }
+    requires is_hash { hash ≡ state_hash state.now }
+    ensures { led_over over.new result ≡ led_of (step_at task.now (node state.now cost) action.0) }
+{
+    let action = &task.actions.as_slice()[action.0 as usize];
+    match test_of(state, &action.condition) {
+        GoalTest::No => LedOver::No,
+        GoalTest::Departs => LedOver::Departs,
+        GoalTest::Yes => take_effect_over(task, words, state, hash, cost, action, over),
     }
 }
 

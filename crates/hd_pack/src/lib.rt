@@ -3,7 +3,7 @@
 //! Atom i is bit `i mod 8`, the least first, of byte `i div 8`, and unused bits are 0. A fluent's value is in two's complement, its
 //! least byte first. So two states are the same exactly where their packings are.
 //!
-//! [`leads`] is a step over packed states, with the hash of the state that it leads to.
+//! [`leads`] is a step over packed states, with the hash of the state that it leads to; [`leads_over`] is the same step without memory.
 #![tactic(auto)]
 
 mod bits;
@@ -14,5 +14,5 @@ mod packed;
 mod values;
 
 pub use layout::Layout;
-pub use leading::{Led, leads};
+pub use leading::{Led, LedOver, leads, leads_over};
 pub use packed::{Packed, pack, unpack};

@@ -68,6 +68,16 @@ impl Packed {
         })
     }
 
+    /// Becomes a copy of another packing, of as many atoms and fluents. It takes no memory.
+    pub(crate) fn copy_from(&mut self, other: &Packed)
+        requires atoms { length self.old.atoms ≡ length other.now.atoms }
+        requires fluents { length self.old.fluents ≡ length other.now.fluents }
+        ensures { self.new ≡ other.now }
+    {
+        let bytes = self.bytes.as_mut_slice();
+        bytes.copy_from_slice(other.bytes.as_slice());
+    }
+
     /// Whether the atom of this number is true, if the state has it. It reads one byte.
     pub fn atom(&self, atom: u32) -> Option<bool>
         ensures { result ≡ slice_get self.now.atoms atom }

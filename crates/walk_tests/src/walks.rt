@@ -1,10 +1,10 @@
 //! Random walks.
-ghost use Rattle.std.specs.Prelude.{◌≡◌};
+ghost use Rattle.std.specs.Prelude.{◌≡◌, ◌<◌, length};
 ghost use Rattle.hd_task.specs.Plans.{IsStateOf};
 
 use crate::dice::Dice;
 use crate::making::task;
-use hd_pack::{Layout, Led, Packed, leads, pack, unpack};
+use hd_pack::{Layout, Led, LedOver, Packed, leads, leads_over, pack, unpack};
 use hd_task::{ActionId, RANGE_END, Reached, Reads, Sequence, State, Task, step};
 use hd_zobrist::{Change, Words};
 use std::alloc::Global;
@@ -96,6 +96,49 @@ fn assert_led(
     }
 }
 
+/// Asserts that a step written over another state leads where the step does that makes a state.
+fn assert_led_over(rt: &impl Abort, led: &Led, answer: LedOver, over: &Packed) {
+    match (led, answer) {
+        (Led::No, LedOver::No) => {}
+        (Led::Departs, LedOver::Departs) => {}
+        (Led::Next(packed, hash, total), LedOver::Next(hash_over, total_over)) => {
+            assert!(rt; *hash == hash_over);
+            assert!(rt; *total == total_over);
+            assert!(rt; *packed == *over);
+        }
+        _ => assert!(rt; false),
+    }
+}
+
+/// Steps from a packed state over the task's initial one, and asserts that it leads to the same.
+fn step_over(
+    rt: &impl Abort,
+    alloc: Global,
+    tables: &Tables<'_>,
+    packed: &Packed,
+    place: &Place,
+    action: ActionId,
+    led: &Led,
+) -> Result<(), Fail>
+    requires known { action.0 < length tables.now.task.now.actions }
+    requires of_task { IsStateOf tables.now.task.now packed.now }
+    requires is_state { packed.now ≡ place.now.state }
+{
+    assert_sizes(rt, tables.task, &tables.task.initial);
+    let mut over = pack(alloc, &tables.layout, &tables.task.initial)?;
+    let answer = leads_over(
+        tables.task,
+        tables.words,
+        packed,
+        tables.words.hash(&place.state),
+        place.cost,
+        action,
+        &mut over,
+    );
+    assert_led_over(rt, led, answer, &over);
+    Ok(())
+}
+
 /// What an action does at a place, where both steps have been asserted to answer the same.
 fn reached(
     rt: &impl Abort,
@@ -118,6 +161,7 @@ fn reached(
         place.cost,
         id,
     )?;
+    step_over(rt, alloc, tables, &packed, place, id, &led)?;
     let reached = step(alloc, tables.task, &place.state, place.cost, id)?;
     assert_led(rt, alloc, tables, &led, &reached)?;
     Ok(reached)
