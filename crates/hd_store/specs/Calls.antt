@@ -1,5 +1,5 @@
 -- What the calls on a device answer and leave. (Our own.)
-use Rattle.std.specs.Prelude.{◌≡◌, ◌⊎◌, true, List, ℕ, Result, Ok, Err}
+use Rattle.std.specs.Prelude.{◌≡◌, ◌⊎◌, true, false, List, ℕ, Result, Ok, Err}
 use Rattle.hd_store.specs.declared.change.Change.{Change}
 use Rattle.hd_store.specs.declared.error.StoreError.{StoreError}
 use Rattle.hd_store.specs.declared.error.StoreError.TheVariants.{NoMemory, Failed}
@@ -17,6 +17,8 @@ OnNoMemory (Ok x) P = Unit {0}
 OnNoMemory (Err NoMemory) P = P
 OnNoMemory (Err Failed) P = Unit {0}
 
--- A change failed: it was begun and any part of it was done, by what a read gives now; or the device is closed, and nothing was begun.
+-- A change failed. On a device that is closed nothing was begun; on any other it was begun and any part of it was done, by what a read gives
+-- now.
 abbrev pub BreaksOff : Device → Change → (List ℕ → Type 0) → Device → Type 0
-BreaksOff old change IsPart new = ((is_closed old ≡ true) × (new ≡ refused old)) ⊎ ((now : List ℕ) × IsPart now × (new ≡ broken old change now))
+BreaksOff old change IsPart new =
+    ((is_closed old ≡ true) × (new ≡ refused old)) ⊎ ((is_closed old ≡ false) × ((now : List ℕ) × IsPart now × (new ≡ broken old change now)))

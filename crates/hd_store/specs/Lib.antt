@@ -1,3 +1,4 @@
+pub mod Error
 pub mod Ahead
 pub mod Bytes
 pub mod Past

@@ -1,5 +1,6 @@
-use Rattle.std.proofs.Common.{◌≡◌, ◌≤◌, length, sym, ap, ◌∙◌, subst}
+use Rattle.std.proofs.Common.{◌≡◌, ◌≤◌, ◌==◌, length, sym, ap, ◌∙◌, subst}
 use Rattle.hd_store.specs.declared.change.Change.TheVariants.{Cut}
+use Rattle.hd_store.specs.declared.error.TheConstants.{MOST_FAILURES}
 use Rattle.hd_store.specs.declared.file.FileStore.{FileStore}
 use Rattle.hd_store.specs.Bytes.{IsPartOfCut}
 use Rattle.hd_store.specs.Calls.{BreaksOff}
@@ -15,6 +16,7 @@ returns-then-is_err-clause-failed c =
     (cut_failed c.begin.new.self c.break_off.new.self c.args.len
     (subst (λ (s : FileStore). c.args.len ≤ length (content_of (device_of s))) (sym same) c.requires)
     (ap (λ (s : FileStore). s.is_broken) same ∙ c.in_ok-begin.ensures.running)
+    (ap (λ (s : FileStore). s.failures == MOST_FAILURES) same ∙ c.in_ok-begin.ensures.few)
     (ap (λ (s : FileStore). s.image.history.start) c.break_off.ensures ∙ c.break_cut.ensures.0)
     (ap (λ (s : FileStore). s.image.history.steps) c.break_off.ensures ∙ c.break_cut.ensures.1)
     (ap (λ (s : FileStore). s.failures) c.break_off.ensures)

@@ -1,0 +1,9 @@
+pub mod Bytes
+pub mod Running
+pub mod Passing
+pub mod Making
+pub mod Appending
+pub mod Opening
+pub mod Again
+pub mod Wholes
+pub mod Recovering
