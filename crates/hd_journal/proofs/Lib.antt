@@ -7,3 +7,4 @@ pub mod Opening
 pub mod Again
 pub mod Wholes
 pub mod Recovering
+pub mod Standing

@@ -1,7 +1,17 @@
 //! Laws over the definitions. Each function does nothing: its contract is the law.
-ghost use Rattle.std.specs.Prelude.{◌≡◌, List, Err};
+ghost use Rattle.std.specs.Prelude.{◌≡◌, ◌⊎◌, ◌∷◌, ◌++◌, ℕ, List, [], length, Err};
+ghost use Rattle.std.specs.List.{AllByRecursion};
+ghost use Rattle.hd_task.specs.declared.plan.Kid.{Kid};
+ghost use Rattle.hd_image.specs.declared.version.Version.{Version};
+ghost use Rattle.hd_image.specs.declared.header.TheConstants.{DIGEST_LEN};
+ghost use Rattle.hd_image.specs.declared.error.ImageError.{ImageError};
+ghost use Rattle.hd_image.specs.declared.error.ImageError.TheVariants.{NoMemory};
+ghost use Rattle.hd_image.specs.Image.{IsGroup};
+ghost use Rattle.hd_image.specs.Reading.{IsRefused};
+ghost use Rattle.hd_image.specs.Stops.{IsBeforeOrAfter, IsMaking};
 ghost use Rattle.hd_store.specs.declared.error.StoreError.TheVariants.{Failed};
 ghost use Rattle.hd_store.specs.Device.{Device, one_more};
+ghost use Rattle.hd_journal.specs.Answers.{StandsIn};
 ghost use Rattle.hd_journal.specs.Calls.{Call, Ran, RanThrough, after_calls};
 
 /// Calls that were all done leave the device that they lead to.
@@ -14,4 +24,22 @@ pub fn calls_that_were_done_lead_on()
 pub fn a_call_that_fails_is_counted()
     ensures { (old new : Device) (calls : List Call)
         → Ran old calls (Err Failed) new → new.failures ≡ one_more old.failures }
+{}
+
+/// What a stop leaves while a group is appended holds the groups before, or these and the whole new one.
+pub fn what_a_stop_leaves_holds_groups()
+    ensures { (v : Version) (digest : List ℕ) (groups : List (List Kid)) (next : List Kid)
+        (content : List ℕ) → AllByRecursion (IsGroup v) groups → IsGroup v next
+        → IsBeforeOrAfter v digest groups next content
+        → StandsIn v digest groups content ⊎ StandsIn v digest (groups ++ next ∷ []) content }
+{}
+
+/// Nothing is said against a content in which groups stand, nor against what a stop leaves while a header is made.
+pub fn what_a_stop_leaves_is_not_refused()
+    ensures groups { (v : Version) (digest : List ℕ) (groups : List (List Kid))
+        (content : List ℕ) (error : ImageError) → length digest ≡ DIGEST_LEN
+        → StandsIn v digest groups content → IsRefused digest content error → error ≡ NoMemory }
+    ensures making { (v : Version) (digest content : List ℕ) (error : ImageError)
+        → length digest ≡ DIGEST_LEN → IsMaking v digest content
+        → IsRefused digest content error → error ≡ NoMemory }
 {}
