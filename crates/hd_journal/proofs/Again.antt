@@ -1,26 +1,24 @@
 -- What a stop leaves while a file is mended that an earlier stop left.
-use Rattle.std.proofs.Common.{◌≡◌, ◌≢◌, ◌⊎◌, inl, inr, ℕ, ◌+◌, ◌<◌, ◌≤◌, ◌==◌, Bool, true, false, List, [], ◌∷◌, ◌++◌, length, take, Result, Ok, Err, refl, sym, ap, ◌∙◌, subst, arith, if◌then◌else◌}
+use Rattle.std.proofs.Common.{◌≡◌, ◌≢◌, inl, inr, ℕ, ◌+◌, ◌≤◌, ◌==◌, Bool, true, false, List, [], ◌∷◌, ◌++◌, length, take, Result, refl, sym, ap, ◌∙◌, subst, arith, if◌then◌else◌}
 use Rattle.std.specs.List.{flat_map, AllByRecursion}
-use Rattle.std.proofs.lemmas.List.{length-append}
 use Rattle.std.proofs.lemmas.Bool.{eqb-true, eqb-false}
 use Rattle.hd_base.proofs.Lists.{AllByRecursion-push}
 use Rattle.hd_task.specs.declared.plan.Kid.{Kid}
 use Rattle.hd_image.specs.declared.version.Version.{Version}
 use Rattle.hd_image.specs.declared.version.Version.TheVariants.{Two}
 use Rattle.hd_image.specs.declared.header.TheConstants.{FIRST_GATE, DIGEST_LEN}
-use Rattle.hd_image.specs.declared.contents.Contents.{Contents}
 use Rattle.hd_image.specs.declared.contents.Found.{Found}
 use Rattle.hd_image.specs.declared.contents.Found.TheVariants.{Unmade, HalfMade, Journal}
-use Rattle.hd_image.specs.Image.{IsGroup, counted, opened, header, front}
+use Rattle.hd_image.specs.Image.{IsGroup, counted, opened, front}
 use Rattle.hd_image.specs.Reading.{IsFound, IsHead, IsHalfMade, contents_of}
 use Rattle.hd_image.specs.Stops.{IsBeforeOrAfter, IsMaking}
 use Rattle.hd_image.proofs.Stopping.{length-front, joined}
 use Rattle.hd_store.specs.declared.error.StoreError.{StoreError}
 use Rattle.hd_store.specs.Bytes.{IsPartOfCut}
 use Rattle.hd_store.specs.Device.{Device, content_of}
-use Rattle.hd_journal.specs.Calls.{Call, after_call, Ran, RanThrough, surely}
+use Rattle.hd_journal.specs.Calls.{after_call, Ran, RanThrough, surely}
 use Rattle.hd_journal.specs.Calls.Call.{Writing, Cutting, Syncing}
-use Rattle.hd_journal.specs.Journal.{head_calls, gate_calls, cut_calls, mend_calls, open_calls, version_in}
+use Rattle.hd_journal.specs.Journal.{head_calls, gate_calls, cut_calls, open_calls, version_in}
 use Rattle.hd_journal.specs.Moments.{LeavesSince, IsSettled}
 use Rattle.hd_journal.proofs.Bytes.{cut_whole, cut_part}
 use Rattle.hd_journal.proofs.Running.{led_on, split}

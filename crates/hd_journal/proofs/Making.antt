@@ -1,6 +1,5 @@
 -- Headers that are made.
-use Rattle.std.proofs.Common.{◌≡◌, ◌⊎◌, inl, inr, ℕ, suc, ◌+◌, ◌<◌, ◌≤◌, List, [], ◌∷◌, ◌++◌, length, get_or, max, Result, Ok, Err, refl, sym, ap, ◌∙◌, subst, arith}
-use Rattle.std.specs.Prelude.{OnOk}
+use Rattle.std.proofs.Common.{◌≡◌, inl, inr, ℕ, ◌≤◌, List, [], ◌∷◌, ◌++◌, length, Result, refl, sym, ap, ◌∙◌, subst, arith}
 use Rattle.std.proofs.lemmas.List.{length-append}
 use Rattle.hd_image.specs.declared.version.Version.TheVariants.{Two}
 use Rattle.hd_image.specs.declared.header.TheConstants.{FIRST_GATE, DIGEST_LEN}
@@ -10,7 +9,7 @@ use Rattle.hd_image.proofs.Stopping.{made}
 use Rattle.hd_store.specs.declared.error.StoreError.{StoreError}
 use Rattle.hd_store.specs.Bytes.{written_over, IsPartOfWrite}
 use Rattle.hd_store.specs.Device.{Device, content_of}
-use Rattle.hd_journal.specs.Calls.{Call, after_call, Ran, RanThrough, surely}
+use Rattle.hd_journal.specs.Calls.{after_call, Ran, RanThrough, surely}
 use Rattle.hd_journal.specs.Calls.Call.{Writing, Syncing}
 use Rattle.hd_journal.specs.Journal.{create_calls, fill_calls}
 use Rattle.hd_journal.specs.Moments.{LeavesSince, IsSettled}

@@ -1,7 +1,7 @@
 -- What is found in a file, and what mending makes of it.
-use Rattle.std.proofs.Common.{◌≡◌, ◌≢◌, ◌⊎◌, inl, inr, ℕ, suc, ◌+◌, ◌<◌, ◌≤◌, ◌==◌, Bool, true, false, List, [], ◌∷◌, ◌++◌, length, take, Result, Ok, Err, refl, sym, ap, ◌∙◌, subst, append_assoc, append-nil, arith, if◌then◌else◌}
+use Rattle.std.proofs.Common.{◌≡◌, ◌≢◌, ℕ, suc, ◌+◌, ◌≤◌, ◌==◌, Bool, true, false, List, [], ◌∷◌, ◌++◌, length, take, Result, Ok, Err, refl, sym, ap, ◌∙◌, subst, append_assoc, arith, if◌then◌else◌}
 use Rattle.std.specs.List.{flat_map, AllByRecursion}
-use Rattle.std.proofs.lemmas.Bool.{eqb-true, eqb-false}
+use Rattle.std.proofs.lemmas.Bool.{eqb-true}
 use Rattle.hd_task.specs.declared.plan.Kid.{Kid}
 use Rattle.hd_image.specs.declared.version.Version.{Version}
 use Rattle.hd_image.specs.declared.version.Version.TheVariants.{Two}
@@ -11,15 +11,14 @@ use Rattle.hd_image.specs.declared.contents.Found.{Found}
 use Rattle.hd_image.specs.declared.contents.Found.TheVariants.{Unmade, HalfMade, Journal}
 use Rattle.hd_image.specs.declared.error.ImageError.{ImageError}
 use Rattle.hd_image.specs.declared.error.ImageError.TheVariants.{NoMemory}
-use Rattle.hd_image.specs.Image.{IsGroup, counted, opened, header, front, image, entries_in}
+use Rattle.hd_image.specs.Image.{IsGroup, opened, header, front, image, entries_in}
 use Rattle.hd_image.specs.Reading.{IsFound, IsHalfMade, contents_of}
-use Rattle.hd_image.proofs.Stopping.{is_journal, length-front, joined}
+use Rattle.hd_image.proofs.Stopping.{is_journal, length-front}
 use Rattle.hd_image.proofs.Ways.{one_answer}
-use Rattle.hd_store.specs.declared.error.StoreError.{StoreError}
 use Rattle.hd_store.specs.Bytes.{written_over}
 use Rattle.hd_store.specs.Device.{Device, content_of}
-use Rattle.hd_journal.specs.Calls.{Call, after_call, Ran, RanThrough, surely}
-use Rattle.hd_journal.specs.Calls.Call.{Writing, Cutting, Syncing}
+use Rattle.hd_journal.specs.Calls.{RanThrough, surely}
+use Rattle.hd_journal.specs.Calls.Call.{Writing, Cutting}
 use Rattle.hd_journal.specs.Journal.{head_calls, gate_calls, cut_calls, mend_calls, open_calls, version_in, found_in, gate_in}
 use Rattle.hd_journal.proofs.Bytes.{over_one, cut_whole}
 use Rattle.hd_journal.proofs.Running.{led_on, split}

@@ -1,16 +1,15 @@
 -- What a stop leaves at each moment while a change is made sure of, and while one follows the other.
-use Rattle.std.proofs.Common.{◌≡◌, ◌⊎◌, inl, inr, ℕ, List, [], ◌∷◌, ◌++◌, length, Result, Ok, Err, refl, sym, ap, ◌∙◌, subst, append_assoc, true}
+use Rattle.std.proofs.Common.{◌≡◌, inl, inr, ℕ, List, [], ◌∷◌, ◌++◌, length, Result, Ok, Err, refl, sym, ap, ◌∙◌, subst, append_assoc}
 use Rattle.hd_store.specs.declared.change.Change.{Change}
 use Rattle.hd_store.specs.declared.change.Change.TheVariants.{Write, Cut, Sync, FailedSync}
 use Rattle.hd_store.specs.declared.error.StoreError.{StoreError}
 use Rattle.hd_store.specs.declared.error.StoreError.TheVariants.{NoMemory, Failed}
 use Rattle.hd_store.specs.Bytes.{IsPartOfWrite, IsPartOfCut}
 use Rattle.hd_store.specs.Calls.{BreaksOff}
-use Rattle.hd_store.specs.Device.{Device, content_of, broken, refused}
-use Rattle.hd_store.specs.Past.{Step, step, content_after}
-use Rattle.hd_store.specs.Stop.{MayLeave, IsSynced}
+use Rattle.hd_store.specs.Device.{Device, content_of}
+use Rattle.hd_store.specs.Past.{Step, step}
 use Rattle.hd_store.proofs.Leaving.{at_rest, write_torn, cut_torn, as_before}
-use Rattle.hd_journal.specs.Calls.{Call, change_of, content_by, after_call, Ran, IsThrough, Ends, Breaks}
+use Rattle.hd_journal.specs.Calls.{Call, change_of, content_by, after_call, Ran, Ends, Breaks}
 use Rattle.hd_journal.specs.Calls.Call.{Writing, Cutting, Syncing}
 use Rattle.hd_journal.specs.Moments.{Leaves, LeavesAlong, LeavesSince, IsSettled}
 

@@ -1,4 +1,4 @@
-use Rattle.std.proofs.Common.{rules, ◌≡◌, ◌≤◌, length, Ok, sym, ap, subst, arith}
+use Rattle.std.proofs.Common.{rules, ◌≡◌, length, Ok, sym, subst}
 use Rattle.hd_image.specs.declared.header.TheConstants.{DIGEST_LEN}
 use Rattle.hd_image.specs.declared.version.Version.TheVariants.{Two}
 use Rattle.hd_image.specs.Stops.{IsMaking}

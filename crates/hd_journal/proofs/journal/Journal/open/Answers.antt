@@ -1,8 +1,8 @@
-use Rattle.std.proofs.Common.{rules, ◌≡◌, ◌≤◌, [], length, sym, ap, ◌∙◌, subst, arith}
+use Rattle.std.proofs.Common.{rules, ◌≡◌, [], length, sym, ◌∙◌, subst}
 use Rattle.hd_image.specs.declared.header.TheConstants.{DIGEST_LEN}
 use Rattle.hd_image.specs.declared.version.Version.TheVariants.{Two}
 use Rattle.hd_image.specs.Stops.{IsBeforeOrAfter, IsMaking}
-use Rattle.hd_store.specs.Device.{Device, content_of}
+use Rattle.hd_store.specs.Device.{Device}
 use Rattle.hd_journal.specs.Moments.{LeavesSince, IsSettled}
 use Rattle.hd_journal.proofs.Opening.{Opens}
 use Rattle.hd_journal.proofs.Recovering.{mended_opens, mended_groups, mended_none, mended_settled, mended_making, mended_again, not_opened_making, not_opened_again}
