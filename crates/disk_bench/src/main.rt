@@ -19,6 +19,9 @@ const DIGEST: [u8; DIGEST_LEN] = [7; DIGEST_LEN];
 /// For how long a size is measured, in microseconds.
 const MEASURED: u128 = 2_000_000;
 
+/// More groups than are appended in this time.
+const MOST_GROUPS: u64 = 10_000_000;
+
 /// The pairs of a group that begins at a number: each entry follows the first one.
 fn pairs(alloc: Global, first: u64, size: usize) -> anyhow::Result<Vec<Kid>> {
     let mut kids = Vec::with_capacity(alloc, size)?;
@@ -64,23 +67,21 @@ fn opened<S: Store + Drop>(alloc: Global, store: S) -> anyhow::Result<Journal<S>
     }
 }
 
-/// How many groups of a size are appended in so many microseconds, and how many microseconds that took in all.
+/// How many groups of a size were appended until the time was over, and how many microseconds that took.
 fn appends_in<S: Store>(
     rt: &HostRuntime,
     journal: &mut Journal<S>,
     size: usize,
 ) -> anyhow::Result<(u64, u128)> {
     let start = Instant::now(rt)?;
-    let mut groups = 0;
-    // A limit that no machine reaches in this time.
-    for _ in 0..10_000_000 {
+    for groups in 1..MOST_GROUPS {
         append(rt.alloc(), journal, size)?;
-        groups += 1;
-        if start.elapsed(rt)?.as_micros() > MEASURED {
-            break;
+        let taken = start.elapsed(rt)?.as_micros();
+        if taken > MEASURED {
+            return Ok((groups, taken));
         }
     }
-    Ok((groups, start.elapsed(rt)?.as_micros()))
+    bail!("the clock stands still")
 }
 
 /// Prints how many groups of a size are appended in a second.

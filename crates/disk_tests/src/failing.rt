@@ -49,13 +49,32 @@ fn create_makes_six_calls(rt: HostRuntime) -> Result<(), Fail> {
     }
 }
 
+/// What a file holds when it is opened again.
+#[derive(Clone, Copy)]
+struct Left {
+    entries: usize,
+    bytes: usize,
+}
+
+/// The root's group.
+const BEFORE: Left = Left {
+    entries: 1,
+    bytes: 53,
+};
+
+/// The root's group, and one of one entry.
+const AFTER: Left = Left {
+    entries: 2,
+    bytes: 67,
+};
+
 /// The n-th change of an `append` fails; the next `append` is refused too; then the machine stops.
 fn assert_append_fails(
     rt: &impl Abort,
     alloc: Global,
     n: u64,
     fill: u8,
-    entries: usize,
+    left: Left,
 ) -> Result<(), Fail> {
     let mut disk = rooted(alloc)?.into_store();
     if n == 0 {
@@ -74,14 +93,14 @@ fn assert_append_fails(
     let mut disk = journal.into_store();
     assert_eq!(rt; disk.failures(), 1);
     disk.settle(fill)?;
-    assert_opens(rt, alloc, disk, entries, 39 + 14 * entries)
+    assert_opens(rt, alloc, disk, left.entries, left.bytes)
 }
 
 #[test]
 fn writing_a_group_fails(rt: HostRuntime) -> Result<(), Fail> {
     for n in 1..=2 {
         for fill in FILLS {
-            assert_append_fails(&rt, rt.alloc(), n, fill, 1)?;
+            assert_append_fails(&rt, rt.alloc(), n, fill, BEFORE)?;
         }
     }
     Ok(())
@@ -91,8 +110,8 @@ fn writing_a_group_fails(rt: HostRuntime) -> Result<(), Fail> {
 fn opening_a_gate_fails(rt: HostRuntime) -> Result<(), Fail> {
     for n in 3..=4 {
         for fill in FILLS {
-            let entries = if fill == 1 { 2 } else { 1 };
-            assert_append_fails(&rt, rt.alloc(), n, fill, entries)?;
+            let left = if fill == 1 { AFTER } else { BEFORE };
+            assert_append_fails(&rt, rt.alloc(), n, fill, left)?;
         }
     }
     Ok(())

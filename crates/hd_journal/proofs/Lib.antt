@@ -8,3 +8,4 @@ pub mod Again
 pub mod Wholes
 pub mod Recovering
 pub mod Standing
+pub mod Staying

@@ -4,15 +4,18 @@ ghost use Rattle.std.specs.List.{AllByRecursion};
 ghost use Rattle.hd_task.specs.declared.plan.Kid.{Kid};
 ghost use Rattle.hd_image.specs.declared.version.Version.{Version};
 ghost use Rattle.hd_image.specs.declared.header.TheConstants.{DIGEST_LEN};
+ghost use Rattle.hd_image.specs.declared.contents.Contents.{Contents};
+ghost use Rattle.hd_image.specs.declared.contents.Found.TheVariants.{Journal};
 ghost use Rattle.hd_image.specs.declared.error.ImageError.{ImageError};
 ghost use Rattle.hd_image.specs.declared.error.ImageError.TheVariants.{NoMemory};
 ghost use Rattle.hd_image.specs.Image.{IsGroup};
-ghost use Rattle.hd_image.specs.Reading.{IsRefused};
+ghost use Rattle.hd_image.specs.Reading.{IsFound, IsRefused};
 ghost use Rattle.hd_image.specs.Stops.{IsBeforeOrAfter, IsMaking};
-ghost use Rattle.hd_store.specs.declared.error.StoreError.TheVariants.{Failed};
-ghost use Rattle.hd_store.specs.Device.{Device, one_more};
+ghost use Rattle.hd_store.specs.declared.error.StoreError.TheVariants as store;
+ghost use Rattle.hd_store.specs.Device.{Device, content_of, one_more};
 ghost use Rattle.hd_journal.specs.Answers.{StandsIn};
 ghost use Rattle.hd_journal.specs.Calls.{Call, Ran, RanThrough, after_calls};
+ghost use Rattle.hd_journal.specs.Journal.{mend_calls};
 
 /// Calls that were all done leave the device that they lead to.
 pub fn calls_that_were_done_lead_on()
@@ -23,7 +26,7 @@ pub fn calls_that_were_done_lead_on()
 /// Calls of which one failed leave one failure more counted, up to the greatest count.
 pub fn a_call_that_fails_is_counted()
     ensures { (old new : Device) (calls : List Call)
-        → Ran old calls (Err Failed) new → new.failures ≡ one_more old.failures }
+        → Ran old calls (Err store.Failed) new → new.failures ≡ one_more old.failures }
 {}
 
 /// What a stop leaves while a group is appended holds the groups before, or these and the whole new one.
@@ -42,4 +45,11 @@ pub fn what_a_stop_leaves_is_not_refused()
     ensures making { (v : Version) (digest content : List ℕ) (error : ImageError)
         → length digest ≡ DIGEST_LEN → IsMaking v digest content
         → IsRefused digest content error → error ≡ NoMemory }
+{}
+
+/// Mending a journal that is found wants no memory: each write lies within the length.
+pub fn mending_wants_no_memory()
+    ensures { (digest : List ℕ) (old new : Device) (found : Contents)
+        → IsFound digest (content_of old) (Journal found)
+        → ¬ Ran old (mend_calls found) (Err store.NoMemory) new }
 {}
