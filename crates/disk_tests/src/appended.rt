@@ -24,7 +24,7 @@ fn fresh_journal(rt: HostRuntime) -> Result<(), Fail> {
     assert_eq!(rt; journal.entries().len(), 0);
     let disk = journal.into_store();
     assert_eq!(rt; disk.bytes().len(), 39);
-    assert!(rt; disk.bytes()[..38] == TWO[..38]);
+    assert!(rt; disk.bytes().starts_with(&TWO[..38]));
     assert_eq!(rt; disk.bytes()[38], 0);
     Ok(())
 }
@@ -33,7 +33,7 @@ fn fresh_journal(rt: HostRuntime) -> Result<(), Fail> {
 fn roots_group(rt: HostRuntime) -> Result<(), Fail> {
     let disk = rooted(rt.alloc())?.into_store();
     assert_eq!(rt; disk.bytes().len(), 53);
-    assert!(rt; disk.bytes()[..38] == TWO[..38]);
+    assert!(rt; disk.bytes().starts_with(&TWO[..38]));
     let wanted = [
         1, 1, 0, 0, 0, 0xFF, 0xFF, 0xFF, 0xFF, 0xFF, 0xFF, 0xFF, 0xFF, 0xFF, 0,
     ];
@@ -48,7 +48,7 @@ fn roots_group_in_version_one(rt: HostRuntime) -> Result<(), Fail> {
     append(rt.alloc(), &mut journal, 0, &[ROOT])?;
     let disk = journal.into_store();
     assert_eq!(rt; disk.bytes().len(), 52);
-    assert!(rt; disk.bytes()[..38] == ONE[..38]);
+    assert!(rt; disk.bytes().starts_with(&ONE[..38]));
     let wanted = [
         1, 1, 0, 0, 0, 0xFF, 0xFF, 0xFF, 0xFF, 0xFF, 0xFF, 0xFF, 0xFF, 0,
     ];

@@ -54,7 +54,7 @@ fn header_half_made(rt: HostRuntime) -> Result<(), Fail> {
         assert_eq!(rt; journal.most(), 1_099_511_627_774);
         let disk = journal.into_store();
         assert_eq!(rt; disk.bytes().len(), 39);
-        assert!(rt; disk.bytes()[..38] == TWO[..38]);
+        assert!(rt; disk.bytes().starts_with(&TWO[..38]));
         assert_eq!(rt; disk.bytes()[38], 0);
     }
     Ok(())
@@ -102,34 +102,35 @@ fn other_task(rt: HostRuntime) -> Result<(), Fail> {
     }
 }
 
-/// A gate reads another byte: the entries before it are opened, and the rest is cut off.
+/// A gate reads another byte: so many entries before it are opened, and the rest is cut off, so that so many bytes are left.
 fn assert_gate(
     rt: &impl Abort,
     alloc: Global,
     bytes: &[u8],
     at: usize,
     entries: usize,
+    left: usize,
 ) -> Result<(), Fail> {
     for byte in [0, 0x37, 0xFF] {
         let bytes = changed(alloc, bytes, at, byte)?;
         let disk = MemoryDisk::of(alloc, bytes)?;
-        assert_opens(rt, alloc, disk, entries, at + 1)?;
+        assert_opens(rt, alloc, disk, entries, left)?;
     }
     Ok(())
 }
 
 #[test]
 fn gates_of_version_one_changed(rt: HostRuntime) -> Result<(), Fail> {
-    for (at, entries) in [(38, 0), (51, 1), (64, 2), (77, 3)] {
-        assert_gate(&rt, rt.alloc(), &ONE, at, entries)?;
+    for (at, entries, left) in [(38, 0, 39), (51, 1, 52), (64, 2, 65), (77, 3, 78)] {
+        assert_gate(&rt, rt.alloc(), &ONE, at, entries, left)?;
     }
     Ok(())
 }
 
 #[test]
 fn gates_of_version_two_changed(rt: HostRuntime) -> Result<(), Fail> {
-    for (at, entries) in [(38, 0), (52, 1), (66, 2), (80, 3)] {
-        assert_gate(&rt, rt.alloc(), &TWO, at, entries)?;
+    for (at, entries, left) in [(38, 0, 39), (52, 1, 53), (66, 2, 67), (80, 3, 81)] {
+        assert_gate(&rt, rt.alloc(), &TWO, at, entries, left)?;
     }
     Ok(())
 }
@@ -173,7 +174,7 @@ fn header_opening(rt: HostRuntime) -> Result<(), Fail> {
     assert_eq!(rt; journal.most(), 4_294_967_294);
     let disk = journal.into_store();
     assert_eq!(rt; disk.bytes().len(), 39);
-    assert!(rt; disk.bytes()[..38] == ONE[..38]);
+    assert!(rt; disk.bytes().starts_with(&ONE[..38]));
     assert_eq!(rt; disk.bytes()[38], 0);
     Ok(())
 }
