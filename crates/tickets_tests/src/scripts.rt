@@ -1,5 +1,5 @@
 //! Scripts: what is done with tickets, and what should come of it.
-ghost use Rattle.std.specs.Prelude.{◌≡◌, ◌<◌, ◌≤◌, vec_len};
+ghost use Rattle.std.specs.Prelude.{◌≡◌, ◌<◌, ◌≤◌, vec_len, vec_capacity};
 ghost use Rattle.hd_tickets.specs.declared.queue.TheConstants.{MAX_GROUP};
 
 use hd_tickets::{MAX_GROUP, NotOut, Redeemed, Ticket, Tickets};
