@@ -1,0 +1,203 @@
+//! The mailboxes of all workers.
+ghost use Rattle.std.specs.Prelude.{◌≡◌, ◌<◌, ◌≤◌, ◌++◌, Some, [], ◌∷◌, map, length, slice_get, IfOk, IfErr, IfSome, IfNone, OnOk, OnErr};
+ghost use Rattle.crossbeam_queue.specs.Passes.{view};
+ghost use Rattle.hd_desk.specs.Mail.{post};
+ghost use Rattle.hd_desk.specs.declared.rule.TheConstants.{ALL_PARTS};
+ghost use Rattle.hd_desk.specs.Hands.{IsFor, AreShareable, HasAll, IsTallied, IsEvened, fresh_hands, put_into, taken_from, less_parts, one_parts, with_hands};
+
+use crate::rule::{Cleared, Named, Part, Post, Put, Queue, Sent, Taken};
+use crossbeam_queue::Pass;
+use hd_base::NoMemory;
+use std::alloc::Global;
+use std::marker::Model;
+use std::sync::Wait;
+
+/// How many items a mailbox holds at most.
+pub const MAILBOX_PLACES: usize = 1024;
+
+/// A mailbox for each worker.
+#[derive(Drop)]
+pub struct Mailboxes<K, T: Sent<K>> {
+    boxes: Vec<Queue<K, T>>,
+}
+
+impl<K, T: Sent<K>> Model for Mailboxes<K, T> {
+    ghost use Rattle.std.specs.Prelude.{List, map};
+    ghost use Rattle.std.specs.Coded.{coded_list};
+    ghost use Rattle.atomic_table.specs.Seated.{TableId, table_id_coded};
+
+    ghost Value = { List TableId };
+
+    ghost coded = { coded_list table_id_coded };
+
+    ghost view = { λ m. map (λ q. q.table.shared.table_id) m.boxes.items };
+}
+
+/// A thread's passes of all mailboxes, with which it puts items in and takes them out.
+#[derive(Drop)]
+pub struct Hands<'t, K, T: Sent<K>> {
+    of: &'t K,
+    passes: Vec<Pass<T, Post<K, T>>>,
+}
+
+impl<'t, K, T: Sent<K>> Model for Hands<'t, K, T> {
+    ghost use Rattle.std.specs.Prelude.{map};
+    ghost use Rattle.std.specs.List.{AllByRecursion};
+    ghost use Rattle.hd_desk.specs.Hands.{HandsView, hands_code, post_of, IsHand};
+
+    ghost Value = { HandsView K T };
+
+    ghost coded = { hands_code K.code T.code };
+
+    ghost view = { λ h. record { of = h.of.now; posts = map post_of h.passes.items } };
+
+    ghost invariant = { λ h. AllByRecursion (IsHand h.of.now) h.passes.items };
+}
+
+/// A mailbox that is empty, and the pass that has all parts of it. An item goes through it, so that it is known what the items are of.
+fn opened<K, T: Sent<K>, R: Wait>(
+    rt: &R,
+    alloc: Global,
+    seed: T,
+) -> Result<(Queue<K, T>, Pass<T, Post<K, T>>, T), NoMemory>
+    ensures mailbox { IfOk result (λ r. r.1.table_id ≡ r.0.table.shared.table_id) }
+    ensures home { IfOk result (λ r. r.1.me.1 ≡ []) }
+    ensures post { IfOk result (λ r. view r.1 ≡ post ALL_PARTS (Some (T.of seed)) [] []) }
+    ensures seed { IfOk result (λ r. T.of r.2 ≡ T.of seed) }
+{
+    let (queue, mut pass) = Queue::ruled(alloc, MAILBOX_PLACES)?;
+    match queue.push_as::<Named, R>(rt, &mut pass, seed) {
+        Ok(()) => match queue.pop_as::<Cleared, R>(rt, &mut pass) {
+            Some(seed) => Ok((queue, pass, seed)),
+            None => unreachable!(),
+        },
+        Err(_) => unreachable!(),
+    }
+}
+
+impl<K, T: Sent<K>> Mailboxes<K, T> {
+    /// Puts an item into a mailbox.
+    ///
+    /// # Errors
+    /// The item, where the mailbox is full, or another thread is in the way: nothing was put in.
+    pub fn push(&self, hands: &mut Hands<K, T>, to: usize, item: T) -> Result<(), T>
+        requires of { IsFor self.now hands.old }
+        requires there { to < length self.now }
+        requires fits { T.of item ≡ hands.old.of }
+        ensures put { OnOk result (hands.new ≡ put_into to item hands.old) }
+        ensures back { IfErr result (λ x. x ≡ item) }
+        ensures err { OnErr result (hands.new ≡ hands.old) }
+        ensures of { IsFor self.now hands.new }
+    {
+        let pass = &mut hands.passes[to];
+        self.boxes[to].try_push_as::<Put>(pass, item)
+    }
+
+    /// Takes the oldest item out of a mailbox; none where it is empty, or another thread is in the way.
+    pub fn pop(&self, hands: &mut Hands<K, T>, from: usize) -> Option<T>
+        requires of { IsFor self.now hands.old }
+        requires there { from < length self.now }
+        ensures taken { IfSome result (λ x. hands.new ≡ taken_from from x hands.old) }
+        ensures fits { IfSome result (λ x. T.of x ≡ hands.old.of) }
+        ensures none { IfNone result (hands.new ≡ hands.old) }
+        ensures of { IsFor self.now hands.new }
+    {
+        let pass = &mut hands.passes[from];
+        self.boxes[from].try_pop_as::<Taken>(pass)
+    }
+
+    /// Empty mailboxes, so many, and the passes that have all parts of them. An item tells what all items are of; it is not put into any.
+    ///
+    /// # Errors
+    /// `NoMemory` where there is no room for them.
+    pub fn new<'t, R: Wait>(
+        rt: &R,
+        alloc: Global,
+        count: usize,
+        of: &'t K,
+        seed: T,
+    ) -> Result<(Mailboxes<K, T>, Hands<'t, K, T>), NoMemory>
+        requires fits { T.of seed ≡ of.now }
+        ensures count { IfOk result (λ r. length r.0 ≡ count) }
+        ensures hands { IfOk result (λ r. r.1 ≡ fresh_hands of.now r.0) }
+    {
+        let mut boxes = Vec::new(alloc);
+        let mut passes = Vec::new(alloc);
+        let mut seed = seed;
+        for _ in 0..count {
+            let (queue, pass, same) = opened(rt, alloc, seed)?;
+            boxes.push(queue)?;
+            passes.push(pass)?;
+            seed = same;
+        }
+        Ok((Mailboxes { boxes }, Hands { of, passes }))
+    }
+
+    /// Passes of all mailboxes with one part each, for another thread.
+    ///
+    /// # Errors
+    /// `NoMemory` where there is no room for them: nothing has changed.
+    pub fn share<'t>(
+        &self,
+        alloc: Global,
+        hands: &mut Hands<'t, K, T>,
+    ) -> Result<Hands<'t, K, T>, NoMemory>
+        requires of { IsFor self.now hands.old }
+        requires parts { AreShareable hands.old }
+        ensures left { OnOk result (hands.new ≡ less_parts hands.old) }
+        ensures new { IfOk result (λ h. h ≡ one_parts hands.old) }
+        ensures err { OnErr result (hands.new ≡ hands.old) }
+    {
+        let mut passes = Vec::with_capacity(alloc, self.boxes.len())?;
+        for number in 0..self.boxes.len() {
+            let pass = &mut hands.passes[number];
+            passes.push_reserved(self.boxes[number].another::<Part>(pass));
+        }
+        Ok(Hands {
+            of: hands.of,
+            passes,
+        })
+    }
+
+    /// Takes in another thread's passes, with what they have put and taken.
+    pub fn absorb(&self, hands: &mut Hands<K, T>, others: Hands<K, T>)
+        requires of { IsFor self.now hands.old }
+        requires others { IsFor self.now others }
+        ensures { hands.new ≡ with_hands others.entry hands.old }
+    {
+        let Hands { of: _, mut passes } = others;
+        while let Some(other) = passes.pop() {
+            let number = passes.len();
+            let pass = &mut hands.passes[number];
+            self.boxes[number].absorb::<Part>(pass, other);
+        }
+    }
+
+    /// Takes the oldest item out of a mailbox of which these hands have all parts. Where there is none, all that was put in was taken
+    /// out, each item as often.
+    pub fn pop_last<R: Wait>(&self, rt: &R, hands: &mut Hands<K, T>, from: usize) -> Option<T>
+        requires of { IsFor self.now hands.old }
+        requires there { from < length self.now }
+        requires all { HasAll from hands.old }
+        ensures taken { IfSome result (λ x. hands.new ≡ taken_from from x hands.old) }
+        ensures fits { IfSome result (λ x. T.of x ≡ hands.old.of) }
+        ensures none { IfNone result (hands.new ≡ hands.old) }
+        ensures evened { IfNone result (IfSome (slice_get hands.old.posts from) IsEvened) }
+        ensures of { IsFor self.now hands.new }
+    {
+        let pass = &mut hands.passes[from];
+        self.boxes[from].pop_as::<Taken, R>(rt, pass)
+    }
+
+    /// Of a mailbox of which these hands have all parts: what was put in is what was taken out and what is left, each item as often.
+    pub fn tally(&self, hands: &mut Hands<K, T>, from: usize)
+        requires of { IsFor self.now hands.old }
+        requires there { from < length self.now }
+        requires all { HasAll from hands.old }
+        ensures same { hands.new ≡ hands.old }
+        ensures tallied { IfSome (slice_get hands.old.posts from) IsTallied }
+    {
+        let pass = &mut hands.passes[from];
+        self.boxes[from].learn_as::<Taken>(pass);
+    }
+}
