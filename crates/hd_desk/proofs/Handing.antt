@@ -1,14 +1,22 @@
 -- Lists of passes, of which one has stepped.
-use Rattle.std.proofs.Common.{◌≡◌, ℕ, zero, suc, ◌+◌, ◌-◌, ◌<◌, ◌≤◌, List, [], ◌∷◌, ◌++◌, Option, Some, None, map, length, take, set, get_or, slice_get, refl, sym, ap, ◌∙◌, subst, arith}
+use Rattle.std.proofs.Common.{◌≡◌, ℕ, zero, suc, ◌+◌, ◌-◌, ◌<◌, ◌≤◌, List, [], ◌∷◌, ◌++◌, Option, Some, None, map, length, set, get_or, slice_get, refl, sym, ap, ◌∙◌, subst, arith}
 use Rattle.std.specs.List.{AllByRecursion, sum_by}
-use Rattle.std.specs.Option.{IfSome}
+use Rattle.std.specs.Prelude.{Result, Ok, Err, IfSome, IfNone, OnOk, OnErr, MatchOption, MatchResult}
+use Rattle.std.proofs.lemmas.List.{length-map}
 use Rattle.atomic_table.specs.Seated.{TableId}
-use Rattle.crossbeam_queue.specs.Passes.{Pass, view}
+use Rattle.crossbeam_queue.specs.Fifo.{Held}
+use Rattle.crossbeam_queue.specs.Passes.{Pass, view, IsSamePass}
 use Rattle.hd_base.proofs.Lists.{cons_parts}
+use Rattle.std.proofs.lemmas.Option.{same_Some}
 use Rattle.hd_desk.specs.declared.rule.Post.{Post}
 use Rattle.hd_desk.specs.declared.rule.TheConstants.{ALL_PARTS}
-use Rattle.hd_desk.specs.Mail.{post}
-use Rattle.hd_desk.specs.Hands.{PostView, HandsView, post_of, IsHand, changed_at, with_other, joined, less_part, one_part}
+use Rattle.hd_desk.specs.Mail.{post, HasPut, HasTaken, IsEven}
+use Rattle.hd_desk.specs.Hands.{PostView, HandsView, post_of, IsHand, IsEvened, changed_at, with_put, with_taken, with_other, joined, put_into, taken_from}
+
+pub some_at : {X : Type 0} (xs : List X) (k : ℕ) (x : X) → k < length xs → x ≡ get_or xs k x → slice_get xs k ≡ Some x
+some_at [] k x within at = absurd (omega arith)
+some_at (y ∷ xs) zero x within at = ap Some (sym at)
+some_at (y ∷ xs) (suc k) x within at = some_at xs k x (omega arith) at
 
 module _ {K A : Type 0} where
   -- ---- the pass at a place
@@ -31,6 +39,11 @@ module _ {K A : Type 0} where
   named_at name (x ∷ passes) [] k p q e within = absurd (cc)
   named_at name (x ∷ passes) (y ∷ boxes) zero p q e within = (cons_parts _ _ _ _ e).0
   named_at name (x ∷ passes) (y ∷ boxes) (suc k) p q e within = named_at name passes boxes k p q (cons_parts _ _ _ _ e).1 (omega arith)
+
+  post_at : (passes : List (Pass A (Post K A))) (k : ℕ) (p : Pass A (Post K A)) → k < length passes → p ≡ get_or passes k p → slice_get (map post_of passes) k ≡ Some (post_of p)
+  post_at [] k p within at = absurd (omega arith)
+  post_at (x ∷ passes) zero p within at = ap (λ (y : Pass A (Post K A)). Some (post_of y)) (sym at)
+  post_at (x ∷ passes) (suc k) p within at = post_at passes k p (omega arith) at
 
   -- ---- a pass has stepped
 
@@ -58,34 +71,6 @@ module _ {K A : Type 0} where
   posts_set (p ∷ passes) zero q d f is = ap (λ (x : PostView A). x ∷ map post_of passes) is
   posts_set (p ∷ passes) (suc k) q d f is = ap (λ (xs : List (PostView A)). post_of p ∷ xs) (posts_set passes k q d f is)
 
--- passes stand beside mailboxes, as contracts see both
-pub record Lined {K A Q : Type 0} (name : Q → TableId) (of : K) (passes : List (Pass A (Post K A))) (boxes : List Q) : Type 0 where
-  pub hands : AllByRecursion (IsHand of) passes
-  pub names : map (λ (x : PostView A). x.mailbox) (map post_of passes) ≡ map name boxes
-
-module _ {K A Q : Type 0} where
-  pub lined :
-      (name : Q → TableId) (of : K) (passes : List (Pass A (Post K A))) (boxes : List Q) (names : List TableId) (view : HandsView K A)
-      → map name boxes ≡ names → record { of = of; posts = map post_of passes } ≡ view
-      → AllByRecursion (IsHand of) passes → map (λ (x : PostView A). x.mailbox) view.posts ≡ names
-      → Lined name of passes boxes
-  lined name of passes boxes names view boxes_are view_is all for_them = record {
-    hands = all;
-    names = ap (λ (h : HandsView K A). map (λ (x : PostView A). x.mailbox) h.posts) view_is ∙ (for_them ∙ sym boxes_are);
-  }
-
-  module _ (name : Q → TableId) (of : K) (passes : List (Pass A (Post K A))) (boxes : List Q) (l : Lined name of passes boxes) where
-    pub lined_as_many : length passes ≡ length boxes
-    lined_as_many = as_many name passes boxes l.names
-
-    pub lined_hand : (k : ℕ) (p : Pass A (Post K A)) → k < length boxes → p ≡ get_or passes k p → IsHand of p
-    lined_hand k p within at = subst (IsHand of) (sym at) (hand_at of passes k p l.hands (let same = as_many name passes boxes l.names in omega arith))
-
-    pub lined_name : (k : ℕ) (p : Pass A (Post K A)) (q : Q) → k < length boxes → p ≡ get_or passes k p → q ≡ get_or boxes k q → p.table_id ≡ name q
-    lined_name k p q within at box =
-        ap (λ (x : Pass A (Post K A)). x.table_id) at
-        ∙ (named_at name passes boxes k p q l.names (let same = as_many name passes boxes l.names in omega arith) ∙ ap name (sym box))
-
 -- ---- what contracts see of them
 
 module _ {A : Type 0} where
@@ -101,6 +86,173 @@ module _ {A : Type 0} where
   kept_changed of zero f (p ∷ posts) same = ap (λ x. x ∷ map of posts) (same p)
   kept_changed of (suc k) f (p ∷ posts) same = ap (λ xs. of p ∷ xs) (kept_changed of k f posts same)
 
+-- ---- a thread's passes beside the mailboxes, as contracts see both
+
+-- a pass that is kept, of a mailbox of this name; it knows that the items are of this
+pub record Stands {K A : Type 0} (of : K) (name : TableId) (p : Pass A (Post K A)) : Type 0 where
+  pub hand : IsHand of p
+  pub named : p.table_id ≡ name
+
+module _ {K A Q : Type 0} where
+  pub lined_stands :
+      (name : Q → TableId) (of : K) (passes : List (Pass A (Post K A))) (boxes : List Q)
+      → AllByRecursion (IsHand of) passes → map (λ (x : PostView A). x.mailbox) (map post_of passes) ≡ map name boxes
+      → (k : ℕ) (p : Pass A (Post K A)) (q : Q) → k < length boxes → p ≡ get_or passes k p → q ≡ get_or boxes k q
+      → Stands of (name q) p
+  lined_stands name of passes boxes all lined k p q there at box =
+      let same = as_many name passes boxes lined in
+      let within : k < length passes = omega arith in
+      record {
+        hand = subst (IsHand of) (sym at) (hand_at of passes k p all within);
+        named = ap (λ (x : Pass A (Post K A)). x.table_id) at ∙ (named_at name passes boxes k p q lined within ∙ ap name (sym box));
+      }
+
+  -- what stands at a place, as contracts see it
+  pub lined_at :
+      (name : Q → TableId) (passes : List (Pass A (Post K A))) (boxes : List Q)
+      → map (λ (x : PostView A). x.mailbox) (map post_of passes) ≡ map name boxes
+      → (k : ℕ) (p : Pass A (Post K A)) → k < length boxes → p ≡ get_or passes k p
+      → slice_get (map post_of passes) k ≡ Some (post_of p)
+  lined_at name passes boxes lined k p there at =
+      let same = as_many name passes boxes lined in
+      post_at passes k p (omega arith) at
+
+  pub stands :
+      (name : Q → TableId) (of : K) (passes : List (Pass A (Post K A))) (boxes : List Q) (names : List TableId) (hands : HandsView K A)
+      → map name boxes ≡ names → record { of = of; posts = map post_of passes } ≡ hands
+      → AllByRecursion (IsHand of) passes → map (λ (x : PostView A). x.mailbox) hands.posts ≡ names
+      → (k : ℕ) (p : Pass A (Post K A)) (q : Q) → k < length names → p ≡ get_or passes k p → q ≡ get_or boxes k q
+      → Stands hands.of (name q) p
+  stands name of passes boxes names hands boxes_are hands_are all for_them k p q there at box =
+      let lined = ap (λ (h : HandsView K A). map (λ (x : PostView A). x.mailbox) h.posts) hands_are ∙ (for_them ∙ sym boxes_are) in
+      let many : length names ≡ length boxes = ap length (sym boxes_are) ∙ length-map boxes name in
+      let is = lined_stands name of passes boxes all lined k p q (omega arith) at box in
+      record { hand = subst (λ (h : HandsView K A). IsHand h.of p) hands_are is.hand; named = is.named }
+
+  pub stands_at :
+      (name : Q → TableId) (of : K) (passes : List (Pass A (Post K A))) (boxes : List Q) (names : List TableId) (hands : HandsView K A)
+      → map name boxes ≡ names → record { of = of; posts = map post_of passes } ≡ hands
+      → map (λ (x : PostView A). x.mailbox) hands.posts ≡ names
+      → (k : ℕ) (p : Pass A (Post K A)) → k < length names → p ≡ get_or passes k p
+      → slice_get hands.posts k ≡ Some (post_of p)
+  stands_at name of passes boxes names hands boxes_are hands_are for_them k p there at =
+      let lined = ap (λ (h : HandsView K A). map (λ (x : PostView A). x.mailbox) h.posts) hands_are ∙ (for_them ∙ sym boxes_are) in
+      let many : length names ≡ length boxes = ap length (sym boxes_are) ∙ length-map boxes name in
+      ap (λ (h : HandsView K A). slice_get h.posts k) (sym hands_are) ∙ lined_at name passes boxes lined k p (omega arith) at
+
+module _ {K A : Type 0} where
+  -- one pass has stepped
+  stepped :
+      (of : K) (passes : List (Pass A (Post K A))) (hands : HandsView K A)
+      → record { of = of; posts = map post_of passes } ≡ hands
+      → (k : ℕ) (p q : Pass A (Post K A)) (f : PostView A → PostView A)
+      → p ≡ get_or passes k p → post_of q ≡ f (post_of p)
+      → record { of = of; posts = map post_of (set passes k q) } ≡ record hands { posts = changed_at k f hands.posts }
+  stepped of passes hands hands_are k p q f at is =
+      ap (λ (ps : List (PostView A)). let h : HandsView K A = record { of = of; posts = ps } in h) (posts_set passes k q p f (is ∙ ap (λ (x : Pass A (Post K A)). f (post_of x)) at))
+      ∙ ap (λ (h : HandsView K A). let w : HandsView K A = record h { posts = changed_at k f h.posts } in w) hands_are
+
+-- what a step leaves: what the passes are of, and their parts
+pub record Stays {K A : Type 0} (old new : HandsView K A) : Type 0 where
+  pub of : new.of ≡ old.of
+  pub names : map (λ (p : PostView A). p.mailbox) new.posts ≡ map (λ (p : PostView A). p.mailbox) old.posts
+  pub parts : map (λ (p : PostView A). p.parts) new.posts ≡ map (λ (p : PostView A). p.parts) old.posts
+
+module _ {K A : Type 0} where
+  stays_changed :
+      (old new : HandsView K A) (k : ℕ) (f : PostView A → PostView A)
+      → ((p : PostView A) → (f p).mailbox ≡ p.mailbox) → ((p : PostView A) → (f p).parts ≡ p.parts)
+      → new ≡ record old { posts = changed_at k f old.posts }
+      → Stays old new
+  stays_changed old new k f same_name same_parts is = record {
+    of = ap (λ (h : HandsView K A). h.of) is;
+    names = ap (λ (h : HandsView K A). map (λ (p : PostView A). p.mailbox) h.posts) is ∙ kept_changed (λ (p : PostView A). p.mailbox) k f old.posts same_name;
+    parts = ap (λ (h : HandsView K A). map (λ (p : PostView A). p.parts) h.posts) is ∙ kept_changed (λ (p : PostView A). p.parts) k f old.posts same_parts;
+  }
+
+  stays_same : (old new : HandsView K A) → new ≡ old → Stays old new
+  stays_same old new is = record {
+    of = ap (λ (h : HandsView K A). h.of) is;
+    names = ap (λ (h : HandsView K A). map (λ (p : PostView A). p.mailbox) h.posts) is;
+    parts = ap (λ (h : HandsView K A). map (λ (p : PostView A). p.parts) h.posts) is;
+  }
+
+  unstepped :
+      (of : K) (passes : List (Pass A (Post K A))) (hands : HandsView K A)
+      → record { of = of; posts = map post_of passes } ≡ hands
+      → (k : ℕ) (p q : Pass A (Post K A))
+      → p ≡ get_or passes k p → post_of q ≡ post_of p
+      → record { of = of; posts = map post_of (set passes k q) } ≡ hands
+  unstepped of passes hands hands_are k p q at is =
+      stepped of passes hands hands_are k p q (λ x. x) at is
+      ∙ ap (λ (ps : List (PostView A)). let h : HandsView K A = record hands { posts = ps } in h) (changed_none k hands.posts)
+
+-- what a push leaves
+pub record IsPushed {K A U : Type 0} (k : ℕ) (x : A) (old new : HandsView K A) (r : Result U A) : Type 0 where
+  pub put : OnOk r (new ≡ put_into k x old)
+  pub back : OnErr r (new ≡ old)
+  pub stays : Stays old new
+
+-- what a pop leaves
+pub record IsPopped {K A : Type 0} (of : A → K) (k : ℕ) (old new : HandsView K A) (r : Option A) : Type 0 where
+  pub taken : IfSome r (λ x. new ≡ taken_from k x old)
+  pub fits : IfSome r (λ x. of x ≡ old.of)
+  pub none : IfNone r (new ≡ old)
+  pub stays : Stays old new
+
+module _ {K A : Type 0} where
+  pub pushed :
+      {U : Type 0} (of : K) (passes : List (Pass A (Post K A))) (hands : HandsView K A)
+      → record { of = of; posts = map post_of passes } ≡ hands
+      → (k : ℕ) (p q : Pass A (Post K A)) (x : A) (r : Result U A)
+      → p ≡ get_or passes k p → IsSamePass p q
+      → MatchResult r (λ _. HasPut (view p) x (view q)) (λ y. (y ≡ x) × (view q ≡ view p))
+      → IsPushed k x hands (record { of = of; posts = map post_of (set passes k q) }) r
+  pushed of passes hands hands_are k p q x (Ok u) at same rule =
+      let is = stepped of passes hands hands_are k p q (with_put x) at (post_after p q _ same.0 rule) in
+      record { put = is; back = tt; stays = stays_changed hands _ k (with_put x) (λ _. refl) (λ _. refl) is }
+  pushed of passes hands hands_are k p q x (Err y) at same rule =
+      let is = unstepped of passes hands hands_are k p q at (post_after p q _ same.0 rule.1) in
+      record { put = tt; back = is; stays = stays_same hands _ is }
+
+  pub popped :
+      (kind : A → K) (of : K) (passes : List (Pass A (Post K A))) (hands : HandsView K A)
+      → record { of = of; posts = map post_of passes } ≡ hands
+      → (k : ℕ) (p q : Pass A (Post K A)) (r : Option A)
+      → IsHand hands.of p → p ≡ get_or passes k p → IsSamePass p q
+      → MatchOption r (view q ≡ view p) (λ x. HasTaken kind (view p) x (view q))
+      → IsPopped kind k hands (record { of = of; posts = map post_of (set passes k q) }) r
+  popped kind of passes hands hands_are k p q (Some x) hand at same rule =
+      let is = stepped of passes hands hands_are k p q (with_taken x) at (post_after p q _ same.0 rule.left) in
+      record { taken = is; fits = same_Some _ _ (sym rule.fits ∙ hand.knows); none = tt; stays = stays_changed hands _ k (with_taken x) (λ _. refl) (λ _. refl) is }
+  popped kind of passes hands hands_are k p q None hand at same rule =
+      let is = unstepped of passes hands hands_are k p q at (post_after p q _ same.0 rule) in
+      record { taken = tt; fits = tt; none = is; stays = stays_same hands _ is }
+
+  -- of a pop that waits
+  pub last_popped :
+      (kind : A → K) (p q : Pass A (Post K A)) (r : Option A)
+      → MatchOption r ((view q ≡ view p) × Held 0 (IsEven (view p))) (λ x. HasTaken kind (view p) x (view q))
+      → MatchOption r (view q ≡ view p) (λ x. HasTaken kind (view p) x (view q))
+  last_popped kind p q (Some x) rule = rule
+  last_popped kind p q None rule = rule.0
+
+  pub last_evened :
+      (kind : A → K) (p q : Pass A (Post K A)) (r : Option A)
+      → MatchOption r ((view q ≡ view p) × Held 0 (IsEven (view p))) (λ x. HasTaken kind (view p) x (view q))
+      → IfNone r (IsEvened (post_of p))
+  last_evened kind p q (Some x) rule = tt
+  last_evened kind p q None rule = λ h. nothing_more (view p) rule.1 rule.2 rule.3 h
+    where
+      nothing_more : (v : Post K A) (items : List A) → length items ≡ 0 → IsEven v items → (h : A → ℕ) → sum_by h v.put ≡ sum_by h v.taken
+      nothing_more v [] none even h = let all = even h in omega arith
+      nothing_more v (x ∷ items) none even h = absurd (omega arith)
+
+  -- the pass keeps what is kept of each
+  pub hand_put : (of : K) (p q : Pass A (Post K A)) (x : A) → IsHand of p → IsSamePass p q → HasPut (view p) x (view q) → IsHand of q
+  hand_put of p q x hand same is = hand_after of p q _ hand same.2 is hand.part hand.knows
+
+module _ {A : Type 0} where
   -- one more of the others is taken in
   pub joined-push : (posts others : List (PostView A)) (o : PostView A) → length others < length posts → joined (changed_at (length others) (with_other o) posts) others ≡ joined posts (others ++ o ∷ [])
   joined-push [] others o within = absurd (omega arith)

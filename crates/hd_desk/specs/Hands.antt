@@ -4,6 +4,8 @@ use Rattle.std.specs.List.{AllByRecursion, sum_by}
 use Rattle.std.specs.Option.{IfSome}
 use Rattle.std.specs.Coded.{Coded, code_by, coded×, coded_ℕ, coded_list}
 use Rattle.atomic_table.specs.Seated.{TableId, table_id_coded}
+use Rattle.crossbeam_queue.specs.declared.array_queue.Doing.{Doing}
+use Rattle.crossbeam_queue.specs.declared.array_queue.Slotted.{Slotted}
 use Rattle.crossbeam_queue.specs.Passes.{Pass, view}
 use Rattle.hd_desk.specs.declared.rule.Post.{Post}
 use Rattle.hd_desk.specs.declared.rule.TheConstants.{ALL_PARTS}
@@ -32,6 +34,10 @@ module _ {K A : Type 0} where
   -- the passes are of these mailboxes, one of each in order
   abbrev pub IsFor : List TableId → HandsView K A → Type 0
   IsFor names hands = map (λ p. p.mailbox) hands.posts ≡ names
+
+  -- how many parts each pass has
+  abbrev pub parts_of : HandsView K A → List ℕ
+  parts_of hands = map (λ p. p.parts) hands.posts
 
   -- each pass has more than one part, so that one can be given away
   abbrev pub AreShareable : HandsView K A → Type 0
@@ -113,6 +119,10 @@ module _ {K A : Type 0} where
 
 -- ---- how the parts show it
 
+-- the name of a mailbox, which tells it from others
+abbrev pub name_of : {T V Q A : Type 0} → Slotted (Option T) (Doing T V) Q A → TableId
+name_of q = q.table.shared.table_id
+
 module _ {K A : Type 0} where
   abbrev pub post_of : Pass A (Post K A) → PostView A
   post_of p = record { mailbox = p.table_id; parts = (view p).parts; put = (view p).put; taken = (view p).taken }
@@ -122,3 +132,8 @@ pub record IsHand {K A : Type 0} (of : K) (p : Pass A (Post K A)) : Type 0 where
   pub home : p.me.1 ≡ []
   pub part : 0 < (view p).parts
   pub knows : (view p).of ≡ Some of
+
+module _ {K A Q Z : Type 0} where
+  -- passes are of these mailboxes, one of each in order
+  abbrev pub AreLined : List (Slotted (Option A) (Doing A (Post K A)) Q Z) → List (Pass A (Post K A)) → Type 0
+  AreLined boxes passes = map (λ p. p.mailbox) (map post_of passes) ≡ map name_of boxes

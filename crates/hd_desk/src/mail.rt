@@ -1,9 +1,11 @@
 //! The mailboxes of all workers.
 ghost use Rattle.std.specs.Prelude.{◌≡◌, ◌<◌, ◌≤◌, ◌++◌, Some, [], ◌∷◌, map, length, slice_get, IfOk, IfErr, IfSome, IfNone, OnOk, OnErr};
+ghost use Rattle.std.specs.List.{AllByRecursion};
+ghost use Rattle.std.specs.Option.{option_map};
 ghost use Rattle.crossbeam_queue.specs.Passes.{view};
 ghost use Rattle.hd_desk.specs.Mail.{post};
 ghost use Rattle.hd_desk.specs.declared.rule.TheConstants.{ALL_PARTS};
-ghost use Rattle.hd_desk.specs.Hands.{IsFor, AreShareable, HasAll, IsTallied, IsEvened, fresh_hands, put_into, taken_from, less_parts, one_parts, with_hands};
+ghost use Rattle.hd_desk.specs.Hands.{AreLined, IsHand, name_of, post_of, changed_at, less_part, one_part, with_other, IsFor, AreShareable, HasAll, IsTallied, IsEvened, parts_of, fresh_hands, put_into, taken_from, less_parts, one_parts, with_hands};
 
 use crate::rule::{Cleared, Named, Part, Post, Put, Queue, Sent, Taken};
 use crossbeam_queue::Pass;
@@ -25,12 +27,13 @@ impl<K, T: Sent<K>> Model for Mailboxes<K, T> {
     ghost use Rattle.std.specs.Prelude.{List, map};
     ghost use Rattle.std.specs.Coded.{coded_list};
     ghost use Rattle.atomic_table.specs.Seated.{TableId, table_id_coded};
+    ghost use Rattle.hd_desk.specs.Hands.{name_of};
 
     ghost Value = { List TableId };
 
     ghost coded = { coded_list table_id_coded };
 
-    ghost view = { λ m. map (λ q. q.table.shared.table_id) m.boxes.items };
+    ghost view = { λ m. map name_of m.boxes.items };
 }
 
 /// A thread's passes of all mailboxes, with which it puts items in and takes them out.
@@ -60,7 +63,7 @@ fn opened<K, T: Sent<K>, R: Wait>(
     alloc: Global,
     seed: T,
 ) -> Result<(Queue<K, T>, Pass<T, Post<K, T>>, T), NoMemory>
-    ensures mailbox { IfOk result (λ r. r.1.table_id ≡ r.0.table.shared.table_id) }
+    ensures mailbox { IfOk result (λ r. r.1.table_id ≡ name_of r.0) }
     ensures home { IfOk result (λ r. r.1.me.1 ≡ []) }
     ensures post { IfOk result (λ r. view r.1 ≡ post ALL_PARTS (Some (T.of seed)) [] []) }
     ensures seed { IfOk result (λ r. T.of r.2 ≡ T.of seed) }
@@ -73,6 +76,48 @@ fn opened<K, T: Sent<K>, R: Wait>(
         },
         Err(_) => unreachable!(),
     }
+}
+
+/// Splits a part off the pass of a mailbox, for another thread: a new pass with one part.
+fn split<K, T: Sent<K>>(
+    boxes: &Vec<Queue<K, T>>,
+    passes: &mut Vec<Pass<T, Post<K, T>>>,
+    number: usize,
+) -> Pass<T, Post<K, T>>
+    requires lined { AreLined boxes.now.items passes.old.items }
+    requires there { number < length boxes.now.items }
+    requires part { IfSome (slice_get (map post_of passes.old.items) number) (λ p. 1 < p.parts) }
+    requires hands { (of : K) × AllByRecursion (IsHand of) passes.old.items }
+    ensures left { map post_of passes.new.items
+        ≡ changed_at number less_part (map post_of passes.old.items) }
+    ensures new { option_map one_part (slice_get (map post_of passes.old.items) number)
+        ≡ Some (post_of result) }
+    ensures hands { (of : K) → AllByRecursion (IsHand of) passes.old.items
+        → AllByRecursion (IsHand of) passes.new.items × IsHand of result }
+{
+    let pass = &mut passes[number];
+    boxes[number].another::<Part>(pass)
+}
+
+/// Takes another pass of the same mailbox into the pass of it.
+fn join<K, T: Sent<K>>(
+    boxes: &Vec<Queue<K, T>>,
+    passes: &mut Vec<Pass<T, Post<K, T>>>,
+    number: usize,
+    other: Pass<T, Post<K, T>>,
+)
+    requires lined { AreLined boxes.now.items passes.old.items }
+    requires there { number < length boxes.now.items }
+    requires name { option_map name_of (slice_get boxes.now.items number) ≡ Some other.table_id }
+    requires home { other.me.1 ≡ [] }
+    requires hands { (of : K) × AllByRecursion (IsHand of) passes.old.items }
+    ensures joined { map post_of passes.new.items
+        ≡ changed_at number (with_other (post_of other)) (map post_of passes.old.items) }
+    ensures hands { (of : K) → AllByRecursion (IsHand of) passes.old.items
+        → AllByRecursion (IsHand of) passes.new.items }
+{
+    let pass = &mut passes[number];
+    boxes[number].absorb::<Part>(pass, other);
 }
 
 impl<K, T: Sent<K>> Mailboxes<K, T> {
@@ -88,6 +133,7 @@ impl<K, T: Sent<K>> Mailboxes<K, T> {
         ensures back { IfErr result (λ x. x ≡ item) }
         ensures err { OnErr result (hands.new ≡ hands.old) }
         ensures of { IsFor self.now hands.new }
+        ensures parts { parts_of hands.new ≡ parts_of hands.old }
     {
         let pass = &mut hands.passes[to];
         self.boxes[to].try_push_as::<Put>(pass, item)
@@ -101,6 +147,7 @@ impl<K, T: Sent<K>> Mailboxes<K, T> {
         ensures fits { IfSome result (λ x. T.of x ≡ hands.old.of) }
         ensures none { IfNone result (hands.new ≡ hands.old) }
         ensures of { IsFor self.now hands.new }
+        ensures parts { parts_of hands.new ≡ parts_of hands.old }
     {
         let pass = &mut hands.passes[from];
         self.boxes[from].try_pop_as::<Taken>(pass)
@@ -124,7 +171,7 @@ impl<K, T: Sent<K>> Mailboxes<K, T> {
         let mut boxes = Vec::new(alloc);
         let mut passes = Vec::new(alloc);
         let mut seed = seed;
-        for _ in 0..count {
+        for _number in 0..count {
             let (queue, pass, same) = opened(rt, alloc, seed)?;
             boxes.push(queue)?;
             passes.push(pass)?;
@@ -150,8 +197,7 @@ impl<K, T: Sent<K>> Mailboxes<K, T> {
     {
         let mut passes = Vec::with_capacity(alloc, self.boxes.len())?;
         for number in 0..self.boxes.len() {
-            let pass = &mut hands.passes[number];
-            passes.push_reserved(self.boxes[number].another::<Part>(pass));
+            passes.push_reserved(split(&self.boxes, &mut hands.passes, number));
         }
         Ok(Hands {
             of: hands.of,
@@ -167,9 +213,7 @@ impl<K, T: Sent<K>> Mailboxes<K, T> {
     {
         let Hands { of: _, mut passes } = others;
         while let Some(other) = passes.pop() {
-            let number = passes.len();
-            let pass = &mut hands.passes[number];
-            self.boxes[number].absorb::<Part>(pass, other);
+            join(&self.boxes, &mut hands.passes, passes.len(), other);
         }
     }
 
@@ -184,6 +228,7 @@ impl<K, T: Sent<K>> Mailboxes<K, T> {
         ensures none { IfNone result (hands.new ≡ hands.old) }
         ensures evened { IfNone result (IfSome (slice_get hands.old.posts from) IsEvened) }
         ensures of { IsFor self.now hands.new }
+        ensures parts { parts_of hands.new ≡ parts_of hands.old }
     {
         let pass = &mut hands.passes[from];
         self.boxes[from].pop_as::<Taken, R>(rt, pass)
