@@ -1,8 +1,9 @@
 -- Lists of passes, of which one has stepped.
-use Rattle.std.proofs.Common.{◌≡◌, ℕ, zero, suc, ◌+◌, ◌-◌, ◌<◌, ◌≤◌, List, [], ◌∷◌, ◌++◌, Option, Some, None, map, length, set, get_or, slice_get, refl, sym, ap, ◌∙◌, subst, arith}
+use Rattle.std.proofs.Common.{◌≡◌, ℕ, zero, suc, ◌+◌, ◌-◌, ◌<◌, ◌≤◌, List, [], ◌∷◌, ◌++◌, Option, Some, None, map, length, take, replicate, set, get_or, slice_get, refl, sym, ap, ◌∙◌, subst, arith}
 use Rattle.std.specs.List.{AllByRecursion, sum_by}
+use Rattle.std.specs.Option.{option_map}
 use Rattle.std.specs.Prelude.{Result, Ok, Err, IfSome, IfNone, OnOk, OnErr, MatchOption, MatchResult}
-use Rattle.std.proofs.lemmas.List.{length-map}
+use Rattle.std.proofs.lemmas.List.{length-map, map-append}
 use Rattle.atomic_table.specs.Seated.{TableId}
 use Rattle.crossbeam_queue.specs.Fifo.{Held}
 use Rattle.crossbeam_queue.specs.Passes.{Pass, view, IsSamePass}
@@ -11,7 +12,7 @@ use Rattle.std.proofs.lemmas.Option.{same_Some}
 use Rattle.hd_desk.specs.declared.rule.Post.{Post}
 use Rattle.hd_desk.specs.declared.rule.TheConstants.{ALL_PARTS}
 use Rattle.hd_desk.specs.Mail.{post, HasPut, HasTaken, IsEven}
-use Rattle.hd_desk.specs.Hands.{PostView, HandsView, post_of, IsHand, IsEvened, changed_at, with_put, with_taken, with_other, joined, put_into, taken_from}
+use Rattle.hd_desk.specs.Hands.{PostView, HandsView, post_of, IsHand, IsEvened, changed_at, fresh_post, added, with_put, with_taken, with_other, joined, put_into, taken_from}
 
 pub some_at : {X : Type 0} (xs : List X) (k : ℕ) (x : X) → k < length xs → x ≡ get_or xs k x → slice_get xs k ≡ Some x
 some_at [] k x within at = absurd (omega arith)
@@ -27,7 +28,7 @@ module _ {K A : Type 0} where
   hand_at of (p ∷ passes) (suc k) d all within = hand_at of passes k d all.1 (omega arith)
 
   -- there is one for each mailbox
-  as_many : {Q : Type 0} (name : Q → TableId) (passes : List (Pass A (Post K A))) (boxes : List Q) → map (λ (x : PostView A). x.mailbox) (map post_of passes) ≡ map name boxes → length passes ≡ length boxes
+  pub as_many : {Q : Type 0} (name : Q → TableId) (passes : List (Pass A (Post K A))) (boxes : List Q) → map (λ (x : PostView A). x.mailbox) (map post_of passes) ≡ map name boxes → length passes ≡ length boxes
   as_many name [] [] e = refl
   as_many name [] (q ∷ boxes) e = absurd (cc)
   as_many name (p ∷ passes) [] e = absurd (cc)
@@ -177,7 +178,7 @@ module _ {K A : Type 0} where
     parts = ap (λ (h : HandsView K A). map (λ (p : PostView A). p.parts) h.posts) is;
   }
 
-  unstepped :
+  pub unstepped :
       (of : K) (passes : List (Pass A (Post K A))) (hands : HandsView K A)
       → record { of = of; posts = map post_of passes } ≡ hands
       → (k : ℕ) (p q : Pass A (Post K A))
@@ -242,7 +243,7 @@ module _ {K A : Type 0} where
       → MatchOption r ((view q ≡ view p) × Held 0 (IsEven (view p))) (λ x. HasTaken kind (view p) x (view q))
       → IfNone r (IsEvened (post_of p))
   last_evened kind p q (Some x) rule = tt
-  last_evened kind p q None rule = λ h. nothing_more (view p) rule.1 rule.2 rule.3 h
+  last_evened kind p q None rule = λ h. nothing_more (view p) rule.1.0 rule.1.1 rule.1.2 h
     where
       nothing_more : (v : Post K A) (items : List A) → length items ≡ 0 → IsEven v items → (h : A → ℕ) → sum_by h v.put ≡ sum_by h v.taken
       nothing_more v [] none even h = let all = even h in omega arith
@@ -253,6 +254,14 @@ module _ {K A : Type 0} where
   hand_put of p q x hand same is = hand_after of p q _ hand same.2 is hand.part hand.knows
 
 module _ {A : Type 0} where
+  pub kept_map : {X : Type 0} (of : PostView A → X) (f : PostView A → PostView A) (posts : List (PostView A)) → ((p : PostView A) → of (f p) ≡ of p) → map of (map f posts) ≡ map of posts
+  kept_map of f [] same = refl
+  kept_map of f (p ∷ posts) same = ap (λ x. x ∷ map of (map f posts)) (same p) ∙ ap (λ xs. of p ∷ xs) (kept_map of f posts same)
+
+  pub moved_map : (of : PostView A → ℕ) (f : PostView A → PostView A) (move : ℕ → ℕ) (posts : List (PostView A)) → ((p : PostView A) → of (f p) ≡ move (of p)) → map of (map f posts) ≡ map move (map of posts)
+  moved_map of f move [] same = refl
+  moved_map of f move (p ∷ posts) same = ap (λ x. x ∷ map of (map f posts)) (same p) ∙ ap (λ xs. move (of p) ∷ xs) (moved_map of f move posts same)
+
   -- one more of the others is taken in
   pub joined-push : (posts others : List (PostView A)) (o : PostView A) → length others < length posts → joined (changed_at (length others) (with_other o) posts) others ≡ joined posts (others ++ o ∷ [])
   joined-push [] others o within = absurd (omega arith)
@@ -289,3 +298,116 @@ module _ {A : Type 0} where
   names_below n f [] same = refl
   names_below zero f (p ∷ posts) same = refl
   names_below (suc n) f (p ∷ posts) same = ap (λ (t : TableId). t ∷ map (λ (x : PostView A). x.mailbox) (changed_below n f posts)) (same p) ∙ ap (λ (ts : List TableId). p.mailbox ∷ ts) (names_below n f posts same)
+
+  -- ---- how many parts they have
+
+  pub has_all : (posts : List (PostView A)) (k : ℕ) (p : PostView A) → slice_get posts k ≡ Some p → slice_get (map (λ (x : PostView A). x.parts) posts) k ≡ Some ALL_PARTS → p.parts ≡ ALL_PARTS
+  has_all [] k p at all = absurd (cc)
+  has_all (x ∷ posts) zero p at all = ap (λ (y : PostView A). y.parts) (sym (same_Some x p at)) ∙ same_Some x.parts ALL_PARTS all
+  has_all (x ∷ posts) (suc k) p at all = has_all posts k p at all
+
+  pub parts-joined : (posts others : List (PostView A)) → map (λ (x : PostView A). x.parts) (joined posts others) ≡ added (map (λ (x : PostView A). x.parts) posts) (map (λ (x : PostView A). x.parts) others)
+  parts-joined posts [] = refl
+  parts-joined [] (o ∷ others) = refl
+  parts-joined (p ∷ posts) (o ∷ others) = ap (λ (ns : List ℕ). (p.parts + o.parts) ∷ ns) (parts-joined posts others)
+
+  pub names-joined : (posts others : List (PostView A)) → map (λ (x : PostView A). x.mailbox) (joined posts others) ≡ map (λ (x : PostView A). x.mailbox) posts
+  names-joined posts [] = refl
+  names-joined [] (o ∷ others) = refl
+  names-joined (p ∷ posts) (o ∷ others) = ap (λ (ts : List TableId). p.mailbox ∷ ts) (names-joined posts others)
+
+module _ (A : Type 0) where
+  pub parts-fresh : (names : List TableId) → map (λ (x : PostView A). x.parts) (map fresh_post names) ≡ replicate (length names) ALL_PARTS
+  parts-fresh [] = refl
+  parts-fresh (t ∷ names) = ap (λ (ns : List ℕ). ALL_PARTS ∷ ns) (parts-fresh names)
+
+  pub names-fresh : (names : List TableId) → map (λ (x : PostView A). x.mailbox) (map fresh_post names) ≡ names
+  names-fresh [] = refl
+  names-fresh (t ∷ names) = ap (λ (ts : List TableId). t ∷ ts) (names-fresh names)
+
+module _ {K A Q : Type 0} where
+  -- one more mailbox
+  pub fresh_more :
+      (name : Q → TableId) (of : K) (passes : List (Pass A (Post K A))) (boxes : List Q) (p : Pass A (Post K A)) (q : Q)
+      → map post_of passes ≡ map fresh_post (map name boxes)
+      → p.table_id ≡ name q → view p ≡ post ALL_PARTS (Some of) [] []
+      → map post_of (passes ++ p ∷ []) ≡ map fresh_post (map name (boxes ++ q ∷ []))
+  fresh_more name of passes boxes p q fresh named is =
+      map-append post_of passes (p ∷ [])
+      ∙ (ap (λ (ps : List (PostView A)). ps ++ post_of p ∷ []) fresh
+      ∙ (ap (λ (x : PostView A). map fresh_post (map name boxes) ++ x ∷ []) (ap (λ (t : TableId). seen_as t (view p)) named ∙ ap (seen_as (name q)) is)
+      ∙ sym (ap (map fresh_post) (map-append name boxes (q ∷ [])) ∙ map-append fresh_post (map name boxes) (name q ∷ []))))
+
+module _ {K A : Type 0} where
+  pub hand_fresh : (of kind : K) (p : Pass A (Post K A)) → p.me.1 ≡ [] → view p ≡ post ALL_PARTS (Some kind) [] [] → kind ≡ of → IsHand of p
+  hand_fresh of kind p home is same = record {
+    home = home;
+    part = subst (λ (v : Post K A). 0 < v.parts) (sym is) (omega arith);
+    knows = ap (λ (v : Post K A). v.of) is ∙ ap Some same;
+  }
+
+-- ---- what goes from pass to pass
+
+pub take_push : {X Y : Type 0} (f : X → Y) (xs : List X) (n : ℕ) (y : Y) → option_map f (slice_get xs n) ≡ Some y → map f (take (n + 1) xs) ≡ map f (take n xs) ++ y ∷ []
+take_push {X = X} {Y = Y} f xs n y is =
+    let one : n + 1 ≡ suc n = omega arith in
+    ap (λ k. map f (take k xs)) one ∙ go xs n is
+  where
+    go : (zs : List X) (k : ℕ) → option_map f (slice_get zs k) ≡ Some y → map f (take (suc k) zs) ≡ map f (take k zs) ++ y ∷ []
+    go [] k e = absurd (cc)
+    go (z ∷ zs) zero e = ap (λ x. x ∷ []) (same_Some (f z) y e)
+    go (z ∷ zs) (suc k) e = ap (λ ys. f z ∷ ys) (go zs k e)
+
+pub all_last : {X : Type 0} (P : X → Type 0) (xs : List X) (x : X) → AllByRecursion P (xs ++ x ∷ []) → AllByRecursion P xs × P x
+all_last P [] x all = (tt, all.0)
+all_last P (y ∷ xs) x all = let rest = all_last P xs x all.1 in ((all.0, rest.0), rest.1)
+
+module _ {A : Type 0} where
+  pub changed_below_next : (n : ℕ) (f : PostView A → PostView A) (posts : List (PostView A)) → changed_at n f (changed_below n f posts) ≡ changed_below (n + 1) f posts
+  changed_below_next n f posts =
+      let one : suc n ≡ n + 1 = omega arith in
+      changed_below_more n f posts ∙ ap (λ k. changed_below k f posts) one
+
+  pub parts_at : (posts : List (PostView A)) (k : ℕ) → AllByRecursion (λ (p : PostView A). 1 < p.parts) posts → IfSome (slice_get posts k) (λ p. 1 < p.parts)
+  parts_at [] k all = tt
+  parts_at (x ∷ posts) zero all = all.0
+  parts_at (x ∷ posts) (suc k) all = parts_at posts k all.1
+
+  pub are_shareable : (posts : List (PostView A)) → AllByRecursion (λ n. 1 < n) (map (λ (x : PostView A). x.parts) posts) → AllByRecursion (λ (p : PostView A). 1 < p.parts) posts
+  are_shareable [] all = tt
+  are_shareable (x ∷ posts) all = (all.0, are_shareable posts all.1)
+
+module _ {K A : Type 0} where
+  -- the last pass is of the mailbox in its place
+  pub last_named : (others : List (Pass A (Post K A))) (other : Pass A (Post K A)) (rest names : List TableId) → map (λ (x : PostView A). x.mailbox) (map post_of (others ++ other ∷ [])) ++ rest ≡ names → slice_get names (length others) ≡ Some other.table_id
+  last_named others other rest names e = ap (λ (ts : List TableId). slice_get ts (length others)) (sym e) ∙ go others
+    where
+      go : (os : List (Pass A (Post K A))) → slice_get (map (λ (x : PostView A). x.mailbox) (map post_of (os ++ other ∷ [])) ++ rest) (length os) ≡ Some other.table_id
+      go [] = refl
+      go (o ∷ os) = go os
+
+  pub last_there : (others : List (Pass A (Post K A))) (other : Pass A (Post K A)) (rest names : List TableId) → map (λ (x : PostView A). x.mailbox) (map post_of (others ++ other ∷ [])) ++ rest ≡ names → length others < length names
+  last_there others other rest names e = subst (λ (ts : List TableId). length others < length ts) e (go others)
+    where
+      go : (os : List (Pass A (Post K A))) → length os < length (map (λ (x : PostView A). x.mailbox) (map post_of (os ++ other ∷ [])) ++ rest)
+      go [] = omega arith
+      go (o ∷ os) = let less = go os in omega arith
+
+  pub last_left : (others : List (Pass A (Post K A))) (other : Pass A (Post K A)) (rest names : List TableId) → map (λ (x : PostView A). x.mailbox) (map post_of (others ++ other ∷ [])) ++ rest ≡ names → map (λ (x : PostView A). x.mailbox) (map post_of others) ++ other.table_id ∷ rest ≡ names
+  last_left others other rest names e = go others ∙ e
+    where
+      go : (os : List (Pass A (Post K A))) → map (λ (x : PostView A). x.mailbox) (map post_of os) ++ other.table_id ∷ rest ≡ map (λ (x : PostView A). x.mailbox) (map post_of (os ++ other ∷ [])) ++ rest
+      go [] = refl
+      go (o ∷ os) = ap (λ (ts : List TableId). o.table_id ∷ ts) (go os)
+
+  -- one more of the others is taken in
+  pub joined_more : (posts : List (PostView A)) (others : List (Pass A (Post K A))) (other : Pass A (Post K A)) → length others < length posts → joined (changed_at (length others) (with_other (post_of other)) posts) (map post_of others) ≡ joined posts (map post_of (others ++ other ∷ []))
+  joined_more posts others other within =
+      let same = length-map others post_of in
+      ap (λ (k : ℕ). joined (changed_at k (with_other (post_of other)) posts) (map post_of others)) (sym same)
+      ∙ (joined-push posts (map post_of others) (post_of other) (omega arith) ∙ ap (joined posts) (sym (map-append post_of others (other ∷ []))))
+
+  -- where nothing is left of the others
+  pub joined_none : (posts : List (PostView A)) (others : List (Pass A (Post K A))) → length others ≡ 0 → posts ≡ joined posts (map post_of others)
+  joined_none posts [] none = refl
+  joined_none posts (o ∷ others) none = absurd (omega arith)

@@ -147,8 +147,8 @@ module _ {K A : Type 0} where
 
     -- of items none of which was put, or one, what a mailbox with so many shows
     pub not_full : (v : Post K A) (items : List A) → v.put ≡ [] → v.taken ≡ [] → 0 < length items → IsEven v items → ⊥
-    not_full v [] no_put no_taken some even = omega arith
-    not_full v (x ∷ items) no_put no_taken some even =
+    not_full v [] no_put no_taken there even = omega arith
+    not_full v (x ∷ items) no_put no_taken there even =
         let count = even (λ (z : A). 1) in
         let put = ap (sum_by (λ (z : A). 1)) no_put in
         let taken = ap (sum_by (λ (z : A). 1)) no_taken in

@@ -41,11 +41,11 @@ module _ {K A : Type 0} where
 
   -- each pass has more than one part, so that one can be given away
   abbrev pub AreShareable : HandsView K A → Type 0
-  AreShareable hands = AllByRecursion (λ p. 1 < p.parts) hands.posts
+  AreShareable hands = AllByRecursion (λ n. 1 < n) (parts_of hands)
 
   -- the pass of a mailbox has all parts of it
   abbrev pub HasAll : ℕ → HandsView K A → Type 0
-  HasAll box hands = IfSome (slice_get hands.posts box) (λ p. p.parts ≡ ALL_PARTS)
+  HasAll box hands = slice_get (parts_of hands) box ≡ Some ALL_PARTS
 
 -- what a pass has put is what it has taken and some items more, each as often, however items are weighed
 abbrev pub IsTallied : {A : Type 0} → PostView A → Type 0
@@ -85,6 +85,12 @@ module _ {A : Type 0} where
   joined posts [] = posts
   joined [] (o ∷ others) = []
   joined (p ∷ posts) (o ∷ others) = with_other o p ∷ joined posts others
+
+-- the parts of passes that have taken in those of others
+abbrev pub added : List ℕ → List ℕ → List ℕ
+added ns [] = ns
+added [] (m ∷ ms) = []
+added (n ∷ ns) (m ∷ ms) = (n + m) ∷ added ns ms
 
 -- a list in which the item at one place has changed
 abbrev pub changed_at : {A : Type 0} → ℕ → (A → A) → List A → List A

@@ -1,11 +1,11 @@
 //! The mailboxes of all workers.
-ghost use Rattle.std.specs.Prelude.{◌≡◌, ◌<◌, ◌≤◌, ◌++◌, Some, [], ◌∷◌, map, length, slice_get, IfOk, IfErr, IfSome, IfNone, OnOk, OnErr};
+ghost use Rattle.std.specs.Prelude.{◌≡◌, ℕ, ◌<◌, ◌≤◌, ◌++◌, Some, [], ◌∷◌, map, length, replicate, vec_capacity, slice_get, ◌-◌, IfOk, IfErr, IfSome, IfNone, OnOk, OnErr};
 ghost use Rattle.std.specs.List.{AllByRecursion};
 ghost use Rattle.std.specs.Option.{option_map};
 ghost use Rattle.crossbeam_queue.specs.Passes.{view};
 ghost use Rattle.hd_desk.specs.Mail.{post};
 ghost use Rattle.hd_desk.specs.declared.rule.TheConstants.{ALL_PARTS};
-ghost use Rattle.hd_desk.specs.Hands.{AreLined, IsHand, name_of, post_of, changed_at, less_part, one_part, with_other, IsFor, AreShareable, HasAll, IsTallied, IsEvened, parts_of, fresh_hands, put_into, taken_from, less_parts, one_parts, with_hands};
+ghost use Rattle.hd_desk.specs.Hands.{AreLined, IsHand, name_of, post_of, changed_at, less_part, one_part, with_other, IsFor, AreShareable, HasAll, IsTallied, IsEvened, parts_of, added, joined, fresh_post, fresh_hands, put_into, taken_from, less_parts, one_parts, with_hands};
 
 use crate::rule::{Cleared, Named, Part, Post, Put, Queue, Sent, Taken};
 use crossbeam_queue::Pass;
@@ -120,6 +120,71 @@ fn join<K, T: Sent<K>>(
     boxes[number].absorb::<Part>(pass, other);
 }
 
+/// Empty mailboxes, so many, and the passes that have all parts of them. An item tells what all items are of.
+fn open_all<K, T: Sent<K>, R: Wait>(
+    rt: &R,
+    alloc: Global,
+    count: usize,
+    seed: T,
+) -> Result<(Vec<Queue<K, T>>, Vec<Pass<T, Post<K, T>>>), NoMemory>
+    ensures count { IfOk result (λ r. length r.0.items ≡ count) }
+    ensures posts { IfOk result (λ r. map post_of r.1.items ≡ map fresh_post (map name_of r.0.items)) }
+    ensures hands { IfOk result (λ r. AllByRecursion (IsHand (T.of seed)) r.1.items) }
+{
+    let mut boxes = Vec::new(alloc);
+    let mut passes = Vec::new(alloc);
+    let mut seed = seed;
+    for _number in 0..count {
+        let (queue, pass, same) = opened(rt, alloc, seed)?;
+        boxes.push(queue)?;
+        passes.push(pass)?;
+        seed = same;
+    }
+    Ok((boxes, passes))
+}
+
+/// Splits a part off each pass, for another thread; there is room for the new ones.
+fn split_all<K, T: Sent<K>>(
+    boxes: &Vec<Queue<K, T>>,
+    passes: &mut Vec<Pass<T, Post<K, T>>>,
+    new: &mut Vec<Pass<T, Post<K, T>>>,
+)
+    requires lined { AreLined boxes.now.items passes.old.items }
+    requires parts { AllByRecursion (λ p. 1 < p.parts) (map post_of passes.old.items) }
+    requires hands { (of : K) × AllByRecursion (IsHand of) passes.old.items }
+    requires none { new.old.items ≡ [] }
+    requires room { length boxes.now.items ≤ vec_capacity new.old }
+    ensures left { map post_of passes.new.items ≡ map less_part (map post_of passes.old.items) }
+    ensures new { map post_of new.new.items ≡ map one_part (map post_of passes.old.items) }
+    ensures hands { (of : K) → AllByRecursion (IsHand of) passes.old.items
+        → AllByRecursion (IsHand of) passes.new.items × AllByRecursion (IsHand of) new.new.items }
+{
+    for number in 0..boxes.len() {
+        new.push_reserved(split(boxes, passes, number));
+    }
+}
+
+/// Takes other passes into those of the same mailboxes.
+fn join_all<K, T: Sent<K>>(
+    boxes: &Vec<Queue<K, T>>,
+    passes: &mut Vec<Pass<T, Post<K, T>>>,
+    others: Vec<Pass<T, Post<K, T>>>,
+)
+    requires lined { AreLined boxes.now.items passes.old.items }
+    requires others_lined { AreLined boxes.now.items others.items }
+    requires hands { (of : K) × AllByRecursion (IsHand of) passes.old.items }
+    requires others_hands { (of : K) × AllByRecursion (IsHand of) others.items }
+    ensures joined { map post_of passes.new.items
+        ≡ joined (map post_of passes.old.items) (map post_of others.items) }
+    ensures hands { (of : K) → AllByRecursion (IsHand of) passes.old.items
+        → AllByRecursion (IsHand of) passes.new.items }
+{
+    let mut others = others;
+    while let Some(other) = others.pop() {
+        join(boxes, passes, others.len(), other);
+    }
+}
+
 impl<K, T: Sent<K>> Mailboxes<K, T> {
     /// Puts an item into a mailbox.
     ///
@@ -167,16 +232,10 @@ impl<K, T: Sent<K>> Mailboxes<K, T> {
         requires fits { T.of seed ≡ of.now }
         ensures count { IfOk result (λ r. length r.0 ≡ count) }
         ensures hands { IfOk result (λ r. r.1 ≡ fresh_hands of.now r.0) }
+        ensures of { IfOk result (λ r. IsFor r.0 r.1) }
+        ensures parts { IfOk result (λ r. parts_of r.1 ≡ replicate count ALL_PARTS) }
     {
-        let mut boxes = Vec::new(alloc);
-        let mut passes = Vec::new(alloc);
-        let mut seed = seed;
-        for _number in 0..count {
-            let (queue, pass, same) = opened(rt, alloc, seed)?;
-            boxes.push(queue)?;
-            passes.push(pass)?;
-            seed = same;
-        }
+        let (boxes, passes) = open_all(rt, alloc, count, seed)?;
         Ok((Mailboxes { boxes }, Hands { of, passes }))
     }
 
@@ -194,11 +253,13 @@ impl<K, T: Sent<K>> Mailboxes<K, T> {
         ensures left { OnOk result (hands.new ≡ less_parts hands.old) }
         ensures new { IfOk result (λ h. h ≡ one_parts hands.old) }
         ensures err { OnErr result (hands.new ≡ hands.old) }
+        ensures of { IsFor self.now hands.new }
+        ensures new_of { IfOk result (λ h. IsFor self.now h) }
+        ensures parts { OnOk result (parts_of hands.new ≡ map (λ n. n - 1) (parts_of hands.old)) }
+        ensures new_parts { IfOk result (λ h. parts_of h ≡ map (λ _. 1) (parts_of hands.old)) }
     {
         let mut passes = Vec::with_capacity(alloc, self.boxes.len())?;
-        for number in 0..self.boxes.len() {
-            passes.push_reserved(split(&self.boxes, &mut hands.passes, number));
-        }
+        split_all(&self.boxes, &mut hands.passes, &mut passes);
         Ok(Hands {
             of: hands.of,
             passes,
@@ -209,12 +270,12 @@ impl<K, T: Sent<K>> Mailboxes<K, T> {
     pub fn absorb(&self, hands: &mut Hands<K, T>, others: Hands<K, T>)
         requires of { IsFor self.now hands.old }
         requires others { IsFor self.now others }
-        ensures { hands.new ≡ with_hands others.entry hands.old }
+        ensures joined { hands.new ≡ with_hands others.entry hands.old }
+        ensures of { IsFor self.now hands.new }
+        ensures parts { parts_of hands.new ≡ added (parts_of hands.old) (parts_of others.entry) }
     {
-        let Hands { of: _, mut passes } = others;
-        while let Some(other) = passes.pop() {
-            join(&self.boxes, &mut hands.passes, passes.len(), other);
-        }
+        let Hands { of: _, passes } = others;
+        join_all(&self.boxes, &mut hands.passes, passes);
     }
 
     /// Takes the oldest item out of a mailbox of which these hands have all parts. Where there is none, all that was put in was taken

@@ -27,7 +27,7 @@ returns-clause-new g c =
     let p = c.index_mut-pass.result.now in
     let s = lined_stands _ c.requires.hands.0 c.args.passes.now.items c.args.boxes.now.items c.requires.hands.1 c.requires.lined c.args.number c.index_mut-pass.result.now c.index.result.now c.requires.there c.index_mut-pass.ensures.value c.index.ensures in
     ap (option_map one_part) (lined_at _ c.args.passes.now.items c.args.boxes.now.items c.requires.lined c.args.number c.index_mut-pass.result.now c.requires.there c.index_mut-pass.ensures.value)
-    ∙ ap Some (sym (post_after p c.another.result _ (c.another.ensures.queue.1 ∙ sym s.named) c.another.ensures.rule.1))
+    ∙ ap Some (sym (post_after p c.another.result _ (c.another.ensures.queue.1.0 ∙ sym s.named) c.another.ensures.rule.1))
 
 pub returns-clause-hands : goal.returns-clause-hands
 returns-clause-hands g c of all =
@@ -35,5 +35,5 @@ returns-clause-hands g c of all =
     let s = lined_stands _ of c.args.passes.now.items c.args.boxes.now.items all c.requires.lined c.args.number c.index_mut-pass.result.now c.index.result.now c.requires.there c.index_mut-pass.ensures.value c.index.ensures in
     let some_parts : 1 < (view p).parts = subst (λ (o : Option (PostView g.row.T.Denot)). IfSome o (λ (x : PostView g.row.T.Denot). 1 < x.parts)) (lined_at _ c.args.passes.now.items c.args.boxes.now.items c.requires.lined c.args.number c.index_mut-pass.result.now c.requires.there c.index_mut-pass.ensures.value) c.requires.part in (
       hands_set of c.args.passes.now.items c.args.number c.another.new.pass all (hand_after of p c.another.new.pass _ s.hand c.another.ensures.queue.0.2 c.another.ensures.rule.0 (omega arith) s.hand.knows),
-      hand_after of p c.another.result _ s.hand (c.another.ensures.queue.2 ∙ sym s.hand.home) c.another.ensures.rule.1 (omega arith) s.hand.knows,
+      hand_after of p c.another.result _ s.hand (c.another.ensures.queue.1.1 ∙ sym s.hand.home) c.another.ensures.rule.1 (omega arith) s.hand.knows,
     )

@@ -1,9 +1,8 @@
-use Rattle.std.proofs.Common.{◌≡◌, Option, sym, ◌∙◌, subst}
+use Rattle.std.proofs.Common.{Option, sym, ◌∙◌, subst}
 use Rattle.std.specs.Prelude.{IfSome, IfNone}
-use Rattle.hd_desk.specs.declared.rule.TheConstants.{ALL_PARTS}
-use Rattle.hd_desk.specs.Hands.{PostView, IsEvened}
+use Rattle.hd_desk.specs.Hands.{PostView, post_of, IsEvened}
 use Rattle.hd_desk.proofs.Posting.{takes, learns}
-use Rattle.hd_desk.proofs.Handing.{stands, stands_at, popped, last_popped, last_evened}
+use Rattle.hd_desk.proofs.Handing.{has_all, stands, stands_at, popped, last_popped, last_evened}
 use Rattle.hd_desk.proofs.mail.Mailboxes.pop_last.Goals as goal
 
 pub pop_as-requires-clause-queue : goal.pop_as-requires-clause-queue
@@ -14,7 +13,7 @@ pop_as-requires-clause-queue g c =
 pub pop_as-requires-clause-rule : goal.pop_as-requires-clause-rule
 pop_as-requires-clause-rule g c =
     let s = stands _ c.hands.inside.of.now c.hands.inside.passes.items c.self.inside.boxes.items c.args.self.now c.args.hands.now c.self.view_is c.hands.view_is c.hands.invariant c.requires.of c.args.from c.index_mut-pass.result.now c.index.result.now c.requires.there c.index_mut-pass.ensures.value c.index.ensures in
-    (takes g.T.Sent.of _ _ s.hand.part, learns g.T.Sent.of _ _ (subst (λ (o : Option (PostView g.row.T.Denot)). IfSome o (λ (x : PostView g.row.T.Denot). x.parts ≡ ALL_PARTS)) (stands_at _ c.hands.inside.of.now c.hands.inside.passes.items c.self.inside.boxes.items c.args.self.now c.args.hands.now c.self.view_is c.hands.view_is c.requires.of c.args.from c.index_mut-pass.result.now c.requires.there c.index_mut-pass.ensures.value) c.requires.all))
+    (takes g.T.Sent.of _ _ s.hand.part, learns g.T.Sent.of _ _ (has_all c.args.hands.now.posts c.args.from (post_of c.index_mut-pass.result.now) (stands_at _ c.hands.inside.of.now c.hands.inside.passes.items c.self.inside.boxes.items c.args.self.now c.args.hands.now c.self.view_is c.hands.view_is c.requires.of c.args.from c.index_mut-pass.result.now c.requires.there c.index_mut-pass.ensures.value) c.requires.all))
 
 pub returns-clause-taken : goal.returns-clause-taken
 returns-clause-taken g c =

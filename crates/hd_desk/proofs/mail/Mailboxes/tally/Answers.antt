@@ -1,9 +1,8 @@
-use Rattle.std.proofs.Common.{◌≡◌, Option, sym, ap, ◌∙◌, subst}
+use Rattle.std.proofs.Common.{Option, sym, ap, ◌∙◌, subst}
 use Rattle.std.specs.Prelude.{IfSome}
-use Rattle.hd_desk.specs.declared.rule.TheConstants.{ALL_PARTS}
-use Rattle.hd_desk.specs.Hands.{PostView, IsTallied}
+use Rattle.hd_desk.specs.Hands.{PostView, post_of, IsTallied}
 use Rattle.hd_desk.proofs.Posting.{learns}
-use Rattle.hd_desk.proofs.Handing.{stands, stands_at, unstepped, post_after}
+use Rattle.hd_desk.proofs.Handing.{has_all, stands, stands_at, unstepped, post_after}
 use Rattle.hd_desk.proofs.mail.Mailboxes.tally.Goals as goal
 
 pub learn_as-requires-clause-queue : goal.learn_as-requires-clause-queue
@@ -12,7 +11,7 @@ learn_as-requires-clause-queue g c =
     (s.named, s.hand.home)
 
 pub learn_as-requires-clause-rule : goal.learn_as-requires-clause-rule
-learn_as-requires-clause-rule g c = learns g.T.Sent.of _ _ (subst (λ (o : Option (PostView g.row.T.Denot)). IfSome o (λ (x : PostView g.row.T.Denot). x.parts ≡ ALL_PARTS)) (stands_at _ c.hands.inside.of.now c.hands.inside.passes.items c.self.inside.boxes.items c.args.self.now c.args.hands.now c.self.view_is c.hands.view_is c.requires.of c.args.from c.index_mut-pass.result.now c.requires.there c.index_mut-pass.ensures.value) c.requires.all)
+learn_as-requires-clause-rule g c = learns g.T.Sent.of _ _ (has_all c.args.hands.now.posts c.args.from (post_of c.index_mut-pass.result.now) (stands_at _ c.hands.inside.of.now c.hands.inside.passes.items c.self.inside.boxes.items c.args.self.now c.args.hands.now c.self.view_is c.hands.view_is c.requires.of c.args.from c.index_mut-pass.result.now c.requires.there c.index_mut-pass.ensures.value) c.requires.all)
 
 pub returns-clause-same : goal.returns-clause-same
 returns-clause-same g c =
