@@ -1,4 +1,4 @@
-use Rattle.std.proofs.Common.{◌≡◌, ℕ, ◌<◌, ◌++◌, [], ◌∷◌, List, map, length, slice_get, sym, ap, ◌∙◌, subst, refl, arith}
+use Rattle.std.proofs.Common.{rules, vec_len, ◌≡◌, ℕ, ◌<◌, ◌++◌, [], ◌∷◌, List, map, length, slice_get, sym, ap, ◌∙◌, subst, refl, arith}
 use Rattle.std.proofs.lemmas.List.{append-nil, length-map}
 use Rattle.std.specs.List.{AllByRecursion}
 use Rattle.std.proofs.lemmas.Option.{slice_get-map}
@@ -77,5 +77,5 @@ loop-other-preserved g c =
 
 pub returns-clause-joined : goal.returns-clause-joined
 returns-clause-joined g c =
-    let none : length c.loop-other.others.items ≡ 0 = omega (arith, c.in-None.ensures.len, c.loop-other.others.ok.0) in
-    joined_none (map post_of c.loop-other.passes.items) c.loop-other.others.items none ∙ c.loop-other.invariant.all
+    let none : vec_len c.loop-other.others ≡ 0 = search rules in
+    joined_none (map post_of c.loop-other.passes.items) c.loop-other.others.items (omega (arith, none, c.loop-other.others.ok.0)) ∙ c.loop-other.invariant.all

@@ -1,4 +1,5 @@
 use Rattle.std.proofs.Common.{◌++◌, [], ◌∷◌, ap, ◌∙◌, arith}
+use Rattle.crossbeam_queue.specs.Passes.{view}
 use Rattle.hd_desk.specs.declared.rule.Post.{Post}
 use Rattle.hd_desk.proofs.Posting.{names, clears, learns, not_full, not_empty}
 use Rattle.hd_desk.proofs.mail.opened.Goals as goal
@@ -25,7 +26,7 @@ unreachable-requires g c =
     let put = ap (λ (v : Post g.row.K.Denot g.row.T.Denot). v.put) named ∙ ap (λ (v : Post g.row.K.Denot g.row.T.Denot). v.put ++ c.args.seed ∷ []) fresh in
     let taken = ap (λ (v : Post g.row.K.Denot g.row.T.Denot). v.taken) named ∙ ap (λ (v : Post g.row.K.Denot g.row.T.Denot). v.taken) fresh in
     let held = c.in-None.ensures.rule in
-    not_empty g.T.Sent.of _ _ held.1.0 put taken held.1.1 held.1.2
+    not_empty g.T.Sent.of (view c.push_as.new.pass) c.args.seed held.1.0 put taken held.1.1 held.1.2
 
 pub unreachable-requires-in-Err : goal.unreachable-requires-in-Err
 unreachable-requires-in-Err g c =
@@ -35,4 +36,4 @@ unreachable-requires-in-Err g c =
     let held = c.in-Err.ensures.rule in
     let places = c.in_ok-queue.ensures.0 in
     let full = held.2.1 in
-    not_full g.T.Sent.of _ held.2.0 put taken (omega arith) held.2.2
+    not_full g.T.Sent.of (view c.in_ok-queue.pass) held.2.0 put taken (omega arith) held.2.2

@@ -3,6 +3,9 @@ use Rattle.hd_desk.specs.Hands.{PostView, HandsView, post_of, joined, added}
 use Rattle.hd_desk.proofs.Handing.{names-joined, parts-joined}
 use Rattle.hd_desk.proofs.mail.Mailboxes.absorb.Goals as goal
 
+pub invariant_of-hands : goal.invariant_of-hands
+invariant_of-hands g c = c.join_all.ensures.hands _ c.hands.invariant
+
 pub returns-clause-joined : goal.returns-clause-joined
 returns-clause-joined g c =
     let others = c.others.inside.passes.items in
