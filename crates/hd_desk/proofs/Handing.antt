@@ -249,10 +249,6 @@ module _ {K A : Type 0} where
       nothing_more v [] none even h = let all = even h in omega arith
       nothing_more v (x ∷ items) none even h = absurd (omega arith)
 
-  -- the pass keeps what is kept of each
-  pub hand_put : (of : K) (p q : Pass A (Post K A)) (x : A) → IsHand of p → IsSamePass p q → HasPut (view p) x (view q) → IsHand of q
-  hand_put of p q x hand same is = hand_after of p q _ hand same.2 is hand.part hand.knows
-
 module _ {A : Type 0} where
   pub kept_map : {X : Type 0} (of : PostView A → X) (f : PostView A → PostView A) (posts : List (PostView A)) → ((p : PostView A) → of (f p) ≡ of p) → map of (map f posts) ≡ map of posts
   kept_map of f [] same = refl
@@ -324,27 +320,6 @@ module _ (A : Type 0) where
   pub names-fresh : (names : List TableId) → map (λ (x : PostView A). x.mailbox) (map fresh_post names) ≡ names
   names-fresh [] = refl
   names-fresh (t ∷ names) = ap (λ (ts : List TableId). t ∷ ts) (names-fresh names)
-
-module _ {K A Q : Type 0} where
-  -- one more mailbox
-  pub fresh_more :
-      (name : Q → TableId) (of : K) (passes : List (Pass A (Post K A))) (boxes : List Q) (p : Pass A (Post K A)) (q : Q)
-      → map post_of passes ≡ map fresh_post (map name boxes)
-      → p.table_id ≡ name q → view p ≡ post ALL_PARTS (Some of) [] []
-      → map post_of (passes ++ p ∷ []) ≡ map fresh_post (map name (boxes ++ q ∷ []))
-  fresh_more name of passes boxes p q fresh named is =
-      map-append post_of passes (p ∷ [])
-      ∙ (ap (λ (ps : List (PostView A)). ps ++ post_of p ∷ []) fresh
-      ∙ (ap (λ (x : PostView A). map fresh_post (map name boxes) ++ x ∷ []) (ap (λ (t : TableId). seen_as t (view p)) named ∙ ap (seen_as (name q)) is)
-      ∙ sym (ap (map fresh_post) (map-append name boxes (q ∷ [])) ∙ map-append fresh_post (map name boxes) (name q ∷ []))))
-
-module _ {K A : Type 0} where
-  pub hand_fresh : (of kind : K) (p : Pass A (Post K A)) → p.me.1 ≡ [] → view p ≡ post ALL_PARTS (Some kind) [] [] → kind ≡ of → IsHand of p
-  hand_fresh of kind p home is same = record {
-    home = home;
-    part = subst (λ (v : Post K A). 0 < v.parts) (sym is) (omega arith);
-    knows = ap (λ (v : Post K A). v.of) is ∙ ap Some same;
-  }
 
 -- ---- what goes from pass to pass
 

@@ -198,6 +198,7 @@ impl<K, T: Sent<K>> Mailboxes<K, T> {
         ensures back { IfErr result (λ x. x ≡ item) }
         ensures err { OnErr result (hands.new ≡ hands.old) }
         ensures of { IsFor self.now hands.new }
+        ensures same { hands.new.of ≡ hands.old.of }
         ensures parts { parts_of hands.new ≡ parts_of hands.old }
     {
         let pass = &mut hands.passes[to];
@@ -212,6 +213,7 @@ impl<K, T: Sent<K>> Mailboxes<K, T> {
         ensures fits { IfSome result (λ x. T.of x ≡ hands.old.of) }
         ensures none { IfNone result (hands.new ≡ hands.old) }
         ensures of { IsFor self.now hands.new }
+        ensures same { hands.new.of ≡ hands.old.of }
         ensures parts { parts_of hands.new ≡ parts_of hands.old }
     {
         let pass = &mut hands.passes[from];
@@ -289,6 +291,7 @@ impl<K, T: Sent<K>> Mailboxes<K, T> {
         ensures none { IfNone result (hands.new ≡ hands.old) }
         ensures evened { IfNone result (IfSome (slice_get hands.old.posts from) IsEvened) }
         ensures of { IsFor self.now hands.new }
+        ensures same { hands.new.of ≡ hands.old.of }
         ensures parts { parts_of hands.new ≡ parts_of hands.old }
     {
         let pass = &mut hands.passes[from];

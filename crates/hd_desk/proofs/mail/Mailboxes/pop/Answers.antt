@@ -28,6 +28,11 @@ returns-clause-of g c =
     let s = stands _ c.hands.inside.of.now c.hands.inside.passes.items c.self.inside.boxes.items c.args.self.now c.args.hands.now c.self.view_is c.hands.view_is c.hands.invariant c.requires.of c.args.from c.index_mut-pass.result.now c.index.result.now c.requires.there c.index_mut-pass.ensures.value c.index.ensures in
     (popped g.T.Sent.of c.hands.inside.of.now c.hands.inside.passes.items c.args.hands.now c.hands.view_is c.args.from c.index_mut-pass.result.now c.try_pop_as.new.pass c.try_pop_as.result s.hand c.index_mut-pass.ensures.value c.try_pop_as.ensures.queue c.try_pop_as.ensures.rule).stays.names ∙ c.requires.of
 
+pub returns-clause-same : goal.returns-clause-same
+returns-clause-same g c =
+    let s = stands _ c.hands.inside.of.now c.hands.inside.passes.items c.self.inside.boxes.items c.args.self.now c.args.hands.now c.self.view_is c.hands.view_is c.hands.invariant c.requires.of c.args.from c.index_mut-pass.result.now c.index.result.now c.requires.there c.index_mut-pass.ensures.value c.index.ensures in
+    (popped g.T.Sent.of c.hands.inside.of.now c.hands.inside.passes.items c.args.hands.now c.hands.view_is c.args.from c.index_mut-pass.result.now c.try_pop_as.new.pass c.try_pop_as.result s.hand c.index_mut-pass.ensures.value c.try_pop_as.ensures.queue c.try_pop_as.ensures.rule).stays.of
+
 pub returns-clause-parts : goal.returns-clause-parts
 returns-clause-parts g c =
     let s = stands _ c.hands.inside.of.now c.hands.inside.passes.items c.self.inside.boxes.items c.args.self.now c.args.hands.now c.self.view_is c.hands.view_is c.hands.invariant c.requires.of c.args.from c.index_mut-pass.result.now c.index.result.now c.requires.there c.index_mut-pass.ensures.value c.index.ensures in

@@ -22,5 +22,8 @@ returns-clause-err g c = (pushed c.hands.inside.of.now c.hands.inside.passes.ite
 pub returns-clause-of : goal.returns-clause-of
 returns-clause-of g c = (pushed c.hands.inside.of.now c.hands.inside.passes.items c.args.hands.now c.hands.view_is c.args.to c.index_mut-pass.result.now c.try_push_as.new.pass c.args.item c.try_push_as.result c.index_mut-pass.ensures.value c.try_push_as.ensures.queue c.try_push_as.ensures.rule).stays.names ∙ c.requires.of
 
+pub returns-clause-same : goal.returns-clause-same
+returns-clause-same g c = (pushed c.hands.inside.of.now c.hands.inside.passes.items c.args.hands.now c.hands.view_is c.args.to c.index_mut-pass.result.now c.try_push_as.new.pass c.args.item c.try_push_as.result c.index_mut-pass.ensures.value c.try_push_as.ensures.queue c.try_push_as.ensures.rule).stays.of
+
 pub returns-clause-parts : goal.returns-clause-parts
 returns-clause-parts g c = (pushed c.hands.inside.of.now c.hands.inside.passes.items c.args.hands.now c.hands.view_is c.args.to c.index_mut-pass.result.now c.try_push_as.new.pass c.args.item c.try_push_as.result c.index_mut-pass.ensures.value c.try_push_as.ensures.queue c.try_push_as.ensures.rule).stays.parts
