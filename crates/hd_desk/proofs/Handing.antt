@@ -1,5 +1,5 @@
 -- Lists of passes, of which one has stepped.
-use Rattle.std.proofs.Common.{◌≡◌, ℕ, zero, suc, ◌+◌, ◌-◌, ◌<◌, ◌≤◌, List, [], ◌∷◌, ◌++◌, Option, Some, None, map, length, take, replicate, set, get_or, slice_get, refl, sym, ap, ◌∙◌, subst, arith}
+use Rattle.std.proofs.Common.{◌≡◌, ℕ, zero, suc, ◌+◌, ◌<◌, ◌≤◌, List, [], ◌∷◌, ◌++◌, Option, Some, None, map, length, take, replicate, set, get_or, slice_get, refl, sym, ap, ◌∙◌, subst, arith}
 use Rattle.std.specs.List.{AllByRecursion, sum_by}
 use Rattle.std.specs.Option.{option_map}
 use Rattle.std.specs.Prelude.{Result, Ok, Err, IfSome, IfNone, OnOk, OnErr, MatchOption, MatchResult}
@@ -11,7 +11,7 @@ use Rattle.hd_base.proofs.Lists.{cons_parts}
 use Rattle.std.proofs.lemmas.Option.{same_Some}
 use Rattle.hd_desk.specs.declared.rule.Post.{Post}
 use Rattle.hd_desk.specs.declared.rule.TheConstants.{ALL_PARTS}
-use Rattle.hd_desk.specs.Mail.{post, HasPut, HasTaken, IsEven}
+use Rattle.hd_desk.specs.Mail.{HasPut, HasTaken, IsEven}
 use Rattle.hd_desk.specs.Hands.{PostView, HandsView, post_of, IsHand, IsEvened, changed_at, fresh_post, added, with_put, with_taken, with_other, joined, put_into, taken_from}
 
 pub some_at : {X : Type 0} (xs : List X) (k : ℕ) (x : X) → k < length xs → x ≡ get_or xs k x → slice_get xs k ≡ Some x

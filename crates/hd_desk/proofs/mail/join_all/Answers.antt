@@ -1,8 +1,8 @@
 use Rattle.std.proofs.Common.{rules, vec_len, ◌≡◌, ℕ, ◌<◌, ◌++◌, [], ◌∷◌, List, map, length, slice_get, sym, ap, ◌∙◌, subst, refl, arith}
 use Rattle.std.proofs.lemmas.List.{append-nil, length-map}
+use Rattle.std.proofs.lemmas.Grind.{common_steps}
 use Rattle.std.specs.List.{AllByRecursion}
 use Rattle.std.proofs.lemmas.Option.{slice_get-map}
-use Rattle.atomic_table.specs.Seated.{TableId}
 use Rattle.crossbeam_queue.specs.Passes.{Pass}
 use Rattle.hd_desk.specs.declared.rule.Post.{Post}
 use Rattle.hd_desk.specs.Hands.{PostView, post_of, name_of, changed_at, joined, with_other, IsHand}
@@ -77,5 +77,5 @@ loop-other-preserved g c =
 
 pub returns-clause-joined : goal.returns-clause-joined
 returns-clause-joined g c =
-    let none : vec_len c.loop-other.others ≡ 0 = search rules in
+    let none : vec_len c.loop-other.others ≡ 0 = first_of (search rules, grind (arith, common_steps)) in
     joined_none (map post_of c.loop-other.passes.items) c.loop-other.others.items (omega (arith, none, c.loop-other.others.ok.0)) ∙ c.loop-other.invariant.all

@@ -1,4 +1,4 @@
-use Rattle.std.proofs.Common.{ℕ, ◌<◌, ◌-◌, List, map, sym, ap, ◌∙◌, subst, refl}
+use Rattle.std.proofs.Common.{ℕ, ◌<◌, ◌-◌, map, sym, ap, ◌∙◌, subst, refl}
 use Rattle.std.specs.List.{AllByRecursion}
 use Rattle.hd_desk.specs.Hands.{PostView, HandsView, post_of, less_part, one_part}
 use Rattle.hd_desk.proofs.Handing.{are_shareable, kept_map, moved_map}

@@ -1,4 +1,4 @@
-use Rattle.std.proofs.Common.{Option, sym, ap, ◌∙◌, subst}
+use Rattle.std.proofs.Common.{Option, sym, subst}
 use Rattle.std.specs.Prelude.{IfSome}
 use Rattle.hd_desk.specs.Hands.{PostView, post_of, IsTallied}
 use Rattle.hd_desk.proofs.Posting.{learns}
