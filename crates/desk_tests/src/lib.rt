@@ -1,0 +1,7 @@
+//! Tests of what the threads of a search share.
+#![tactic(auto)]
+
+#[cfg(test)]
+mod bound;
+#[cfg(test)]
+mod mail;

@@ -1,0 +1,4 @@
+pub mod Ends
+pub mod Following
+pub mod Spent
+pub mod Taking
