@@ -1,0 +1,4 @@
+pub mod Error
+pub mod MoveText
+pub mod Schedule
+pub mod Words
