@@ -4,11 +4,13 @@
 #![tactic(auto)]
 
 mod error;
+mod law;
 mod line;
 mod moves;
 mod number;
 mod read;
 
 pub use error::ScheduleError;
+pub use law::what_is_printed_is_read_back;
 pub use moves::{Move, StopAt};
 pub use read::read_schedule;
