@@ -11,6 +11,6 @@ mod number;
 mod read;
 
 pub use error::ScheduleError;
-pub use law::what_is_printed_is_read_back;
+pub use law::{moves_are_those_of_the_table, what_is_printed_is_read_back};
 pub use moves::{Move, StopAt};
 pub use read::read_schedule;

@@ -18,7 +18,10 @@ fn each_move(rt: HostRuntime) -> Result<(), Fail> {
             b"resume 2 6 37",
             Move::Resume {
                 workers: 2,
-                stop: Some(StopAt { call: 6, byte: 0x37 }),
+                stop: Some(StopAt {
+                    call: 6,
+                    byte: 0x37,
+                }),
             },
         ),
         (b"pop 3", Move::Pop { worker: 3 }),
@@ -50,7 +53,14 @@ fn each_move(rt: HostRuntime) -> Result<(), Fail> {
 fn numbers_and_bytes(rt: HostRuntime) -> Result<(), Fail> {
     let alloc = rt.alloc();
     // Numbers of at most nine digits, whatever is possible.
-    assert_moves(&rt, alloc, b"pop 999999999", &[Move::Pop { worker: 999_999_999 }])?;
+    assert_moves(
+        &rt,
+        alloc,
+        b"pop 999999999",
+        &[Move::Pop {
+            worker: 999_999_999,
+        }],
+    )?;
     assert_moves(&rt, alloc, b"pop 000000007", &[Move::Pop { worker: 7 }])?;
     assert_moves(
         &rt,

@@ -39,7 +39,12 @@ fn moves_are_printed_as_their_lines(rt: HostRuntime) -> Result<(), Fail> {
         (Move::Redeem { worker: 4 }, "redeem 4"),
         (Move::Push { worker: 5 }, "push 5"),
         (Move::Offer { worker: 6 }, "offer 6"),
-        (Move::Load { worker: 999_999_999 }, "load 999999999"),
+        (
+            Move::Load {
+                worker: 999_999_999,
+            },
+            "load 999999999",
+        ),
         (Move::Pull, "pull"),
         (Move::Flush, "flush"),
         (Move::Ack, "ack"),
