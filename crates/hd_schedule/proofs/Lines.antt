@@ -1,13 +1,16 @@
 -- What the lines of a text say, as far as they were read.
-use Rattle.std.proofs.Common.{◌≡◌, ℕ, ◌+◌, ◌<◌, List, [], ◌∷◌, ◌++◌, length, take, drop, get_or, map, true, false, not, Some, None, Ok, Err, refl, sym, ap, ◌∙◌, arith}
-use Rattle.std.specs.List.{position, position_or_len, filter_map}
+use Rattle.std.proofs.Common.{◌≡◌, ◌⊎◌, inl, inr, ℕ, ◌+◌, ◌<◌, List, [], ◌∷◌, ◌++◌, length, take, drop, get_or, map, true, false, not, Some, None, Ok, Err, refl, sym, ap, ◌∙◌, arith}
+use Rattle.std.specs.List.{position, position_or_len, filter_map, slice_split}
 use Rattle.std.proofs.lemmas.Bool.Decides.{nat_tests}
-use Rattle.std.proofs.lemmas.List.{take_more, take_all, take-append-drop, length-take-le, get_or-map, at_drop_more}
+use Rattle.std.proofs.lemmas.List.{append-nil, length-map, take_more, take_all, take-append-drop, length-take-le, get_or-map, at_drop_more}
 use Rattle.std.proofs.lemmas.List.Elements.{filter_map-append}
 use Rattle.std.proofs.lemmas.List.Folds.{prefix_len-append}
+use Rattle.hd_schedule.specs.declared.error.ScheduleError.{ScheduleError}
+use Rattle.hd_schedule.specs.declared.error.ScheduleError.TheVariants as errors
 use Rattle.hd_schedule.specs.declared.line.Said.{Said}
+use Rattle.hd_schedule.specs.declared.line.Said.TheVariants as said
 use Rattle.hd_schedule.specs.declared.moves.Move.{Move}
-use Rattle.hd_schedule.specs.Schedule.{is_bad, move_in, moves_or_line}
+use Rattle.hd_schedule.specs.Schedule.{said_of, is_line_feed, all_said, is_bad, move_in, moves_or_line, schedule_of, IsFault}
 
 -- the first n lines are not bad, and these are their moves
 pub record IsReadTo (all : List Said) (n : ℕ) (moves : List Move) : Type 0 where
@@ -75,3 +78,64 @@ read_bad all n moves s so_far within at bad =
     let first : position_or_len is_bad all ≡ n =
     ap (position_or_len is_bad) parts ∙ good_until (take n all) (drop (n + 1) all) n s so_far.good len bad in
     one_bad all (filter_map move_in all) n first within
+
+-- ---- the loop over lines
+
+-- the line stands at this place of the list
+abbrev pub IsAt : List (List ℕ) → ℕ → List ℕ → Type 0
+IsAt lines n line = (n < length lines) × (line ≡ get_or lines n line)
+
+said_within : (lines : List (List ℕ)) (n : ℕ) (line : List ℕ) → IsAt lines n line → n < length (map said_of lines)
+said_within lines n line at = rw (length-map lines said_of) at.0
+
+said_at : (lines : List (List ℕ)) (n : ℕ) (line : List ℕ) → IsAt lines n line
+    → get_or (map said_of lines) n (said_of line) ≡ said_of line
+said_at lines n line at = get_or-map said_of lines n line (said_of line) at.0 ∙ ap said_of (sym at.1)
+
+-- a silent line
+pub silent_read : (text : List ℕ) (n : ℕ) (moves : List Move) (line : List ℕ) → IsReadTo (all_said text) n moves
+    → IsAt (slice_split is_line_feed text) n line → said_of line ≡ said.Silent → IsReadTo (all_said text) (n + 1) moves
+silent_read text n moves line so_far at is =
+    let lines : List (List ℕ) = slice_split is_line_feed text in
+    let added : moves ≡ moves ++ filter_map move_in (said_of line ∷ []) =
+    sym (append-nil moves) ∙ ap (λ s. moves ++ filter_map move_in (s ∷ [])) (sym is) in
+    read_more (all_said text) n moves moves (said_of line) so_far (said_within lines n line at) (said_at lines n line at) (ap is_bad is) added
+
+-- a line that is a move
+pub move_read : (text : List ℕ) (n : ℕ) (old new : List Move) (line : List ℕ) (m : Move) → IsReadTo (all_said text) n old
+    → IsAt (slice_split is_line_feed text) n line → said_of line ≡ said.Move m → new ≡ old ++ (m ∷ [])
+    → IsReadTo (all_said text) (n + 1) new
+move_read text n old new line m so_far at is pushed =
+    let lines : List (List ℕ) = slice_split is_line_feed text in
+    let added : new ≡ old ++ filter_map move_in (said_of line ∷ []) =
+    pushed ∙ ap (λ s. old ++ filter_map move_in (s ∷ [])) (sym is) in
+    read_more (all_said text) n old new (said_of line) so_far (said_within lines n line at) (said_at lines n line at) (ap is_bad is) added
+
+-- a bad line
+pub bad_read : (text : List ℕ) (n : ℕ) (moves : List Move) (line : List ℕ) → IsReadTo (all_said text) n moves
+    → IsAt (slice_split is_line_feed text) n line → said_of line ≡ said.Bad → schedule_of text ≡ Err (n + 1)
+bad_read text n moves line so_far at is =
+    let lines : List (List ℕ) = slice_split is_line_feed text in
+    read_bad (all_said text) n moves (said_of line) so_far (said_within lines n line at) (said_at lines n line at) (ap is_bad is)
+
+-- no line is left
+pub text_read : (text : List ℕ) (n : ℕ) (moves : List Move) → IsReadTo (all_said text) n moves
+    → n ≡ length (slice_split is_line_feed text) → schedule_of text ≡ Ok moves
+text_read text n moves so_far is =
+    read_all (all_said text) n moves so_far (is ∙ sym (length-map (slice_split is_line_feed text) said_of))
+
+-- ---- what is answered, and what is told
+
+-- a good text is refused for want of memory alone
+pub good_refused : (text : List ℕ) (error : ScheduleError) (moves : List Move) → schedule_of text ≡ Ok moves
+    → (error ≡ errors.NoMemory) ⊎ IsFault text error → error ≡ errors.NoMemory
+good_refused text errors.NoMemory moves reads told = refl
+good_refused text (errors.BadLine n) moves reads (inl e) = e
+good_refused text (errors.BadLine n) moves reads (inr bad) = cc
+
+-- a bad one is told no other fault
+pub bad_refused : (text : List ℕ) (error : ScheduleError) (line : ℕ) → schedule_of text ≡ Err line
+    → (error ≡ errors.NoMemory) ⊎ IsFault text error → (error ≡ errors.NoMemory) ⊎ (error ≡ errors.BadLine line)
+bad_refused text errors.NoMemory line is told = inl refl
+bad_refused text (errors.BadLine n) line is (inl e) = inl e
+bad_refused text (errors.BadLine n) line is (inr bad) = let same : n ≡ line = cc in inr (ap (λ k. errors.BadLine k) same)
