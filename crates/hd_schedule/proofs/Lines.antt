@@ -1,16 +1,14 @@
 -- What the lines of a text say, as far as they were read.
-use Rattle.std.proofs.Common.{◌≡◌, ◌⊎◌, inl, inr, ℕ, ◌+◌, ◌<◌, List, [], ◌∷◌, ◌++◌, length, take, drop, get_or, map, true, false, not, Some, None, Ok, Err, refl, sym, ap, ◌∙◌, arith}
+use Rattle.std.proofs.Common.{◌≡◌, ℕ, ◌+◌, ◌<◌, List, [], ◌∷◌, ◌++◌, length, take, drop, get_or, map, true, false, not, Some, None, Ok, Err, refl, sym, ap, ◌∙◌, arith}
 use Rattle.std.specs.List.{position, position_or_len, filter_map, slice_split}
 use Rattle.std.proofs.lemmas.Bool.Decides.{nat_tests}
 use Rattle.std.proofs.lemmas.List.{append-nil, length-map, take_more, take_all, take-append-drop, length-take-le, get_or-map, at_drop_more}
 use Rattle.std.proofs.lemmas.List.Elements.{filter_map-append}
 use Rattle.std.proofs.lemmas.List.Folds.{prefix_len-append}
-use Rattle.hd_schedule.specs.declared.error.ScheduleError.{ScheduleError}
-use Rattle.hd_schedule.specs.declared.error.ScheduleError.TheVariants as errors
 use Rattle.hd_schedule.specs.declared.line.Said.{Said}
 use Rattle.hd_schedule.specs.declared.line.Said.TheVariants as said
 use Rattle.hd_schedule.specs.declared.moves.Move.{Move}
-use Rattle.hd_schedule.specs.Schedule.{said_of, is_line_feed, all_said, is_bad, move_in, moves_or_line, schedule_of, IsFault}
+use Rattle.hd_schedule.specs.Schedule.{said_of, is_line_feed, all_said, is_bad, move_in, moves_or_line, schedule_of}
 
 -- the first n lines are not bad, and these are their moves
 pub record IsReadTo (all : List Said) (n : ℕ) (moves : List Move) : Type 0 where
@@ -123,19 +121,3 @@ pub text_read : (text : List ℕ) (n : ℕ) (moves : List Move) → IsReadTo (al
     → n ≡ length (slice_split is_line_feed text) → schedule_of text ≡ Ok moves
 text_read text n moves so_far is =
     read_all (all_said text) n moves so_far (is ∙ sym (length-map (slice_split is_line_feed text) said_of))
-
--- ---- what is answered, and what is told
-
--- a good text is refused for want of memory alone
-pub good_refused : (text : List ℕ) (error : ScheduleError) (moves : List Move) → schedule_of text ≡ Ok moves
-    → (error ≡ errors.NoMemory) ⊎ IsFault text error → error ≡ errors.NoMemory
-good_refused text errors.NoMemory moves reads told = refl
-good_refused text (errors.BadLine n) moves reads (inl e) = e
-good_refused text (errors.BadLine n) moves reads (inr bad) = cc
-
--- a bad one is told no other fault
-pub bad_refused : (text : List ℕ) (error : ScheduleError) (line : ℕ) → schedule_of text ≡ Err line
-    → (error ≡ errors.NoMemory) ⊎ IsFault text error → (error ≡ errors.NoMemory) ⊎ (error ≡ errors.BadLine line)
-bad_refused text errors.NoMemory line is told = inl refl
-bad_refused text (errors.BadLine n) line is (inl e) = inl e
-bad_refused text (errors.BadLine n) line is (inr bad) = let same : n ≡ line = cc in inr (ap (λ k. errors.BadLine k) same)

@@ -3,10 +3,10 @@ use Rattle.std.proofs.Common.{◌≡◌, ℕ, ◌<◌, ◌^◌, List, [], ◌∷
 use Rattle.std.specs.Prelude.{◌/◌, ◌%◌, codes, decimal, filter, option_and_then}
 use Rattle.std.specs.Char.{is_ascii_digit, is_ascii_hexdigit, digit_char}
 use Rattle.std.specs.List.{list_all, slice_split, onto_first, filter_map, position, position_or_len, AllByRecursion}
-use Rattle.std.proofs.lemmas.Bool.{and_parts, and_from}
+use Rattle.std.proofs.lemmas.Bool.{and_parts, and_from, not-true}
 use Rattle.std.proofs.lemmas.Bool.Decides.{nat_tests}
 use Rattle.std.proofs.lemmas.List.Folds.{list_all-append}
-use Rattle.std.proofs.lemmas.List.Splits.{slice_split-cons_no}
+use Rattle.std.proofs.lemmas.List.Splits.{slice_split-cons_yes, slice_split-cons_no}
 use Rattle.hd_schedule.specs.declared.line.Said.{Said}
 use Rattle.hd_schedule.specs.declared.line.Said.TheVariants as said
 use Rattle.hd_schedule.specs.declared.moves.Move.{Move}
@@ -25,17 +25,17 @@ split_none : (p : ℕ → Bool) (xs : List ℕ) → list_all (λ x. not (p x)) x
 split_none p [] plain = refl
 split_none p (x ∷ xs) plain =
     let parts = and_parts (not (p x)) (list_all (λ y. not (p y)) xs) plain in
-    let no : p x ≡ false = grind parts in
-    slice_split-cons_no p x xs no ∙ ap (onto_first x) (split_none p xs parts.1)
+    let other : p x ≡ false = not-true (p x) parts.0 in
+    slice_split-cons_no p x xs other ∙ ap (onto_first x) (split_none p xs parts.1)
 
 -- the first part ends at the first byte that passes
 split_first : (p : ℕ → Bool) (xs ys : List ℕ) (y : ℕ) → list_all (λ x. not (p x)) xs ≡ true → p y ≡ true
     → slice_split p (xs ++ (y ∷ ys)) ≡ xs ∷ slice_split p ys
-split_first p [] ys y plain yes = rw yes refl
-split_first p (x ∷ xs) ys y plain yes =
+split_first p [] ys y plain passes = slice_split-cons_yes p y ys passes
+split_first p (x ∷ xs) ys y plain passes =
     let parts = and_parts (not (p x)) (list_all (λ z. not (p z)) xs) plain in
-    let no : p x ≡ false = grind parts in
-    slice_split-cons_no p x (xs ++ (y ∷ ys)) no ∙ ap (onto_first x) (split_first p xs ys y parts.1 yes)
+    let other : p x ≡ false = not-true (p x) parts.0 in
+    slice_split-cons_no p x (xs ++ (y ∷ ys)) other ∙ ap (onto_first x) (split_first p xs ys y parts.1 passes)
 
 -- ---- words
 
@@ -99,14 +99,14 @@ stop_words stop is =
 by_words : (line name : List ℕ) (args : List (List ℕ)) → begins_comment name ≡ false → words_of line ≡ name ∷ args
     → said_of line ≡ move_or_bad (move_of (name ∷ args))
 unfolding said_of
-by_words line name args no words = ap said_by words ∙ rw no refl
+by_words line name args silent words = ap said_by words ∙ rw silent refl
 
 -- a name and a number
 worker_said : (name : List ℕ) (n : ℕ) (move : Move) → IsPlainWord name → begins_comment name ≡ false → IsShortNumber n
     → worker_move name n ≡ Some move → said_of (name ++ (32 ∷ decimal n)) ≡ said.Move move
-worker_said name n move is no short move_is =
+worker_said name n move is silent short move_is =
     let words = word_first name (decimal n) (decimal n ∷ []) is (word_alone (decimal n) (number_word n short)) in
-    by_words (name ++ (32 ∷ decimal n)) name (decimal n ∷ []) no words
+    by_words (name ++ (32 ∷ decimal n)) name (decimal n ∷ []) silent words
     ∙ (ap (λ x. move_or_bad (option_and_then (worker_move name) x)) (number-decimal n short) ∙ ap move_or_bad move_is)
 
 plain_name : (word : List ℕ) → is_word word ≡ true → list_all is_plain word ≡ true → IsPlainWord word

@@ -7,7 +7,8 @@ use Rattle.std.proofs.lemmas.Option.{same_Some, none-some}
 use Rattle.std.proofs.lemmas.Slice.Eq.{bytes_eq-Decides}
 use Rattle.hd_schedule.specs.declared.moves.Move.{Move}
 use Rattle.hd_schedule.specs.declared.moves.Move.TheVariants.{Resume, Pop, Take, Expand, Commit, Redeem, Push, Offer, Load, Pull, Flush, Ack, Stop}
-use Rattle.hd_schedule.specs.Schedule.{stop_at, lone_move, worker_move, pair_move, stopped_move, move_of}
+use Rattle.hd_schedule.specs.declared.moves.StopAt.{StopAt}
+use Rattle.hd_schedule.specs.Schedule.{stop_at, stop_of, lone_move, worker_move, expand_of, pair_move, stopped_move, move_of}
 use Rattle.hd_schedule.specs.Table as table
 use Rattle.hd_schedule.specs.Table.{IsMove}
 use Rattle.hd_schedule.specs.Words.{number_of, byte_of}
@@ -15,18 +16,18 @@ use Rattle.hd_schedule.specs.Words.{number_of, byte_of}
 -- ---- what was chosen
 
 -- one of two was chosen
-chosen : {P : Type 0} (b : Bool) (yes no : Option Move) (m : Move) → (b ≡ true → yes ≡ Some m → P) → (no ≡ Some m → P)
-    → (if b then yes else no) ≡ Some m → P
-chosen true yes no m here there e = here refl e
-chosen false yes no m here there e = there e
+chosen : {P : Type 0} (b : Bool) (this other : Option Move) (m : Move) → (b ≡ true → this ≡ Some m → P) → (other ≡ Some m → P)
+    → (if b then this else other) ≡ Some m → P
+chosen true this other m by_this by_other e = by_this refl e
+chosen false this other m by_this by_other e = by_other e
 
 -- there was a number
-with_number : {P : Type 0} (o : Option ℕ) (f : ℕ → Option Move) (m : Move) → ((n : ℕ) → o ≡ Some n → f n ≡ Some m → P)
+with_number : {P B : Type 0} (o : Option ℕ) (f : ℕ → Option B) (m : B) → ((n : ℕ) → o ≡ Some n → f n ≡ Some m → P)
     → option_and_then f o ≡ Some m → P
 with_number None f m go e = absurd (none-some m e)
 with_number (Some n) f m go e = go n refl e
 
-with_last : {P : Type 0} (o : Option ℕ) (f : ℕ → Move) (m : Move) → ((n : ℕ) → o ≡ Some n → f n ≡ m → P)
+with_last : {P A B : Type 0} (o : Option A) (f : A → B) (m : B) → ((n : A) → o ≡ Some n → f n ≡ m → P)
     → option_map f o ≡ Some m → P
 with_last None f m go e = absurd (none-some m e)
 with_last (Some n) f m go e = go n refl (same_Some (f n) m e)
@@ -64,19 +65,29 @@ worker_row name w m n is =
     (chosen (bytes_eq name (codes "load")) _ _ m (some_row name (codes "load") (w ∷ []) (Load n) m (table.load is))
     (λ e. absurd (none-some m e)))))))))
 
-expand_row : (name a b : List ℕ) (m : Move) → bytes_eq name (codes "expand") ≡ true
-    → option_and_then (λ worker. option_map (λ place. Expand worker place) (number_of b)) (number_of a) ≡ Some m → IsMove (name ∷ a ∷ b ∷ []) m
+expand_row : (name a b : List ℕ) (m : Move) → bytes_eq name (codes "expand") ≡ true → expand_of a b ≡ Some m → IsMove (name ∷ a ∷ b ∷ []) m
 expand_row name a b m named =
     with_number (number_of a) _ m (λ worker is.
     with_last (number_of b) _ m (λ place also same.
     row name (codes "expand") (a ∷ b ∷ []) (Expand worker place) m named same (table.expand is also)))
 
-stop_row : (name a b : List ℕ) (m : Move) → bytes_eq name (codes "stop") ≡ true
-    → option_and_then (λ call. option_map (λ byte. Stop (stop_at call byte)) (byte_of b)) (number_of a) ≡ Some m → IsMove (name ∷ a ∷ b ∷ []) m
+-- the words of a stop, in parts
+record IsStop (a b : List ℕ) (stop : StopAt) : Type 0 where
+  pub call : number_of a ≡ Some stop.call
+  pub byte : byte_of b ≡ Some stop.byte
+
+stop_parts : (a b : List ℕ) (stop : StopAt) → stop_of a b ≡ Some stop → IsStop a b stop
+stop_parts a b stop =
+    with_number (number_of a) _ stop (λ call is.
+    with_last (byte_of b) (stop_at call) stop (λ byte also same.
+    subst (IsStop a b) same (record { call = is; byte = also })))
+
+stop_row : (name a b : List ℕ) (m : Move) → bytes_eq name (codes "stop") ≡ true → option_map (λ s. Stop s) (stop_of a b) ≡ Some m
+    → IsMove (name ∷ a ∷ b ∷ []) m
 stop_row name a b m named =
-    with_number (number_of a) _ m (λ call is.
-    with_last (byte_of b) _ m (λ byte also same.
-    row name (codes "stop") (a ∷ b ∷ []) (Stop (stop_at call byte)) m named same (table.stop is also)))
+    with_last (stop_of a b) (λ s. Stop s) m (λ stop is same.
+    let parts = stop_parts a b stop is in
+    row name (codes "stop") (a ∷ b ∷ []) (Stop stop) m named same (table.stop parts.call parts.byte))
 
 pair_row : (name a b : List ℕ) (m : Move) → pair_move name a b ≡ Some m → IsMove (name ∷ a ∷ b ∷ []) m
 pair_row name a b m =
@@ -85,13 +96,12 @@ pair_row name a b m =
     (λ e. absurd (none-some m e)))
 
 resume_row : (name a b c : List ℕ) (m : Move) → bytes_eq name (codes "resume") ≡ true
-    → option_and_then (λ w. option_and_then (λ k. option_map (λ f. Resume w (Some (stop_at k f))) (byte_of c)) (number_of b)) (number_of a) ≡ Some m
-    → IsMove (name ∷ a ∷ b ∷ c ∷ []) m
+    → option_and_then (λ w. option_map (λ stop. Resume w (Some stop)) (stop_of b c)) (number_of a) ≡ Some m → IsMove (name ∷ a ∷ b ∷ c ∷ []) m
 resume_row name a b c m named =
     with_number (number_of a) _ m (λ workers is.
-    with_number (number_of b) _ m (λ call also.
-    with_last (byte_of c) _ m (λ byte last same.
-    row name (codes "resume") (a ∷ b ∷ c ∷ []) (Resume workers (Some (stop_at call byte))) m named same (table.resume_until is also last))))
+    with_last (stop_of b c) (λ s. Resume workers (Some s)) m (λ stop also same.
+    let parts = stop_parts b c stop also in
+    row name (codes "resume") (a ∷ b ∷ c ∷ []) (Resume workers (Some stop)) m named same (table.resume_until is parts.call parts.byte)))
 
 stopped_row : (name a b c : List ℕ) (m : Move) → stopped_move name a b c ≡ Some m → IsMove (name ∷ a ∷ b ∷ c ∷ []) m
 stopped_row name a b c m =

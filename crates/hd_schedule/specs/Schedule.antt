@@ -39,20 +39,26 @@ worker_move name worker =
     else (if bytes_eq name (codes "load") then Some (Load worker)
     else None)))))))
 
+-- the stop that the number of a call and a byte say
+abbrev pub stop_of : List ℕ → List ℕ → Option StopAt
+stop_of call byte = option_and_then (λ c. option_map (stop_at c) (byte_of byte)) (number_of call)
+
+-- the expansion of a worker at a place
+abbrev pub expand_of : List ℕ → List ℕ → Option Move
+expand_of worker place = option_and_then (λ w. option_map (λ k. Expand w k) (number_of place)) (number_of worker)
+
 -- 'expand', a worker and a place; or 'stop', a call and a byte
 abbrev pub pair_move : List ℕ → List ℕ → List ℕ → Option Move
 pair_move name first second =
-    if bytes_eq name (codes "expand")
-    then option_and_then (λ worker. option_map (λ place. Expand worker place) (number_of second)) (number_of first)
-    else (if bytes_eq name (codes "stop")
-    then option_and_then (λ call. option_map (λ byte. Stop (stop_at call byte)) (byte_of second)) (number_of first)
+    if bytes_eq name (codes "expand") then expand_of first second
+    else (if bytes_eq name (codes "stop") then option_map (λ stop. Stop stop) (stop_of first second)
     else None)
 
 -- 'resume', a number of workers, a call and a byte
 abbrev pub stopped_move : List ℕ → List ℕ → List ℕ → List ℕ → Option Move
 stopped_move name workers call byte =
     if bytes_eq name (codes "resume")
-    then option_and_then (λ w. option_and_then (λ c. option_map (λ f. Resume w (Some (stop_at c f))) (byte_of byte)) (number_of call)) (number_of workers)
+    then option_and_then (λ w. option_map (λ stop. Resume w (Some stop)) (stop_of call byte)) (number_of workers)
     else None
 
 -- the move that these words are, if they are one

@@ -1,8 +1,9 @@
 //! What a line of a schedule says.
 
 ghost use Rattle.std.specs.Prelude.{◌≡◌, IfOk, map};
+ghost use Rattle.std.specs.Str.{bytes_eq};
 ghost use Rattle.hd_schedule.specs.Words.{is_blank, words_of};
-ghost use Rattle.hd_schedule.specs.Schedule.{begins_comment, lone_move, worker_move, pair_move, stopped_move, move_of, said_of};
+ghost use Rattle.hd_schedule.specs.Schedule.{begins_comment, lone_move, worker_move, stop_of, expand_of, pair_move, stopped_move, move_of, said_of};
 
 use crate::moves::{Move, StopAt};
 use crate::number::{byte_of, number_of};
@@ -32,65 +33,95 @@ fn words_of(alloc: Global, line: &[u8]) -> Result<Vec<&[u8]>, NoMemory>
         .collect(alloc)
 }
 
+/// Whether the word is this text.
+fn is(word: &[u8], text: &str) -> bool
+    ensures { result ≡ bytes_eq word.now text.now }
+{
+    word == text.as_bytes()
+}
+
 fn lone_move(name: &[u8]) -> Option<Move>
     ensures { result ≡ lone_move name.now }
 {
-    match name {
-        b"pull" => Some(Move::Pull),
-        b"flush" => Some(Move::Flush),
-        b"ack" => Some(Move::Ack),
-        _ => None,
+    if is(name, "pull") {
+        Some(Move::Pull)
+    } else if is(name, "flush") {
+        Some(Move::Flush)
+    } else if is(name, "ack") {
+        Some(Move::Ack)
+    } else {
+        None
     }
 }
 
 fn worker_move(name: &[u8], worker: u32) -> Option<Move>
     ensures { result ≡ worker_move name.now worker }
 {
-    match name {
-        b"resume" => Some(Move::Resume {
+    if is(name, "resume") {
+        Some(Move::Resume {
             workers: worker,
             stop: None,
-        }),
-        b"pop" => Some(Move::Pop { worker }),
-        b"take" => Some(Move::Take { worker }),
-        b"commit" => Some(Move::Commit { worker }),
-        b"redeem" => Some(Move::Redeem { worker }),
-        b"push" => Some(Move::Push { worker }),
-        b"offer" => Some(Move::Offer { worker }),
-        b"load" => Some(Move::Load { worker }),
-        _ => None,
+        })
+    } else if is(name, "pop") {
+        Some(Move::Pop { worker })
+    } else if is(name, "take") {
+        Some(Move::Take { worker })
+    } else if is(name, "commit") {
+        Some(Move::Commit { worker })
+    } else if is(name, "redeem") {
+        Some(Move::Redeem { worker })
+    } else if is(name, "push") {
+        Some(Move::Push { worker })
+    } else if is(name, "offer") {
+        Some(Move::Offer { worker })
+    } else if is(name, "load") {
+        Some(Move::Load { worker })
+    } else {
+        None
     }
+}
+
+/// The stop that a call's number and a byte say.
+fn stop_of(call: &[u8], byte: &[u8]) -> Option<StopAt>
+    ensures { result ≡ stop_of call.now byte.now }
+{
+    let call = number_of(call)?;
+    let byte = byte_of(byte)?;
+    Some(StopAt { call, byte })
+}
+
+fn expand_of(worker: &[u8], place: &[u8]) -> Option<Move>
+    ensures { result ≡ expand_of worker.now place.now }
+{
+    let worker = number_of(worker)?;
+    let place = number_of(place)?;
+    Some(Move::Expand { worker, place })
 }
 
 fn pair_move(name: &[u8], first: &[u8], second: &[u8]) -> Option<Move>
     ensures { result ≡ pair_move name.now first.now second.now }
 {
-    match name {
-        b"expand" => Some(Move::Expand {
-            worker: number_of(first)?,
-            place: number_of(second)?,
-        }),
-        b"stop" => Some(Move::Stop(StopAt {
-            call: number_of(first)?,
-            byte: byte_of(second)?,
-        })),
-        _ => None,
+    if is(name, "expand") {
+        expand_of(first, second)
+    } else if is(name, "stop") {
+        Some(Move::Stop(stop_of(first, second)?))
+    } else {
+        None
     }
 }
 
 fn stopped_move(name: &[u8], workers: &[u8], call: &[u8], byte: &[u8]) -> Option<Move>
     ensures { result ≡ stopped_move name.now workers.now call.now byte.now }
 {
-    match name {
-        b"resume" => Some(Move::Resume {
-            workers: number_of(workers)?,
-            stop: Some(StopAt {
-                call: number_of(call)?,
-                byte: byte_of(byte)?,
-            }),
-        }),
-        _ => None,
+    if !is(name, "resume") {
+        return None;
     }
+    let workers = number_of(workers)?;
+    let stop = stop_of(call, byte)?;
+    Some(Move::Resume {
+        workers,
+        stop: Some(stop),
+    })
 }
 
 /// The move that these words are, if they are one.

@@ -49,7 +49,7 @@ impl fmt::Display for StopAt {
     ghost output = { λ stop. Some (stop_text stop) };
 
     fn fmt<W: fmt::Write>(&self, f: &mut fmt::Formatter<W>) -> fmt::Result {
-        let StopAt { call, byte } = self;
+        let StopAt { call, byte } = *self;
         write!(f, "{call} {byte:02x}")
     }
 }
