@@ -18,6 +18,7 @@ pub enum Said {
     Bad,
 }
 
+/// Whether the byte stands between words.
 fn is_blank(byte: u8) -> bool
     ensures { result ≡ is_blank byte }
 {
@@ -40,6 +41,7 @@ fn is(word: &[u8], text: &str) -> bool
     word == text.as_bytes()
 }
 
+/// The move that is a name alone.
 fn lone_move(name: &[u8]) -> Option<Move>
     ensures { result ≡ lone_move name.now }
 {
@@ -54,6 +56,7 @@ fn lone_move(name: &[u8]) -> Option<Move>
     }
 }
 
+/// The move of a name and a worker's number, or for `resume` the number of workers.
 fn worker_move(name: &[u8], worker: u32) -> Option<Move>
     ensures { result ≡ worker_move name.now worker }
 {
@@ -90,6 +93,7 @@ fn stop_of(call: &[u8], byte: &[u8]) -> Option<StopAt>
     Some(StopAt { call, byte })
 }
 
+/// The expansion that a worker's number and a place say.
 fn expand_of(worker: &[u8], place: &[u8]) -> Option<Move>
     ensures { result ≡ expand_of worker.now place.now }
 {
@@ -98,6 +102,7 @@ fn expand_of(worker: &[u8], place: &[u8]) -> Option<Move>
     Some(Move::Expand { worker, place })
 }
 
+/// The move of a name and two words.
 fn pair_move(name: &[u8], first: &[u8], second: &[u8]) -> Option<Move>
     ensures { result ≡ pair_move name.now first.now second.now }
 {
@@ -110,6 +115,7 @@ fn pair_move(name: &[u8], first: &[u8], second: &[u8]) -> Option<Move>
     }
 }
 
+/// The move of a name and three words: a resumption with a stop.
 fn stopped_move(name: &[u8], workers: &[u8], call: &[u8], byte: &[u8]) -> Option<Move>
     ensures { result ≡ stopped_move name.now workers.now call.now byte.now }
 {
@@ -137,6 +143,7 @@ fn move_of(words: &[&[u8]]) -> Option<Move>
     }
 }
 
+/// Whether the word begins a comment, which goes on to the end of the line.
 fn begins_comment(word: &[u8]) -> bool
     ensures { result ≡ begins_comment word.now }
 {

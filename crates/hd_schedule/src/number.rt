@@ -9,6 +9,7 @@ ghost use Rattle.hd_schedule.specs.Words.{is_number, number_of, byte_of};
 /// The most digits that a number has.
 const MOST_DIGITS: usize = 9;
 
+/// Whether all bytes are decimal digits.
 fn are_digits(word: &[u8]) -> bool
     ensures { result ≡ list_all is_ascii_digit word.now }
 {
