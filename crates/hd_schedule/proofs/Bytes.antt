@@ -1,5 +1,5 @@
 -- What is written of a byte in hexadecimal digits.
-use Rattle.std.proofs.Common.{◌≡◌, ℕ, ◌<◌, ◌^◌, ◌-◌, List, [], ◌++◌, Option, Some, false, refl, ap, ◌∙◌}
+use Rattle.std.proofs.Common.{◌≡◌, ℕ, ◌<◌, ◌^◌, ◌-◌, ◌++◌, Some, false, ap, ◌∙◌}
 use Rattle.std.specs.Prelude.{codes, decimal}
 use Rattle.std.specs.Fmt.{◌++?◌, digits, digits_output, styled_digits_output, format_spec, padded_integral, shown_prefix, radix_prefix}
 use Rattle.std.specs.Option.{option_map}

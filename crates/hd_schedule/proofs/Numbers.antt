@@ -1,18 +1,18 @@
 -- What numbers and bytes write.
-use Rattle.std.proofs.Common.{◌≡◌, ℕ, ◌+◌, ◌*◌, ◌<◌, ◌≤◌, ◌/◌, ◌%◌, ◌^◌, List, [], ◌∷◌, length, Bool, true, Option, Some, Result, Ok, refl, arith, rules}
+use Rattle.std.proofs.Common.{◌≡◌, ℕ, ◌+◌, ◌*◌, ◌<◌, ◌≤◌, ◌/◌, ◌%◌, ◌^◌, List, length, true, Some, Result, Ok, refl, arith, rules}
 use Rattle.std.specs.Prelude.{decimal}
-use Rattle.std.specs.Char.{is_ascii_digit, is_ascii_hexdigit, digit_char, digit_value}
+use Rattle.std.specs.Char.{is_ascii_digit, is_ascii_hexdigit, digit_char}
 use Rattle.std.specs.List.{list_all}
 use Rattle.std.specs.Str.{IsAscii}
 use Rattle.std.specs.Str.Parse.{ParsesUnsigned, digits_value}
-use Rattle.std.proofs.lemmas.Bool.{and_parts, and_from}
+use Rattle.std.proofs.lemmas.Bool.{and_parts}
 use Rattle.std.proofs.lemmas.Bool.Decides.{nat_tests}
 use Rattle.std.proofs.lemmas.Fmt.{IsAscii-from_digits, decimal_nonempty, digits_decimal, digits_value-decimal, length-decimal-le}
 use Rattle.std.proofs.lemmas.Str.{digit_value-digit_char}
 use Rattle.std.proofs.lemmas.Str.Parse.{IsNumeralModel, numerals_by_value, parse_gives, digits_value_short}
 use Rattle.hd_schedule.specs.declared.number.TheConstants.{MOST_DIGITS}
 use Rattle.hd_schedule.specs.MoveText.{byte_text}
-use Rattle.hd_schedule.specs.Words.{is_word, is_number, number_of, is_byte, byte_of}
+use Rattle.hd_schedule.specs.Words.{is_word, is_number, number_of, byte_of}
 
 -- ---- decimal
 

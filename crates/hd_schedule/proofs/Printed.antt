@@ -1,7 +1,7 @@
 -- What is printed is read back.
-use Rattle.std.proofs.Common.{◌≡◌, ℕ, ◌<◌, ◌^◌, List, [], ◌∷◌, ◌++◌, length, map, flat_map, Bool, true, false, not, Some, None, Ok, refl, ap, ap₂, ◌∙◌, append_assoc, arith}
+use Rattle.std.proofs.Common.{◌≡◌, ℕ, ◌<◌, ◌^◌, List, [], ◌∷◌, ◌++◌, length, map, Bool, true, false, not, Some, None, Ok, refl, ap, ap₂, ◌∙◌, append_assoc, arith}
 use Rattle.std.specs.Prelude.{◌/◌, ◌%◌, codes, decimal, filter, option_and_then}
-use Rattle.std.specs.Char.{is_ascii_digit, is_ascii_hexdigit, digit_char}
+use Rattle.std.specs.Char.{is_ascii_digit, is_ascii_hexdigit}
 use Rattle.std.specs.List.{list_all, slice_split, onto_first, filter_map, position, position_or_len, AllByRecursion}
 use Rattle.std.proofs.lemmas.Bool.{and_parts, and_from, not-true}
 use Rattle.std.proofs.lemmas.Bool.Decides.{nat_tests}
@@ -12,9 +12,9 @@ use Rattle.hd_schedule.specs.declared.line.Said.TheVariants as said
 use Rattle.hd_schedule.specs.declared.moves.Move.{Move}
 use Rattle.hd_schedule.specs.declared.moves.Move.TheVariants.{Resume, Pop, Take, Expand, Commit, Redeem, Push, Offer, Load, Pull, Flush, Ack, Stop}
 use Rattle.hd_schedule.specs.declared.moves.StopAt.{StopAt}
-use Rattle.hd_schedule.specs.MoveText.{byte_text, stop_text, move_text, move_line, moves_text, IsShortNumber, IsShortStop, IsShort}
-use Rattle.hd_schedule.specs.Schedule.{lone_move, worker_move, pair_move, stopped_move, move_of, begins_comment, move_or_bad, said_by, said_of, is_line_feed, all_said, is_bad, move_in, moves_or_line, schedule_of}
-use Rattle.hd_schedule.specs.Words.{is_blank, is_word, words_of, number_of, byte_of}
+use Rattle.hd_schedule.specs.MoveText.{byte_text, stop_text, move_text, moves_text, IsShortNumber, IsShortStop, IsShort}
+use Rattle.hd_schedule.specs.Schedule.{worker_move, move_of, begins_comment, move_or_bad, said_by, said_of, is_line_feed, all_said, is_bad, move_in, moves_or_line, schedule_of}
+use Rattle.hd_schedule.specs.Words.{is_blank, is_word, words_of}
 use Rattle.hd_schedule.proofs.Lines.{all_good}
 use Rattle.hd_schedule.proofs.Numbers.{decimal-digits, decimal-word, number-decimal, digit_char-hex, byte-read}
 
