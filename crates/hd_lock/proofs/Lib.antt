@@ -1,0 +1,3 @@
+mod Begins
+mod Moves
+mod Sums
