@@ -1,7 +1,8 @@
 -- Logs that begin with others.
-use Rattle.std.proofs.Common.{◌≡◌, List, [], ◌∷◌, ◌++◌, sym, ap, ◌∙◌, append_assoc, append-nil}
+use Rattle.std.proofs.Common.{◌≡◌, List, [], ◌∷◌, ◌++◌, sym, ap, ◌∙◌, append_assoc, append-nil, Option}
 use Rattle.std.specs.List.{AllByRecursion}
-use Rattle.hd_lock.specs.Views.{BeginsWith}
+use Rattle.hd_lock.specs.declared.view.Seen.{Seen}
+use Rattle.hd_lock.specs.Views.{BeginsWith, GoesOnFrom}
 
 module _ {I : Type 0} where
   pub begins_itself : (log : List I) → BeginsWith log log
@@ -10,10 +11,14 @@ module _ {I : Type 0} where
   pub begins_along : (a b c : List I) → BeginsWith a b → BeginsWith b c → BeginsWith a c
   begins_along a b c p q = (q.0 ++ p.0, p.1 ∙ ap (λ l. l ++ p.0) q.1 ∙ append_assoc c q.0 p.0)
 
-  pub begins_each : (a b : List I) (told : List (List I)) → BeginsWith a b → AllByRecursion (BeginsWith b) told → AllByRecursion (BeginsWith a) told
-  begins_each a b [] p q = tt
-  begins_each a b (c ∷ told) p q = (begins_along a b c p q.0, begins_each a b told p q.1)
+module _ {T I : Type 0} where
+  pub goes_along : (task : Option T) (a b : List I) (s : Seen T I) → BeginsWith a b → GoesOnFrom task b s → GoesOnFrom task a s
+  goes_along task a b s p q = (q.0, begins_along a b s.log p q.1)
 
-  pub begins_more : (a : List I) (told : List (List I)) (c : List I) → AllByRecursion (BeginsWith a) told → BeginsWith a c → AllByRecursion (BeginsWith a) (told ++ c ∷ [])
-  begins_more a [] c p q = (q, tt)
-  begins_more a (d ∷ told) c p q = (p.0, begins_more a told c p.1 q)
+  pub goes_each : (task : Option T) (a b : List I) (told : List (Seen T I)) → BeginsWith a b → AllByRecursion (GoesOnFrom task b) told → AllByRecursion (GoesOnFrom task a) told
+  goes_each task a b [] p q = tt
+  goes_each task a b (s ∷ told) p q = (goes_along task a b s p q.0, goes_each task a b told p q.1)
+
+  pub goes_more : (task : Option T) (a : List I) (told : List (Seen T I)) (s : Seen T I) → AllByRecursion (GoesOnFrom task a) told → GoesOnFrom task a s → AllByRecursion (GoesOnFrom task a) (told ++ s ∷ [])
+  goes_more task a [] s p q = (q, tt)
+  goes_more task a (d ∷ told) s p q = (p.0, goes_more task a told s p.1 q)

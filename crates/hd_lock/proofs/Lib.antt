@@ -1,3 +1,4 @@
 mod Begins
+mod Gathering
 mod Moves
 mod Sums

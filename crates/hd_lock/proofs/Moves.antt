@@ -1,5 +1,5 @@
 -- Each step keeps the rule of the lock.
-use Rattle.std.proofs.Common.{◌≡◌, ◌≢◌, ℕ, suc, ◌+◌, ◌-◌, ◌<◌, ◌≤◌, ◌⊎◌, Bool, true, false, true≢false, cond, List, [], ◌∷◌, ◌++◌, length, set, sym, refl, ap, ◌∙◌, subst, ⊎_elim, length-append, arith, Option, Some, None}
+use Rattle.std.proofs.Common.{◌≡◌, ◌≢◌, ℕ, zero, suc, ◌+◌, ◌-◌, ◌<◌, ◌≤◌, ◌⊎◌, Bool, true, false, true≢false, cond, List, [], ◌∷◌, ◌++◌, length, set, sym, refl, ap, ◌∙◌, subst, ⊎_elim, length-append, arith, Option, Some, None}
 use Rattle.std.specs.List.{sum_by, AllByRecursion}
 use Rattle.std.proofs.lemmas.List.Sums.{sum_by_push}
 use mathlib.Core.Option.{some, some-ne-none, some-injective}
@@ -10,8 +10,8 @@ use Rattle.hd_lock.specs.declared.lock.TheConstants.{PARTS}
 use Rattle.hd_lock.specs.declared.view.View.{View}
 use Rattle.hd_lock.specs.Kept.{parts_of, holders_of, Fits, Lies, Kept}
 use Rattle.hd_lock.specs.Steps.{Opened, Entered, Left, IsThere, IsGone}
-use Rattle.hd_lock.specs.Views.{BeginsWith, unopened, opened, entered, left, less_one, another_of, with_told, spent}
-use Rattle.hd_lock.proofs.Begins.{begins_itself, begins_along, begins_each, begins_more}
+use Rattle.hd_lock.specs.Views.{BeginsWith, GoesOnFrom, unopened, opened, entered, left, less_one, another_of, with_told, spent}
+use Rattle.hd_lock.proofs.Begins.{begins_itself, goes_along, goes_each, goes_more}
 use Rattle.hd_lock.proofs.Sums.{sum_set, sum_at, sum_two, sum_only}
 
 empty : {B : Type 0} (items : List B) → length items ≡ 0 → items ≡ []
@@ -33,7 +33,6 @@ module _ {T I : Type 0} where
   fits_idle : (of : Option T) (log : List I) (v : View T I) → v.parts ≡ 0 → v.inside ≡ false → Fits of log v
   fits_idle of log v none out = record {
     idle = λ _. out;
-    task = λ p. absurd (omega (arith, none, p));
     seen = λ p. absurd (omega (arith, none, p));
     told = λ p. absurd (omega (arith, none, p));
     whole = λ i. absurd (true≢false (sym i ∙ out));
@@ -48,15 +47,26 @@ module _ {T I : Type 0} where
   none_else : (views : List (View T I)) (pass j : ℕ) (v u : View T I) → sum_by parts_of views ≡ PARTS → v.parts ≡ PARTS → j ≢ pass → get_elem? views pass ≡ some v → get_elem? views j ≡ some u → u.parts ≡ 0
   none_else views pass j v u all whole apart at at' = let two : v.parts + u.parts ≤ sum_by parts_of views = sum_two parts_of views pass j v u apart at at' in omega (arith, two, all, whole)
 
+  pub first_inside : (v : View T I) → v ≡ unopened → v.inside ≡ true
+  first_inside v is = ap (λ (u : View T I). u.inside) is
+
   -- the first pass of a lock that has no value yet
   fits_first : (pass : ℕ) (v : View T I) → get_elem? (unopened ∷ []) pass ≡ some v → Fits None [] v
-  fits_first 0 v at = subst (Fits None []) (some-injective unopened v at)
-      (record { idle = λ e. absurd (omega (arith, e)); task = λ _. refl; seen = λ _. begins_itself []; told = λ _. tt; whole = λ _. refl })
+  fits_first zero v at = subst (Fits None []) (some-injective unopened v at)
+      (record { idle = λ e. absurd (omega (arith, e)); seen = λ _. (refl, begins_itself []); told = λ _. tt; whole = λ _. refl })
   fits_first (suc pass) v at = absurd (some-ne-none v (sym at))
+
+-- a queue of one place is not full where it is empty
+pub not_full : {B : Type 0} (n : ℕ) → n ≡ 1 → (items : List B) × (length items ≡ n) × (items ≡ []) → ⊥
+not_full n one h = let none = ap length h.2 in omega (arith, one, h.1, none)
+
+-- and not empty where it holds something
+pub not_empty : {B : Type 0} → (items : List B) × (length items ≡ 0) × (length items ≡ 1) → ⊥
+not_empty h = omega (arith, h.1, h.2)
 
 module _ {B T I : Type 0} (task : B → T) (log : B → List I) where
   pub begins : Kept task log [] (unopened ∷ [])
-  begins = record { of = None; seen = []; parts = refl; one = refl; lies = tt; each = fits_first }
+  begins = record { of = None; entries = []; parts = refl; one = refl; lies = tt; each = fits_first }
 
   -- while the value is with a pass, the queue is empty
   pub gone : (pass : ℕ) (v : View T I) → v.inside ≡ true → Learns (Kept task log) pass v (IsGone v)
@@ -71,12 +81,14 @@ module _ {B T I : Type 0} (task : B → T) (log : B → List I) where
   there pass v whole out items views k at =
       let free : holders_of v ≡ 0 = left_free v.inside out in
       let only : sum_by holders_of views ≡ holders_of v =
-          sum_only holders_of views pass v at (λ j u apart at'. left_free u.inside ((k.each j u at').idle (none_else views pass j v u k.parts whole apart at at'))) in
+      sum_only holders_of views pass v at (λ j u apart at'. left_free u.inside ((k.each j u at').idle (none_else views pass j v u k.parts whole apart at at'))) in
       let sum : sum_by holders_of views + length items ≡ 1 = k.one in
       omega (arith, free, only, sum)
 
-  pub opens : (n pass : ℕ) (v : View T I) (b : B) → v.parts ≡ PARTS → v.inside ≡ true → Pushes (Kept task log) n pass v b (Opened task log v b)
-  opens n pass v b whole inside items views room k at =
+  pub opens : (n pass : ℕ) (v : View T I) (b : B) → v ≡ unopened → Pushes (Kept task log) n pass v b (Opened task log v b)
+  opens n pass v b is items views room k at =
+      let whole : v.parts ≡ PARTS = ap (λ (u : View T I). u.parts) is in
+      let inside : v.inside ≡ true = first_inside v is in
       let w : View T I = opened (task b) (log b) in
       let none : items ≡ [] = gone pass v inside items views k at in
       let parts : sum_by parts_of (set views pass w) + v.parts ≡ sum_by parts_of views + PARTS = sum_set parts_of views pass v w at in
@@ -88,12 +100,12 @@ module _ {B T I : Type 0} (task : B → T) (log : B → List I) where
         w,
         record {
           of = Some (task b);
-          seen = log b;
+          entries = log b;
           parts = omega (arith, parts, all, whole);
           one = omega (arith, one, holders, sum, long);
           lies = subst (λ (l : List B). AllByRecursion (Lies task log (Some (task b)) (log b)) (l ++ b ∷ [])) (sym none) ((refl, refl), tt);
           each = fits_set (Some (task b)) (log b) views pass w
-              (record { idle = λ _. refl; task = λ _. refl; seen = λ _. begins_itself (log b); told = λ _. tt; whole = λ i. absurd (true≢false (sym i)) })
+              (record { idle = λ _. refl; seen = λ _. (refl, begins_itself (log b)); told = λ _. tt; whole = λ i. absurd (true≢false (sym i)) })
               (λ j u apart at'. let idle = none_else views pass j v u k.parts whole apart at at' in fits_idle (Some (task b)) (log b) u idle ((k.each j u at').idle idle));
         },
         refl,
@@ -102,8 +114,8 @@ module _ {B T I : Type 0} (task : B → T) (log : B → List I) where
   pub enters : (pass : ℕ) (v : View T I) → 0 < v.parts → Pops (Kept task log) pass v (Entered task log v)
   enters pass v some_part b items views k at =
       let fit = k.each pass v at in
-      let w : View T I = entered v (log b) in
-      let lies : Lies task log k.of k.seen b = k.lies.0 in
+      let w : View T I = entered v (task b) (log b) in
+      let lies : Lies task log k.of k.entries b = k.lies.0 in
       let parts : sum_by parts_of (set views pass w) + v.parts ≡ sum_by parts_of views + v.parts = sum_set parts_of views pass v w at in
       let all : sum_by parts_of views ≡ PARTS = k.parts in
       let holders : sum_by holders_of (set views pass w) + holders_of v ≡ sum_by holders_of views + 1 = sum_set holders_of views pass v w at in
@@ -112,15 +124,14 @@ module _ {B T I : Type 0} (task : B → T) (log : B → List I) where
         w,
         record {
           of = k.of;
-          seen = k.seen;
+          entries = k.entries;
           parts = omega (arith, parts, all);
           one = omega (arith, holders, some_one, sum);
           lies = k.lies.1;
-          each = fits_set k.of k.seen views pass w
+          each = fits_set k.of k.entries views pass w
               (record {
                 idle = λ e. absurd (omega (arith, some_part, e));
-                task = fit.task;
-                seen = λ _. subst (λ (l : List I). BeginsWith k.seen l) (sym lies.1) (begins_itself k.seen);
+                seen = λ _. (lies.0, subst (λ (l : List I). BeginsWith k.entries l) (sym lies.1) (begins_itself k.entries));
                 told = fit.told;
                 whole = λ _. sym lies.1;
               })
@@ -128,18 +139,17 @@ module _ {B T I : Type 0} (task : B → T) (log : B → List I) where
         },
         record {
           becomes = refl;
-          of = fit.task some_part ∙ sym lies.0;
-          seen = subst (λ (l : List I). BeginsWith l v.seen) (sym lies.1) (fit.seen some_part);
-          told = subst (λ (l : List I). AllByRecursion (BeginsWith l) v.told) (sym lies.1) (fit.told some_part);
+          seen = subst (λ (o : Option T). GoesOnFrom o (log b) v.seen) (sym lies.0) (subst (λ (l : List I). GoesOnFrom k.of l v.seen) (sym lies.1) (fit.seen some_part));
+          told = subst (λ (o : Option T). AllByRecursion (GoesOnFrom o (log b)) v.told) (sym lies.0) (subst (λ (l : List I). AllByRecursion (GoesOnFrom k.of l) v.told) (sym lies.1) (fit.told some_part));
         },
       )
 
-  pub leaves : (n pass : ℕ) (v : View T I) (b : B) → 0 < v.parts → v.inside ≡ true → v.task ≡ Some (task b) → BeginsWith (log b) v.seen → Pushes (Kept task log) n pass v b (Left log v b)
+  pub leaves : (n pass : ℕ) (v : View T I) (b : B) → 0 < v.parts → v.inside ≡ true → v.seen.task ≡ Some (task b) → BeginsWith (log b) v.seen.log → Pushes (Kept task log) n pass v b (Left task log v b)
   leaves n pass v b some_part inside of begins_with items views room k at =
       let fit = k.each pass v at in
-      let w : View T I = left v (log b) in
+      let w : View T I = left v (task b) (log b) in
       let none : items ≡ [] = gone pass v inside items views k at in
-      let grows : BeginsWith (log b) k.seen = subst (λ (l : List I). BeginsWith (log b) l) (sym (fit.whole inside)) begins_with in
+      let grows : BeginsWith (log b) k.entries = subst (λ (l : List I). BeginsWith (log b) l) (sym (fit.whole inside)) begins_with in
       let parts : sum_by parts_of (set views pass w) + v.parts ≡ sum_by parts_of views + v.parts = sum_set parts_of views pass v w at in
       let all : sum_by parts_of views ≡ PARTS = k.parts in
       let one : holders_of v ≡ 1 = held v.inside inside in
@@ -149,29 +159,27 @@ module _ {B T I : Type 0} (task : B → T) (log : B → List I) where
         w,
         record {
           of = k.of;
-          seen = log b;
+          entries = log b;
           parts = omega (arith, parts, all);
           one = omega (arith, one, holders, sum, long);
-          lies = subst (λ (l : List B). AllByRecursion (Lies task log k.of (log b)) (l ++ b ∷ [])) (sym none) ((sym of ∙ fit.task some_part, refl), tt);
+          lies = subst (λ (l : List B). AllByRecursion (Lies task log k.of (log b)) (l ++ b ∷ [])) (sym none) ((sym of ∙ (fit.seen some_part).0, refl), tt);
           each = fits_set k.of (log b) views pass w
               (record {
                 idle = λ _. refl;
-                task = fit.task;
-                seen = λ _. begins_itself (log b);
-                told = λ p. begins_each (log b) k.seen v.told grows (fit.told p);
+                seen = λ p. (sym of ∙ (fit.seen p).0, begins_itself (log b));
+                told = λ p. goes_each k.of (log b) k.entries v.told grows (fit.told p);
                 whole = λ i. absurd (true≢false (sym i));
               })
               (λ j u apart at'.
-                let theirs = k.each j u at' in
-                let two : holders_of v + holders_of u ≤ sum_by holders_of views = sum_two holders_of views pass j v u apart at at' in
-                let out : u.inside ≡ false = not_held u.inside (omega (arith, two, one, sum)) in
-                record {
-                  idle = theirs.idle;
-                  task = theirs.task;
-                  seen = λ p. begins_along (log b) k.seen u.seen grows (theirs.seen p);
-                  told = λ p. begins_each (log b) k.seen u.told grows (theirs.told p);
-                  whole = λ i. absurd (true≢false (sym i ∙ out));
-                });
+              let theirs = k.each j u at' in
+              let two : holders_of v + holders_of u ≤ sum_by holders_of views = sum_two holders_of views pass j v u apart at at' in
+              let out : u.inside ≡ false = not_held u.inside (omega (arith, two, one, sum)) in
+              record {
+                idle = theirs.idle;
+                seen = λ p. goes_along k.of (log b) k.entries u.seen grows (theirs.seen p);
+                told = λ p. goes_each k.of (log b) k.entries u.told grows (theirs.told p);
+                whole = λ i. absurd (true≢false (sym i ∙ out));
+              });
         },
         refl,
       )
@@ -189,16 +197,16 @@ module _ {B T I : Type 0} (task : B → T) (log : B → List I) where
       let holders : sum_by holders_of vs + holders_of v ≡ sum_by holders_of views + holders_of v = sum_set holders_of views pass v l at in
       let holders_push : sum_by holders_of (vs ++ r ∷ []) ≡ sum_by holders_of vs + 0 = sum_by_push holders_of vs r in
       let sum : sum_by holders_of views + length items ≡ 1 = k.one in
-      let old : (j : ℕ) (u : View T I) → get_elem? vs j ≡ some u → Fits k.of k.seen u =
-          fits_set k.of k.seen views pass l (record { idle = λ _. out; task = λ _. fit.task some_part; seen = λ _. fit.seen some_part; told = λ _. fit.told some_part; whole = fit.whole }) (λ j u _ at'. k.each j u at') in
-      let new : Fits k.of k.seen r = record { idle = λ _. refl; task = λ _. fit.task some_part; seen = λ _. fit.seen some_part; told = λ _. tt; whole = λ i. absurd (true≢false (sym i)) } in
+      let old : (j : ℕ) (u : View T I) → get_elem? vs j ≡ some u → Fits k.of k.entries u =
+      fits_set k.of k.entries views pass l (record { idle = λ _. out; seen = λ _. fit.seen some_part; told = λ _. fit.told some_part; whole = fit.whole }) (λ j u _ at'. k.each j u at') in
+      let new : Fits k.of k.entries r = record { idle = λ _. refl; seen = λ _. fit.seen some_part; told = λ _. tt; whole = λ i. absurd (true≢false (sym i)) } in
       record {
         of = k.of;
-        seen = k.seen;
+        entries = k.entries;
         parts = omega (arith, parts, all, parts_push, some_part);
         one = omega (arith, holders, holders_push, sum);
         lies = k.lies;
-        each = λ j u e. ⊎_elim (λ (x : get_elem? vs j ≡ some u). old j u x) (λ (is : r ≡ u). subst (Fits k.of k.seen) is new) (at_snoc vs r u j e);
+        each = λ j u e. ⊎_elim (λ (x : get_elem? vs j ≡ some u). old j u x) (λ (is : r ≡ u). subst (Fits k.of k.entries) is new) (at_snoc vs r u j e);
       }
 
   pub merges : (pass : ℕ) (v : View T I) (other : ℕ) (w : View T I) → 0 < v.parts → 0 < w.parts → w.inside ≡ false → Merges (Kept task log) pass v other w (with_told v w) spent
@@ -216,19 +224,18 @@ module _ {B T I : Type 0} (task : B → T) (log : B → List I) where
       let holders' : sum_by holders_of (set vs other no) + holders_of w ≡ sum_by holders_of vs + 0 = sum_set holders_of vs other w no at' in
       let free : holders_of w ≡ 0 = left_free w.inside out in
       let sum : sum_by holders_of views + length items ≡ 1 = k.one in
-      let mine : Fits k.of k.seen both = record {
-            idle = λ e. absurd (omega (arith, some_part, e));
-            task = λ _. fit.task some_part;
-            seen = λ _. fit.seen some_part;
-            told = λ _. begins_more k.seen v.told w.seen (fit.told some_part) (theirs.seen their_part);
-            whole = fit.whole;
-          } in
+      let mine : Fits k.of k.entries both = record {
+        idle = λ e. absurd (omega (arith, some_part, e));
+        seen = λ _. fit.seen some_part;
+        told = λ _. goes_more k.of k.entries v.told w.seen (fit.told some_part) (theirs.seen their_part);
+        whole = fit.whole;
+      } in
       record {
         of = k.of;
-        seen = k.seen;
+        entries = k.entries;
         parts = omega (arith, parts, parts', all);
         one = omega (arith, holders, holders', free, sum);
         lies = k.lies;
-        each = fits_set k.of k.seen vs other no (fits_idle k.of k.seen no refl refl)
-            (λ j u _ e. fits_set k.of k.seen views pass both mine (λ j' u' _ e'. k.each j' u' e') j u e);
+        each = fits_set k.of k.entries vs other no (fits_idle k.of k.entries no refl refl)
+            (λ j u _ e. fits_set k.of k.entries views pass both mine (λ j' u' _ e'. k.each j' u' e') j u e);
       }

@@ -2,24 +2,22 @@
 use Rattle.std.specs.Prelude.{◌≡◌, List, [], length, Some}
 use Rattle.std.specs.List.{AllByRecursion}
 use Rattle.hd_lock.specs.declared.view.View.{View}
-use Rattle.hd_lock.specs.Views.{BeginsWith, opened, entered, left}
+use Rattle.hd_lock.specs.Views.{GoesOnFrom, opened, entered, left}
 
 module _ {B T I : Type 0} (task : B → T) (log : B → List I) where
   -- the value came
   abbrev pub Opened : View T I → B → View T I → Type 0
   Opened v b w = w ≡ opened (task b) (log b)
 
-  -- the pass took the value, which is of its task, and has a log that begins with what it saw and what it was told
+  -- the pass took the value, which goes on from what the pass saw and from what it was told
   pub record Entered (v : View T I) (b : B) (w : View T I) : Type 0 where
-    pub becomes : w ≡ entered v (log b)
-    pub of : v.task ≡ Some (task b)
-    pub seen : BeginsWith (log b) v.seen
-    pub told : AllByRecursion (BeginsWith (log b)) v.told
+    pub becomes : w ≡ entered v (task b) (log b)
+    pub seen : GoesOnFrom (Some (task b)) (log b) v.seen
+    pub told : AllByRecursion (GoesOnFrom (Some (task b)) (log b)) v.told
 
-module _ {B T I : Type 0} (log : B → List I) where
   -- the pass gave the value back
   abbrev pub Left : View T I → B → View T I → Type 0
-  Left v b w = w ≡ left v (log b)
+  Left v b w = w ≡ left v (task b) (log b)
 
 module _ {B T I : Type 0} where
   -- the value lies in the queue

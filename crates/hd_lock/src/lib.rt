@@ -11,4 +11,4 @@ mod view;
 
 pub use lock::{Lock, PARTS, Pass};
 pub use locked::Locked;
-pub use view::View;
+pub use view::{Seen, View};

@@ -1,7 +1,7 @@
 //! The lock.
 ghost use Rattle.std.specs.Prelude.{◌≡◌, ◌+◌, ◌<◌, All, IfOk, Some};
 ghost use Rattle.crossbeam_queue.specs.Passes.{view, ruled_capacity};
-ghost use Rattle.hd_lock.specs.Passes.{IsOutside, IsInside, parts_in, IsSeenIn};
+ghost use Rattle.hd_lock.specs.Passes.{IsOutside, IsInside, parts_in, IsSeenIn, AreSeenIn};
 ghost use Rattle.hd_lock.specs.Views.{BeginsWith, opened, entered, left, less_one, another_of};
 
 use crate::locked::Locked;
@@ -30,17 +30,12 @@ impl<B: Locked> Lock<B> {
     ///
     /// # Errors
     /// Want of memory.
-    pub fn open<R: Wait>(
-        rt: &R,
-        alloc: Global,
-        value: B,
-    ) -> Result<(Lock<B>, Pass<B>), AllocError>
+    pub fn open<R: Wait>(rt: &R, alloc: Global, value: B) -> Result<(Lock<B>, Pass<B>), AllocError>
         ensures pass { IfOk result (λ r. IsOutside r.0.place r.1) }
         ensures view { IfOk result (λ r. view r.1 ≡ opened (B.task value) (B.log value)) }
     {
         let (place, mut pass) = RuledArrayQueue::<B, View<B::Task, B::Item>, OnePlace>::ruled(
-            alloc,
-            1,
+            alloc, 1,
         )?;
         match place.push_as::<Opens, R>(rt, &mut pass, value) {
             Ok(()) => Ok((Lock { place }, pass)),
@@ -52,9 +47,9 @@ impl<B: Locked> Lock<B> {
     pub fn enter<R: Wait>(&self, rt: &R, pass: &mut Pass<B>) -> B
         requires { IsOutside self.now.place pass.old }
         ensures pass { IsInside self.now.place pass.new }
-        ensures task { (view pass.old).task ≡ Some (B.task result) }
-        ensures begins { BeginsWith (B.log result) (view pass.old).seen }
-        ensures view { view pass.new ≡ entered (view pass.old) (B.log result) }
+        ensures task { (view pass.old).seen.task ≡ Some (B.task result) }
+        ensures begins { BeginsWith (B.log result) (view pass.old).seen.log }
+        ensures view { view pass.new ≡ entered (view pass.old) (B.task result) (B.log result) }
     {
         for _ in rt.forever() {
             if let Some(value) = self.place.pop_as::<Enters, R>(rt, pass) {
@@ -68,10 +63,10 @@ impl<B: Locked> Lock<B> {
     /// Gives the value back, with which the lock is free.
     pub fn leave<R: Wait>(&self, rt: &R, pass: &mut Pass<B>, value: B)
         requires pass { IsInside self.now.place pass.old }
-        requires task { (view pass.old).task ≡ Some (B.task value) }
-        requires begins { BeginsWith (B.log value) (view pass.old).seen }
+        requires task { (view pass.old).seen.task ≡ Some (B.task value) }
+        requires begins { BeginsWith (B.log value) (view pass.old).seen.log }
         ensures pass { IsOutside self.now.place pass.new }
-        ensures view { view pass.new ≡ left (view pass.old) (B.log value) }
+        ensures view { view pass.new ≡ left (view pass.old) (B.task value) (B.log value) }
     {
         match self.place.push_as::<Leaves, R>(rt, pass, value) {
             Ok(()) => {}
@@ -103,7 +98,17 @@ impl<B: Locked> Lock<B> {
         for other in passes {
             self.place.absorb::<Parts>(&mut all, other);
         }
-        match self.place.pop_as::<Gathers, R>(rt, &mut all) {
+        self.take_back(rt, all)
+    }
+
+    // The value, for the pass that has every part: it lies in the queue.
+    fn take_back<R: Wait>(&self, rt: &R, mut pass: Pass<B>) -> B
+        requires pass { IsOutside self.now.place pass }
+        requires parts { (view pass).parts ≡ PARTS }
+        ensures seen { IsSeenIn (B.task result) (B.log result) pass }
+        ensures told { AreSeenIn (B.task result) (B.log result) (view pass).told }
+    {
+        match self.place.pop_as::<Gathers, R>(rt, &mut pass) {
             Some(value) => value,
             None => unreachable!(),
         }

@@ -10,8 +10,8 @@ pub trait Locked: Drop {
     type Item;
 
     /// The task that the value is of.
-    ghost task: { Self → Task };
+    ghost task: { Self → Self.Task };
 
     /// The log that the value has.
-    ghost log: { Self → List Item };
+    ghost log: { Self → List Self.Item };
 }

@@ -53,7 +53,7 @@ impl<B: Locked> Lesson<B, View<B::Task, B::Item>> for Gathers {
 pub struct Leaves;
 
 impl<B: Locked> Outcome<B, View<B::Task, B::Item>> for Leaves {
-    ghost then = { Left B.log };
+    ghost then = { Left B.task B.log };
 }
 
 impl<B: Locked> Lesson<B, View<B::Task, B::Item>> for Leaves {
