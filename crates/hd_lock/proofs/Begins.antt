@@ -1,5 +1,5 @@
 -- Logs that begin with others.
-use Rattle.std.proofs.Common.{◌≡◌, List, [], ◌∷◌, ◌++◌, sym, ap, ◌∙◌, append_assoc, append-nil, Option}
+use Rattle.std.proofs.Common.{List, [], ◌∷◌, ◌++◌, sym, ap, ◌∙◌, append_assoc, append-nil, Option}
 use Rattle.std.specs.List.{AllByRecursion}
 use Rattle.hd_lock.specs.declared.view.Seen.{Seen}
 use Rattle.hd_lock.specs.Views.{BeginsWith, GoesOnFrom}
@@ -18,7 +18,3 @@ module _ {T I : Type 0} where
   pub goes_each : (task : Option T) (a b : List I) (told : List (Seen T I)) → BeginsWith a b → AllByRecursion (GoesOnFrom task b) told → AllByRecursion (GoesOnFrom task a) told
   goes_each task a b [] p q = tt
   goes_each task a b (s ∷ told) p q = (goes_along task a b s p q.0, goes_each task a b told p q.1)
-
-  pub goes_more : (task : Option T) (a : List I) (told : List (Seen T I)) (s : Seen T I) → AllByRecursion (GoesOnFrom task a) told → GoesOnFrom task a s → AllByRecursion (GoesOnFrom task a) (told ++ s ∷ [])
-  goes_more task a [] s p q = (q, tt)
-  goes_more task a (d ∷ told) s p q = (p.0, goes_more task a told s p.1 q)

@@ -1,24 +1,16 @@
 -- Passes that are taken in, one after the other.
-use Rattle.std.proofs.Common.{◌≡◌, ℕ, ◌+◌, ◌<◌, List, [], ◌∷◌, ◌++◌, length, map, refl, sym, ap, subst, ◌∙◌, append_assoc, arith, Option, Some, All}
-use Rattle.std.specs.List.{sum_by, AllByRecursion}
+use Rattle.std.proofs.Common.{◌≡◌, ℕ, ◌+◌, ◌<◌, List, [], ◌∷◌, ◌++◌, sym, ap, subst, ◌∙◌, append_assoc, arith, Option, All}
+use Rattle.std.specs.List.{AllByRecursion}
 use Rattle.std.proofs.lemmas.List.{map-append}
 use Rattle.std.proofs.lemmas.List.Elements.{All-from_recursion}
 use Rattle.std.proofs.lemmas.List.Sums.{sum_by-cons}
 use Rattle.crossbeam_queue.specs.declared.array_queue.Doing.{Doing}
 use Rattle.crossbeam_queue.specs.declared.array_queue.Slotted.{Slotted}
-use Rattle.crossbeam_queue.specs.Passes.{Pass, view, IsPassOf, IsSamePass}
+use Rattle.crossbeam_queue.specs.Passes.{Pass, view, IsSamePass}
 use Rattle.hd_lock.specs.declared.view.Seen.{Seen}
 use Rattle.hd_lock.specs.declared.view.View.{View}
 use Rattle.hd_lock.specs.Passes.{IsOutside, parts_in, seen_in, IsSeenIn, AreSeenIn}
-use Rattle.hd_lock.specs.Views.{GoesOnFrom, with_told}
-
-pub nothing_left : {X : Type 0} (l : List X) → length l ≡ 0 → l ≡ []
-nothing_left [] h = refl
-nothing_left (x ∷ xs) h = absurd (omega arith)
-
-after : {X : Type 0} (P : X → Type 0) (xs ys : List X) → AllByRecursion P (xs ++ ys) → AllByRecursion P ys
-after P [] ys p = p
-after P (x ∷ xs) ys p = after P xs ys p.1
+use Rattle.hd_lock.specs.Views.{with_told}
 
 module _ {B T I Q A : Type 0} (place : Slotted (Option B) (Doing B (View T I)) Q A) where
   -- a pass that takes another in stays outside
@@ -37,6 +29,10 @@ module _ {B T I : Type 0} where
       let more : parts_in (other ∷ rest) ≡ (view other).parts + parts_in rest = sum_by-cons (λ (r : Pass B (View T I)). (view r).parts) other rest in
       omega (arith, parts, more, all)
 
+  -- what the pass itself saw stays
+  pub seen_stays : (s : Seen T I) (p q other : Pass B (View T I)) → view q ≡ with_told (view p) (view other) → (view p).seen ≡ s → (view q).seen ≡ s
+  seen_stays s p q other is was = ap (λ (v : View T I). v.seen) is ∙ was
+
   seen_more : (passes : List (Pass B (View T I))) (other : Pass B (View T I)) → seen_in (passes ++ other ∷ []) ≡ seen_in passes ++ (view other).seen ∷ []
   seen_more passes other = map-append (λ (p : Pass B (View T I)). (view p).seen) passes (other ∷ [])
 
@@ -53,7 +49,10 @@ module _ {B T I : Type 0} where
   seen_each task log [] p = tt
   seen_each task log (q ∷ passes) p = (p.0, seen_each task log passes p.1)
 
+  seen_later : (task : T) (log : List I) (before : List (Seen T I)) (passes : List (Pass B (View T I))) → AreSeenIn task log (before ++ seen_in passes) → AllByRecursion (IsSeenIn task log) passes
+  seen_later task log [] passes p = seen_each task log passes p
+  seen_later task log (s ∷ before) passes p = seen_later task log before passes p.1
+
   -- what was told is what all of them had seen
   pub all_seen : (task : T) (log : List I) (told before : List (Seen T I)) (passes : List (Pass B (View T I))) → told ≡ before ++ seen_in passes → AreSeenIn task log told → All (IsSeenIn task log) passes
-  all_seen task log told before passes is p =
-      All-from_recursion (IsSeenIn task log) passes (seen_each task log passes (after (GoesOnFrom (Some task) log) before (seen_in passes) (subst (AreSeenIn task log) is p)))
+  all_seen task log told before passes is p = All-from_recursion (IsSeenIn task log) passes (seen_later task log before passes (subst (AreSeenIn task log) is p))

@@ -1,4 +1,4 @@
-mod Begins
+pub mod Begins
 mod Gathering
 mod Moves
 mod Sums

@@ -1,22 +1,20 @@
 -- Each step keeps the rule of the lock.
 use Rattle.std.proofs.Common.{◌≡◌, ◌≢◌, ℕ, zero, suc, ◌+◌, ◌-◌, ◌<◌, ◌≤◌, ◌⊎◌, Bool, true, false, true≢false, cond, List, [], ◌∷◌, ◌++◌, length, set, sym, refl, ap, ◌∙◌, subst, ⊎_elim, length-append, arith, Option, Some, None}
 use Rattle.std.specs.List.{sum_by, AllByRecursion}
+use Rattle.std.proofs.lemmas.List.{nil_from_length}
 use Rattle.std.proofs.lemmas.List.Sums.{sum_by_push}
 use mathlib.Core.Option.{some, some-ne-none, some-injective}
 use lib.ListN.{get_elem?}
 use Rattle.crossbeam_queue.specs.Fifo.{Pushes, Pops, Forks, Merges, Learns}
 use Rattle.crossbeam_queue.proofs.Lists.{at_set, at_snoc}
+use Rattle.hd_base.proofs.Lists.{AllByRecursion-push}
 use Rattle.hd_lock.specs.declared.lock.TheConstants.{PARTS}
 use Rattle.hd_lock.specs.declared.view.View.{View}
 use Rattle.hd_lock.specs.Kept.{parts_of, holders_of, Fits, Lies, Kept}
 use Rattle.hd_lock.specs.Steps.{Opened, Entered, Left, IsThere, IsGone}
 use Rattle.hd_lock.specs.Views.{BeginsWith, GoesOnFrom, unopened, opened, entered, left, less_one, another_of, with_told, spent}
-use Rattle.hd_lock.proofs.Begins.{begins_itself, goes_along, goes_each, goes_more}
+use Rattle.hd_lock.proofs.Begins.{begins_itself, goes_along, goes_each}
 use Rattle.hd_lock.proofs.Sums.{sum_set, sum_at, sum_two, sum_only}
-
-empty : {B : Type 0} (items : List B) → length items ≡ 0 → items ≡ []
-empty [] e = refl
-empty (x ∷ xs) e = absurd (omega arith)
 
 not_held : (b : Bool) → cond {A = ℕ} b 1 0 ≡ 0 → b ≡ false
 not_held true e = absurd (omega arith)
@@ -56,14 +54,6 @@ module _ {T I : Type 0} where
       (record { idle = λ e. absurd (omega (arith, e)); seen = λ _. (refl, begins_itself []); told = λ _. tt; whole = λ _. refl })
   fits_first (suc pass) v at = absurd (some-ne-none v (sym at))
 
--- a queue of one place is not full where it is empty
-pub not_full : {B : Type 0} (n : ℕ) → n ≡ 1 → (items : List B) × (length items ≡ n) × (items ≡ []) → ⊥
-not_full n one h = let none = ap length h.2 in omega (arith, one, h.1, none)
-
--- and not empty where it holds something
-pub not_empty : {B : Type 0} → (items : List B) × (length items ≡ 0) × (length items ≡ 1) → ⊥
-not_empty h = omega (arith, h.1, h.2)
-
 module _ {B T I : Type 0} (task : B → T) (log : B → List I) where
   pub begins : Kept task log [] (unopened ∷ [])
   begins = record { of = None; entries = []; parts = refl; one = refl; lies = tt; each = fits_first }
@@ -74,7 +64,7 @@ module _ {B T I : Type 0} (task : B → T) (log : B → List I) where
       let one : holders_of v ≡ 1 = held v.inside inside in
       let some_one : holders_of v ≤ sum_by holders_of views = sum_at holders_of views pass v at in
       let sum : sum_by holders_of views + length items ≡ 1 = k.one in
-      empty items (omega (arith, one, some_one, sum))
+      nil_from_length items (omega (arith, one, some_one, sum))
 
   -- where a pass with every part is outside, the value lies in the queue
   pub there : (pass : ℕ) (v : View T I) → v.parts ≡ PARTS → v.inside ≡ false → Learns (Kept task log) pass v (IsThere v)
@@ -227,7 +217,7 @@ module _ {B T I : Type 0} (task : B → T) (log : B → List I) where
       let mine : Fits k.of k.entries both = record {
         idle = λ e. absurd (omega (arith, some_part, e));
         seen = λ _. fit.seen some_part;
-        told = λ _. goes_more k.of k.entries v.told w.seen (fit.told some_part) (theirs.seen their_part);
+        told = λ _. AllByRecursion-push (GoesOnFrom k.of k.entries) v.told w.seen (fit.told some_part) (theirs.seen their_part);
         whole = fit.whole;
       } in
       record {

@@ -1,5 +1,5 @@
 -- What passes know, and how it changes. (Our own.)
-use Rattle.std.specs.Prelude.{◌≡◌, ℕ, ◌+◌, ◌-◌, true, false, List, [], ◌∷◌, ◌++◌, Option, Some, None}
+use Rattle.std.specs.Prelude.{◌≡◌, ◌+◌, ◌-◌, true, false, List, [], ◌∷◌, ◌++◌, Option, Some, None}
 use Rattle.hd_lock.specs.declared.lock.TheConstants.{PARTS}
 use Rattle.hd_lock.specs.declared.view.Seen.{Seen}
 use Rattle.hd_lock.specs.declared.view.View.{View}

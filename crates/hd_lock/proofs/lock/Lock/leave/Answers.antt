@@ -1,4 +1,4 @@
-use Rattle.hd_lock.proofs.Moves.{leaves, gone, not_full}
+use Rattle.hd_lock.proofs.Moves.{leaves, gone}
 use Rattle.hd_lock.proofs.lock.Lock.leave.Goals as goal
 
 pub push_as-requires-clause-rule : goal.push_as-requires-clause-rule

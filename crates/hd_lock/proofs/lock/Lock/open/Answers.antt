@@ -1,4 +1,4 @@
-use Rattle.hd_lock.proofs.Moves.{begins, opens, gone, first_inside, not_full}
+use Rattle.hd_lock.proofs.Moves.{begins, opens, gone, first_inside}
 use Rattle.hd_lock.proofs.lock.Lock.open.Goals as goal
 
 pub ruled-requires-clause-rule : goal.ruled-requires-clause-rule

@@ -1,4 +1,4 @@
-use Rattle.hd_lock.proofs.Moves.{enters, there, not_empty}
+use Rattle.hd_lock.proofs.Moves.{enters, there}
 use Rattle.hd_lock.proofs.lock.Lock.take_back.Goals as goal
 
 pub pop_as-requires-clause-rule : goal.pop_as-requires-clause-rule
