@@ -1,0 +1,4 @@
+pub mod Begins
+mod Gathering
+mod Moves
+mod Sums

@@ -1,0 +1,4 @@
+pub mod Kept
+pub mod Passes
+pub mod Steps
+pub mod Views

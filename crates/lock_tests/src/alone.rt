@@ -1,0 +1,31 @@
+//! One thread with two passes.
+use crate::diary::{Diary, write};
+use hd_lock::{Lock, PARTS};
+use std::test::Fail;
+
+#[test]
+fn what_one_pass_writes_the_other_finds(rt: HostRuntime) -> Result<(), Fail> {
+    let alloc = rt.alloc();
+    let (lock, mut first) = Lock::open(&rt, alloc, Diary::of(alloc, 7)?)?;
+    let mut second = lock.another(&mut first);
+    write(&rt, &lock, &mut first, 10)?;
+    write(&rt, &lock, &mut second, 20)?;
+    let diary = lock.enter(&rt, &mut first);
+    assert_eq!(rt; diary.sheets.log.as_slice(), [10u64, 20].as_slice());
+    lock.leave(&rt, &mut first, diary);
+    let diary = lock.gather(&rt, first, vec![in alloc; second]?);
+    assert_eq!(rt; diary.sheets.of, 7);
+    assert_eq!(rt; diary.sheets.log.as_slice(), [10u64, 20].as_slice());
+    Ok(())
+}
+
+#[test]
+fn a_lock_that_nobody_enters_gives_its_value_back(rt: HostRuntime) -> Result<(), Fail> {
+    let alloc = rt.alloc();
+    let (lock, first) = Lock::open(&rt, alloc, Diary::of(alloc, 3)?)?;
+    let diary = lock.gather(&rt, first, Vec::new(alloc));
+    assert_eq!(rt; diary.sheets.of, 3);
+    assert_eq!(rt; diary.sheets.log.len(), 0);
+    assert_eq!(rt; PARTS, 1024);
+    Ok(())
+}
