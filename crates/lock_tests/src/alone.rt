@@ -1,6 +1,6 @@
 //! One thread with two passes.
 use crate::diary::{Diary, write};
-use hd_lock::{Lock, PARTS};
+use hd_desk::{ALL_PARTS, Lock};
 use std::test::Fail;
 
 #[test]
@@ -26,6 +26,6 @@ fn a_lock_that_nobody_enters_gives_its_value_back(rt: HostRuntime) -> Result<(),
     let diary = lock.gather(&rt, first, Vec::new(alloc));
     assert_eq!(rt; diary.sheets.of, 3);
     assert_eq!(rt; diary.sheets.log.len(), 0);
-    assert_eq!(rt; PARTS, 1024);
+    assert_eq!(rt; ALL_PARTS, 1024);
     Ok(())
 }

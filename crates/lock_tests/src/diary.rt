@@ -1,10 +1,10 @@
 //! What the tests lock: a diary of someone, one pointer wide, with a log of numbers.
 ghost use Rattle.std.specs.Prelude.{◌≡◌, ◌<◌, IfOk, [], ◌∷◌, ◌++◌, OnErr};
 ghost use Rattle.crossbeam_queue.specs.Passes.{view};
-ghost use Rattle.hd_lock.specs.Passes.{IsOutside};
-ghost use Rattle.hd_lock.specs.Views.{BeginsWith};
+ghost use Rattle.hd_desk.specs.Passes.{IsOutside};
+ghost use Rattle.hd_desk.specs.Views.{BeginsWith};
 
-use hd_lock::{Lock, Locked, Pass};
+use hd_desk::{Lock, Locked, Pass};
 use std::alloc::{AllocError, Global};
 use std::sync::Wait;
 

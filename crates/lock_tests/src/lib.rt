@@ -1,4 +1,4 @@
-//! Tests of the public calls of hd_lock.
+//! Tests of the public calls of the lock of hd_desk.
 #![tactic(auto)]
 
 #[cfg(test)]

@@ -1,11 +1,11 @@
 //! Four threads that write through one lock.
 ghost use Rattle.std.specs.Prelude.{◌≡◌, ◌<◌};
 ghost use Rattle.crossbeam_queue.specs.Passes.{view};
-ghost use Rattle.hd_lock.specs.Passes.{IsOutside};
+ghost use Rattle.hd_desk.specs.Passes.{IsOutside};
 ghost use Rattle.std.specs.Thread.{IsSync};
 
 use crate::diary::{Diary, write};
-use hd_lock::{Lock, Pass};
+use hd_desk::{Lock, Pass};
 use std::sync::Wait;
 use std::test::Fail;
 use std::thread;

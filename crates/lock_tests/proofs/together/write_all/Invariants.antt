@@ -1,4 +1,4 @@
-use Rattle.hd_lock.specs.Passes.{IsOutside}
+use Rattle.hd_desk.specs.Passes.{IsOutside}
 use Rattle.lock_tests.proofs.together.write_all.Given as goal
 
 -- the pass stays outside

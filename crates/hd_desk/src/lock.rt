@@ -1,0 +1,113 @@
+//! The lock.
+ghost use Rattle.std.specs.Prelude.{◌≡◌, ◌+◌, ◌<◌, All, IfOk, Some};
+ghost use Rattle.crossbeam_queue.specs.Passes.{view, ruled_capacity};
+ghost use Rattle.hd_desk.specs.Passes.{IsOutside, IsInside, parts_in, IsSeenIn, AreSeenIn};
+ghost use Rattle.hd_desk.specs.Views.{BeginsWith, opened, entered, left, less_one, another_of};
+
+use crate::locked::Locked;
+use crate::plays::{Enters, Gathers, Leaves, OnePlace, Opens, Parts};
+use crate::view::View;
+use crossbeam_queue::RuledArrayQueue;
+use std::alloc::{AllocError, Global};
+use std::sync::Wait;
+use std::thread;
+
+/// What one user of a lock knows of it. It has no bytes.
+pub type Pass<B> = crossbeam_queue::Pass<B, View<<B as Locked>::Task, <B as Locked>::Item>>;
+
+/// A lock that holds one value.
+#[derive(Drop)]
+pub struct Lock<B: Locked> {
+    place: RuledArrayQueue<B, View<B::Task, B::Item>, OnePlace>,
+    ghost one: { ruled_capacity place ≡ 1 },
+}
+
+impl<B: Locked> Lock<B> {
+    /// A lock that is free and holds the value, with a pass that has every part and has seen the value.
+    ///
+    /// # Errors
+    /// Want of memory.
+    pub fn open<R: Wait>(rt: &R, alloc: Global, value: B) -> Result<(Lock<B>, Pass<B>), AllocError>
+        ensures pass { IfOk result (λ r. IsOutside r.0.place r.1) }
+        ensures view { IfOk result (λ r. view r.1 ≡ opened (B.task value) (B.log value)) }
+    {
+        let (place, mut pass) = RuledArrayQueue::<B, View<B::Task, B::Item>, OnePlace>::ruled(
+            alloc, 1,
+        )?;
+        match place.push_as::<Opens, R>(rt, &mut pass, value) {
+            Ok(()) => Ok((Lock { place }, pass)),
+            Err(_) => unreachable!(),
+        }
+    }
+
+    /// Waits until the lock is free, and takes the value.
+    pub fn enter<R: Wait>(&self, rt: &R, pass: &mut Pass<B>) -> B
+        requires { IsOutside self.now.place pass.old }
+        ensures pass { IsInside self.now.place pass.new }
+        ensures task { (view pass.old).seen.task ≡ Some (B.task result) }
+        ensures begins { BeginsWith (B.log result) (view pass.old).seen.log }
+        ensures view { view pass.new ≡ entered (view pass.old) (B.task result) (B.log result) }
+    {
+        for _ in rt.forever() {
+            if let Some(value) = self.place.pop_as::<Enters, R>(rt, pass) {
+                return value;
+            }
+            thread::yield_now();
+        }
+        unreachable!()
+    }
+
+    /// Gives the value back, with which the lock is free.
+    pub fn leave<R: Wait>(&self, rt: &R, pass: &mut Pass<B>, value: B)
+        requires pass { IsInside self.now.place pass.old }
+        requires task { (view pass.old).seen.task ≡ Some (B.task value) }
+        requires begins { BeginsWith (B.log value) (view pass.old).seen.log }
+        ensures pass { IsOutside self.now.place pass.new }
+        ensures view { view pass.new ≡ left (view pass.old) (B.task value) (B.log value) }
+    {
+        match self.place.push_as::<Leaves, R>(rt, pass, value) {
+            Ok(()) => {}
+            Err(_) => unreachable!(),
+        }
+    }
+
+    /// A further pass for a further user, with one of this pass's parts. It has seen what this one has.
+    pub fn another(&self, pass: &mut Pass<B>) -> Pass<B>
+        requires pass { IsOutside self.now.place pass.old }
+        requires parts { 1 < (view pass.old).parts }
+        ensures old { IsOutside self.now.place pass.new }
+        ensures new { IsOutside self.now.place result }
+        ensures old_view { view pass.new ≡ less_one (view pass.old) }
+        ensures new_view { view result ≡ another_of (view pass.old) }
+    {
+        self.place.another::<Parts>(pass)
+    }
+
+    /// The value, from a lock that nobody uses any more: all its passes are handed in. It waits for no other thread.
+    pub fn gather<R: Wait>(self, rt: &R, pass: Pass<B>, passes: Vec<Pass<B>>) -> B
+        requires pass { IsOutside self.place pass }
+        requires passes { All (IsOutside self.place) passes.items }
+        requires parts { (view pass).parts + parts_in passes.items ≡ ALL_PARTS }
+        ensures seen { IsSeenIn (B.task result) (B.log result) pass }
+        ensures all_seen { All (IsSeenIn (B.task result) (B.log result)) passes.items }
+    {
+        let mut all = pass;
+        for other in passes {
+            self.place.absorb::<Parts>(&mut all, other);
+        }
+        self.take_back(rt, all)
+    }
+
+    // The value, for the pass that has every part: it lies in the queue.
+    fn take_back<R: Wait>(&self, rt: &R, mut pass: Pass<B>) -> B
+        requires pass { IsOutside self.now.place pass }
+        requires parts { (view pass).parts ≡ ALL_PARTS }
+        ensures seen { IsSeenIn (B.task result) (B.log result) pass }
+        ensures told { AreSeenIn (B.task result) (B.log result) (view pass).told }
+    {
+        match self.place.pop_as::<Gathers, R>(rt, &mut pass) {
+            Some(value) => value,
+            None => unreachable!(),
+        }
+    }
+}

@@ -1,4 +1,0 @@
-pub mod Begins
-mod Gathering
-mod Moves
-mod Sums

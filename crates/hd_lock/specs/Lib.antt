@@ -1,4 +1,0 @@
-pub mod Kept
-pub mod Passes
-pub mod Steps
-pub mod Views

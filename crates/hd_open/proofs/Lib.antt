@@ -1,0 +1,6 @@
+pub mod Counting
+pub mod Ordering
+pub mod Places
+pub mod Queueing
+pub mod Sums
+pub mod Taking
