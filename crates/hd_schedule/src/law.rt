@@ -10,7 +10,8 @@ ghost use Rattle.hd_schedule.specs.declared.moves.Move.{Move};
 
 /// Words are a move exactly where a row of the table says so.
 pub fn moves_are_those_of_the_table()
-    ensures { (words : List (List ℕ)) (move : Move) → (move_of words ≡ Some move) ↔ IsMove words move }
+    ensures { (words : List (List ℕ)) (move : Move)
+        → (move_of words ≡ Some move) ↔ IsMove words move }
 {}
 
 /// The line that a move is printed as says this move, and the lines of moves are a schedule of just these.
