@@ -1,6 +1,7 @@
 //! The lock.
 ghost use Rattle.std.specs.Prelude.{◌≡◌, ◌+◌, ◌<◌, All, IfOk, Some};
 ghost use Rattle.crossbeam_queue.specs.Passes.{view, ruled_capacity};
+ghost use Rattle.hd_desk.specs.declared.rule.TheConstants.{ALL_PARTS};
 ghost use Rattle.hd_desk.specs.Passes.{IsOutside, IsInside, parts_in, IsSeenIn, AreSeenIn};
 ghost use Rattle.hd_desk.specs.Views.{BeginsWith, opened, entered, left, less_one, another_of};
 
