@@ -124,7 +124,7 @@ fn exchange<'t, R: Wait>(
 fn exchanged<R: Threads + Wait + Sync>(
     rt: &R,
     boxes: &Mailboxes<u64, Letter>,
-    mut hands: Hands<u64, Letter>,
+    hands: Hands<u64, Letter>,
     others: Hands<u64, Letter>,
     of: u64,
 ) -> (u64, u64)
@@ -134,7 +134,7 @@ fn exchanged<R: Threads + Wait + Sync>(
     requires fits { of ≡ hands.of }
     requires others_fit { of ≡ others.of }
 {
-    let ((mine, one), (others, two)) = thread::join(
+    let ((_, one), (_, two)) = thread::join(
         rt,
         move ||
             requires { IsFor boxes.now hands × (length boxes.now ≡ 2) × (of ≡ hands.of) }
@@ -145,8 +145,6 @@ fn exchanged<R: Threads + Wait + Sync>(
             ensures { IsFor boxes.entry.now result.0 }
         { exchange(rt, boxes, others, of, 0, 1) },
     );
-    hands = mine;
-    boxes.absorb(&mut hands, others);
     (one, two)
 }
 
@@ -171,5 +169,19 @@ fn the_last_pop_tells_that_nothing_is_left(rt: HostRuntime) -> Result<(), Fail> 
     boxes.tally(&mut hands, 0);
     assert!(rt; boxes.pop_last(&rt, &mut hands, 0) == Some(letter));
     assert!(rt; boxes.pop_last(&rt, &mut hands, 0) == None);
+    Ok(())
+}
+
+#[test]
+fn hands_that_were_shared_are_taken_in_again(rt: HostRuntime) -> Result<(), Fail> {
+    let of = 7;
+    let letter = Letter { of, number: 3 };
+    let (boxes, mut hands) = Mailboxes::new(&rt, rt.alloc(), 1, &of, letter)?;
+    let mut others = boxes.share(rt.alloc(), &mut hands)?;
+    fill(&rt, &boxes, &mut others, of, [3, 5]);
+    empty(&rt, &boxes, &mut hands, of, [3, 4]);
+    boxes.absorb(&mut hands, others);
+    empty(&rt, &boxes, &mut hands, of, [4, 5]);
+    assert!(rt; boxes.pop(&mut hands, 0) == None);
     Ok(())
 }
