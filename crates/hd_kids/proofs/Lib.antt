@@ -1,0 +1,4 @@
+pub mod Looking
+pub mod Marking
+pub mod Placing
+pub mod Showing

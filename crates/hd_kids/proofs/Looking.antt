@@ -1,0 +1,123 @@
+-- Kids that are looked for.
+use Rattle.std.proofs.Common.{◌≡◌, ◌≢◌, ℕ, zero, suc, ◌+◌, ◌-◌, ◌<◌, ◌≤◌, Bool, true, false, cond, List, [], ◌∷◌, length, get_or, Option, Some, None, inl, inr, refl, sym, ap, ap₂, ◌∙◌, subst, arith}
+use Rattle.std.specs.Prelude.{◌==◌, ◌&&◌, nat_lt}
+use Rattle.std.specs.List.{position, position_or_len}
+use Rattle.std.proofs.lemmas.Bool.{cases_eq, cond-true, cond-false, and_from, and_left, and_right, eq-eqb, ne_eqb, lt-ltb, le-ltb}
+use Rattle.std.proofs.lemmas.List.Sums.{position_or_len_is}
+use Rattle.hd_task.specs.declared.plan.Kid.{Kid}
+use Rattle.hd_task.specs.declared.plan.TheConstants.{ROOT_PARENT, ROOT_ACTION}
+use Rattle.hd_kids.specs.Kids.{root, same_kid}
+use Rattle.hd_kids.specs.Places.{begun, parent_after, kid_at, kids_by, IsRow, AreKids}
+use Rattle.hd_kids.proofs.Placing.{begun_is, begun_few, begun_before, length-kids_by, get_or-kids_by}
+
+-- the first place that passes, if there is one
+position_found : {X : Type 0} (p : X → Bool) (xs : List X) (i : ℕ) (d : X) → i < length xs → ((k : ℕ) → k < i → p (get_or xs k d) ≡ false)
+    → p (get_or xs i d) ≡ true → position p xs ≡ Some i
+position_found p xs i d lt before here =
+    let is = position_or_len_is p xs i d (omega (arith, lt)) before (λ _. here) in
+    cond-true (nat_lt (position_or_len p xs) (length xs)) (Some (position_or_len p xs)) None (lt-ltb (position_or_len p xs) (length xs) (omega (arith, is, lt)))
+    ∙ ap Some is
+
+position_none : {X : Type 0} (p : X → Bool) (xs : List X) (d : X) → ((k : ℕ) → k < length xs → p (get_or xs k d) ≡ false) → position p xs ≡ None
+position_none p xs d fails =
+    let is = position_or_len_is p xs (length xs) d (omega arith) fails (λ lt. absurd (omega (arith, lt))) in
+    cond-false (nat_lt (position_or_len p xs) (length xs)) (Some (position_or_len p xs)) None (le-ltb (position_or_len p xs) (length xs) (omega (arith, is)))
+
+other_parent : (k q : Kid) → k.parent ≢ q.parent → same_kid k q ≡ false
+other_parent k q ne = and_left (k.parent == q.parent) (k.action == q.action) (ne_eqb k.parent q.parent ne)
+
+other_action : (k q : Kid) → k.action ≢ q.action → same_kid k q ≡ false
+other_action k q ne = and_right (k.parent == q.parent) (k.action == q.action) (ne_eqb k.action q.action ne)
+
+-- a kid that has the parent n is one of entry n
+entry_of : (begun_there n : ℕ) → n ≢ ROOT_PARENT → parent_after begun_there ≡ n → begun_there ≡ suc n
+entry_of zero n other is = absurd (other (sym is))
+entry_of (suc m) n other is = ap suc is
+
+-- a kid at a place that has another parent, or another action, is another one
+other_at : (firsts actions : List ℕ) (k : Kid) (j : ℕ) → j < length actions → (parent_after (begun firsts j) ≡ k.parent → get_or actions j 0 ≢ k.action)
+    → same_kid k (get_or (kids_by firsts actions) j root) ≡ false
+other_at firsts actions k j lt h =
+    subst (λ (q : Kid). same_kid k q ≡ false) (sym (get_or-kids_by firsts actions j root lt))
+    (elim (cases_eq k.parent (parent_after (begun firsts j))) [
+      | inl same ↦ other_action k (kid_at firsts actions j) (λ e. h (sym same) (sym e))
+      | inr differs ↦ other_parent k (kid_at firsts actions j) differs
+    ])
+
+-- where the search finds an action among those of a kid's parent, the kid is there
+pub kid_found : (firsts actions : List ℕ) (marks : List Bool) (settled low high i : ℕ) (k : Kid) → AreKids firsts actions marks settled
+    → k.parent ≢ ROOT_PARENT → IsRow firsts actions k.parent low high → low ≤ i → i < high → get_or actions i 0 ≡ k.action
+    → position (same_kid k) (kids_by firsts actions) ≡ Some i
+kid_found firsts actions marks settled low high i k h other row from below is =
+    let within = row.within in
+    let lt : i < length actions = omega (arith, below, within) in
+    let len = length-kids_by firsts actions in
+    position_found (same_kid k) (kids_by firsts actions) i root (omega (arith, len, lt))
+    (λ j order. other_at firsts actions k j (omega (arith, order, lt)) (λ same e.
+    let there = entry_of (begun firsts j) k.parent other same in
+    let less = h.rising j i order lt (there ∙ sym (row.inside i from below)) in
+    omega (arith, less, e, is)))
+    (subst (λ (q : Kid). same_kid k q ≡ true) (sym (get_or-kids_by firsts actions i root lt))
+    (and_from (k.parent == parent_after (begun firsts i)) (k.action == get_or actions i 0)
+    (eq-eqb k.parent (parent_after (begun firsts i)) (sym (ap parent_after (row.inside i from below))))
+    (eq-eqb k.action (get_or actions i 0) (sym is))))
+
+-- where it finds none, the kid is not posted
+pub kid_missing : (firsts actions : List ℕ) (marks : List Bool) (settled low high : ℕ) (k : Kid) → AreKids firsts actions marks settled
+    → k.parent ≢ ROOT_PARENT → IsRow firsts actions k.parent low high → ((i : ℕ) → low ≤ i → i < high → get_or actions i 0 ≢ k.action)
+    → position (same_kid k) (kids_by firsts actions) ≡ None
+kid_missing firsts actions marks settled low high k h other row none =
+    let len = length-kids_by firsts actions in
+    position_none (same_kid k) (kids_by firsts actions) root
+    (λ j lt.
+    let among : j < length actions = omega (arith, len, lt) in
+    other_at firsts actions k j among (λ same.
+    let at = row.outside j among (entry_of (begun firsts j) k.parent other same) in
+    none j at.0 at.1))
+
+-- what is no entry has no kids
+pub kid_unknown : (firsts actions : List ℕ) (marks : List Bool) (settled : ℕ) (k : Kid) → AreKids firsts actions marks settled
+    → k.parent ≢ ROOT_PARENT → length firsts ≤ k.parent → position (same_kid k) (kids_by firsts actions) ≡ None
+kid_unknown firsts actions marks settled k h other far =
+    let len = length-kids_by firsts actions in
+    position_none (same_kid k) (kids_by firsts actions) root
+    (λ j lt. other_at firsts actions k j (omega (arith, len, lt)) (λ same.
+    let e = entry_of (begun firsts j) k.parent other same in
+    let few = begun_few firsts j in
+    absurd (omega (arith, e, few, far))))
+
+begun_root : (firsts actions : List ℕ) (marks : List Bool) (settled : ℕ) → AreKids firsts actions marks settled → begun firsts 0 ≡ 0
+begun_root firsts actions marks settled h = begun_is firsts 0 0 (omega arith) (λ m lt. absurd (omega (arith, lt))) (λ lt. h.begins 0 lt)
+
+-- the root comes first
+pub root_found : (firsts actions : List ℕ) (marks : List Bool) (settled : ℕ) (k : Kid) → AreKids firsts actions marks settled
+    → k.parent ≡ ROOT_PARENT → k.action ≡ ROOT_ACTION → position (same_kid k) (kids_by firsts actions) ≡ Some 0
+root_found firsts actions marks settled k h parent action =
+    let some = h.some in
+    let len = length-kids_by firsts actions in
+    position_found (same_kid k) (kids_by firsts actions) 0 root (omega (arith, len, some)) (λ j lt. absurd (omega (arith, lt)))
+    (subst (λ (q : Kid). same_kid k q ≡ true) (sym (get_or-kids_by firsts actions 0 root some))
+    (and_from (k.parent == parent_after (begun firsts 0)) (k.action == get_or actions 0 0)
+    (eq-eqb k.parent (parent_after (begun firsts 0)) (parent ∙ sym (ap parent_after (begun_root firsts actions marks settled h))))
+    (eq-eqb k.action (get_or actions 0 0) (action ∙ sym h.root_is))))
+
+none_begun : (b few : ℕ) → b ≤ few → few ≤ ROOT_PARENT → parent_after b ≡ ROOT_PARENT → b ≡ 0
+none_begun zero few le most is = refl
+none_begun (suc n) few le most is = absurd (omega (arith, le, most, is))
+
+-- no other kid has the root's parent
+pub root_alone : (firsts actions : List ℕ) (marks : List Bool) (settled : ℕ) (k : Kid) → AreKids firsts actions marks settled
+    → k.parent ≡ ROOT_PARENT → k.action ≢ ROOT_ACTION → k.action ≤ ROOT_ACTION → position (same_kid k) (kids_by firsts actions) ≡ None
+root_alone firsts actions marks settled k h parent action fits =
+    let len = length-kids_by firsts actions in
+    position_none (same_kid k) (kids_by firsts actions) root
+    (λ j lt. let among : j < length actions = omega (arith, len, lt) in
+    other_at firsts actions k j among (λ same e.
+    let none : begun firsts j ≡ 0 = none_begun (begun firsts j) (length firsts) (begun_few firsts j) h.numbered (same ∙ parent) in
+    elim (cases_eq j 0) [
+      | inl first ↦ action (sym e ∙ (ap (λ (i : ℕ). get_or actions i 0) first ∙ h.root_is))
+      | inr later ↦
+          let less = h.rising 0 j (omega (arith, later)) among (begun_root firsts actions marks settled h ∙ sym none) in
+          let first = h.root_is in
+          omega (arith, less, first, e, fits)
+    ]))

@@ -1,0 +1,22 @@
+use Rattle.std.proofs.Common.{◌∙◌, ◌<◌, ◌++◌, ◌∷◌, [], ℕ, List, length, sym, ap, subst, arith}
+use Rattle.hd_task.specs.declared.plan.TheConstants.{ROOT_PARENT}
+use Rattle.hd_kids.specs.Kids.{KidsView, with_entry}
+use Rattle.hd_kids.specs.Places.{AreKids}
+use Rattle.hd_kids.proofs.Placing.{entered_kept}
+use Rattle.hd_kids.proofs.Showing.{shown_entered}
+use Rattle.hd_kids.proofs.table.KidTable.enter.Goals as goal
+
+pub invariant_of-self : goal.invariant_of-self
+invariant_of-self c =
+    let s = c.self.inside in
+    let e = ap (λ (t : KidsView). t.entries) c.self.view_is in
+    let few : length s.firsts.items < ROOT_PARENT = omega (arith, e, c.requires.few) in
+    subst (λ (fs : List ℕ). AreKids fs s.actions.items s.marks.items s.settled)
+    (sym (c.push.ensures.items ∙ ap (λ (n : ℕ). s.firsts.items ++ n ∷ []) c.len-first.ensures.len))
+    (entered_kept s.firsts.items s.actions.items s.marks.items s.settled c.self.invariant few)
+
+pub returns : goal.returns
+returns c =
+    let s = c.self.inside in
+    shown_entered s.firsts c.push.new.self s.actions s.marks c.len-first.result c.len-first.ensures.len c.push.ensures.items c.push.ensures.room
+    ∙ ap with_entry c.self.view_is

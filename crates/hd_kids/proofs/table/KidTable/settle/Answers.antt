@@ -1,0 +1,13 @@
+use Rattle.std.proofs.Common.{◌≡◌, ◌∙◌, ◌+◌, ◌<◌, Bool, true, false, ℕ, List, length, get_or, set, sym, ap, subst, arith}
+use Rattle.hd_kids.specs.Kids.{KidsView, with_mark}
+use Rattle.hd_kids.specs.Places.{AreKids}
+use Rattle.hd_kids.proofs.Placing.{length-kids_by}
+use Rattle.hd_kids.proofs.Marking.{settled_kept}
+use Rattle.hd_kids.proofs.Showing.{shown_marked}
+use Rattle.hd_kids.proofs.table.KidTable.settle.Goals as goal
+
+pub returns : goal.returns
+returns c =
+    let s = c.self.inside in
+    shown_marked s.firsts s.actions s.marks c.set.new.self c.args.place true c.set.ensures.items c.set.ensures.room
+    ∙ ap (λ (t : KidsView). with_mark t c.args.place true) c.self.view_is
