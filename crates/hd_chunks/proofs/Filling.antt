@@ -20,6 +20,10 @@ pub chunks_enough : {T Z : Type 0} (cs : List (Vec T Z)) (n : ℕ) → AreChunks
 chunks_enough [] n h = omega (arith, h)
 chunks_enough (c ∷ cs) n h = let ih = chunks_enough cs (n - CHUNK) h.2 in omega (arith, ih)
 
+-- the chunk of an item
+pub chunk_within : {T Z : Type 0} (cs : List (Vec T Z)) (n i : ℕ) → AreChunks n cs → i < n → i / CHUNK < length cs
+chunk_within cs n i h lt = let e = chunks_enough cs n h in omega (arith, e, lt)
+
 -- the place of an item
 pub item_within : {T Z : Type 0} (cs : List (Vec T Z)) (n i : ℕ) (e : Vec T Z) → AreChunks n cs → i < n
     → (i / CHUNK < length cs) × (i % CHUNK < length (get_or cs (i / CHUNK) e).items) × (CHUNK ≤ vec_capacity (get_or cs (i / CHUNK) e))

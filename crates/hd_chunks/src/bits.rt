@@ -1,6 +1,7 @@
 //! A list of bits in chunks of words.
 ghost use Rattle.std.specs.Prelude.{◌≡◌, ◌≢◌, ℕ, ◌+◌, ◌-◌, ◌*◌, ◌<◌, ◌≤◌, ◌==◌, ◌++◌, [], ◌∷◌, Bool, OnOk, IsOk, length, slice_index_or, slice_set, true};
 ghost use Rattle.hd_chunks.specs.Bits.{BitsView, bit_in, bits_in};
+ghost use Rattle.hd_chunks.specs.declared.chunks.TheConstants.{MOST_ITEMS};
 
 use crate::chunks::Chunks;
 use hd_base::NoMemory;
@@ -110,6 +111,7 @@ fn add_word(words: &mut Chunks<u64>, number: usize)
     ensures within { number < 64 * length words.new.items }
     ensures room { length words.new.items + words.new.room
         ≡ length words.old.items + words.old.room }
+    ensures few { length words.new.items ≤ MOST_ITEMS }
     ensures below { (i : ℕ) → i < number
         → bit_in words.new.items i ≡ bit_in words.old.items i }
 {

@@ -38,7 +38,10 @@ impl<'a, T> Iterator for Iter<'a, T> {
     ghost remaining = { item_count (λ rest. rest) };
 
     fn next(&mut self) -> Option<&'a T> {
-        let item = self.list.get(self.next)?;
+        if self.next >= self.list.len() {
+            return None;
+        }
+        let item = self.list.at(self.next);
         self.next += 1;
         Some(item)
     }
