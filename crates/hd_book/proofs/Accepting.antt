@@ -41,9 +41,10 @@ use Rattle.hd_node.specs.Outcome.{kid_of}
 use Rattle.hd_node.proofs.Steps.{children-actions}
 use Rattle.hd_book.specs.declared.refusal.Refusal.{Refusal}
 use Rattle.hd_book.specs.declared.refusal.Refusal.TheVariants.{UnknownParent, NotAKid, SettledBefore, StateDiffers, NotDominated, BelowBound}
-use Rattle.hd_book.specs.Kids.{root, kids_from, posted_by}
+use Rattle.hd_kids.specs.Kids.{root, same_kid}
+use Rattle.hd_book.specs.Kids.{kids_from, posted_by}
 use Rattle.hd_book.specs.Marks.{IsMarked}
-use Rattle.hd_book.specs.Settling.{BookState, expansions, IsKept, same_kid, knows_parent, place_of, is_posted, is_marked, node_of, same_state, has_state, is_node, dominates, expanded_node, node_by, reaches, refusal_by, is_settled_by, refusal_of, first_refusal, settled, all_settled, entry_of, IsOf}
+use Rattle.hd_book.specs.Settling.{BookState, expansions, IsKept, knows_parent, place_of, is_posted, is_marked, node_of, same_state, has_state, is_node, dominates, expanded_node, node_by, reaches, refusal_by, is_settled_by, refusal_of, first_refusal, settled, all_settled, entry_of, IsOf}
 use Rattle.hd_book.specs.Holding.{node_at}
 use Rattle.hd_book.specs.Growing.{entered, entered_by, kids_in}
 use Rattle.hd_book.proofs.Adding.{entered_nothing, no_kids, entered_by-push, kids_in-push}
@@ -70,13 +71,13 @@ is_node-true (Some r) s cost e =
 
 -- ---- what an outcome that is not refused says
 
-record IsAccepted (known posted settled : Bool) (why : Option Refusal) : Type 0 where
-  is_known : known ≡ true
-  is_posted : posted ≡ true
-  is_open : settled ≡ false
-  nothing : why ≡ None
+pub record IsAccepted (known posted settled : Bool) (why : Option Refusal) : Type 0 where
+  pub is_known : known ≡ true
+  pub is_posted : posted ≡ true
+  pub is_open : settled ≡ false
+  pub nothing : why ≡ None
 
-accepted : (known posted settled : Bool) (why : Option Refusal) → cond (not known) (Some UnknownParent) (cond (not posted) (Some NotAKid) (cond settled (Some SettledBefore) why)) ≡ None → IsAccepted known posted settled why
+pub accepted : (known posted settled : Bool) (why : Option Refusal) → cond (not known) (Some UnknownParent) (cond (not posted) (Some NotAKid) (cond settled (Some SettledBefore) why)) ≡ None → IsAccepted known posted settled why
 accepted true true false why e = record { is_known = refl; is_posted = refl; is_open = refl; nothing = e }
 accepted true true true why e = absurd (cc)
 accepted true false settled why e = absurd (cc)
@@ -85,15 +86,15 @@ accepted false posted settled why e = absurd (cc)
 -- ---- the kids of a kept book
 
 -- a posted kid stands at its place, and names the plan that is generated there
-record IsAt (b : BookState) (k : Kid) : Type 0 where
-  within : place_of b k < length (generated b.task (expansions b))
-  kid : get_or (posted_by b.task (expansions b)) (place_of b k) root ≡ k
-  plan : plan_of (expansions b) k ≡ Some (get_or (generated b.task (expansions b)) (place_of b k) [])
+pub record IsAt (b : BookState) (k : Kid) : Type 0 where
+  pub within : place_of b k < length (generated b.task (expansions b))
+  pub kid : get_or (posted_by b.task (expansions b)) (place_of b k) root ≡ k
+  pub plan : plan_of (expansions b) k ≡ Some (get_or (generated b.task (expansions b)) (place_of b k) [])
 
 count-entries : (b : BookState) → IsKept b → length (expansions b) ≡ length b.entries
 count-entries b kept = length-plans_of b.entries (expansions b) kept.named
 
-stands : (b : BookState) → IsKept b → (k : Kid) → is_posted b k ≡ true → IsAt b k
+pub stands : (b : BookState) → IsKept b → (k : Kid) → is_posted b k ≡ true → IsAt b k
 stands b kept k e =
     let t = b.task in
     let E = expansions b in
@@ -214,12 +215,12 @@ entries_grow outcomes b = omega (arith, ap length (all_entries outcomes b), leng
 
 -- ---- truth values
 
-or_yes : (a b c : Bool) → c ≡ true → true ≡ (a || (b || (c || false)))
+pub or_yes : (a b c : Bool) → c ≡ true → true ≡ (a || (b || (c || false)))
 or_yes true b c e = refl
 or_yes false true c e = refl
 or_yes false false c e = sym e ∙ sym (or-false c)
 
-or_no : (a b c : Bool) → c ≡ false → (a || b) ≡ (a || (b || (c || false)))
+pub or_no : (a b c : Bool) → c ≡ false → (a || b) ≡ (a || (b || (c || false)))
 or_no true b c e = refl
 or_no false true c e = refl
 or_no false false c e = sym e ∙ sym (or-false c)
@@ -238,7 +239,7 @@ module _ (t : Task) (entries0 : List Kid) (marks0 : List Bool) (kept0 : IsKept (
   old = expansions before
 
   -- two places of the old kids have different ones
-  posted_apart : (i j : ℕ) → i < length (generated t old) → j < length (generated t old) → get_or (posted_by t old) i root ≡ get_or (posted_by t old) j root → i ≢ j → ⊥
+  pub posted_apart : (i j : ℕ) → i < length (generated t old) → j < length (generated t old) → get_or (posted_by t old) i root ≡ get_or (posted_by t old) j root → i ≢ j → ⊥
   posted_apart i j hi hj e ne =
       let short : length old < ROOT_PARENT = omega (arith, count-entries before kept0, kept0.short) in
       let count : length (posted_by t old) ≡ length (generated t old) = posted_count t old short in

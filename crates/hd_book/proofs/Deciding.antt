@@ -1,5 +1,5 @@
 -- Where all is settled, the answer is true.
-use Rattle.std.proofs.Common.{◌≡◌, ℕ, Bool, true, false, cond, Some, None, List, [], ◌∷◌, length, All, refl, sym, ap, ◌∙◌, arith}
+use Rattle.std.proofs.Common.{◌≡◌, ℕ, Bool, true, false, cond, Option, Some, None, List, [], ◌∷◌, length, All, refl, sym, ap, ◌∙◌, arith}
 use Rattle.std.specs.List.{count_by}
 use Rattle.std.proofs.lemmas.List.Sums.{sum_by-cons, count_by-le-length}
 use Rattle.std.proofs.lemmas.List.Elements.{All-nil, All-cons}
@@ -14,7 +14,7 @@ use Rattle.hd_book.specs.declared.verdict.Verdict.{Verdict}
 use Rattle.hd_book.specs.declared.verdict.Verdict.TheVariants.{Optimal, NoPlan, RangeLeft}
 use Rattle.hd_book.specs.Settling.{expansions}
 use Rattle.hd_book.specs.Holding.{settled_count, state_of, IsHeld}
-use Rattle.hd_book.specs.Answers.{IsAnswer, IsTrueAnswer}
+use Rattle.hd_book.specs.Answers.{IsAnswer, IsBoundPlanOf, IsValidPlan, IsTrueAnswer}
 use Rattle.hd_book.proofs.Marking.{all_marked}
 
 -- where as many marks are set as there are, all are
@@ -30,9 +30,9 @@ all_set (m ∷ marks) e =
       | false ↦ λ is. let none = ap (λ (b : Bool). let n : ℕ = cond b 1 0 in n) is in absurd (omega (arith, e, sum, none, few))
     ] refl
 
-pub covered_when_full : (c : Content) → IsHeld c → settled_count (state_of c) ≡ length (generated c.task.now (expansions (state_of c))) → IsCovered c.task.now (hmax c.task.now) (expansions (state_of c))
+pub covered_when_full : (c : Content) → IsHeld c → settled_count (state_of c) ≡ length (generated c.expanded.task.now (expansions (state_of c))) → IsCovered c.expanded.task.now (hmax c.expanded.task.now) (expansions (state_of c))
 covered_when_full c h e =
-    all_marked c.task.now (hmax c.task.now) (expansions (state_of c)) (state_of c).marks h.kept.marked (all_set (state_of c).marks (e ∙ sym h.kept.marked.one_each))
+    all_marked c.expanded.task.now (hmax c.expanded.task.now) (expansions (state_of c)) (state_of c).marks h.kept.marked (all_set (state_of c).marks (e ∙ sym h.kept.marked.one_each))
 
 pub answer_true : (t : Task) (expanded : List (List ℕ)) (v : Verdict) → IsCovered t (hmax t) expanded → IsAnswer t expanded v → IsTrueAnswer t v
 answer_true t expanded (Optimal p) covered a =
@@ -41,3 +41,8 @@ answer_true t expanded NoPlan covered a =
     no_plan t (hmax t) (hmax_admissible t) expanded a.0 covered a.1
 answer_true t expanded (RangeLeft d None) covered a = tt
 answer_true t expanded (RangeLeft d (Some p)) covered a = (a.1.cost, goal_plan_valid t p a.1.cost a.1.meets)
+
+-- the plan of the bound is valid
+pub bound_plan_valid : (t : Task) (expanded : List (List ℕ)) (p : Option (List ℕ)) → IsBoundPlanOf t expanded p → IsValidPlan t p
+bound_plan_valid t expanded None at = tt
+bound_plan_valid t expanded (Some p) at = (at.cost, goal_plan_valid t p at.cost at.meets)

@@ -1,9 +1,9 @@
 -- What the parts of a book say of a kid: whether it is posted, and where it leads.
-use Rattle.std.proofs.Common.{◌≡◌, ◌≢◌, ℕ, suc, ◌+◌, ◌-◌, ◌<◌, ◌≤◌, ◌==◌, nat_lt, Bool, true, false, cond, not, ◌&&◌, ◌||◌, Option, Some, None, is_some, List, [], ◌∷◌, filter, length, get_or, slice_get, ◌⊎◌, inl, inr, refl, sym, ap, ap₂, ◌∙◌, subst, arith, true≢false}
+use Rattle.std.proofs.Common.{◌≡◌, ◌≢◌, ℕ, zero, suc, ◌+◌, ◌-◌, ◌<◌, ◌≤◌, ◌==◌, nat_lt, Bool, true, false, cond, not, ◌&&◌, ◌||◌, Option, Some, None, is_some, List, [], ◌∷◌, filter, length, get_or, slice_get, ◌⊎◌, inl, inr, refl, sym, ap, ap₂, ◌∙◌, subst, arith, true≢false}
 use Rattle.std.specs.Prelude.{option_and_then}
 use Rattle.std.specs.List.{list_any, range_with_len}
 use Rattle.std.proofs.lemmas.Bool.{cases_eq, and_parts, cond-false, eq-eqb, ne_eqb, ltb-true}
-use Rattle.std.proofs.lemmas.Option.{none-some, same_Some, slice_get-get_or, slice_get_past}
+use Rattle.std.proofs.lemmas.Option.{none-some, same_Some, slice_get-get_or, slice_get_past, slice_get_within, get_or_from_slice_get}
 use Rattle.std.proofs.lemmas.List.{get_or-map, length-map}
 use Rattle.std.proofs.lemmas.List.Sums.{passes_at_first}
 use Rattle.std.proofs.lemmas.List.Folds.{list_any-append, list_any_none}
@@ -19,14 +19,15 @@ use Rattle.hd_task.specs.Departures.{action_departs}
 use Rattle.hd_task.specs.Expansions.{is_applicable, applicable_at}
 use Rattle.hd_task.proofs.Runs.{exec-push, exec-state, step_within}
 use Rattle.hd_book.specs.declared.entry.Entry.{Entry}
-use Rattle.hd_book.specs.declared.content.Content.{Content}
+use Rattle.hd_book.specs.declared.expanded.Expanded.{Expanded}
 use Rattle.hd_book.specs.declared.refusal.Refusal.{Refusal}
 use Rattle.hd_book.specs.declared.refusal.Refusal.TheVariants.{UnknownParent, NotAKid, SettledBefore}
-use Rattle.hd_book.specs.Kids.{root, kids_of, kids_from, posted_by}
-use Rattle.hd_book.specs.Settling.{expansions, same_kid, knows_parent, place_of, is_posted, is_marked, node_of}
-use Rattle.hd_book.specs.Holding.{kid_at, node_at, has, state_of, IsHeld}
+use Rattle.hd_kids.specs.Kids.{root, same_kid}
+use Rattle.hd_book.specs.Kids.{kids_of, kids_from, posted_by}
+use Rattle.hd_book.specs.Settling.{expansions, knows_parent, is_posted, node_of}
+use Rattle.hd_book.specs.Holding.{kid_at, node_at, unmarked, IsExpanded}
 use Rattle.hd_book.proofs.Accepting.{same_kid-true}
-use Rattle.hd_book.proofs.Naming.{plan_of-kid, length-plans_of}
+use Rattle.hd_book.proofs.Naming.{plan_of-kid}
 
 -- ---- the kids of an entry
 
@@ -107,45 +108,62 @@ applicable-any t r a =
 
 -- ---- a book
 
-module _ (c : Content) (h : IsHeld c) where
+module _ (x : Expanded) (h : IsExpanded x) where
   abbrev t : Task
-  t = c.task.now
+  t = x.task.now
 
   abbrev E : List (List ℕ)
-  E = expansions (state_of c)
+  E = expansions (unmarked x)
 
-  pub count : length E ≡ length c.entries.items
+  pub count : length E ≡ length x.entries.items
   count =
       sym (length-map E (exec t))
-      ∙ (ap length h.nodes ∙ length-map c.entries.items (λ e. Some (node_at e)))
+      ∙ (ap length h.nodes ∙ length-map x.entries.items (λ e. Some (node_at e)))
 
   pub short : length E < ROOT_PARENT
-  short = omega (arith, h.kept.short, length-plans_of (state_of c).entries E h.kept.named)
+  short = omega (arith, h.short, count)
 
-  runs : (n : ℕ) (e d : Entry) → n < length c.entries.items → e ≡ get_or c.entries.items n d → exec t (get_or E n []) ≡ Some (node_at e)
+  runs : (n : ℕ) (e d : Entry) → n < length x.entries.items → e ≡ get_or x.entries.items n d → exec t (get_or E n []) ≡ Some (node_at e)
   runs n e d lt is =
       let lt' : n < length E = omega (arith, count) in
       sym (get_or-map (exec t) E n [] None lt')
       ∙ (ap (λ xs. get_or xs n None) h.nodes
-      ∙ (get_or-map (λ e. Some (node_at e)) c.entries.items n d None lt ∙ ap (λ x. Some (node_at x)) (sym is)))
+      ∙ (get_or-map (λ e. Some (node_at e)) x.entries.items n d None lt ∙ ap (λ x. Some (node_at x)) (sym is)))
 
   -- the node of an entry
-  pub entry_node : (n : ℕ) (e d : Entry) → n < length c.entries.items → e ≡ get_or c.entries.items n d → option_and_then (exec t) (slice_get E n) ≡ Some (node_at e)
+  pub entry_node : (n : ℕ) (e d : Entry) → n < length x.entries.items → e ≡ get_or x.entries.items n d → option_and_then (exec t) (slice_get E n) ≡ Some (node_at e)
   entry_node n e d lt is =
       let lt' : n < length E = omega (arith, count) in
       ap (option_and_then (exec t)) (slice_get-get_or E n [] lt') ∙ runs n e d lt is
 
-  pub no_entry : (n : ℕ) → length c.entries.items ≤ n → option_and_then (exec t) (slice_get E n) ≡ None
+  pub entry_found : (n : ℕ) (e : Entry) → slice_get x.entries.items n ≡ Some e → option_and_then (exec t) (slice_get E n) ≡ Some (node_at e)
+  entry_found n e at = entry_node n e e (slice_get_within x.entries.items n e at) (sym (get_or_from_slice_get x.entries.items n e e at))
+
+  pub entry_missing : (n : ℕ) → slice_get x.entries.items n ≡ None → option_and_then (exec t) (slice_get E n) ≡ None
+  entry_missing n none =
+      ap (option_and_then (exec t)) (elim (slice_get E n) as (λ o. slice_get E n ≡ o → o ≡ None) [
+        | None ↦ λ _. refl
+        | Some p ↦ λ at.
+            let lt : n < length x.entries.items = omega (arith, count, slice_get_within E n p at) in
+            absurd (lost x.entries.items n lt none)
+      ] refl)
+    where
+      lost : (es : List Entry) (n : ℕ) → n < length es → slice_get es n ≡ None → ⊥
+      lost [] n lt e = omega (arith, lt)
+      lost (e ∷ es) zero lt is = none-some e (sym is)
+      lost (e ∷ es) (suc n) lt is = lost es n (omega (arith, lt)) is
+
+  pub no_entry : (n : ℕ) → length x.entries.items ≤ n → option_and_then (exec t) (slice_get E n) ≡ None
   no_entry n le = ap (option_and_then (exec t)) (slice_get_past E n (omega (arith, count)))
 
-  pub entry_state : (n : ℕ) (e d : Entry) → n < length c.entries.items → e ≡ get_or c.entries.items n d → IsStateOf t e.state
+  pub entry_state : (n : ℕ) (e d : Entry) → n < length x.entries.items → e ≡ get_or x.entries.items n d → IsStateOf t e.state
   entry_state n e d lt is = exec-state t (get_or E n []) (node_at e) (runs n e d lt is)
 
-  pub posted-any : (k : Kid) → is_posted (state_of c) k ≡ list_any (same_kid k) (posted_by t E)
+  pub posted-any : (k : Kid) → is_posted (unmarked x) k ≡ list_any (same_kid k) (posted_by t E)
   posted-any k = nat_lt-position_or_len (same_kid k) (posted_by t E)
 
   -- a kid of an entry is posted where its action is applicable
-  pub entry_posted : (k : Kid) (e d : Entry) → k.parent < length c.entries.items → e ≡ get_or c.entries.items k.parent d → is_applicable t (Some (node_at e)) k.action ≡ is_posted (state_of c) k
+  pub entry_posted : (k : Kid) (e d : Entry) → k.parent < length x.entries.items → e ≡ get_or x.entries.items k.parent d → is_applicable t (Some (node_at e)) k.action ≡ is_posted (unmarked x) k
   entry_posted k e d lt is =
       let lt' : k.parent < length E = omega (arith, count) in
       let other : same_kid k root ≡ false = ap (λ b. b && (k.action == ROOT_ACTION)) (ne_eqb k.parent ROOT_PARENT (λ e. omega (arith, short))) in
@@ -157,7 +175,7 @@ module _ (c : Content) (h : IsHeld c) where
       ∙ (ap (λ b. b || list_any (same_kid k) (kids_from t 0 E)) (sym other) ∙ sym (posted-any k)))))
 
   -- and leads where the action's step does
-  pub entry_leads : (k : Kid) (e d : Entry) (to : Node) → k.parent < length c.entries.items → e ≡ get_or c.entries.items k.parent d → step_by t (node_at e) k.action ≡ Some to → node_of (state_of c) k ≡ Some to
+  pub entry_leads : (k : Kid) (e d : Entry) (to : Node) → k.parent < length x.entries.items → e ≡ get_or x.entries.items k.parent d → step_by t (node_at e) k.action ≡ Some to → node_of (unmarked x) k ≡ Some to
   entry_leads k e d to lt is at =
       let lt' : k.parent < length E = omega (arith, count) in
       let r = node_at e in
@@ -165,44 +183,34 @@ module _ (c : Content) (h : IsHeld c) where
       ∙ (exec-push t (get_or E k.parent []) r k.action (runs k.parent e d lt is) ∙ at)
 
   -- a kid whose parent is known is the root, or of an entry
-  pub parent_known : (k : Kid) → knows_parent (state_of c) k ≡ true → (same_kid k root ≡ true) ⊎ (k.parent < length c.entries.items)
+  pub parent_known : (k : Kid) → knows_parent (unmarked x) k ≡ true → (same_kid k root ≡ true) ⊎ (k.parent < length x.entries.items)
   parent_known k e =
-      elim (same_kid k root) as (λ b. (b || nat_lt k.parent (length (state_of c).entries)) ≡ true → (b ≡ true) ⊎ (k.parent < length c.entries.items)) [
+      elim (same_kid k root) as (λ b. (b || nat_lt k.parent (length (unmarked x).entries)) ≡ true → (b ≡ true) ⊎ (k.parent < length x.entries.items)) [
         | true ↦ λ e. inl refl
-        | false ↦ λ e. inr (omega (arith, ltb-true k.parent (length (state_of c).entries) e, length-map c.entries.items kid_at))
+        | false ↦ λ e. inr (omega (arith, ltb-true k.parent (length (unmarked x).entries) e, length-map x.entries.items kid_at))
       ] e
 
-  pub root_kid : (k : Kid) → knows_parent (state_of c) k ≡ true → k.parent ≡ ROOT_PARENT → same_kid k root ≡ true
+  pub root_kid : (k : Kid) → knows_parent (unmarked x) k ≡ true → k.parent ≡ ROOT_PARENT → same_kid k root ≡ true
   root_kid k e is =
       elim (parent_known k e) [
         | inl same ↦ same
         | inr lt ↦ absurd (omega (arith, short, count))
       ]
 
-  pub entry_kid : (k : Kid) → knows_parent (state_of c) k ≡ true → k.parent ≢ ROOT_PARENT → k.parent < length c.entries.items
+  pub entry_kid : (k : Kid) → knows_parent (unmarked x) k ≡ true → k.parent ≢ ROOT_PARENT → k.parent < length x.entries.items
   entry_kid k e ne =
       elim (parent_known k e) [
         | inl same ↦ absurd (ne (ap (λ (q : Kid). q.parent) (same_kid-true k root same)))
         | inr lt ↦ lt
       ]
 
-  pub root_leads : (k : Kid) → same_kid k root ≡ true → node_of (state_of c) k ≡ Some (node t.initial 0)
+  pub root_leads : (k : Kid) → same_kid k root ≡ true → node_of (unmarked x) k ≡ Some (node t.initial 0)
   unfolding start
-  root_leads k e = ap (node_of (state_of c)) (same_kid-true k root e)
+  root_leads k e = ap (node_of (unmarked x)) (same_kid-true k root e)
 
   -- the root is posted, and leads to the start
-  pub root_posted : (k : Kid) → same_kid k root ≡ true → is_posted (state_of c) k ≡ true
+  pub root_posted : (k : Kid) → same_kid k root ≡ true → is_posted (unmarked x) k ≡ true
   root_posted k e = posted-any k ∙ ap (λ b. b || list_any (same_kid k) (kids_from t 0 E)) e
-
-  -- a posted kid is marked where it is among the settled ones
-  pub marked_is : (k : Kid) → is_posted (state_of c) k ≡ true → is_marked (state_of c) k ≡ has c.settled.keys k
-  marked_is k e =
-      let P = posted_by t E in
-      let lt : place_of (state_of c) k < length P = ltb-true (place_of (state_of c) k) (length P) e in
-      let same : k ≡ get_or P (place_of (state_of c) k) root =
-      same_kid-true k (get_or P (place_of (state_of c) k) root) (passes_at_first (same_kid k) P root lt)
-      in
-      get_or-map (has c.settled.keys) P (place_of (state_of c) k) root true lt ∙ ap (has c.settled.keys) (sym same)
 
 -- ---- the order of refusals
 

@@ -3,11 +3,12 @@ pub mod Adding
 pub mod After
 pub mod Best
 pub mod Children
-pub mod Counting
 pub mod Deciding
 pub mod Held
+pub mod Judging
 pub mod Marking
 pub mod Naming
+pub mod Posting
 pub mod Same
 pub mod Spending
 pub mod Walking

@@ -12,7 +12,8 @@ use Rattle.hd_task.specs.declared.plan.TheConstants.{ROOT_PARENT, ROOT_ACTION}
 use Rattle.hd_task.specs.Plans.{exec}
 use Rattle.hd_task.specs.Expansions.{followed_by, applicable_at, children, generated}
 use Rattle.hd_task.specs.Entries.{plan_from, plan_of, with_entry, plans_of}
-use Rattle.hd_book.specs.Kids.{root, kid_from, kids_of, kids_from, posted_by}
+use Rattle.hd_kids.specs.Kids.{root, kid_from}
+use Rattle.hd_book.specs.Kids.{kids_of, kids_from, posted_by}
 
 -- one more entry
 pub plans_of-push : (entries : List Kid) (k : Kid) (expanded : List (List ℕ)) (p : List ℕ) → plans_of entries ≡ Some expanded → plan_of expanded k ≡ Some p → plans_of (entries ++ k ∷ []) ≡ Some (expanded ++ p ∷ [])

@@ -10,10 +10,10 @@ use Rattle.hd_task.specs.declared.plan.Kid.{Kid}
 use Rattle.hd_task.specs.declared.plan.TheConstants.{ROOT_PARENT, ROOT_ACTION}
 use Rattle.hd_task.specs.Entries.{plan_from, plan_of, with_entry}
 use Rattle.hd_book.specs.declared.entry.Entry.{Entry}
-use Rattle.hd_book.specs.declared.content.Content.{Content}
-use Rattle.hd_book.specs.Kids.{root}
+use Rattle.hd_book.specs.declared.expanded.Expanded.{Expanded}
+use Rattle.hd_kids.specs.Kids.{root}
 use Rattle.hd_book.specs.Settling.{expansions}
-use Rattle.hd_book.specs.Holding.{kid_at, state_of, IsHeld}
+use Rattle.hd_book.specs.Holding.{kid_at, unmarked, IsExpanded}
 
 -- what entries name goes on from what was named before
 record GoesOn (before all : List (List ℕ)) : Type 0 where
@@ -91,17 +91,17 @@ parent_names expanded k p ne is =
 
 -- ---- the entries of a book
 
-module _ (c : Content) (h : IsHeld c) (n : ℕ) (e : Entry) (lt : n < length c.entries.items) (at : e ≡ get_or c.entries.items n e) where
+module _ (x : Expanded) (h : IsExpanded x) (n : ℕ) (e : Entry) (lt : n < length x.entries.items) (at : e ≡ get_or x.entries.items n e) where
   abbrev E : List (List ℕ)
-  E = expansions (state_of c)
+  E = expansions (unmarked x)
 
   named : plan_of (take n E) e.kid ≡ Some (get_or E n [])
   named =
-      let ks = map kid_at c.entries.items in
+      let ks = map kid_at x.entries.items in
       let here : 0 + n ≡ n = omega arith in
-      let kid : get_or ks n root ≡ e.kid = get_or-map kid_at c.entries.items n e root lt ∙ ap kid_at (sym at) in
+      let kid : get_or ks n root ≡ e.kid = get_or-map kid_at x.entries.items n e root lt ∙ ap kid_at (sym at) in
       ap (plan_of (take n E)) (sym kid)
-      ∙ subst (λ m. plan_of (take m E) (get_or ks n root) ≡ Some (get_or E m [])) here (named_at ks [] E n h.kept.named (omega (arith, length-map c.entries.items kid_at)))
+      ∙ subst (λ m. plan_of (take m E) (get_or ks n root) ≡ Some (get_or E m [])) here (named_at ks [] E n h.named (omega (arith, length-map x.entries.items kid_at)))
 
   pub root_plan : e.kid.parent ≡ ROOT_PARENT → get_or E n [] ≡ []
   root_plan is = root_names (take n E) e.kid (get_or E n []) is named

@@ -1,10 +1,12 @@
 -- What a batch of outcomes adds to the parts of a book. (Our own.)
 use Rattle.std.specs.Prelude.{◌≡◌, ℕ, ◌+◌, if◌then◌else◌, nat_lt, List, [], ◌∷◌, ◌++◌, map, Option, Some, None, flat_map, length, slice_get, option_map}
 use Rattle.std.specs.Option.{option_or}
-use Rattle.std.specs.List.{AllByRecursion}
+use Rattle.std.specs.List.{AllByRecursion, fold}
+use Rattle.hd_kids.specs.Kids.{KidsView, with_entry, with_kid}
 use Rattle.hd_task.specs.declared.task.Task.{Task}
 use Rattle.hd_task.specs.declared.departure.Departure.{Departure}
 use Rattle.hd_task.specs.Expansions.{goal_cost, departure_at}
+use Rattle.hd_node.specs.Children.{ChildView}
 use Rattle.hd_node.specs.declared.batch.Outcome.{Outcome}
 use Rattle.hd_node.specs.declared.batch.Outcome.TheVariants.{Expanded, Duplicate, Bounded}
 use Rattle.hd_task.specs.Plans.{node}
@@ -57,6 +59,24 @@ kids_at (Bounded k h) = 0
 abbrev pub kids_in : List Outcome → ℕ
 kids_in [] = 0
 kids_in (o ∷ outcomes) = kids_at o + kids_in outcomes
+
+-- the table after the kids of one entry more, by their actions
+abbrev pub with_kids : KidsView → List ℕ → KidsView
+with_kids table actions = fold with_kid (with_entry table) actions
+
+-- the actions of children
+abbrev pub actions_of : List ChildView → List ℕ
+actions_of children = map (λ (c : ChildView). c.action) children
+
+-- the table after an outcome: where it is an expansion, its kids are posted
+abbrev pub posted_one : KidsView → Outcome → KidsView
+posted_one table (Expanded e) = with_kids table (actions_of e.children)
+posted_one table (Duplicate k by) = table
+posted_one table (Bounded k h) = table
+
+-- the table after outcomes
+abbrev pub posted_all : KidsView → List Outcome → KidsView
+posted_all table outcomes = fold posted_one table outcomes
 
 -- a batch whose entries are numbered from n on adds a ticket, which releases the kids of its expansions
 pub record Releases (t : Task) (n : ℕ) (outcomes : List Outcome) (before after : List (Option Outgoing)) : Type 0 where

@@ -1,6 +1,6 @@
 -- What a book holds, as its parts keep it and as contracts see it. (Our own.)
 use Rattle.std.specs.Prelude.{◌≡◌, ℕ, ◌+◌, ◌<◌, ◌≤◌, ◌≢◌, Bool, true, false, List, [], ◌∷◌, ◌++◌, map, length, slice_index_or, Option, Some, None, option_map, slice_get, slice_set, unwrap_or, ◌==◌, ◌&&◌, ◌||◌, nat_le, flat_map, if◌then◌else◌}
-use Rattle.std.specs.List.{list_any, count_by, AllByRecursion}
+use Rattle.std.specs.List.{count_by, AllByRecursion}
 use Rattle.std.specs.Option.{option_flatten}
 use Rattle.hd_task.specs.declared.state.State.{State}
 use Rattle.hd_task.specs.declared.task.Task.{Task}
@@ -17,9 +17,11 @@ use Rattle.hd_node.specs.declared.batch.Outcome.TheVariants.{Expanded, Duplicate
 use Rattle.hd_book.specs.declared.entry.Entry.{Entry}
 use Rattle.hd_book.specs.declared.entry.Best.{Best}
 use Rattle.hd_book.specs.declared.entry.Outgoing.{Outgoing}
+use Rattle.hd_book.specs.declared.expanded.Expanded.{Expanded}
 use Rattle.hd_book.specs.declared.content.Content.{Content}
-use Rattle.hd_book.specs.Kids.{kid_from, posted_by}
-use Rattle.hd_book.specs.Settling.{BookState, IsKept, same_kid, is_posted, entry_of, all_settled, expansions}
+use Rattle.hd_kids.specs.Kids.{KidsView, kid_from}
+use Rattle.hd_book.specs.Kids.{posted_by}
+use Rattle.hd_book.specs.Settling.{BookState, IsKept, entry_of, all_settled, expansions}
 
 -- ---- what contracts see
 
@@ -103,17 +105,9 @@ node_at e = node e.state e.cost
 abbrev pub out_of : Outgoing → Out
 out_of o = record { first = o.first; end = o.end; released = map parcel_of o.parcels }
 
--- a kid is among some
-abbrev pub has : List Kid → Kid → Bool
-has kids k = list_any (same_kid k) kids
-
 -- the plans that some entries name
 abbrev pub plans_at : List Kid → List (List ℕ)
 plans_at entries = unwrap_or (plans_of entries) []
-
--- a mark for each kid that entries post: whether it is settled
-abbrev pub marks_by : Task → List Kid → List Kid → List Bool
-marks_by t entries settled = map (has settled) (posted_by t (plans_at entries))
 
 -- how many kids are settled
 abbrev pub settled_count : BookState → ℕ
@@ -123,12 +117,19 @@ settled_count b = count_by (λ m. m) b.marks
 abbrev pub posted_count : BookState → ℕ
 posted_count b = length (generated b.task (expansions b))
 
--- the state of the book whose entries and settled kids these are
-abbrev pub state_by : Task → List Kid → List Kid → BookState
-state_by t entries settled = record { task = t; entries = entries; marks = marks_by t entries settled }
+-- the state of the book that has these entries, and these marks for the kids that they post
+abbrev pub state_by : Task → List Entry → List Bool → BookState
+state_by t entries marks = record { task = t; entries = map kid_at entries; marks = marks }
+
+abbrev pub state_with : Expanded → List Bool → BookState
+state_with x marks = state_by x.task.now x.entries.items marks
+
+-- the state of expanded plans, marks aside
+abbrev pub unmarked : Expanded → BookState
+unmarked x = state_with x []
 
 abbrev pub state_of : Content → BookState
-state_of c = state_by c.task.now (map kid_at c.entries.items) c.settled.keys
+state_of c = state_with c.expanded c.kids.marks
 
 abbrev pub view_of : Content → BookView
 view_of c = record { state = state_of c; most = c.most; tickets = map (option_map out_of) c.tickets.items; halted = c.halted }
@@ -156,25 +157,35 @@ abbrev pub IsOutgoingOf : Task → Option Outgoing → Type 0
 IsOutgoingOf t None = Unit {0}
 IsOutgoingOf t (Some o) = AllByRecursion (IsParcelOf t) o.parcels
 
--- the kid is posted
-abbrev pub IsPosted : BookState → Kid → Type 0
-IsPosted b k = is_posted b k ≡ true
-
--- what the parts of every book keep
-pub record IsHeldBy (t : Task) (entries : List Entry) (settled : List Kid) (posted : ℕ) (best : Option Best) (departure : Option Departure) (tickets : List (Option Outgoing)) (most : ℕ) : Type 0 where
-  pub kept : IsKept (state_by t (map kid_at entries) settled)
+-- what the expanded plans keep: the entries name plans, which lead to their nodes; and the best of them and the first departure
+-- are as they are said to be
+pub record AreExpanded (t : Task) (entries : List Entry) (best : Option Best) (departure : Option Departure) : Type 0 where
+  pub named : plans_of (map kid_at entries) ≡ Some (plans_at (map kid_at entries))
+  pub short : length entries < ROOT_PARENT
   pub nodes : map (exec t) (plans_at (map kid_at entries)) ≡ map (λ e. Some (node_at e)) entries
-  pub known : AllByRecursion (IsPosted (state_by t (map kid_at entries) settled)) settled
-  pub posted_is : posted ≡ length (generated t (plans_at (map kid_at entries)))
   pub best_is : IsBestOf t (plans_at (map kid_at entries)) best
   pub departure_is : departure ≡ slice_get (departures_of t (plans_at (map kid_at entries))) 0
+
+abbrev pub IsExpanded : Expanded → Type 0
+IsExpanded x = AreExpanded x.task.now x.entries.items x.best x.departure
+
+-- a table has the kids that entries post
+pub record HasKids (t : Task) (entries : List Entry) (table : KidsView) : Type 0 where
+  pub posted : table.kids ≡ posted_by t (plans_at (map kid_at entries))
+  pub entered : table.entries ≡ length entries
+
+-- what the parts of every book keep
+pub record IsHeldBy (t : Task) (entries : List Entry) (best : Option Best) (departure : Option Departure) (table : KidsView) (tickets : List (Option Outgoing)) (most : ℕ) : Type 0 where
+  pub kept : IsKept (state_by t entries table.marks)
+  pub plans : AreExpanded t entries best departure
+  pub posts : HasKids t entries table
   pub of_task : AllByRecursion (IsOutgoingOf t) tickets
-  pub commits : length tickets ≤ settled_count (state_by t (map kid_at entries) settled)
+  pub commits : length tickets ≤ settled_count (state_by t entries table.marks)
   pub within : length entries ≤ most
   pub numbered : most < ROOT_PARENT
 
 abbrev pub IsHeld : Content → Type 0
-IsHeld c = IsHeldBy c.task.now c.entries.items c.settled.keys c.posted c.best c.departure c.tickets.items c.most
+IsHeld c = IsHeldBy c.expanded.task.now c.expanded.entries.items c.expanded.best c.expanded.departure c.kids c.tickets.items c.most
 
 -- ---- tickets
 

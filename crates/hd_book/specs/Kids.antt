@@ -2,17 +2,9 @@
 use Rattle.std.specs.Prelude.{ℕ, ◌+◌, List, [], ◌∷◌, ◌++◌, map}
 use Rattle.hd_task.specs.declared.task.Task.{Task}
 use Rattle.hd_task.specs.declared.plan.Kid.{Kid}
-use Rattle.hd_task.specs.declared.plan.TheConstants.{ROOT_PARENT, ROOT_ACTION}
 use Rattle.hd_task.specs.Plans.{exec}
 use Rattle.hd_task.specs.Expansions.{applicable_at}
-
--- the root, which names the empty plan
-abbrev pub root : Kid
-root = record { parent = ROOT_PARENT; action = ROOT_ACTION }
-
--- the kid of an entry and an action
-abbrev pub kid_from : ℕ → ℕ → Kid
-kid_from n a = record { parent = n; action = a }
+use Rattle.hd_kids.specs.Kids.{root, kid_from}
 
 -- the kids of an entry that is numbered n, by their actions
 abbrev pub kids_of : ℕ → List ℕ → List Kid

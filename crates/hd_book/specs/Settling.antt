@@ -22,7 +22,8 @@ use Rattle.hd_hmax.specs.Value.{estimated}
 use Rattle.hd_node.specs.Outcome.{kid_of}
 use Rattle.hd_book.specs.declared.refusal.Refusal.{Refusal}
 use Rattle.hd_book.specs.declared.refusal.Refusal.TheVariants.{UnknownParent, NotAKid, SettledBefore, StateDiffers, NotDominated, BelowBound}
-use Rattle.hd_book.specs.Kids.{root, posted_by}
+use Rattle.hd_kids.specs.Kids.{root, same_kid}
+use Rattle.hd_book.specs.Kids.{posted_by}
 use Rattle.hd_book.specs.Marks.{IsMarked}
 
 -- ---- a book
@@ -45,10 +46,6 @@ pub record IsKept (b : BookState) : Type 0 where
 
 -- ---- kids of a book
 
--- two kids are the same pair
-abbrev pub same_kid : Kid → Kid → Bool
-same_kid k q = (k.parent == q.parent) && (k.action == q.action)
-
 -- a kid is the root, or its parent is an entry
 abbrev pub knows_parent : BookState → Kid → Bool
 knows_parent b k = same_kid k root || nat_lt k.parent (length b.entries)
@@ -68,6 +65,10 @@ is_marked b k = slice_index_or b.marks (place_of b k) true
 -- where the plan of a kid leads
 abbrev pub node_of : BookState → Kid → Option Node
 node_of b k = option_and_then (exec b.task) (plan_of (expansions b) k)
+
+-- where the plan of an entry leads, by its number; none where there is no such entry
+abbrev pub entry_node : BookState → ℕ → Option Node
+entry_node b n = option_and_then (exec b.task) (slice_get (expansions b) n)
 
 -- ---- whether an outcome is right
 
@@ -100,7 +101,7 @@ expanded_node (Some (Bounded k h)) = None
 
 -- the node that a duplicate names: an entry from before the batch, or an earlier outcome of it that is an expansion
 abbrev pub node_by : BookState → List Outcome → By → Option Node
-node_by b earlier (Entry n) = option_and_then (exec b.task) (slice_get (expansions b) n)
+node_by b earlier (Entry n) = entry_node b n
 node_by b earlier (Here i) = expanded_node (slice_get earlier i)
 
 -- a node's cost and an estimate reach the bound, or the estimate is infinite

@@ -1,23 +1,24 @@
 //! Whether a batch is refused: the book is only read.
-ghost use Rattle.std.specs.Prelude.{◌≡◌, ◌||◌, true, Some, is_some, [], IfOk, IfSome};
+ghost use Rattle.std.specs.Prelude.{◌≡◌, ◌≤◌, true, Some, is_some, IfOk, IfErr, IfSome, OnOk, OnErr, None, length, take, drop, ◌⊎◌};
 ghost use Rattle.hd_task.specs.Plans.{IsStateOf, node, step_by};
 ghost use Rattle.hd_node.specs.Outcome.{kid_of};
-ghost use Rattle.hd_book.specs.Settling.{expansions, knows_parent, is_posted, is_marked, node_of, node_by, same_state, dominates, reaches, refusal_by, is_settled_by, refusal_of, first_refusal};
+ghost use Rattle.hd_book.specs.Settling.{expansions, knows_parent, is_posted, node_of, node_by, same_state, dominates, reaches, refusal_by};
+ghost use Rattle.hd_book.specs.Admitting.{IsRight, IsWrong, first_wrong, marks_after, with_marks};
 ghost use Rattle.hd_task.specs.Expansions.{is_applicable, bound_of};
-ghost use Rattle.hd_task.specs.declared.plan.Kid.{Kid};
 ghost use Rattle.hd_hmax.specs.Value.{estimated};
-ghost use Rattle.hd_book.specs.Holding.{has, node_at, state_of, IsHeld};
+ghost use Rattle.hd_book.specs.Holding.{node_at, state_with, unmarked, IsExpanded, HasKids};
+ghost use Rattle.hd_book.specs.declared.refusal.Refusal.TheVariants as Refusal;
 
 use crate::Refusal;
-use crate::content::Content;
 use crate::entry::{Best, Entry, Place};
+use crate::expanded::Expanded;
 use hd_hmax::EstimateValue;
+use hd_kids::KidTable;
 use hd_node::{By, Outcome};
 use hd_pack::{Layout, Led, Packed, leads, pack};
 use hd_task::{ActionId, Kid, NoMemory, ROOT_ACTION, ROOT_PARENT, Task};
 use hd_zobrist::Words;
 use std::alloc::Global;
-use std::collections::HashSet;
 
 /// Where an action leads from an entry, if it is applicable there.
 fn step_from(
@@ -67,35 +68,38 @@ fn is_no_dearer(state: &Packed, cost: u64, reached: &Place) -> bool
     is_same(state, &reached.state) && cost <= reached.cost
 }
 
-impl<'t> Content<'t> {
+impl<'t> Expanded<'t> {
     /// Whether a kid is the root, or its parent is an entry.
     fn knows_parent(&self, kid: Kid) -> bool
-        ensures { result ≡ knows_parent (state_of self.now) kid }
+        ensures { result ≡ knows_parent (unmarked self.now) kid }
     {
         (kid.parent == ROOT_PARENT && kid.action == ROOT_ACTION)
             || (kid.parent as usize) < self.entries.len()
     }
 
-    /// Where a kid leads, by the book's own application; `None` where its action is not applicable at its parent.
-    fn reach(&self, kid: Kid) -> Result<Option<Place>, NoMemory>
-        requires held { IsHeld self.now }
-        requires known { knows_parent (state_of self.now) kid ≡ true }
-        ensures posted { IfOk result (λ r. is_some r ≡ is_posted (state_of self.now) kid) }
-        ensures leads { IfOk result (λ r. IfSome r (λ c. node_of (state_of self.now) kid
-            ≡ Some (node c.state c.cost))) }
+    /// Where a posted kid leads, by the book's own application.
+    fn reach(&self, kid: Kid) -> Result<Place, NoMemory>
+        requires held { IsExpanded self.now }
+        requires known { knows_parent (unmarked self.now) kid ≡ true }
+        requires posted { is_posted (unmarked self.now) kid ≡ true }
+        ensures { IfOk result (λ c. node_of (unmarked self.now) kid
+            ≡ Some (node c.state c.cost)) }
     {
         if kid.parent == ROOT_PARENT {
             let state = pack(self.alloc, &Layout::new(self.task), &self.task.initial)?;
-            return Ok(Some(Place { state, cost: 0 }));
+            return Ok(Place { state, cost: 0 });
         }
-        let parent = &self.entries[kid.parent as usize];
-        step_from(self.alloc, self.task, &self.words, parent, kid.action)
+        let parent = self.entries.at(kid.parent as usize);
+        match step_from(self.alloc, self.task, &self.words, parent, kid.action)? {
+            Some(place) => Ok(place),
+            None => unreachable!(),
+        }
     }
 
     /// Whether what a duplicate names has a state at no greater cost.
     fn dominates(&self, earlier: &[Outcome<'t>], by: By, reached: &Place) -> bool
-        requires held { IsHeld self.now }
-        ensures { result ≡ dominates (node_by (state_of self.now) earlier.now by)
+        requires held { IsExpanded self.now }
+        ensures { result ≡ dominates (node_by (unmarked self.now) earlier.now by)
             (Some (node reached.now.state reached.now.cost)) }
     {
         match by {
@@ -116,8 +120,8 @@ impl<'t> Content<'t> {
 
     /// Whether a cost and an estimate reach the bound, or the estimate is infinite.
     fn reaches(&self, reached: &Place, estimate: EstimateValue) -> bool
-        requires held { IsHeld self.now }
-        ensures { result ≡ reaches (bound_of self.now.task.now (expansions (state_of self.now)))
+        requires held { IsExpanded self.now }
+        ensures { result ≡ reaches (bound_of self.now.task.now (expansions (unmarked self.now)))
             (Some (node reached.now.state reached.now.cost)) (estimated estimate) }
     {
         match (self.best, estimate) {
@@ -136,10 +140,10 @@ impl<'t> Content<'t> {
         outcome: &Outcome<'t>,
         reached: &Place,
     ) -> Option<Refusal>
-        requires held { IsHeld self.now }
-        requires leads { node_of (state_of self.now) (kid_of outcome.now)
+        requires held { IsExpanded self.now }
+        requires leads { node_of (unmarked self.now) (kid_of outcome.now)
             ≡ Some (node reached.now.state reached.now.cost) }
-        ensures { result ≡ refusal_by (state_of self.now) earlier.now outcome.now }
+        ensures { result ≡ refusal_by (unmarked self.now) earlier.now outcome.now }
     {
         match outcome {
             Outcome::Expanded(expansion) => {
@@ -168,55 +172,73 @@ impl<'t> Content<'t> {
         }
     }
 
-    /// Whether a posted kid is settled, by the book or among the kids that are seen.
-    fn is_settled(&self, seen: &HashSet<Kid>, kid: Kid) -> bool
-        requires held { IsHeld self.now }
-        requires posted { is_posted (state_of self.now) kid ≡ true }
-        ensures { result ≡ (is_marked (state_of self.now) kid || has seen.now.keys kid) }
-    {
-        self.settled.contains(&kid) || seen.contains(&kid)
-    }
-
-    /// Why an outcome is refused, where `seen` has the kids of the outcomes before it in its batch.
-    fn refusal_of(
+    /// The place of an outcome's kid, where the outcome is right. The kids of the outcomes before it in its batch are settled already.
+    ///
+    /// # Errors
+    /// Why it is refused, or `NoMemory`.
+    fn judged(
         &self,
-        seen: &HashSet<Kid>,
+        kids: &KidTable,
         earlier: &[Outcome<'t>],
         outcome: &Outcome<'t>,
-    ) -> Result<Option<Refusal>, NoMemory>
-        requires held { IsHeld self.now }
-        requires seen { (k : Kid) → has seen.now.keys k ≡ is_settled_by earlier.now k }
-        ensures { IfOk result (λ r. r ≡ refusal_of (state_of self.now) earlier.now outcome.now) }
+    ) -> Result<usize, Refusal>
+        requires held { IsExpanded self.now }
+        requires posts { HasKids self.now.task.now self.now.entries.items kids.now }
+        ensures right { IfOk result
+            (IsRight (state_with self.now kids.now.marks) earlier.now outcome.now) }
+        ensures refused { IfErr result
+            (IsWrong (state_with self.now kids.now.marks) earlier.now outcome.now) }
     {
         let kid = outcome.kid();
         if !self.knows_parent(kid) {
-            return Ok(Some(Refusal::UnknownParent));
+            return Err(Refusal::UnknownParent);
         }
-        let Some(reached) = self.reach(kid)? else {
-            return Ok(Some(Refusal::NotAKid));
+        let Some(place) = kids.place_of(kid) else {
+            return Err(Refusal::NotAKid);
         };
-        if self.is_settled(seen, kid) {
-            return Ok(Some(Refusal::SettledBefore));
+        if kids.is_settled(place) {
+            return Err(Refusal::SettledBefore);
         }
-        Ok(self.refusal_by(earlier, outcome, &reached))
+        let reached = self.reach(kid)?;
+        match self.refusal_by(earlier, outcome, &reached) {
+            Some(refusal) => Err(refusal),
+            None => Ok(place),
+        }
     }
 
-    /// The first refusal of the outcomes of a batch.
-    pub(crate) fn first_refusal(
+    /// Settles the kids of the outcomes from a number on, each before the next outcome is judged; or none of them, where one is refused.
+    ///
+    /// # Errors
+    /// Why the first that is not right is refused, or `NoMemory`; the table is as it was.
+    pub(crate) fn settle_from(
         &self,
+        kids: &mut KidTable,
         outcomes: &[Outcome<'t>],
-    ) -> Result<Option<Refusal>, NoMemory>
-        requires held { IsHeld self.now }
-        ensures { IfOk result (λ r. r ≡ first_refusal (state_of self.now) [] outcomes.now) }
+        number: usize,
+    ) -> Result<(), Refusal>
+        requires held { IsExpanded self.now }
+        requires posts { HasKids self.now.task.now self.now.entries.items kids.old }
+        requires within { number ≤ length outcomes.now }
+        ensures right { OnOk result (first_wrong (state_with self.now kids.old.marks)
+            (take number outcomes.now) (drop number outcomes.now) ≡ None) }
+        ensures settled { OnOk result (kids.new ≡ with_marks kids.old
+            (marks_after (state_with self.now kids.old.marks) (drop number outcomes.now))) }
+        ensures refused { IfErr result (λ r. (r ≡ Refusal.NoMemory)
+            ⊎ (first_wrong (state_with self.now kids.old.marks)
+            (take number outcomes.now) (drop number outcomes.now) ≡ Some r)) }
+        ensures err { OnErr result (kids.new ≡ kids.old) }
     {
-        let mut seen = HashSet::new(self.alloc);
-        for (place, outcome) in outcomes.iter().enumerate() {
-            let earlier = &outcomes[..place];
-            if let Some(refusal) = self.refusal_of(&seen, earlier, outcome)? {
-                return Ok(Some(refusal));
-            }
-            seen.insert(outcome.kid())?;
+        if number == outcomes.len() {
+            return Ok(());
         }
-        Ok(None)
+        let place = self.judged(kids, &outcomes[..number], &outcomes[number])?;
+        kids.settle(place);
+        match self.settle_from(kids, outcomes, number + 1) {
+            Ok(()) => Ok(()),
+            Err(refusal) => {
+                kids.reopen(place);
+                Err(refusal)
+            }
+        }
     }
 }

@@ -1,47 +1,42 @@
 //! What the parts of a book answer.
 ghost use Rattle.std.specs.Prelude.{◌≡◌, ◌==◌, ◌<◌, ◌≤◌, ◌^◌, [], IsFalse, length, map, slice_get, slice_index_or, is_some, option_map, IfOk, IfSome};
+ghost use Rattle.hd_task.specs.Plans.{node};
 ghost use Rattle.hd_task.specs.Expansions.{generated};
 ghost use Rattle.hd_task.specs.Covers.{IsCovered};
 ghost use Rattle.hd_hmax.specs.Rounds.{hmax};
-ghost use Rattle.hd_book.specs.Settling.{expansions, IsKept};
-ghost use Rattle.hd_book.specs.Holding.{kid_at, settled_count, state_of, IsHeld};
-ghost use Rattle.hd_book.specs.Answers.{IsAnswer, IsBoundPlanOf, IsTrueAnswer};
+ghost use Rattle.hd_book.specs.Settling.{expansions, entry_node, IsKept};
+ghost use Rattle.hd_book.specs.Holding.{settled_count, state_of, unmarked, IsExpanded, IsHeld};
+ghost use Rattle.hd_book.specs.Answers.{IsAnswer, IsBoundPlanOf, IsValidPlan, IsTrueAnswer};
 
 use crate::content::Content;
+use crate::expanded::Expanded;
 use crate::{Counts, Verdict};
+use hd_node::Hashed;
 use hd_task::{ActionId, NoMemory, Plan, ROOT_PARENT};
 
-impl<'t> Content<'t> {
-    /// How far the search has come.
-    pub(crate) fn counts(&self) -> Counts
-        requires held { IsHeld self.now }
-        ensures entries { result.entries ≡ length self.now.entries.items }
-        ensures posted { result.posted ≡ length (generated self.now.task.now
-            (expansions (state_of self.now))) }
-        ensures settled { result.settled ≡ settled_count (state_of self.now) }
-        ensures acknowledged { result.acknowledged ≡ result.entries }
-        ensures commits { result.commits ≡ length self.now.tickets.items }
-        ensures posted_few { result.posted < 2 ^ 61 }
+impl<'t> Expanded<'t> {
+    /// Where an entry's plan leads, and what it costs, if there is such an entry.
+    pub(crate) fn node(&self, number: u64) -> Option<(&Hashed, u64)>
+        requires held { IsExpanded self.now }
+        ensures { option_map (λ r. node r.0.now r.1) result
+            ≡ entry_node (unmarked self.now) number }
     {
-        Counts {
-            entries: self.entries.len() as u64,
-            posted: self.posted,
-            settled: self.settled.len() as u64,
-            acknowledged: self.entries.len() as u64,
-            commits: self.tickets.len() as u64,
+        match self.entries.get(number as usize) {
+            Some(entry) => Some((&entry.state, entry.cost)),
+            None => None,
         }
     }
 
     /// The plan that an entry names.
     fn plan_to(&self, entry: usize) -> Result<Plan, NoMemory>
-        requires held { IsHeld self.now }
+        requires held { IsExpanded self.now }
         requires among { entry < length self.now.entries.items }
-        ensures { IfOk result (λ p. p ≡ slice_index_or (expansions (state_of self.now)) entry []) }
+        ensures { IfOk result (λ p. p ≡ slice_index_or (expansions (unmarked self.now)) entry []) }
     {
         let mut actions = Vec::new(self.alloc);
         let mut number = entry;
-        while self.entries[number].kid.parent != ROOT_PARENT {
-            let kid = self.entries[number].kid;
+        while self.entries.at(number).kid.parent != ROOT_PARENT {
+            let kid = self.entries.at(number).kid;
             actions.push(ActionId(kid.action))?;
             number = kid.parent as usize;
         }
@@ -50,41 +45,73 @@ impl<'t> Content<'t> {
     }
 
     /// The plan of the bound, if there is a bound.
-    fn best_plan(&self) -> Result<Option<Plan>, NoMemory>
-        requires held { IsHeld self.now }
-        ensures { IfOk result (IsBoundPlanOf self.now.task.now (expansions (state_of self.now))) }
+    pub(crate) fn best_plan(&self) -> Result<Option<Plan>, NoMemory>
+        requires held { IsExpanded self.now }
+        ensures { IfOk result (IsBoundPlanOf self.now.task.now (expansions (unmarked self.now))) }
     {
         match self.best {
             Some(best) => Ok(Some(self.plan_to(best.entry)?)),
             None => Ok(None),
         }
     }
+}
+
+impl<'t> Content<'t> {
+    /// How far the search has come.
+    pub(crate) fn counts(&self) -> Counts
+        requires held { IsHeld self.now }
+        ensures entries { result.entries ≡ length self.now.expanded.entries.items }
+        ensures posted { result.posted ≡ length (generated self.now.expanded.task.now
+            (expansions (state_of self.now))) }
+        ensures settled { result.settled ≡ settled_count (state_of self.now) }
+        ensures acknowledged { result.acknowledged ≡ result.entries }
+        ensures commits { result.commits ≡ length self.now.tickets.items }
+        ensures posted_few { result.posted < 2 ^ 61 }
+    {
+        Counts {
+            entries: self.expanded.entries.len() as u64,
+            posted: self.kids.posted(),
+            settled: self.kids.settled(),
+            acknowledged: self.expanded.entries.len() as u64,
+            commits: self.tickets.len() as u64,
+        }
+    }
 
     /// The answer, whether or not all is settled.
     fn answer(&self) -> Result<Verdict, NoMemory>
         requires held { IsHeld self.now }
-        ensures { IfOk result (IsAnswer self.now.task.now (expansions (state_of self.now))) }
+        ensures { IfOk result (IsAnswer self.now.expanded.task.now (expansions (state_of self.now))) }
     {
-        let plan = self.best_plan()?;
-        match (self.departure, plan) {
+        let plan = self.expanded.best_plan()?;
+        match (self.expanded.departure, plan) {
             (Some(departure), plan) => Ok(Verdict::RangeLeft(departure, plan)),
             (None, Some(plan)) => Ok(Verdict::Optimal(plan)),
             (None, None) => Ok(Verdict::NoPlan),
         }
     }
 
+    /// The plan of the bound, if there is a bound: it is valid.
+    pub(crate) fn extract(&self) -> Result<Option<Plan>, NoMemory>
+        requires held { IsHeld self.now }
+        ensures plan { IfOk result (IsBoundPlanOf self.now.expanded.task.now
+            (expansions (state_of self.now))) }
+        ensures valid { IfOk result (IsValidPlan self.now.expanded.task.now) }
+    {
+        self.expanded.best_plan()
+    }
+
     /// The answer, once all is settled.
     pub(crate) fn verdict(&self) -> Result<Option<Verdict>, NoMemory>
         requires held { IsHeld self.now }
         ensures over { IfOk result (λ v. is_some v ≡ (settled_count (state_of self.now)
-            == length (generated self.now.task.now (expansions (state_of self.now))))) }
+            == length (generated self.now.expanded.task.now (expansions (state_of self.now))))) }
         ensures kept { IsKept (state_of self.now) }
         ensures covered { IfOk result (λ v. IfSome v
-            (λ _. IsCovered self.now.task.now (hmax self.now.task.now)
+            (λ _. IsCovered self.now.expanded.task.now (hmax self.now.expanded.task.now)
             (expansions (state_of self.now)))) }
-        ensures answer { IfOk result (λ v. IfSome v (IsAnswer self.now.task.now
+        ensures answer { IfOk result (λ v. IfSome v (IsAnswer self.now.expanded.task.now
             (expansions (state_of self.now)))) }
-        ensures is_true { IfOk result (λ v. IfSome v (IsTrueAnswer self.now.task.now)) }
+        ensures is_true { IfOk result (λ v. IfSome v (IsTrueAnswer self.now.expanded.task.now)) }
     {
         let counts = self.counts();
         if counts.settled != counts.posted {

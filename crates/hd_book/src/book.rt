@@ -1,9 +1,8 @@
 //! The book of a search.
 use crate::content::Content;
 use crate::{Counts, Receipt, Redeemed, Refusal, Ticket, Verdict};
-use hd_node::Batch;
-use hd_task::{Kid, NoMemory, Task};
-use hd_zobrist::Words;
+use hd_node::{Batch, Hashed};
+use hd_task::{Kid, NoMemory, Plan, Task};
 use std::alloc::Global;
 use std::marker::Model;
 use std::ops::Range;
@@ -29,18 +28,19 @@ impl<'t> Model for Book<'t> {
 }
 
 impl<'t> Book<'t> {
-    ghost use Rattle.std.specs.Prelude.{◌≡◌, ◌<◌, ◌≤◌, ◌^◌, None, true, length, slice_get, is_some, IfOk, IfErr, IfSome, OnOk, OnErr};
+    ghost use Rattle.std.specs.Prelude.{◌≡◌, ◌<◌, ◌≤◌, ◌^◌, None, true, length, slice_get, option_map, is_some, IfOk, IfErr, IfSome, OnOk, OnErr};
     ghost use Rattle.std.specs.Result.{is_ok};
     ghost use Rattle.hd_task.specs.declared.plan.TheConstants.{ROOT_PARENT};
+    ghost use Rattle.hd_task.specs.Plans.{node};
     ghost use Rattle.hd_task.specs.Expansions.{bound_of};
     ghost use Rattle.hd_book.specs.declared.refusal.Refusal.TheVariants as Refusal;
     ghost use Rattle.std.specs.List.{AllByRecursion};
-    ghost use Rattle.hd_book.specs.Settling.{IsOf, expansions, IsKept};
+    ghost use Rattle.hd_book.specs.Settling.{IsOf, expansions, entry_node, IsKept};
     ghost use Rattle.hd_book.specs.Holding.{empty_book, BeginsWith, GainsEntries, state_after, GainsTicket, ticket_between};
     ghost use Rattle.hd_book.specs.Holding.{is_acknowledged, posted_count, settled_count, out_at, without};
     ghost use Rattle.hd_book.specs.Refusing.{refusal_to, IsRefusalTo};
     ghost use Rattle.hd_book.specs.Releasing.{IsReleased};
-    ghost use Rattle.hd_book.specs.Answers.{is_over, IsCoveredBook, IsAnswerOf, IsTrueAnswer};
+    ghost use Rattle.hd_book.specs.Answers.{is_over, IsCoveredBook, IsAnswerOf, IsBoundPlanOf, IsValidPlan, IsTrueAnswer};
 
     /// The book of a search that has not begun, which may hold `most` entries: the root is posted.
     ///
@@ -50,9 +50,9 @@ impl<'t> Book<'t> {
         requires { most < ROOT_PARENT }
         ensures { IfOk result (λ b. b ≡ empty_book task.now most) }
     {
-        let words = Words::new(alloc, task)?;
+        let content = Content::new(alloc, task, most)?;
         Ok(Book {
-            content: Box::new(alloc, Content::new(alloc, task, words, most))?,
+            content: Box::new(alloc, content)?,
         })
     }
 
@@ -147,20 +147,39 @@ impl<'t> Book<'t> {
     pub fn entry(&self, number: u64) -> Option<Kid>
         ensures { result ≡ slice_get self.now.state.entries number }
     {
-        match self.content.entries.get(number as usize) {
+        match self.content.expanded.entries.get(number as usize) {
             Some(entry) => Some(entry.kid),
             None => None,
         }
+    }
+
+    /// Where the plan of the entry with this number leads, and what it costs, if there is such an entry.
+    pub fn node(&self, number: u64) -> Option<(&Hashed, u64)>
+        ensures { option_map (λ r. node r.0.now r.1) result
+            ≡ entry_node self.now.state number }
+    {
+        self.content.expanded.node(number)
     }
 
     /// The least cost of an entry at which the goal holds, if there is one.
     pub fn bound(&self) -> Option<u64>
         ensures { result ≡ bound_of self.now.state.task (expansions self.now.state) }
     {
-        match self.content.best {
+        match self.content.expanded.best {
             Some(best) => Some(best.cost),
             None => None,
         }
+    }
+
+    /// The plan of the bound, if there is a bound: that of the least-numbered entry at which the goal holds at this cost. It is valid.
+    ///
+    /// # Errors
+    /// `NoMemory` where there is no room for the plan.
+    pub fn extract(&self) -> Result<Option<Plan>, NoMemory>
+        ensures plan { IfOk result (IsBoundPlanOf self.now.state.task (expansions self.now.state)) }
+        ensures valid { IfOk result (IsValidPlan self.now.state.task) }
+    {
+        self.content.extract()
     }
 
     /// The answer, once all is settled.

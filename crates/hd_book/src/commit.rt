@@ -1,22 +1,24 @@
 //! A commit in two steps: one that may refuse and makes the room, and one that changes the book and can't fail.
-ghost use Rattle.std.specs.Prelude.{◌≡◌, ℕ, ◌+◌, ◌<◌, ◌≤◌, ◌^◌, ◌++◌, ◌||◌, true, false, [], ◌∷◌, List, Some, None, vec_len, vec_capacity, length, map, flat_map, option_map, IfOk, IfErr, OnOk, OnErr};
+ghost use Rattle.std.specs.Prelude.{◌≡◌, ℕ, ◌+◌, ◌<◌, ◌≤◌, ◌^◌, ◌++◌, [], ◌∷◌, List, Some, None, vec_len, vec_capacity, length, map, flat_map, option_map, IfOk, IfErr, OnOk, OnErr};
 ghost use Rattle.std.specs.List.{AllByRecursion};
-ghost use Rattle.std.specs.HashSet.{spare};
-ghost use Rattle.hd_task.specs.declared.plan.Kid.{Kid};
-ghost use Rattle.hd_book.specs.Settling.{is_settled_by, entry_of, all_settled, IsOf};
-ghost use Rattle.hd_book.specs.Holding.{kid_at, has, parcel_of, released_by, out_of, state_of, view_of, BeginsWith, IsParcelOf, IsOutgoingOf, IsHeld};
-ghost use Rattle.hd_book.specs.Growing.{entered_by, best_by, departure_by, kids_in, Releases};
-ghost use Rattle.hd_book.specs.Refusing.{has_room, refusal_to, IsRefusalTo};
+ghost use Rattle.hd_task.specs.declared.plan.TheConstants.{ROOT_PARENT};
+ghost use Rattle.hd_kids.specs.Kids.{IsSame};
+ghost use Rattle.hd_book.specs.Settling.{entry_of, all_settled, IsOf};
+ghost use Rattle.hd_book.specs.Holding.{kid_at, released_by, out_of, state_of, view_of, BeginsWith, IsHeld};
+ghost use Rattle.hd_book.specs.Admitting.{SameButMarks, HasRoomFor, marks_after};
+ghost use Rattle.hd_book.specs.Growing.{entered_by, best_by, departure_by, kids_in, posted_all, Releases};
+ghost use Rattle.hd_book.specs.Refusing.{refusal_to_all, refusal_to, IsRefusalTo};
 ghost use Rattle.hd_book.specs.declared.refusal.Refusal.TheVariants as Refusal;
 
 use crate::content::Content;
 use crate::entry::{Entry, Outgoing};
-use crate::settling::{best_after, departure_after, enter, kids_of, push_reserved, settle};
+use crate::settling::{best_after, departure_after, enter, kids_of, post_all};
 use crate::{Refusal, Ticket};
+use hd_chunks::Chunks;
+use hd_kids::KidTable;
 use hd_node::{Batch, Outcome, Parcel};
-use hd_task::{Kid, NoMemory, Sequence};
+use hd_task::{NoMemory, Sequence};
 use std::alloc::Global;
-use std::collections::HashSet;
 
 /// How many outcomes are expansions.
 fn count_entries(outcomes: &[Outcome]) -> usize
@@ -35,161 +37,146 @@ fn count_entries(outcomes: &[Outcome]) -> usize
 /// Makes room for what outcomes add, and a `Vec` for the parcels of their kids.
 fn make_room<'t>(
     alloc: Global,
-    entries: &mut Vec<Entry>,
+    entries: &mut Chunks<Entry>,
+    kids: &mut KidTable,
     tickets: &mut Vec<Option<Outgoing<'t>>>,
-    settled: &mut HashSet<Kid>,
     outcomes: &[Outcome<'t>],
-) -> Result<Vec<Parcel<'t>>, Refusal>
+) -> Result<Vec<Parcel<'t>>, NoMemory>
     requires fits { kids_in outcomes.now < 2 ^ 64 }
     ensures entries { entries.new.items ≡ entries.old.items }
+    ensures kids { IsSame kids.old kids.new }
     ensures tickets { tickets.new.items ≡ tickets.old.items }
-    ensures settled { OnErr result (settled.new.keys ≡ settled.old.keys) }
-    ensures reordered { OnOk result ((k : Kid) → has settled.new.keys k ≡ has settled.old.keys k) }
-    ensures err { IfErr result (λ r. r ≡ Refusal.NoMemory) }
-    ensures room_entries { OnOk result (vec_len entries.new +
-        length (flat_map entry_of outcomes.now) ≤ vec_capacity entries.new) }
+    ensures room_entries { OnOk result
+        (length (flat_map entry_of outcomes.now) ≤ entries.new.room) }
+    ensures room_entered { OnOk result
+        (length (flat_map entry_of outcomes.now) ≤ kids.new.entry_room) }
+    ensures room_kids { OnOk result (kids_in outcomes.now ≤ kids.new.kid_room) }
     ensures room_tickets { OnOk result (vec_len tickets.new < vec_capacity tickets.new) }
-    ensures room_settled { OnOk result (length outcomes.now ≤ spare settled.new) }
     ensures parcels { IfOk result (λ ps.
         (ps.items ≡ []) × (kids_in outcomes.now ≤ vec_capacity ps)) }
 {
-    entries.reserve(count_entries(outcomes))?;
+    let (entry_count, kid_count) = (count_entries(outcomes), kids_of(outcomes));
+    entries.reserve(entry_count)?;
+    kids.reserve(entry_count, kid_count)?;
     tickets.reserve(1)?;
-    let parcels = Vec::with_capacity(alloc, kids_of(outcomes))?;
-    settled.reserve(outcomes.len())?;
-    Ok(parcels)
+    Vec::with_capacity(alloc, kid_count)
 }
 
 impl<'t> Content<'t> {
-    /// Why a batch of these outcomes is refused, memory aside.
-    fn refusal_to(&self, outcomes: &[Outcome<'t>]) -> Result<Option<Refusal>, NoMemory>
+    /// Why each batch of as many expansions is refused.
+    fn refusal_to_all(&self, outcomes: &[Outcome<'t>]) -> Option<Refusal>
         requires held { IsHeld self.now }
-        ensures answer { IfOk result (λ r. r ≡ refusal_to (view_of self.now) outcomes.now) }
-        // Memory is asked for only where the book is not halted and has room.
-        ensures asked { OnErr result ((self.now.halted ≡ false)
-            × (has_room (view_of self.now) outcomes.now ≡ true)) }
+        ensures { result ≡ refusal_to_all (view_of self.now) outcomes.now }
     {
         if self.halted {
-            return Ok(Some(Refusal::Halted));
+            return Some(Refusal::Halted);
         }
-        let entries = self.entries.len() as u64;
+        let entries = self.expanded.entries.len() as u64;
         if entries.saturating_add(count_entries(outcomes) as u64) > self.most {
-            return Ok(Some(Refusal::Full));
+            return Some(Refusal::Full);
         }
-        self.first_refusal(outcomes)
+        None
     }
 
-    /// Makes room for a batch of these outcomes, and a `Vec` for the parcels of their kids; or refuses it.
+    /// Makes room for a batch of these outcomes, and a `Vec` for the parcels of their kids, and settles their kids; or refuses it.
     pub(crate) fn admit(&mut self, outcomes: &[Outcome<'t>]) -> Result<Vec<Parcel<'t>>, Refusal>
         requires held { IsHeld self.old }
         requires fits { kids_in outcomes.now < 2 ^ 64 }
-        ensures task { self.new.task.now ≡ self.old.task.now }
-        ensures most { self.new.most ≡ self.old.most }
-        ensures posted { self.new.posted ≡ self.old.posted }
-        ensures best { self.new.best ≡ self.old.best }
-        ensures departure { self.new.departure ≡ self.old.departure }
-        ensures halted { self.new.halted ≡ self.old.halted }
-        ensures entries { self.new.entries.items ≡ self.old.entries.items }
-        ensures tickets { self.new.tickets.items ≡ self.old.tickets.items }
-        ensures settled { OnErr result (self.new.settled.keys ≡ self.old.settled.keys) }
-        ensures reordered { OnOk result ((k : Kid) → has self.new.settled.keys k
-            ≡ has self.old.settled.keys k) }
+        ensures same { SameButMarks self.old self.new }
         ensures accepted { OnOk result (refusal_to (view_of self.old) outcomes.now ≡ None) }
         ensures refused { IfErr result (IsRefusalTo (view_of self.old) outcomes.now) }
-        ensures room_entries { OnOk result (vec_len self.new.entries +
-            length (flat_map entry_of outcomes.now) ≤ vec_capacity self.new.entries) }
-        ensures room_tickets { OnOk result (vec_len self.new.tickets
-            < vec_capacity self.new.tickets) }
-        ensures room_settled { OnOk result (length outcomes.now ≤ spare self.new.settled) }
-        ensures parcels { IfOk result (λ ps.
-            (ps.items ≡ []) × (kids_in outcomes.now ≤ vec_capacity ps)) }
+        ensures marks { OnOk result (self.new.kids.marks
+            ≡ marks_after (state_of self.old) outcomes.now) }
+        ensures err { OnErr result (self.new.kids.marks ≡ self.old.kids.marks) }
+        ensures room { IfOk result (HasRoomFor self.new outcomes.now) }
     {
-        if let Some(refusal) = self.refusal_to(outcomes)? {
+        if let Some(refusal) = self.refusal_to_all(outcomes) {
             return Err(refusal);
         }
-        make_room(
-            self.alloc,
-            &mut self.entries,
+        let parcels = make_room(
+            self.expanded.alloc,
+            &mut self.expanded.entries,
+            &mut self.kids,
             &mut self.tickets,
-            &mut self.settled,
             outcomes,
-        )
+        )?;
+        self.expanded.settle_from(&mut self.kids, outcomes, 0)?;
+        Ok(parcels)
     }
 
-    /// Adds a batch that is not refused; there is room for it.
+    /// Adds a batch that is not refused; there is room for it, and its kids are settled.
     ///
     /// Answers the number of the commit.
     pub(crate) fn accept(&mut self, outcomes: Vec<Outcome<'t>>, parcels: Vec<Parcel<'t>>) -> u64
-        requires of_task { AllByRecursion (IsOf self.old.task.now) outcomes.items }
-        requires room_entries { vec_len self.old.entries + length (entered_by outcomes.items)
-            ≤ vec_capacity self.old.entries }
-        requires room_tickets { vec_len self.old.tickets < vec_capacity self.old.tickets }
-        requires room_settled { length outcomes.items ≤ spare self.old.settled }
-        requires room_parcels { kids_in outcomes.items ≤ vec_capacity parcels }
-        requires parcels { parcels.items ≡ [] }
+        requires of_task { AllByRecursion (IsOf self.old.expanded.task.now) outcomes.items }
+        requires room { HasRoomFor self.old outcomes.items parcels }
+        requires few { self.old.kids.entries + length (flat_map entry_of outcomes.items)
+            ≤ ROOT_PARENT }
         ensures number { result ≡ length self.old.tickets.items }
-        ensures task { self.new.task.now ≡ self.old.task.now }
+        ensures task { self.new.expanded.task.now ≡ self.old.expanded.task.now }
         ensures most { self.new.most ≡ self.old.most }
         ensures halted { self.new.halted ≡ self.old.halted }
-        ensures entries { self.new.entries.items ≡ self.old.entries.items
+        ensures entries { self.new.expanded.entries.items ≡ self.old.expanded.entries.items
             ++ entered_by outcomes.entry.items }
-        ensures settled { (k : Kid) → has self.new.settled.keys k
-            ≡ (has self.old.settled.keys k || is_settled_by outcomes.entry.items k) }
-        ensures posted { self.old.posted + kids_in outcomes.entry.items < 2 ^ 64
-            → self.new.posted ≡ self.old.posted + kids_in outcomes.entry.items }
-        ensures best { self.new.best ≡ best_by self.old.best
-            (vec_len self.old.entries) outcomes.entry.items }
-        ensures departure { self.new.departure
-            ≡ departure_by self.old.departure (vec_len self.old.entries) outcomes.entry.items }
-        ensures tickets { Releases self.old.task.now
-            (vec_len self.old.entries) outcomes.entry.items self.old.tickets.items
-            self.new.tickets.items }
+        ensures kids { self.new.kids ≡ posted_all self.old.kids outcomes.entry.items }
+        ensures best { self.new.expanded.best ≡ best_by self.old.expanded.best
+            (length self.old.expanded.entries.items) outcomes.entry.items }
+        ensures departure { self.new.expanded.departure
+            ≡ departure_by self.old.expanded.departure
+            (length self.old.expanded.entries.items) outcomes.entry.items }
+        ensures tickets { Releases self.old.expanded.task.now
+            (length self.old.expanded.entries.items) outcomes.entry.items
+            self.old.tickets.items self.new.tickets.items }
     {
         let mut parcels = parcels;
-        let first = self.entries.len();
-        self.best = best_after(self.best, first, &outcomes);
-        self.departure = departure_after(self.departure, first, &outcomes);
-        settle(&mut self.settled, &outcomes);
-        enter(self.task, &mut self.entries, &mut parcels, outcomes);
-        self.posted = self.posted.saturating_add(parcels.len() as u64);
+        let first = self.expanded.entries.len();
+        self.expanded.best = best_after(self.expanded.best, first, &outcomes);
+        self.expanded.departure = departure_after(self.expanded.departure, first, &outcomes);
+        post_all(&mut self.kids, &outcomes);
+        enter(
+            self.expanded.task,
+            &mut self.expanded.entries,
+            &mut parcels,
+            outcomes,
+        );
         let number = self.tickets.len() as u64;
         let released = Outgoing {
             first: first as u64,
-            end: self.entries.len() as u64,
+            end: self.expanded.entries.len() as u64,
             parcels: Sequence::from_vec(parcels),
         };
-        push_reserved(&mut self.tickets, Some(released));
+        self.tickets.push_reserved(Some(released));
         number
     }
 
     /// Takes a batch, or refuses it, as [`crate::Book::commit`] says.
     pub(crate) fn commit(&mut self, batch: Batch<'t>) -> Result<Ticket, (Batch<'t>, Refusal)>
         requires held { IsHeld self.old }
-        requires of_task { AllByRecursion (IsOf self.old.task.now) batch.outcomes }
+        requires of_task { AllByRecursion (IsOf self.old.expanded.task.now) batch.outcomes }
         ensures held { IsHeld self.new }
-        ensures task { self.new.task.now ≡ self.old.task.now }
+        ensures task { self.new.expanded.task.now ≡ self.old.expanded.task.now }
         ensures most { self.new.most ≡ self.old.most }
-        ensures begins { BeginsWith (map kid_at self.new.entries.items)
-            (map kid_at self.old.entries.items) }
-        ensures grown { OnOk result (map kid_at self.new.entries.items
-            ≡ map kid_at self.old.entries.items ++ flat_map entry_of batch.entry.outcomes) }
+        ensures begins { BeginsWith (map kid_at self.new.expanded.entries.items)
+            (map kid_at self.old.expanded.entries.items) }
+        ensures grown { OnOk result (map kid_at self.new.expanded.entries.items
+            ≡ map kid_at self.old.expanded.entries.items ++ flat_map entry_of batch.entry.outcomes) }
         ensures accepted { OnOk result (refusal_to (view_of self.old) batch.entry.outcomes ≡ None) }
         ensures state { OnOk result (state_of self.new
             ≡ all_settled (state_of self.old) batch.entry.outcomes) }
         ensures tickets { OnOk result (map (option_map out_of) self.new.tickets.items
             ≡ map (option_map out_of) self.old.tickets.items
             ++ Some (record {
-              first = length self.old.entries.items;
-              end = length self.new.entries.items;
+              first = length self.old.expanded.entries.items;
+              end = length self.new.expanded.entries.items;
               released = released_by
-                  (length self.old.entries.items) batch.entry.outcomes;
+                  (length self.old.expanded.entries.items) batch.entry.outcomes;
             }) ∷ []) }
         ensures halted { self.new.halted ≡ self.old.halted }
         ensures ticket { IfOk result (λ k. k
             ≡ record {
               number = length self.old.tickets.items;
-              first = length self.old.entries.items;
-              end = length self.new.entries.items;
+              first = length self.old.expanded.entries.items;
+              end = length self.new.expanded.entries.items;
             }) }
         ensures refused { IfErr result (λ e.
             IsRefusalTo (view_of self.old) batch.entry.outcomes e.1) }
@@ -198,9 +185,9 @@ impl<'t> Content<'t> {
     {
         match self.admit(batch.outcomes.as_slice()) {
             Ok(parcels) => {
-                let first = self.entries.len() as u64;
+                let first = self.expanded.entries.len() as u64;
                 let number = self.accept(batch.outcomes.into_vec(), parcels);
-                let end = self.entries.len() as u64;
+                let end = self.expanded.entries.len() as u64;
                 Ok(Ticket::of(number, first, end))
             }
             Err(refusal) => Err((batch, refusal)),

@@ -1,59 +1,56 @@
 //! The parts of a book.
-use crate::entry::{Best, Entry, Outgoing};
-use hd_task::{Departure, Kid, Task};
+use crate::entry::Outgoing;
+use crate::expanded::Expanded;
+use hd_kids::KidTable;
+use hd_task::{NoMemory, Task};
 use hd_zobrist::Words;
 use std::alloc::Global;
-use std::collections::HashSet;
 
 /// The parts of a book.
 #[derive(Debug, Drop)]
 pub(crate) struct Content<'t> {
-    pub(crate) task: &'t Task,
-    pub(crate) alloc: Global,
-    /// Of the task, for the book's own application.
-    pub(crate) words: Words,
+    pub(crate) expanded: Expanded<'t>,
+    /// What the expanded plans have posted, and what of it is settled.
+    pub(crate) kids: KidTable,
     /// How many entries there may be.
     pub(crate) most: u64,
-    pub(crate) entries: Vec<Entry>,
-    /// The kids that are settled.
-    pub(crate) settled: HashSet<Kid>,
-    /// How many kids are posted.
-    pub(crate) posted: u64,
-    pub(crate) best: Option<Best>,
-    /// The first departure.
-    pub(crate) departure: Option<Departure>,
     /// What each accepted batch releases, until its ticket is spent.
     pub(crate) tickets: Vec<Option<Outgoing<'t>>>,
     pub(crate) halted: bool,
 }
 
 impl<'t> Content<'t> {
-    ghost use Rattle.std.specs.Prelude.{◌≡◌, [], None, false};
+    ghost use Rattle.std.specs.Prelude.{◌≡◌, [], ◌∷◌, None, false, IfOk};
+    ghost use Rattle.hd_kids.specs.Kids.{root};
 
-    /// The parts of a book without entries.
-    pub(crate) fn new(alloc: Global, task: &'t Task, words: Words, most: u64) -> Content<'t>
-        ensures task { result.task.now ≡ task.now }
-        ensures most { result.most ≡ most }
-        ensures entries { result.entries.items ≡ [] }
-        ensures settled { result.settled.keys ≡ [] }
-        ensures posted { result.posted ≡ 1 }
-        ensures best { result.best ≡ None }
-        ensures departure { result.departure ≡ None }
-        ensures tickets { result.tickets.items ≡ [] }
-        ensures halted { result.halted ≡ false }
+    /// The parts of a book without entries: the root is posted.
+    ///
+    /// # Errors
+    /// `NoMemory` where there is no room for it.
+    pub(crate) fn new(
+        alloc: Global,
+        task: &'t Task,
+        most: u64,
+    ) -> Result<Content<'t>, NoMemory>
+        ensures task { IfOk result (λ c. c.expanded.task.now ≡ task.now) }
+        ensures entries { IfOk result (λ c. c.expanded.entries.items ≡ []) }
+        ensures best { IfOk result (λ c. c.expanded.best ≡ None) }
+        ensures departure { IfOk result (λ c. c.expanded.departure ≡ None) }
+        ensures kids { IfOk result (λ c. c.kids.kids ≡ root ∷ []) }
+        ensures marks { IfOk result (λ c. c.kids.marks ≡ false ∷ []) }
+        ensures entered { IfOk result (λ c. c.kids.entries ≡ 0) }
+        ensures most { IfOk result (λ c. c.most ≡ most) }
+        ensures tickets { IfOk result (λ c. c.tickets.items ≡ []) }
+        ensures halted { IfOk result (λ c. c.halted ≡ false) }
     {
-        Content {
-            task,
-            alloc,
-            words,
+        let words = Words::new(alloc, task)?;
+        let kids = KidTable::new(alloc)?;
+        Ok(Content {
+            expanded: Expanded::none(alloc, task, words),
+            kids,
             most,
-            entries: Vec::new(alloc),
-            settled: HashSet::new(alloc),
-            posted: 1,
-            best: None,
-            departure: None,
             tickets: Vec::new(alloc),
             halted: false,
-        }
+        })
     }
 }

@@ -12,6 +12,7 @@ mod commit;
 mod content;
 mod counts;
 mod entry;
+mod expanded;
 pub mod laws;
 mod redeeming;
 mod refusal;

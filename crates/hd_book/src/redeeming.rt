@@ -32,7 +32,7 @@ impl<'t> Content<'t> {
         ensures most { self.new.most ≡ self.old.most }
         ensures out { is_ok result ≡ is_some (out_at (view_of self.old) ticket) }
         ensures released { IfOk result (
-            IsReleased self.old.task.now (out_at (view_of self.old) ticket)) }
+            IsReleased self.old.expanded.task.now (out_at (view_of self.old) ticket)) }
         ensures refused { IfErr result (λ r. r ≡ Refusal.NotOut) }
         ensures spent { OnOk result (view_of self.new ≡ without (view_of self.old) ticket.number) }
         ensures err { OnErr result (view_of self.new ≡ view_of self.old) }

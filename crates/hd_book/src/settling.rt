@@ -1,21 +1,20 @@
 //! What an accepted batch does to the parts of a book. Nothing here asks for memory: the room was made before.
-ghost use Rattle.std.specs.Prelude.{◌≡◌, ℕ, ◌+◌, ◌<◌, ◌≤◌, ◌^◌, ◌++◌, ◌||◌, if◌then◌else◌, [], ◌∷◌, List, Some, vec_len, vec_capacity, length, map, slice_get, option_map};
-ghost use Rattle.std.specs.List.{AllByRecursion};
-ghost use Rattle.std.specs.HashSet.{spare};
-ghost use Rattle.hd_task.specs.declared.plan.Kid.{Kid};
+ghost use Rattle.std.specs.Prelude.{◌≡◌, ℕ, ◌+◌, ◌<◌, ◌≤◌, ◌^◌, ◌++◌, [], ◌∷◌, List, Some, vec_len, vec_capacity, length, map, flat_map, slice_get, option_map};
+ghost use Rattle.std.specs.List.{AllByRecursion, AllPairs};
+ghost use Rattle.hd_task.specs.declared.plan.TheConstants.{ROOT_PARENT};
 ghost use Rattle.hd_task.specs.Applying.{says_yes};
 ghost use Rattle.hd_task.specs.Expansions.{goal_cost, departure_at};
 ghost use Rattle.hd_task.specs.Plans.{IsStateOf, node};
 ghost use Rattle.hd_node.specs.Children.{ChildView};
-ghost use Rattle.hd_book.specs.Settling.{is_settled_by, entry_of, IsOf};
-ghost use Rattle.hd_book.specs.Holding.{has, parcel_of, released_from, released_at, released_by, IsParcelOf};
-ghost use Rattle.hd_book.specs.Growing.{entered, entered_by, better, best_by, departure_by, kids_at, kids_in};
+ghost use Rattle.hd_book.specs.Settling.{entry_of, IsOf};
+ghost use Rattle.hd_book.specs.Holding.{parcel_of, released_from, released_at, released_by, IsParcelOf};
+ghost use Rattle.hd_book.specs.Growing.{entered, entered_by, better, best_by, departure_by, kids_at, kids_in, actions_of, with_kids, posted_all};
 
-use crate::content::Content;
 use crate::entry::{Best, Entry};
-use hd_node::{Children, Expansion, Outcome, Parcel};
-use hd_task::{Departure, GoalTest, Kid, Task};
-use std::collections::HashSet;
+use hd_chunks::Chunks;
+use hd_kids::KidTable;
+use hd_node::{Child, Children, Expansion, Outcome, Parcel};
+use hd_task::{Departure, GoalTest, Task};
 
 /// How many kids the expansions among outcomes have.
 pub(crate) fn kids_of(outcomes: &[Outcome]) -> usize
@@ -108,29 +107,31 @@ fn first_departure(expansion: &Expansion, entry: u64) -> Option<Departure>
     }
 }
 
-/// Adds the kids of outcomes to those that are settled.
-pub(crate) fn settle(settled: &mut HashSet<Kid>, outcomes: &[Outcome])
-    requires room { length outcomes.now ≤ spare settled.old }
-    ensures { (k : Kid) → has settled.new.keys k ≡ (has settled.old.keys k
-        || is_settled_by outcomes.now k) }
+/// Posts the children of an expansion, as the kids of an entry more.
+fn post(kids: &mut KidTable, children: &[Child])
+    requires entry_room { 0 < kids.old.entry_room }
+    requires kid_room { length children.now ≤ kids.old.kid_room }
+    requires few { kids.old.entries < ROOT_PARENT }
+    requires rises { AllPairs (λ (a b : ℕ). a < b) (actions_of children.now) }
+    ensures { kids.new ≡ with_kids kids.old (actions_of children.now) }
 {
-    for outcome in outcomes {
-        match settled.insert(outcome.kid()) {
-            Ok(_) => {}
-            Err(_) => unreachable!(),
-        }
+    kids.enter();
+    for child in children {
+        kids.post(child.action());
     }
 }
 
-/// Pushes to a `Vec` that has room.
-pub(crate) fn push_reserved<T: Drop>(items: &mut Vec<T>, item: T)
-    requires { vec_len items.old < vec_capacity items.old }
-    ensures items { items.new.items ≡ items.old.items ++ item ∷ [] }
-    ensures capacity { vec_capacity items.old ≤ vec_capacity items.new }
+/// Posts the kids of the expansions among outcomes.
+pub(crate) fn post_all(kids: &mut KidTable, outcomes: &[Outcome])
+    requires entry_room { length (flat_map entry_of outcomes.now) ≤ kids.old.entry_room }
+    requires kid_room { kids_in outcomes.now ≤ kids.old.kid_room }
+    requires few { kids.old.entries + length (flat_map entry_of outcomes.now) ≤ ROOT_PARENT }
+    ensures { kids.new ≡ posted_all kids.old outcomes.now }
 {
-    match items.push(item) {
-        Ok(()) => {}
-        Err(_) => unreachable!(),
+    for outcome in outcomes {
+        if let Outcome::Expanded(expansion) = outcome {
+            post(kids, expansion.children());
+        }
     }
 }
 
@@ -146,19 +147,19 @@ fn release<'t>(parcels: &mut Vec<Parcel<'t>>, task: &'t Task, entry: u64, childr
     ensures tasks { AllByRecursion (IsParcelOf task.now) parcels.new.items }
 {
     for child in children {
-        push_reserved(parcels, Parcel::of_child(task, entry, child));
+        parcels.push_reserved(Parcel::of_child(task, entry, child));
     }
 }
 
 /// Adds an expansion to the entries, and its kids to the parcels.
 fn enter_expansion<'t>(
     task: &'t Task,
-    entries: &mut Vec<Entry>,
+    entries: &mut Chunks<Entry>,
     parcels: &mut Vec<Parcel<'t>>,
     expansion: Expansion<'t>,
 )
     requires of_task { expansion.task ≡ task.now }
-    requires room { vec_len entries.old < vec_capacity entries.old }
+    requires room { 0 < entries.old.room }
     requires parcels { vec_len parcels.old + length expansion.children ≤ vec_capacity parcels.old }
     requires tasks { AllByRecursion (IsParcelOf task.now) parcels.old.items }
     ensures entries { entries.new.items ≡ entries.old.items
@@ -167,9 +168,9 @@ fn enter_expansion<'t>(
           state = expansion.entry.state;
           cost = expansion.entry.cost;
         } ∷ [] }
-    ensures entries_capacity { vec_capacity entries.old ≤ vec_capacity entries.new }
+    ensures entries_room { entries.new.room + 1 ≡ entries.old.room }
     ensures released { map parcel_of parcels.new.items ≡ map parcel_of parcels.old.items
-        ++ map (released_from (vec_len entries.old)) expansion.entry.children }
+        ++ map (released_from (length entries.old.items)) expansion.entry.children }
     ensures len { vec_len parcels.new ≡ vec_len parcels.old + length expansion.entry.children }
     ensures capacity { vec_capacity parcels.old ≤ vec_capacity parcels.new }
     ensures tasks { AllByRecursion (IsParcelOf task.now) parcels.new.items }
@@ -177,32 +178,30 @@ fn enter_expansion<'t>(
     let parts = expansion.into_parts();
     let entry = entries.len() as u64;
     release(parcels, task, entry, parts.children);
-    push_reserved(
-        entries,
-        Entry {
-            kid: parts.kid,
-            state: parts.state,
-            cost: parts.cost,
-        },
-    );
+    entries.push(Entry {
+        kid: parts.kid,
+        state: parts.state,
+        cost: parts.cost,
+    });
 }
 
 /// Adds an outcome to the entries, if it is an expansion, and its kids to the parcels.
 fn enter_outcome<'t>(
     task: &'t Task,
-    entries: &mut Vec<Entry>,
+    entries: &mut Chunks<Entry>,
     parcels: &mut Vec<Parcel<'t>>,
     outcome: Outcome<'t>,
 )
     requires of_task { IsOf task.now outcome }
-    requires room { vec_len entries.old + length (entered outcome) ≤ vec_capacity entries.old }
+    requires room { length (entered outcome) ≤ entries.old.room }
     requires parcels { vec_len parcels.old + kids_at outcome ≤ vec_capacity parcels.old }
     requires tasks { AllByRecursion (IsParcelOf task.now) parcels.old.items }
     ensures entries { entries.new.items ≡ entries.old.items ++ entered outcome.entry }
-    ensures count { vec_len entries.new ≡ vec_len entries.old + length (entry_of outcome.entry) }
-    ensures entries_capacity { vec_capacity entries.old ≤ vec_capacity entries.new }
+    ensures count { length entries.new.items
+        ≡ length entries.old.items + length (entry_of outcome.entry) }
+    ensures entries_room { entries.new.room + length (entered outcome.entry) ≡ entries.old.room }
     ensures released { map parcel_of parcels.new.items ≡ map parcel_of parcels.old.items
-        ++ released_at (vec_len entries.old) outcome.entry }
+        ++ released_at (length entries.old.items) outcome.entry }
     ensures kids { vec_len parcels.new ≡ vec_len parcels.old + kids_at outcome.entry }
     ensures capacity { vec_capacity parcels.old ≤ vec_capacity parcels.new }
     ensures tasks { AllByRecursion (IsParcelOf task.now) parcels.new.items }
@@ -217,18 +216,17 @@ fn enter_outcome<'t>(
 /// Adds the expansions among outcomes of a task to the entries, and their kids to the parcels.
 pub(crate) fn enter<'t>(
     task: &'t Task,
-    entries: &mut Vec<Entry>,
+    entries: &mut Chunks<Entry>,
     parcels: &mut Vec<Parcel<'t>>,
     outcomes: Vec<Outcome<'t>>,
 )
     requires of_task { AllByRecursion (IsOf task.now) outcomes.items }
-    requires room { vec_len entries.old + length (entered_by outcomes.items)
-        ≤ vec_capacity entries.old }
+    requires room { length (entered_by outcomes.items) ≤ entries.old.room }
     requires parcels { vec_len parcels.old + kids_in outcomes.items ≤ vec_capacity parcels.old }
     requires tasks { AllByRecursion (IsParcelOf task.now) parcels.old.items }
     ensures entries { entries.new.items ≡ entries.old.items ++ entered_by outcomes.entry.items }
     ensures released { map parcel_of parcels.new.items ≡ map parcel_of parcels.old.items
-        ++ released_by (vec_len entries.old) outcomes.entry.items }
+        ++ released_by (length entries.old.items) outcomes.entry.items }
     ensures kids { vec_len parcels.new ≡ vec_len parcels.old + kids_in outcomes.entry.items }
     ensures tasks { AllByRecursion (IsParcelOf task.now) parcels.new.items }
 {

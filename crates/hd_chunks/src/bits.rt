@@ -99,6 +99,7 @@ impl Bits {
         requires { number < length self.old.items }
         ensures items { self.new.items ≡ slice_set self.old.items number bit }
         ensures room { self.new.room ≡ self.old.room }
+        ensures few { length self.new.items ≤ 64 * MOST_ITEMS }
     {
         write(&mut self.words, number, bit);
     }
@@ -125,6 +126,7 @@ fn write(words: &mut Chunks<u64>, number: usize, bit: bool)
     requires { number < 64 * length words.old.items }
     ensures len { length words.new.items ≡ length words.old.items }
     ensures room { words.new.room ≡ words.old.room }
+    ensures few { length words.new.items ≤ MOST_ITEMS }
     ensures written { bit_in words.new.items number ≡ bit }
     ensures others { (i : ℕ) → i ≢ number
         → bit_in words.new.items i ≡ bit_in words.old.items i }

@@ -161,6 +161,7 @@ impl<T> Chunks<T> {
         requires { number < length self.old.items }
         ensures items { self.new.items ≡ slice_set self.old.items number item }
         ensures room { self.new.room ≡ self.old.room }
+        ensures few { length self.new.items + self.new.room ≤ MOST_ITEMS }
     {
         let chunk = &mut self.chunks[number / CHUNK];
         chunk[number % CHUNK] = item;

@@ -9,7 +9,7 @@ use Rattle.std.proofs.lemmas.List.Sums.{prefix_len-le-length, position_or_len_is
 use Rattle.hd_base.proofs.Tests.{count_by-append}
 use Rattle.hd_task.specs.declared.plan.Kid.{Kid}
 use Rattle.hd_task.specs.declared.plan.TheConstants.{ROOT_PARENT, ROOT_ACTION}
-use Rattle.hd_kids.specs.Kids.{kid_from, ComesAfter, root}
+use Rattle.hd_kids.specs.Kids.{kid_from, ComesAfter, HasNone, root}
 use Rattle.hd_kids.specs.Places.{begun, parent_after, kid_at, kids_by, IsRow, AreKids}
 
 -- ---- how many entries' kids have begun
@@ -72,7 +72,7 @@ kids_entered firsts actions =
     (λ j lt. get_or-map-range_with_len (kid_at firsts actions) 0 (length actions) j j root lt (omega arith)
     ∙ ap (λ (n : ℕ). kid_from (parent_after n) (get_or actions j 0)) (sym (begun_pushed firsts (length actions) j lt))))
 
-last_parent : (n : ℕ) → 0 < n → parent_after n ≡ n - 1
+pub last_parent : (n : ℕ) → 0 < n → parent_after n ≡ n - 1
 last_parent zero lt = absurd (omega (arith, lt))
 last_parent (suc n) lt = omega arith
 
@@ -193,6 +193,17 @@ posted_kept firsts actions marks settled a h entered after =
     }
 
 -- ---- an entry's kids
+
+behind_all : (b n : ℕ) → b ≤ n → n < ROOT_PARENT → parent_after b ≢ n
+behind_all zero n le few is = omega (arith, few, is)
+behind_all (suc m) n le few is = omega (arith, le, is)
+
+-- the next entry has none yet
+pub none_yet : (firsts actions : List ℕ) → length firsts < ROOT_PARENT → HasNone (kids_by firsts actions) (length firsts)
+none_yet firsts actions few = λ i d lt is.
+    let within : i < length actions = omega (arith, lt, length-kids_by firsts actions) in
+    behind_all (begun firsts i) (length firsts) (begun_few firsts i) few
+    (sym (ap (λ (k : Kid). k.parent) (get_or-kids_by firsts actions i d within)) ∙ is)
 
 -- the kids of an entry stand from its first place up to the first one of the next entry, or up to the end
 pub row_is : (firsts actions : List ℕ) (marks : List Bool) (settled n high : ℕ) → AreKids firsts actions marks settled → n < length firsts

@@ -1,5 +1,5 @@
 -- The kids that entries post, as contracts see the table of them. (Our own; the pairs are those of the journal.)
-use Rattle.std.specs.Prelude.{◌≡◌, ℕ, ◌+◌, ◌-◌, ◌<◌, Bool, false, ◌&&◌, ◌==◌, List, [], ◌∷◌, ◌++◌, length, slice_set, slice_index_or}
+use Rattle.std.specs.Prelude.{◌≡◌, ◌≢◌, ℕ, ◌+◌, ◌-◌, ◌<◌, Bool, false, ◌&&◌, ◌==◌, List, [], ◌∷◌, ◌++◌, length, slice_set, slice_index_or}
 use Rattle.std.specs.List.{count_by}
 use Rattle.hd_task.specs.declared.plan.Kid.{Kid}
 use Rattle.hd_task.specs.declared.plan.TheConstants.{ROOT_PARENT, ROOT_ACTION}
@@ -38,6 +38,10 @@ pub record IsSame (t u : KidsView) : Type 0 where
 -- an action comes after those of the kids of entry n
 abbrev pub ComesAfter : List Kid → ℕ → ℕ → Type 0
 ComesAfter kids n a = (i : ℕ) (d : Kid) → i < length kids → (slice_index_or kids i d).parent ≡ n → (slice_index_or kids i d).action < a
+
+-- no kid is one of entry n
+abbrev pub HasNone : List Kid → ℕ → Type 0
+HasNone kids n = (i : ℕ) (d : Kid) → i < length kids → (slice_index_or kids i d).parent ≢ n
 
 -- the table with another mark at a place
 abbrev pub with_mark : KidsView → ℕ → Bool → KidsView

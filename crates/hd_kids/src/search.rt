@@ -11,8 +11,9 @@ pub(crate) fn end_of(firsts: &Chunks<usize>, posted: usize, entry: usize) -> usi
         → result ≡ get_or firsts.now.items (entry + 1) 0 }
     ensures last { length firsts.now.items ≤ entry + 1 → result ≡ posted }
 {
+    let count = firsts.len();
     let next = entry + 1;
-    if next < firsts.len() {
+    if next < count {
         *firsts.at(next)
     } else {
         posted

@@ -35,7 +35,7 @@ impl KidTable {
     ghost use Rattle.std.specs.List.{position};
     ghost use Rattle.hd_task.specs.declared.plan.TheConstants.{ROOT_PARENT};
     ghost use Rattle.hd_chunks.specs.declared.chunks.TheConstants.{MOST_ITEMS};
-    ghost use Rattle.hd_kids.specs.Kids.{root, same_kid, settled_count, IsSame, ComesAfter, with_mark, with_entry, with_kid};
+    ghost use Rattle.hd_kids.specs.Kids.{root, same_kid, settled_count, IsSame, ComesAfter, HasNone, with_mark, with_entry, with_kid};
 
     /// The table of a search that has not begun: the root is posted.
     ///
@@ -81,7 +81,8 @@ impl KidTable {
     pub fn enter(&mut self)
         requires room { 0 < self.old.entry_room }
         requires few { self.old.entries < ROOT_PARENT }
-        ensures { self.new ≡ with_entry self.old }
+        ensures entered { self.new ≡ with_entry self.old }
+        ensures fresh { HasNone self.old.kids self.old.entries }
     {
         let first = self.actions.len();
         self.firsts.push(first);
@@ -151,6 +152,7 @@ impl KidTable {
         ensures place { result ≡ position (same_kid kid) self.now.kids }
         ensures within { IfSome result (λ k. k < length self.now.kids) }
     {
+        let posted = self.actions.len();
         if kid.parent == ROOT_PARENT {
             return if kid.action == ROOT_ACTION {
                 Some(0)
@@ -162,7 +164,7 @@ impl KidTable {
         if entry >= self.firsts.len() {
             return None;
         }
-        let end = end_of(&self.firsts, self.actions.len(), entry);
+        let end = end_of(&self.firsts, posted, entry);
         place_in(&self.actions, *self.firsts.at(entry), end, kid.action)
     }
 

@@ -56,5 +56,5 @@ fn tables_are_as_plain_lists(rt: HostRuntime) -> Result<(), Fail> {
 
 #[test]
 fn long_tables_are_as_plain_lists(rt: HostRuntime) -> Result<(), Fail> {
-    run(&rt, rt.alloc(), 77, 6000)
+    run(&rt, rt.alloc(), 77, 1500)
 }

@@ -5,7 +5,8 @@ ghost use Rattle.hd_book.specs.Settling.{IsOf};
 
 use crate::outcomes::{Pair, ROOT, Row, batch_of};
 use crate::scripts::{
-    Comes, Line, Says, Script, assert_counts, assert_refused, assert_spent, assert_taken,
+    Comes, Line, Says, Script, assert_counts, assert_node, assert_plan, assert_refused,
+    assert_spent, assert_taken, follow,
 };
 use crate::tasks::{idle_actions, two_steps};
 use crate::trials::{Trial, Which, assert_trial};
@@ -645,4 +646,40 @@ fn with_two_books(rt: &impl Abort, alloc: Global, task: &Task) -> Result<(), Fai
 fn tokens_of_another_book_are_not_out(rt: HostRuntime) -> Result<(), Fail> {
     let task = two_steps(&rt, rt.alloc())?;
     with_two_books(&rt, rt.alloc(), &task)
+}
+
+// ---- what is read of entries
+
+/// The hashes of the states that the two steps lead to: that of no atom, of a, and of a and b.
+const HASHES: [u64; 3] = [0, 0xE220_A839_7B1D_CDAF, 0x7578_9DE7_678A_9B61];
+
+/// Expands the root and the kids of the two steps, and reads what the entries lead to, and the plan.
+fn read_entries(rt: &impl Abort, alloc: Global, task: &Task) -> Result<(), Fail> {
+    let mut book = Book::new(alloc, task, MOST)?;
+    follow(rt, alloc, &mut book, task, &[ROOT_TAKEN])?;
+    assert!(rt; book.extract()?.is_none());
+    follow(rt, alloc, &mut book, task, &TWO_MORE)?;
+    for (number, hash) in HASHES.iter().enumerate() {
+        assert_node(rt, &book, number as u64, *hash, number as u64);
+    }
+    assert_plan(rt, &book, &[0, 1])
+}
+
+const TWO_MORE: [Line; 2] = [
+    Line::Batch(
+        &[TO_A],
+        Comes::Released(1, 2, &[((1, 1), 2)]),
+        [2, 3, 2, 2, 2],
+    ),
+    Line::Batch(
+        &[Row::Expanded((1, 1), &[true, true], 2)],
+        Comes::Released(2, 3, &[((2, 1), 3)]),
+        [3, 4, 3, 3, 3],
+    ),
+];
+
+#[test]
+fn entries_lead_to_their_states(rt: HostRuntime) -> Result<(), Fail> {
+    let task = two_steps(&rt, rt.alloc())?;
+    read_entries(&rt, rt.alloc(), &task)
 }

@@ -139,8 +139,10 @@ pub fn assert_counts(rt: &impl Abort, book: &Book, counted: Counted) {
 pub fn assert_entries(rt: &impl Abort, book: &Book, entries: &[Pair]) {
     for (number, pair) in entries.iter().enumerate() {
         assert!(rt; book.entry(number as u64) == Some(kid(*pair)));
+        assert!(rt; book.node(number as u64).is_some());
     }
     assert!(rt; book.entry(entries.len() as u64).is_none());
+    assert!(rt; book.node(entries.len() as u64).is_none());
 }
 
 fn is_plan(plan: &Plan, actions: &[u32]) -> bool {
@@ -164,6 +166,26 @@ fn is_said(verdict: &Option<Verdict>, says: Says) -> bool {
 pub fn assert_verdict(rt: &impl Abort, book: &Book, says: Says) -> Result<(), Fail> {
     let verdict = book.verdict()?;
     assert!(rt; is_said(&verdict, says));
+    Ok(())
+}
+
+/// The entry of a number leads to the state of this hash at this cost.
+pub fn assert_node(rt: &impl Abort, book: &Book, number: u64, hash: u64, cost: u64) {
+    match book.node(number) {
+        Some((state, found)) => {
+            assert!(rt; state.hash() == hash);
+            assert!(rt; found == cost);
+        }
+        None => panic!(rt; "no such entry"),
+    }
+}
+
+/// The plan of the bound is this one.
+pub fn assert_plan(rt: &impl Abort, book: &Book, actions: &[u32]) -> Result<(), Fail> {
+    match book.extract()? {
+        Some(plan) => assert!(rt; is_plan(&plan, actions)),
+        None => panic!(rt; "no plan"),
+    }
     Ok(())
 }
 

@@ -12,10 +12,10 @@ invariant-loop-outcome l = record {
   whole : l.yielded ++ into_iter_items l.outcome-iterator ≡ l.fn.outcomes.items;
   left : into_iter_len l.outcome-iterator ≡ length (into_iter_items l.outcome-iterator);
   of_task : AllByRecursion (IsOf l.task) (into_iter_items l.outcome-iterator);
-  room : vec_len l.entries + length (entered_by (into_iter_items l.outcome-iterator)) ≤ vec_capacity l.entries;
+  room : length (entered_by (into_iter_items l.outcome-iterator)) ≤ l.entries.room;
   kids : vec_len l.parcels + kids_in (into_iter_items l.outcome-iterator) ≤ vec_capacity l.parcels;
   counted : vec_len l.parcels + kids_in (into_iter_items l.outcome-iterator) ≡ vec_len l.fn.parcels + kids_in l.fn.outcomes.items;
   entries : l.entries.items ++ entered_by (into_iter_items l.outcome-iterator) ≡ l.fn.entries.items ++ entered_by l.fn.outcomes.items;
-  released : map parcel_of l.parcels.items ++ released_by (vec_len l.entries) (into_iter_items l.outcome-iterator) ≡ map parcel_of l.fn.parcels.items ++ released_by (vec_len l.fn.entries) l.fn.outcomes.items;
+  released : map parcel_of l.parcels.items ++ released_by (length l.entries.items) (into_iter_items l.outcome-iterator) ≡ map parcel_of l.fn.parcels.items ++ released_by (length l.fn.entries.items) l.fn.outcomes.items;
   tasks : AllByRecursion (IsParcelOf l.task) l.parcels.items;
 }

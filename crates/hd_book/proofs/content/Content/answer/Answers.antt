@@ -10,10 +10,10 @@ pub returns-in-None-Some : goal.returns-in-None-Some
 returns-in-None-Some c =
     let s = c.args.self.now in
     let E = expansions (state_of s) in
-    (nil_from_slice_get (departures_of s.task.now E) (sym c.requires.held.departure_is ∙ c.in-None-Some.is-0), subst (IsBoundPlanOf s.task.now E) c.in-None-Some.is-1 c.in_ok-plan.ensures)
+    (nil_from_slice_get (departures_of s.expanded.task.now E) (sym c.requires.held.plans.departure_is ∙ c.in-None-Some.is-0), subst (IsBoundPlanOf s.expanded.task.now E) c.in-None-Some.is-1 c.in_ok-plan.ensures)
 
 pub returns-in-None-None : goal.returns-in-None-None
 returns-in-None-None c =
     let s = c.args.self.now in
     let E = expansions (state_of s) in
-    (nil_from_slice_get (departures_of s.task.now E) (sym c.requires.held.departure_is ∙ c.in-None-None.is-0), subst (IsBoundPlanOf s.task.now E) c.in-None-None.is-1 c.in_ok-plan.ensures)
+    (nil_from_slice_get (departures_of s.expanded.task.now E) (sym c.requires.held.plans.departure_is ∙ c.in-None-None.is-0), subst (IsBoundPlanOf s.expanded.task.now E) c.in-None-None.is-1 c.in_ok-plan.ensures)

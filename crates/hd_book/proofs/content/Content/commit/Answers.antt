@@ -1,67 +1,91 @@
-use Rattle.std.proofs.Common.{◌≡◌, ◌+◌, ◌<◌, ◌||◌, ◌^◌, ◌++◌, ◌∙◌, length, sym, ap, ap₂, subst, arith, map}
+use Rattle.std.proofs.Common.{◌≡◌, ◌+◌, ◌<◌, ◌≤◌, ◌++◌, ◌∙◌, Bool, List, length, refl, sym, ap, ap₂, subst, arith, map}
 use Rattle.std.specs.Prelude.{flat_map}
-use Rattle.hd_task.specs.declared.plan.Kid.{Kid}
-use Rattle.hd_book.specs.Settling.{entry_of, is_settled_by}
-use Rattle.hd_book.specs.Holding.{kid_at, has, state_by}
-use Rattle.hd_book.specs.Growing.{entered_by, best_by, departure_by, kids_in, Releases}
-use Rattle.hd_book.proofs.Adding.{entered-count}
+use Rattle.hd_task.specs.declared.task.Task.{Task}
+use Rattle.hd_kids.specs.Kids.{KidsView}
+use Rattle.hd_node.specs.declared.batch.Outcome.{Outcome}
+use Rattle.hd_book.specs.declared.entry.Entry.{Entry}
+use Rattle.hd_book.specs.Settling.{entry_of}
+use Rattle.hd_book.specs.Holding.{kid_at, state_by, state_of}
+use Rattle.hd_book.specs.Admitting.{HasRoomFor, marks_after}
+use Rattle.hd_book.specs.Growing.{entered_by, best_by, departure_by, posted_all, Releases}
 use Rattle.hd_book.proofs.Children.{few_kids}
 use Rattle.std.proofs.lemmas.List.{map-append}
-use Rattle.hd_book.proofs.After.{entered_kids, admitted, state_after, held_after, posted_after, same_held, same_released}
+use Rattle.hd_book.proofs.After.{entered_kids, admitted, state_after, held_after, same_held, same_released, held_again, view_again}
 use Rattle.hd_book.proofs.content.Content.commit.Goals as goal
 
 pub admit-requires-clause-fits : goal.admit-requires-clause-fits
 admit-requires-clause-fits c = few_kids c.args.batch.outcomes c.as_slice.result.now c.as_slice.ensures c.args.batch.few
 
-pub accept-number-requires-clause-room_entries : goal.accept-number-requires-clause-room_entries
-accept-number-requires-clause-room_entries c =
-    omega (arith, c.in-Ok.ensures.room_entries, ap (λ os. length (flat_map entry_of os)) c.as_slice.ensures, ap (λ os. length (entered_by os)) c.into_vec.ensures, entered-count c.args.batch.outcomes)
+pub accept-number-requires-clause-room : goal.accept-number-requires-clause-room
+accept-number-requires-clause-room c =
+    subst (λ (os : List Outcome). HasRoomFor c.admit.new.self os c.in-Ok.parcels) (c.as_slice.ensures ∙ sym c.into_vec.ensures) c.in-Ok.ensures.room
+
+pub accept-number-requires-clause-few : goal.accept-number-requires-clause-few
+accept-number-requires-clause-few c =
+    let s = c.args.self.now in
+    let h = c.requires.held in
+    let a = admitted s c.args.batch.outcomes c.as_slice.result.now c.as_slice.ensures c.in-Ok.ensures.accepted in
+    let room = a.room in
+    let same = ap (λ (os : List Outcome). length (flat_map entry_of os)) c.into_vec.ensures in
+    let entered = c.in-Ok.ensures.same.entered in
+    let count = h.posts.entered in
+    let few = h.numbered in
+    omega (arith, room, same, entered, count, few)
 
 pub returns-in-Ok-clause-held : goal.returns-in-Ok-clause-held
 returns-in-Ok-clause-held c =
     let s = c.args.self.now in
-    let t = s.task.now in
+    let t = s.expanded.task.now in
+    let m = c.admit.new.self in
     let h = c.requires.held in
     let os = c.args.batch.outcomes in
     let d = c.accept-number.new.self in
+    let stays = c.in-Ok.ensures.same in
+    let e = c.accept-number.ensures in
     let same = c.into_vec.ensures in
     let a = admitted s os c.as_slice.result.now c.as_slice.ensures c.in-Ok.ensures.accepted in
-    let grown : (k : Kid) → has d.settled.keys k ≡ (has s.settled.keys k || is_settled_by os k) = λ k. c.accept-number.ensures.settled k ∙ (ap (λ b. b || is_settled_by c.into_vec.result.items k) (c.in-Ok.ensures.reordered k) ∙ ap (λ xs. has s.settled.keys k || is_settled_by xs k) same) in
-    let number : c.admit.new.self.entries.len ≡ length s.entries.items = c.admit.new.self.entries.ok.0 ∙ ap length c.in-Ok.ensures.entries in
-    let released : Releases t (length s.entries.items) os s.tickets.items d.tickets.items =
-    same_released c.in-Ok.ensures.task number same c.in-Ok.ensures.tickets c.accept-number.ensures.tickets
-    in
-    let held = held_after t s.entries.items s.settled.keys s.posted s.best s.departure s.tickets.items s.most h os c.requires.of_task a.nothing a.room d.settled.keys grown c.args.batch.some d.tickets.items released in
-    let ks = map kid_at (s.entries.items ++ entered_by os) in
+    let marks : m.kids.marks ≡ marks_after (state_of s) os = c.in-Ok.ensures.marks ∙ ap (marks_after (state_of s)) c.as_slice.ensures in
+    let number : length m.expanded.entries.items ≡ length s.expanded.entries.items = ap (λ (es : List Entry). length es) stays.entries in
+    let released : Releases t (length s.expanded.entries.items) os s.tickets.items d.tickets.items = same_released stays.task number same stays.tickets e.tickets in
     same_held
-    (sym (c.accept-number.ensures.task ∙ c.in-Ok.ensures.task))
-    (sym (c.accept-number.ensures.entries ∙ ap₂ (λ xs os. xs ++ entered_by os) c.in-Ok.ensures.entries same))
-    (posted_after t ks s.posted (kids_in os) c.admit.new.self.posted d.posted held.kept.named held.kept.short held.posted_is c.in-Ok.ensures.posted
-    (λ fits. c.accept-number.ensures.posted (subst (λ os. c.admit.new.self.posted + kids_in os < 2 ^ 64) (sym same) fits) ∙ ap (λ os. c.admit.new.self.posted + kids_in os) same))
-    (sym (c.accept-number.ensures.best ∙ (ap₂ (λ b n. best_by b n c.into_vec.result.items) c.in-Ok.ensures.best number ∙ ap (λ os. best_by s.best (length s.entries.items) os) same)))
-    (sym (c.accept-number.ensures.departure ∙ (ap₂ (λ b n. departure_by b n c.into_vec.result.items) c.in-Ok.ensures.departure number ∙ ap (λ os. departure_by s.departure (length s.entries.items) os) same)))
-    (sym (c.accept-number.ensures.most ∙ c.in-Ok.ensures.most))
-    held
+    (sym (e.task ∙ stays.task))
+    (sym (e.entries ∙ ap₂ (λ xs os. xs ++ entered_by os) stays.entries same))
+    (sym (e.best ∙ (ap₂ (λ b n. best_by b n c.into_vec.result.items) stays.best number ∙ ap (λ os. best_by s.expanded.best (length s.expanded.entries.items) os) same)))
+    (sym (e.departure ∙ (ap₂ (λ b n. departure_by b n c.into_vec.result.items) stays.departure number ∙ ap (λ os. departure_by s.expanded.departure (length s.expanded.entries.items) os) same)))
+    (sym (e.kids ∙ ap (λ os. posted_all m.kids os) same))
+    refl
+    (sym (e.most ∙ stays.most))
+    (held_after t s.expanded.entries.items s.expanded.best s.expanded.departure s.kids s.tickets.items s.most h os c.requires.of_task a.nothing a.room m.kids stays.posted stays.entered marks c.args.batch.some d.tickets.items released)
 
 pub returns-in-Ok-clause-state : goal.returns-in-Ok-clause-state
 returns-in-Ok-clause-state c =
     let s = c.args.self.now in
-    let t = s.task.now in
+    let t = s.expanded.task.now in
+    let m = c.admit.new.self in
     let os = c.args.batch.outcomes in
-    let d = c.accept-number.new.self in
+    let stays = c.in-Ok.ensures.same in
+    let e = c.accept-number.ensures in
     let same = c.into_vec.ensures in
     let a = admitted s os c.as_slice.result.now c.as_slice.ensures c.in-Ok.ensures.accepted in
-    let grown : (k : Kid) → has d.settled.keys k ≡ (has s.settled.keys k || is_settled_by os k) = λ k. c.accept-number.ensures.settled k ∙ (ap (λ b. b || is_settled_by c.into_vec.result.items k) (c.in-Ok.ensures.reordered k) ∙ ap (λ xs. has s.settled.keys k || is_settled_by xs k) same) in
-    ap₂ (λ u es. state_by u (map kid_at es) d.settled.keys)
-    (c.accept-number.ensures.task ∙ c.in-Ok.ensures.task)
-    (c.accept-number.ensures.entries ∙ ap₂ (λ xs os. xs ++ entered_by os) c.in-Ok.ensures.entries same)
-    ∙ state_after t s.entries.items s.settled.keys s.posted s.best s.departure s.tickets.items s.most c.requires.held os c.requires.of_task a.nothing a.room d.settled.keys grown
+    let marks : m.kids.marks ≡ marks_after (state_of s) os = c.in-Ok.ensures.marks ∙ ap (marks_after (state_of s)) c.as_slice.ensures in
+    ap (λ (u : Task). state_by u c.accept-number.new.self.expanded.entries.items c.accept-number.new.self.kids.marks) (e.task ∙ stays.task)
+    ∙ (ap₂ (λ (es : List Entry) (table : KidsView). state_by t es table.marks)
+    (e.entries ∙ ap₂ (λ xs os. xs ++ entered_by os) stays.entries same)
+    (e.kids ∙ ap (λ os. posted_all m.kids os) same)
+    ∙ state_after t s.expanded.entries.items s.expanded.best s.expanded.departure s.kids s.tickets.items s.most c.requires.held os c.requires.of_task a.nothing a.room m.kids stays.posted stays.entered marks)
 
 pub returns-in-Ok-clause-grown : goal.returns-in-Ok-clause-grown
 returns-in-Ok-clause-grown c =
     let s = c.args.self.now in
-    ap (map kid_at) (c.accept-number.ensures.entries ∙ ap₂ (λ xs os. xs ++ entered_by os) c.in-Ok.ensures.entries c.into_vec.ensures)
-    ∙ (map-append kid_at s.entries.items (entered_by c.args.batch.outcomes) ∙ ap (λ ks. map kid_at s.entries.items ++ ks) (entered_kids c.args.batch.outcomes))
+    let stays = c.in-Ok.ensures.same in
+    ap (map kid_at) (c.accept-number.ensures.entries ∙ ap₂ (λ xs os. xs ++ entered_by os) stays.entries c.into_vec.ensures)
+    ∙ (map-append kid_at s.expanded.entries.items (entered_by c.args.batch.outcomes) ∙ ap (λ ks. map kid_at s.expanded.entries.items ++ ks) (entered_kids c.args.batch.outcomes))
 
 pub returns-in-Ok-clause-begins : goal.returns-in-Ok-clause-begins
 returns-in-Ok-clause-begins c = (flat_map entry_of c.args.batch.outcomes, returns-in-Ok-clause-grown c)
+
+pub returns-in-Err-clause-held : goal.returns-in-Err-clause-held
+returns-in-Err-clause-held c = held_again c.args.self.now c.admit.new.self c.in-Err.ensures.same c.in-Err.ensures.err c.requires.held
+
+pub returns-in-Err-clause-err : goal.returns-in-Err-clause-err
+returns-in-Err-clause-err c = view_again c.args.self.now c.admit.new.self c.in-Err.ensures.same c.in-Err.ensures.err

@@ -11,7 +11,7 @@ use Rattle.hd_book.proofs.content.Content.redeem.Goals as goal
 pub returns-in-Some-clause-released : goal.returns-in-Some-clause-released
 returns-in-Some-clause-released c =
     let s = c.args.self.now in
-    let t = s.task.now in
+    let t = s.expanded.task.now in
     let k = c.args.ticket in
     let o = c.in-Some.out in
     let p = c.into_parts-number.ensures in

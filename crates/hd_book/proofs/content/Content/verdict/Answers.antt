@@ -12,4 +12,4 @@ pub returns-clause-is_true : goal.returns-clause-is_true
 returns-clause-is_true c =
     let s = c.args.self.now in
     let covered = covered_when_full s c.requires.held (sym c.counts-counts.ensures.settled ∙ (c.if-counts.false ∙ c.counts-counts.ensures.posted)) in
-    answer_true s.task.now (expansions (state_of s)) c.in_ok-answer.field-0 covered c.in_ok-answer.ensures
+    answer_true s.expanded.task.now (expansions (state_of s)) c.in_ok-answer.field-0 covered c.in_ok-answer.ensures

@@ -22,3 +22,12 @@ returns-clause-items c =
     let lt : c.args.number < s.len = omega (arith, view, len, within) in
     bits_put s.words.items c.write.new.words.items s.len c.args.number c.args.bit lt c.write.ensures.written c.write.ensures.others
     ∙ ap (λ (v : BitsView). set v.items c.args.number c.args.bit) c.self.view_is
+
+pub returns-clause-few : goal.returns-clause-few
+returns-clause-few c =
+    let s = c.self.inside in
+    let len = length-map-range_with_len (bit_in c.write.new.words.items) 0 s.len in
+    let few = c.write.ensures.few in
+    let same = c.write.ensures.len in
+    let enough = c.self.invariant in
+    omega (arith, len, few, same, enough)

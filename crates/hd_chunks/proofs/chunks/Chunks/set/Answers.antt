@@ -4,7 +4,7 @@ use Rattle.std.specs.Vec.{with_item}
 use Rattle.std.specs.declared.alloc.Global.{Global}
 use Rattle.hd_chunks.specs.declared.chunks.TheConstants.{CHUNK}
 use Rattle.hd_chunks.specs.Chunks.{ChunksView, items_in, AreChunks}
-use Rattle.hd_chunks.proofs.Filling.{chunk_within, item_within, length-items_in, items_put, chunks_put}
+use Rattle.hd_chunks.proofs.Filling.{chunk_within, chunks_enough, item_within, length-items_in, items_put, chunks_put}
 use Rattle.hd_chunks.proofs.chunks.Chunks.set.Goals as goal
 
 pub index_mut-chunk-requires : goal.index_mut-chunk-requires
@@ -63,3 +63,21 @@ returns-clause-items g c =
     items_put cs s.len c.args.number w w' c.args.item c.self.invariant.2 lt
     (ap (λ (u : Vec g.row.T.Denot Global). set u.items (c.args.number % CHUNK) c.args.item) c.index_mut-chunk.ensures.value)
     ∙ ap (λ (v : ChunksView g.row.T.Denot). set v.items c.args.number c.args.item) c.self.view_is
+
+pub returns-clause-few : goal.returns-clause-few
+returns-clause-few g c =
+    let s = c.self.inside in
+    let cs = s.chunks.items in
+    let items = ap (λ (v : ChunksView g.row.T.Denot). length v.items) c.self.view_is in
+    let count = c.self.invariant.0 in
+    let within = c.requires in
+    let lt : c.args.number < s.len = omega (arith, items, count, within) in
+    let w = c.index_mut-chunk.result.now in
+    let put = items_put cs s.len c.args.number w (with_item w (c.args.number % CHUNK) c.args.item) c.args.item c.self.invariant.2 lt
+    (ap (λ (u : Vec g.row.T.Denot Global). set u.items (c.args.number % CHUNK) c.args.item) c.index_mut-chunk.ensures.value) in
+    let as_many = ap length put in
+    let same = length-set (items_in cs) c.args.number c.args.item in
+    let chunks = length-set cs (c.args.number / CHUNK) (with_item w (c.args.number % CHUNK) c.args.item) in
+    let few = c.self.invariant.1 in
+    let enough = chunks_enough cs s.len c.self.invariant.2 in
+    omega (arith, as_many, same, chunks, count, few, enough)

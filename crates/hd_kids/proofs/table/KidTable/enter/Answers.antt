@@ -1,8 +1,8 @@
 use Rattle.std.proofs.Common.{◌∙◌, ◌<◌, ◌++◌, ◌∷◌, [], ℕ, List, length, sym, ap, subst, arith}
 use Rattle.hd_task.specs.declared.plan.TheConstants.{ROOT_PARENT}
-use Rattle.hd_kids.specs.Kids.{KidsView, with_entry}
+use Rattle.hd_kids.specs.Kids.{KidsView, HasNone, with_entry}
 use Rattle.hd_kids.specs.Places.{AreKids}
-use Rattle.hd_kids.proofs.Placing.{entered_kept}
+use Rattle.hd_kids.proofs.Placing.{entered_kept, none_yet}
 use Rattle.hd_kids.proofs.Showing.{shown_entered}
 use Rattle.hd_kids.proofs.table.KidTable.enter.Goals as goal
 
@@ -15,8 +15,15 @@ invariant_of-self c =
     (sym (c.push.ensures.items ∙ ap (λ (n : ℕ). s.firsts.items ++ n ∷ []) c.len-first.ensures.len))
     (entered_kept s.firsts.items s.actions.items s.marks.items s.settled c.self.invariant few)
 
-pub returns : goal.returns
-returns c =
+pub returns-clause-entered : goal.returns-clause-entered
+returns-clause-entered c =
     let s = c.self.inside in
     shown_entered s.firsts c.push.new.self s.actions s.marks c.len-first.result c.len-first.ensures.len c.push.ensures.items c.push.ensures.room
     ∙ ap with_entry c.self.view_is
+
+pub returns-clause-fresh : goal.returns-clause-fresh
+returns-clause-fresh c =
+    let s = c.self.inside in
+    let e = ap (λ (t : KidsView). t.entries) c.self.view_is in
+    subst (λ (t : KidsView). HasNone t.kids t.entries) c.self.view_is
+    (none_yet s.firsts.items s.actions.items (omega (arith, e, c.requires.few)))

@@ -1,4 +1,4 @@
-use Rattle.std.proofs.Common.{◌∙◌, ◌<◌, ◌-◌, Bool, ℕ, List, length, sym, ap, subst, arith}
+use Rattle.std.proofs.Common.{◌∙◌, ◌<◌, ◌-◌, ◌++◌, ◌∷◌, [], Bool, false, ℕ, List, length, sym, ap, subst, arith}
 use Rattle.hd_kids.specs.Kids.{KidsView, ComesAfter, with_kid}
 use Rattle.hd_kids.specs.Places.{kids_by, AreKids}
 use Rattle.hd_kids.proofs.Placing.{posted_kept}
@@ -12,7 +12,7 @@ invariant_of-self c =
     let some : 0 < length s.firsts.items = omega (arith, e, c.requires.entered) in
     let after = subst (λ (t : KidsView). ComesAfter t.kids (t.entries - 1) c.args.action) (sym c.self.view_is) c.requires.after in
     subst (λ (ms : List Bool). AreKids s.firsts.items c.push.new.self.items ms s.settled) (sym c.push-2.ensures.items)
-    (subst (λ (xs : List ℕ). AreKids s.firsts.items xs _ s.settled) (sym c.push.ensures.items)
+    (subst (λ (xs : List ℕ). AreKids s.firsts.items xs (s.marks.items ++ false ∷ []) s.settled) (sym c.push.ensures.items)
     (posted_kept s.firsts.items s.actions.items s.marks.items s.settled c.args.action c.self.invariant some after))
 
 pub returns : goal.returns

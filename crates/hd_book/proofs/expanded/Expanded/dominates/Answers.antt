@@ -4,28 +4,26 @@ use Rattle.std.proofs.lemmas.Option.{slice_get_past, slice_get_read}
 use Rattle.hd_task.specs.declared.state.State.{State}
 use Rattle.hd_task.specs.Plans.{node}
 use Rattle.hd_book.specs.Settling.{node_by, dominates, expanded_node}
-use Rattle.hd_book.specs.Holding.{state_of}
-use Rattle.hd_book.proofs.Held.{entry_node, no_entry}
-use Rattle.hd_book.proofs.content.Content.dominates.Goals as goal
+use Rattle.hd_book.specs.Holding.{unmarked}
+use Rattle.hd_book.proofs.Held.{entry_found, entry_missing}
+use Rattle.hd_book.proofs.expanded.Expanded.dominates.Goals as goal
 
 pub returns-in-Some : goal.returns-in-Some
 returns-in-Some c =
-    let entries = c.args.self.now.entries.items in
     let n = c.in-Entry.number in
-    let lt : n < length entries = subst (λ xs. n < length xs) c.deref.ensures.value (ltb-true n (length c.deref.result.now) (sym c.in-Some.ensures.lookup.0)) in
-    let found = c.in-Some.ensures.lookup.1 in
+    let e = c.in-Some.entry.now in
+    let to = Some (node c.args.reached.now.state c.args.reached.now.cost) in
     c.is_no_dearer.ensures
-    ∙ ap (λ (s : State). dominates (Some (node s c.in-Some.entry.now.cost)) (Some (node c.args.reached.now.state c.args.reached.now.cost))) c.state.ensures
-    ∙ ap (λ o. dominates o (Some (node c.args.reached.now.state c.args.reached.now.cost)))
-    (sym (ap (node_by (state_of c.args.self.now) c.args.earlier.now) c.in-Entry.is
-    ∙ entry_node c.args.self.now c.requires.held n c.in-Some.entry.now c.in-Some.entry.now lt (found ∙ ap (λ xs. get_or xs n c.in-Some.entry.now) c.deref.ensures.value)))
+    ∙ (ap (λ (s : State). dominates (Some (node s e.cost)) to) c.state.ensures
+    ∙ ap (λ o. dominates o to)
+    (sym (ap (node_by (unmarked c.args.self.now) c.args.earlier.now) c.in-Entry.is
+    ∙ entry_found c.args.self.now c.requires.held n e (sym c.in-Some.ensures))))
 
 pub returns-in-None : goal.returns-in-None
 returns-in-None c =
     let n = c.in-Entry.number in
-    let le : length c.args.self.now.entries.items ≤ n = subst (λ xs. length xs ≤ n) c.deref.ensures.value (ltb-false n (length c.deref.result.now) (sym c.in-None.ensures.lookup.0)) in
     ap (λ o. dominates o (Some (node c.args.reached.now.state c.args.reached.now.cost)))
-    (sym (ap (node_by (state_of c.args.self.now) c.args.earlier.now) c.in-Entry.is ∙ no_entry c.args.self.now c.requires.held n le))
+    (sym (ap (node_by (unmarked c.args.self.now) c.args.earlier.now) c.in-Entry.is ∙ entry_missing c.args.self.now c.requires.held n (sym c.in-None.ensures)))
 
 pub returns-in-Some-Expanded : goal.returns-in-Some-Expanded
 returns-in-Some-Expanded c =
@@ -35,7 +33,7 @@ returns-in-Some-Expanded c =
     c.is_no_dearer-in-Some-Expanded.ensures
     ∙ ap₂ (λ s k. dominates (Some (node s k)) (Some (node c.args.reached.now.state c.args.reached.now.cost))) c.state-in-Some-Expanded.ensures c.cost.ensures
     ∙ ap (λ o. dominates o (Some (node c.args.reached.now.state c.args.reached.now.cost)))
-    (sym (ap (node_by (state_of c.args.self.now) c.args.earlier.now) c.in-Here.is
+    (sym (ap (node_by (unmarked c.args.self.now) c.args.earlier.now) c.in-Here.is
     ∙ (ap expanded_node (slice_get_read c.args.earlier.now _ n o refl (ltb-true n (length c.args.earlier.now) (sym c.in-Some-Expanded.ensures.lookup.0)) found)
     ∙ ap (λ x. expanded_node (Some x)) c.in-Some-Expanded.field-0-is)))
 
@@ -44,7 +42,7 @@ returns-in-Some-Duplicate c =
     let n = c.in-Here.place in
     let found = c.in-Some-Duplicate.ensures.lookup.1 in
     ap (λ o. dominates o (Some (node c.args.reached.now.state c.args.reached.now.cost)))
-    (sym (ap (node_by (state_of c.args.self.now) c.args.earlier.now) c.in-Here.is
+    (sym (ap (node_by (unmarked c.args.self.now) c.args.earlier.now) c.in-Here.is
     ∙ (ap expanded_node (slice_get_read c.args.earlier.now _ n c.in-Some-Duplicate.field-0.now refl (ltb-true n (length c.args.earlier.now) (sym c.in-Some-Duplicate.ensures.lookup.0)) found)
     ∙ ap (λ x. expanded_node (Some x)) c.in-Some-Duplicate.field-0-is)))
 
@@ -53,7 +51,7 @@ returns-in-Some-Bounded c =
     let n = c.in-Here.place in
     let found = c.in-Some-Bounded.ensures.lookup.1 in
     ap (λ o. dominates o (Some (node c.args.reached.now.state c.args.reached.now.cost)))
-    (sym (ap (node_by (state_of c.args.self.now) c.args.earlier.now) c.in-Here.is
+    (sym (ap (node_by (unmarked c.args.self.now) c.args.earlier.now) c.in-Here.is
     ∙ (ap expanded_node (slice_get_read c.args.earlier.now _ n c.in-Some-Bounded.field-0.now refl (ltb-true n (length c.args.earlier.now) (sym c.in-Some-Bounded.ensures.lookup.0)) found)
     ∙ ap (λ x. expanded_node (Some x)) c.in-Some-Bounded.field-0-is)))
 
@@ -61,5 +59,5 @@ pub returns-in-None-get : goal.returns-in-None-get
 returns-in-None-get c =
     let n = c.in-Here.place in
     ap (λ o. dominates o (Some (node c.args.reached.now.state c.args.reached.now.cost)))
-    (sym (ap (node_by (state_of c.args.self.now) c.args.earlier.now) c.in-Here.is
+    (sym (ap (node_by (unmarked c.args.self.now) c.args.earlier.now) c.in-Here.is
     ∙ ap expanded_node (slice_get_past c.args.earlier.now n (ltb-false n (length c.args.earlier.now) (sym c.in-None-get.ensures.lookup.0)))))

@@ -1,14 +1,14 @@
 use Rattle.std.proofs.Common.{◌≡◌, ◌<◌, ◌++◌, [], map, length, get_or, reverse}
 use Rattle.hd_book.specs.Settling.{expansions}
-use Rattle.hd_book.specs.Holding.{state_of, IsHeld}
-use Rattle.hd_book.proofs.content.Content.plan_to.Given as goal
+use Rattle.hd_book.specs.Holding.{unmarked, IsExpanded}
+use Rattle.hd_book.proofs.expanded.Expanded.plan_to.Given as goal
 
 -- the plan is that of the entry where the walk stands, followed by the actions passed, the last one first
 abbrev pub invariant-loop-kid : goal.invariant-loop-kid
 invariant-loop-kid l = record {
-  held : IsHeld l.self;
+  held : IsExpanded l.self;
   among : l.number < length l.self.entries.items;
-  passed : get_or (expansions (state_of l.self)) l.entry [] ≡ get_or (expansions (state_of l.self)) l.number [] ++ reverse (map (λ a. a.0) l.actions.items);
+  passed : get_or (expansions (unmarked l.self)) l.entry [] ≡ get_or (expansions (unmarked l.self)) l.number [] ++ reverse (map (λ a. a.0) l.actions.items);
 }
 
 abbrev pub decreases-loop-kid : goal.decreases-loop-kid

@@ -4,26 +4,26 @@ use Rattle.hd_base.proofs.Lists.{map-reverse}
 use Rattle.hd_task.specs.declared.action.ActionId.{ActionId}
 use Rattle.hd_book.specs.declared.entry.Entry.{Entry}
 use Rattle.hd_book.specs.Settling.{expansions}
-use Rattle.hd_book.specs.Holding.{state_of}
+use Rattle.hd_book.specs.Holding.{unmarked}
 use Rattle.hd_book.proofs.Walking.{root_plan, entry_plan}
-use Rattle.hd_book.proofs.content.Content.plan_to.Goals as goal
+use Rattle.hd_book.proofs.expanded.Expanded.plan_to.Goals as goal
 
 pub loop-kid-smaller : goal.loop-kid-smaller
 loop-kid-smaller c =
     let s = c.args.self.now in
     let l = c.loop-kid in
-    let e = c.index-in-loop-kid.result.now in
-    let same : c.index.result.now ≡ e = c.index.ensures ∙ (get_or_default s.entries.items l.number c.index.result.now e l.invariant.among ∙ sym c.index-in-loop-kid.ensures) in
-    (entry_plan s c.requires.held l.number e l.invariant.among c.index-in-loop-kid.ensures (λ is. c.loop-kid-test.true (ap (λ (x : Entry). x.kid.parent) same ∙ is))).before
+    let e = c.at-in-loop-kid.result.now in
+    let same : c.at.result.now ≡ e = c.at.ensures ∙ (get_or_default s.entries.items l.number c.at.result.now e l.invariant.among ∙ sym c.at-in-loop-kid.ensures) in
+    (entry_plan s c.requires.held l.number e l.invariant.among c.at-in-loop-kid.ensures (λ is. c.loop-kid-test.true (ap (λ (x : Entry). x.kid.parent) same ∙ is))).before
 
 pub loop-kid-preserved : goal.loop-kid-preserved
 loop-kid-preserved c =
     let s = c.args.self.now in
-    let E = expansions (state_of s) in
+    let E = expansions (unmarked s) in
     let l = c.loop-kid in
-    let e = c.index-in-loop-kid.result.now in
-    let same : c.index.result.now ≡ e = c.index.ensures ∙ (get_or_default s.entries.items l.number c.index.result.now e l.invariant.among ∙ sym c.index-in-loop-kid.ensures) in
-    let step = entry_plan s c.requires.held l.number e l.invariant.among c.index-in-loop-kid.ensures (λ is. c.loop-kid-test.true (ap (λ (x : Entry). x.kid.parent) same ∙ is)) in
+    let e = c.at-in-loop-kid.result.now in
+    let same : c.at.result.now ≡ e = c.at.ensures ∙ (get_or_default s.entries.items l.number c.at.result.now e l.invariant.among ∙ sym c.at-in-loop-kid.ensures) in
+    let step = entry_plan s c.requires.held l.number e l.invariant.among c.at-in-loop-kid.ensures (λ is. c.loop-kid-test.true (ap (λ (x : Entry). x.kid.parent) same ∙ is)) in
     let passed = map (λ (a : ActionId). a.0) l.actions.items in
     let pushed : reverse (map (λ (a : ActionId). a.0) c.push.new.self.items) ≡ e.kid.action ∷ reverse passed =
     ap (λ xs. reverse (map (λ (a : ActionId). a.0) xs)) c.in_ok-push.ensures.items
@@ -42,8 +42,8 @@ pub returns : goal.returns
 returns c =
     let s = c.args.self.now in
     let l = c.loop-kid in
-    let e = c.index.result.now in
+    let e = c.at.result.now in
     c.from_vec.ensures
     ∙ (ap (map (λ (a : ActionId). a.0)) c.reverse.ensures.items
     ∙ (map-reverse (λ (a : ActionId). a.0) l.actions.items
-    ∙ sym (l.invariant.passed ∙ ap (λ p. p ++ reverse (map (λ (a : ActionId). a.0) l.actions.items)) (root_plan s c.requires.held l.number e l.invariant.among c.index.ensures c.loop-kid-test.false))))
+    ∙ sym (l.invariant.passed ∙ ap (λ p. p ++ reverse (map (λ (a : ActionId). a.0) l.actions.items)) (root_plan s c.requires.held l.number e l.invariant.among c.at.ensures c.loop-kid-test.false))))
