@@ -66,8 +66,8 @@ module _ (t : Task) (entries : List Kid) (marks0 : List Bool) (kept : IsKept (re
   abbrev before : BookState
   before = record { task = t; entries = entries; marks = marks0 }
 
-  abbrev with : List Bool → BookState
-  with marks = record { task = t; entries = entries; marks = marks }
+  abbrev holding : List Bool → BookState
+  holding marks = record { task = t; entries = entries; marks = marks }
 
   abbrev P : List Kid
   P = posted_by t (expansions before)
@@ -89,7 +89,7 @@ module _ (t : Task) (entries : List Kid) (marks0 : List Bool) (kept : IsKept (re
       let each = kept.marked.one_each in
       omega (arith, lt, each, long)
 
-  pub length-marks_after : (outcomes : List Outcome) (marks : List Bool) → length (marks_after (with marks) outcomes) ≡ length marks
+  pub length-marks_after : (outcomes : List Outcome) (marks : List Bool) → length (marks_after (holding marks) outcomes) ≡ length marks
   length-marks_after [] marks = refl
   length-marks_after (o ∷ outcomes) marks =
       length-marks_after outcomes (set marks (place_of before (kid_of o)) true) ∙ length-set marks (place_of before (kid_of o)) true
@@ -97,7 +97,7 @@ module _ (t : Task) (entries : List Kid) (marks0 : List Bool) (kept : IsKept (re
   -- the marks after outcomes whose kids are posted
   pub marked_at :
       (outcomes : List Outcome) (marks : List Bool) → length marks ≡ length marks0 → AllByRecursion (λ o. is_posted before (kid_of o) ≡ true) outcomes → (j : ℕ) → j < length marks0
-      → get_or (marks_after (with marks) outcomes) j true ≡ (get_or marks j true || is_settled_by outcomes (get_or P j root))
+      → get_or (marks_after (holding marks) outcomes) j true ≡ (get_or marks j true || is_settled_by outcomes (get_or P j root))
   marked_at [] marks long posted j lt = sym (or-false (get_or marks j true))
   marked_at (o ∷ outcomes) marks long posted j lt =
       let k = kid_of o in
@@ -105,7 +105,7 @@ module _ (t : Task) (entries : List Kid) (marks0 : List Bool) (kept : IsKept (re
       let q = get_or P j root in
       let rest = is_settled_by outcomes q in
       marked_at outcomes (set marks p true) (length-set marks p true ∙ long) posted.1 j lt
-      ∙ elim (cases_eq j p) [
+      ∙ (elim (cases_eq j p) [
         | inl e ↦
             let same : q ≡ k = ap (λ (n : ℕ). get_or P n root) e ∙ (stands before kept k posted.0).kid in
             first_marked (get_or (set marks p true) j true) (get_or marks j true) (same_kid q k) rest
@@ -115,7 +115,7 @@ module _ (t : Task) (entries : List Kid) (marks0 : List Bool) (kept : IsKept (re
             later_marked (get_or (set marks p true) j true) (get_or marks j true) (same_kid q k) rest
             (get_or-set_other marks p j true true ne)
             (other_there k posted.0 j lt ne)
-      ]
+      ])
 
   -- the marks are those of the book and of the kids of outcomes
   record AreMarked (earlier : List Outcome) (marks : List Bool) : Type 0 where
@@ -147,13 +147,13 @@ module _ (t : Task) (entries : List Kid) (marks0 : List Bool) (kept : IsKept (re
   }
 
   -- an outcome is refused the same way
-  same_refusal : (earlier : List Outcome) (marks : List Bool) (o : Outcome) → AreMarked earlier marks → refusal_at (with marks) earlier o ≡ refusal_of before earlier o
+  same_refusal : (earlier : List Outcome) (marks : List Bool) (o : Outcome) → AreMarked earlier marks → refusal_at (holding marks) earlier o ≡ refusal_of before earlier o
   same_refusal earlier marks o m =
       let k = kid_of o in
       let p = place_of before k in
       let known = knows_parent before k in
       let why = refusal_by before earlier o in
-      let now = is_marked (with marks) k in
+      let now = is_marked (holding marks) k in
       let then = is_marked before k || is_settled_by earlier k in
       elim (is_posted before k) as (λ b. is_posted before k ≡ b
         → cond (not known) (Some UnknownParent) (cond (not b) (Some NotAKid) (cond now (Some SettledBefore) why))
@@ -166,18 +166,18 @@ module _ (t : Task) (entries : List Kid) (marks0 : List Bool) (kept : IsKept (re
         | false ↦ λ _. refl
       ] refl
 
-  firsts_agree : (earlier later : List Outcome) (marks : List Bool) → AreMarked earlier marks → first_wrong (with marks) earlier later ≡ first_refusal before earlier later
+  firsts_agree : (earlier later : List Outcome) (marks : List Bool) → AreMarked earlier marks → first_wrong (holding marks) earlier later ≡ first_refusal before earlier later
   firsts_agree earlier [] marks m = refl
   firsts_agree earlier (o ∷ later) marks m =
       let k = kid_of o in
-      let rest = first_wrong (with (set marks (place_of before k) true)) (earlier ++ o ∷ []) later in
+      let rest = first_wrong (holding (set marks (place_of before k) true)) (earlier ++ o ∷ []) later in
       ap (λ (r : Option Refusal). option_or r rest) (same_refusal earlier marks o m)
-      ∙ elim (refusal_of before earlier o) as (λ r. refusal_of before earlier o ≡ r → option_or r rest ≡ option_or r (first_refusal before (earlier ++ o ∷ []) later)) [
+      ∙ (elim (refusal_of before earlier o) as (λ r. refusal_of before earlier o ≡ r → option_or r rest ≡ option_or r (first_refusal before (earlier ++ o ∷ []) later)) [
         | Some r ↦ λ _. refl
         | None ↦ λ free.
             let a = accepted (knows_parent before k) (is_posted before k) (is_marked before k || is_settled_by earlier k) (refusal_by before earlier o) free in
             firsts_agree (earlier ++ o ∷ []) later (set marks (place_of before k) true) (one_more earlier marks o m a.is_posted)
-      ] refl
+      ] refl)
 
   pub first_same : (outcomes : List Outcome) → first_wrong before [] outcomes ≡ first_refusal before [] outcomes
   first_same outcomes = firsts_agree [] outcomes marks0 (record { long = refl; each = λ j lt. sym (or-false (get_or marks0 j true)) })
@@ -230,8 +230,8 @@ pub no_marks : (b : BookState) (outcomes : List Outcome) (n : ℕ) → n ≡ len
 no_marks b outcomes n e = ap (marks_after b) (drop_all n outcomes (omega (arith, e)))
 
 -- a mark that is set and taken back
-pub mark_back : (table : KidsView) (place : ℕ) → get_or table.marks place true ≡ false → place < length table.marks → with_mark (with_mark table place true) place false ≡ table
-mark_back table place unset lt =
+pub mark_back : (table : KidsView) (place : ℕ) → get_or table.marks place true ≡ false → with_mark (with_mark table place true) place false ≡ table
+mark_back table place unset =
     ap (λ (ms : List Bool). with_marks table ms)
     (set-set table.marks place true false
     ∙ (ap (set table.marks place) (sym unset) ∙ set-get_or table.marks place true))

@@ -1,8 +1,8 @@
 -- What the expansions among outcomes post.
-use Rattle.std.proofs.Common.{◌≡◌, ℕ, ◌+◌, ◌-◌, ◌<◌, ◌≤◌, zero, suc, Bool, false, Option, Some, List, inl, inr, [], ◌∷◌, ◌++◌, map, replicate, length, get_or, refl, sym, ap, ap₂, ◌∙◌, subst, arith, append_assoc, append-nil}
+use Rattle.std.proofs.Common.{◌≡◌, ℕ, ◌+◌, ◌-◌, ◌<◌, ◌≤◌, Bool, false, Option, Some, List, inl, inr, [], ◌∷◌, ◌++◌, map, replicate, length, get_or, refl, sym, ap, ap₂, ◌∙◌, subst, arith, append_assoc, append-nil}
 use Rattle.std.specs.List.{AllByRecursion, AllPairs, fold, range_with_len}
 use Rattle.std.proofs.lemmas.Bool.{cases_lt}
-use Rattle.std.proofs.lemmas.List.{length-map, get_or_append_left, get_or_push, length_push}
+use Rattle.std.proofs.lemmas.List.{length-map, get_or_append_left, get_or_push, length_push, replicate-append-replicate}
 use Rattle.std.proofs.lemmas.List.Kept.{AllPairs-filter}
 use Rattle.std.proofs.lemmas.List.FromFn.{length-range_with_len, get_or-range_with_len}
 use Rattle.hd_base.proofs.Lists.{cons_parts}
@@ -43,7 +43,7 @@ marks_with (a ∷ actions) table =
 -- ---- the kids of outcomes
 
 -- the kids of outcomes whose entries are numbered from n on
-pub posted_for : ℕ → List Outcome → List Kid
+abbrev pub posted_for : ℕ → List Outcome → List Kid
 posted_for n [] = []
 posted_for n (Expanded e ∷ outcomes) = kids_of n (actions_of e.children) ++ posted_for (n + 1) outcomes
 posted_for n (Duplicate k by ∷ outcomes) = posted_for n outcomes
@@ -69,10 +69,6 @@ posted_kids (Expanded e ∷ outcomes) table =
 posted_kids (Duplicate k by ∷ outcomes) table = posted_kids outcomes table
 posted_kids (Bounded k h ∷ outcomes) table = posted_kids outcomes table
 
-replicate-append : (m n : ℕ) → replicate m false ++ replicate n false ≡ replicate (m + n) false
-replicate-append zero n = refl
-replicate-append (suc m) n = ap (λ (bs : List Bool). false ∷ bs) (replicate-append m n)
-
 pub posted_marks : (outcomes : List Outcome) (table : KidsView) → (posted_all table outcomes).marks ≡ table.marks ++ replicate (kids_in outcomes) false
 posted_marks [] table = sym (append-nil table.marks)
 posted_marks (Expanded e ∷ outcomes) table =
@@ -82,7 +78,7 @@ posted_marks (Expanded e ∷ outcomes) table =
     ∙ (ap (λ (ms : List Bool). ms ++ replicate (kids_in outcomes) false) (marks_with actions (with_entry table))
     ∙ (append_assoc table.marks (replicate (length actions) false) (replicate (kids_in outcomes) false)
     ∙ ap (λ (ms : List Bool). table.marks ++ ms)
-    (replicate-append (length actions) (kids_in outcomes) ∙ ap (λ (n : ℕ). replicate (n + kids_in outcomes) false) count)))
+    (replicate-append-replicate (length actions) (kids_in outcomes) false ∙ ap (λ (n : ℕ). replicate (n + kids_in outcomes) false) count)))
 posted_marks (Duplicate k by ∷ outcomes) table = posted_marks outcomes table
 posted_marks (Bounded k h ∷ outcomes) table = posted_marks outcomes table
 
@@ -111,7 +107,7 @@ kids_led t n (Bounded k h ∷ outcomes) more own leads = kids_led t n outcomes m
 -- ---- actions rise
 
 range_rises : (n : ℕ) → AllPairs (λ (a b : ℕ). a < b) (range_with_len 0 n)
-range_rises n i j d lt within =
+range_rises n = λ i j d lt within.
     let long = length-range_with_len 0 n in
     let left = get_or-range_with_len 0 n i d (omega (arith, lt, within, long)) in
     let right = get_or-range_with_len 0 n j d (omega (arith, within, long)) in
@@ -140,7 +136,7 @@ after_one kids n a b after lt = λ i d within is.
           omega (arith, less, read)
       | inr far ↦
           let last : length kids ≡ i = omega (arith, far, within, length_push kids (kid_from n a)) in
-          let read = ap (λ (k : Kid). k.action) (get_or_push kids (kid_from n a) d i (sym last)) in
+          let read = ap (λ (k : Kid). k.action) (get_or_push kids (kid_from n a) d i last) in
           omega (arith, read, lt)
     ]
 
