@@ -1,5 +1,5 @@
 use Rattle.std.proofs.Common.{◌≡◌, ◌≢◌, ◌<◌, ◌≤◌, ◌-◌, ◌∙◌, ℕ, length, get_or, sym, ap, subst, refl, arith}
-use Rattle.std.proofs.lemmas.Bool.{ltb-true, lt-ltb}
+use Rattle.std.proofs.lemmas.Bool.{ltb-true, lt-ltb, eq-eqb}
 use Rattle.std.proofs.lemmas.List.{get_or_default}
 use Rattle.hd_kids.specs.Kids.{KidsView, ComesAfter}
 use Rattle.hd_kids.proofs.Looking.{after_none, after_last, last_before}
@@ -18,7 +18,7 @@ returns-then-first-posted c =
     ∙ get_or_default s.firsts.items (length s.firsts.items - 1) c.at-first.result.now 0 (omega (arith, some)))
     in
     let none = after_none s.firsts.items s.actions.items s.marks.items s.settled c.args.action c.self.invariant some (sym first ∙ (c.if-first-posted.true ∙ c.len-posted.ensures.len)) in
-    (λ _. subst (λ (t : KidsView). ComesAfter t.kids (t.entries - 1) c.args.action) c.self.view_is none, λ _. refl)
+    (λ _. subst (λ (t : KidsView). ComesAfter t.kids (t.entries - 1) c.args.action) c.self.view_is none, λ _. eq-eqb c.at-first.result.now c.len-posted.result c.if-first-posted.true)
 
 pub returns-else-first-posted : goal.returns-else-first-posted
 returns-else-first-posted c =
