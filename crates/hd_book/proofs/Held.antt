@@ -19,7 +19,7 @@ use Rattle.hd_task.specs.Departures.{action_departs}
 use Rattle.hd_task.specs.Expansions.{is_applicable, applicable_at}
 use Rattle.hd_task.proofs.Runs.{exec-push, exec-state, step_within}
 use Rattle.hd_book.specs.declared.entry.Entry.{Entry}
-use Rattle.hd_book.specs.declared.expanded.Expanded.{Expanded}
+use Rattle.hd_book.specs.declared.expanded.ExpandedPlans.{ExpandedPlans}
 use Rattle.hd_book.specs.declared.refusal.Refusal.{Refusal}
 use Rattle.hd_book.specs.declared.refusal.Refusal.TheVariants.{UnknownParent, NotAKid, SettledBefore}
 use Rattle.hd_kids.specs.Kids.{root, same_kid}
@@ -108,7 +108,7 @@ applicable-any t r a =
 
 -- ---- a book
 
-module _ (x : Expanded) (h : IsExpanded x) where
+module _ (x : ExpandedPlans) (h : IsExpanded x) where
   abbrev t : Task
   t = x.task.now
 

@@ -10,7 +10,7 @@ use Rattle.hd_task.specs.declared.plan.Kid.{Kid}
 use Rattle.hd_task.specs.declared.plan.TheConstants.{ROOT_PARENT, ROOT_ACTION}
 use Rattle.hd_task.specs.Entries.{plan_from, plan_of, with_entry}
 use Rattle.hd_book.specs.declared.entry.Entry.{Entry}
-use Rattle.hd_book.specs.declared.expanded.Expanded.{Expanded}
+use Rattle.hd_book.specs.declared.expanded.ExpandedPlans.{ExpandedPlans}
 use Rattle.hd_kids.specs.Kids.{root}
 use Rattle.hd_book.specs.Settling.{expansions}
 use Rattle.hd_book.specs.Holding.{kid_at, unmarked, IsExpanded}
@@ -91,7 +91,7 @@ parent_names expanded k p ne is =
 
 -- ---- the entries of a book
 
-module _ (x : Expanded) (h : IsExpanded x) (n : ℕ) (e : Entry) (lt : n < length x.entries.items) (at : e ≡ get_or x.entries.items n e) where
+module _ (x : ExpandedPlans) (h : IsExpanded x) (n : ℕ) (e : Entry) (lt : n < length x.entries.items) (at : e ≡ get_or x.entries.items n e) where
   abbrev E : List (List ℕ)
   E = expansions (unmarked x)
 

@@ -17,7 +17,7 @@ use Rattle.hd_node.specs.declared.batch.Outcome.TheVariants.{Expanded, Duplicate
 use Rattle.hd_book.specs.declared.entry.Entry.{Entry}
 use Rattle.hd_book.specs.declared.entry.Best.{Best}
 use Rattle.hd_book.specs.declared.entry.Outgoing.{Outgoing}
-use Rattle.hd_book.specs.declared.expanded.Expanded.{Expanded}
+use Rattle.hd_book.specs.declared.expanded.ExpandedPlans.{ExpandedPlans}
 use Rattle.hd_book.specs.declared.content.Content.{Content}
 use Rattle.hd_kids.specs.Kids.{KidsView, kid_from}
 use Rattle.hd_book.specs.Kids.{posted_by}
@@ -121,11 +121,11 @@ posted_count b = length (generated b.task (expansions b))
 abbrev pub state_by : Task → List Entry → List Bool → BookState
 state_by t entries marks = record { task = t; entries = map kid_at entries; marks = marks }
 
-abbrev pub state_with : Expanded → List Bool → BookState
+abbrev pub state_with : ExpandedPlans → List Bool → BookState
 state_with x marks = state_by x.task.now x.entries.items marks
 
 -- the state of expanded plans, marks aside
-abbrev pub unmarked : Expanded → BookState
+abbrev pub unmarked : ExpandedPlans → BookState
 unmarked x = state_with x []
 
 abbrev pub state_of : Content → BookState
@@ -166,7 +166,7 @@ pub record AreExpanded (t : Task) (entries : List Entry) (best : Option Best) (d
   pub best_is : IsBestOf t (plans_at (map kid_at entries)) best
   pub departure_is : departure ≡ slice_get (departures_of t (plans_at (map kid_at entries))) 0
 
-abbrev pub IsExpanded : Expanded → Type 0
+abbrev pub IsExpanded : ExpandedPlans → Type 0
 IsExpanded x = AreExpanded x.task.now x.entries.items x.best x.departure
 
 -- a table has the kids that entries post

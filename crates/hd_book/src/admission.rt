@@ -11,7 +11,7 @@ ghost use Rattle.hd_book.specs.declared.refusal.Refusal.TheVariants as Refusal;
 
 use crate::Refusal;
 use crate::entry::{Best, Entry, Place};
-use crate::expanded::Expanded;
+use crate::expanded::ExpandedPlans;
 use hd_hmax::EstimateValue;
 use hd_kids::KidTable;
 use hd_node::{By, Outcome};
@@ -68,7 +68,7 @@ fn is_no_dearer(state: &Packed, cost: u64, reached: &Place) -> bool
     is_same(state, &reached.state) && cost <= reached.cost
 }
 
-impl<'t> Expanded<'t> {
+impl<'t> ExpandedPlans<'t> {
     /// Whether a kid is the root, or its parent is an entry.
     fn knows_parent(&self, kid: Kid) -> bool
         ensures { result ≡ knows_parent (unmarked self.now) kid }

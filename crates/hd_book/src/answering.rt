@@ -9,12 +9,12 @@ ghost use Rattle.hd_book.specs.Holding.{settled_count, state_of, unmarked, IsExp
 ghost use Rattle.hd_book.specs.Answers.{IsAnswer, IsBoundPlanOf, IsValidPlan, IsTrueAnswer};
 
 use crate::content::Content;
-use crate::expanded::Expanded;
+use crate::expanded::ExpandedPlans;
 use crate::{Counts, Verdict};
 use hd_node::Hashed;
 use hd_task::{ActionId, NoMemory, Plan, ROOT_PARENT};
 
-impl<'t> Expanded<'t> {
+impl<'t> ExpandedPlans<'t> {
     /// Where an entry's plan leads, and what it costs, if there is such an entry.
     pub(crate) fn node(&self, number: u64) -> Option<(&Hashed, u64)>
         requires held { IsExpanded self.now }

@@ -1,6 +1,6 @@
 //! The parts of a book.
 use crate::entry::Outgoing;
-use crate::expanded::Expanded;
+use crate::expanded::ExpandedPlans;
 use hd_kids::KidTable;
 use hd_task::{NoMemory, Task};
 use hd_zobrist::Words;
@@ -9,7 +9,7 @@ use std::alloc::Global;
 /// The parts of a book.
 #[derive(Debug, Drop)]
 pub(crate) struct Content<'t> {
-    pub(crate) expanded: Expanded<'t>,
+    pub(crate) expanded: ExpandedPlans<'t>,
     /// What the expanded plans have posted, and what of it is settled.
     pub(crate) kids: KidTable,
     /// How many entries there may be.
@@ -46,7 +46,7 @@ impl<'t> Content<'t> {
         let words = Words::new(alloc, task)?;
         let kids = KidTable::new(alloc)?;
         Ok(Content {
-            expanded: Expanded::none(alloc, task, words),
+            expanded: ExpandedPlans::none(alloc, task, words),
             kids,
             most,
             tickets: Vec::new(alloc),

@@ -7,7 +7,7 @@ use std::alloc::Global;
 
 /// The expanded plans of a task, with the best of them and the first departure.
 #[derive(Debug, Drop)]
-pub(crate) struct Expanded<'t> {
+pub(crate) struct ExpandedPlans<'t> {
     pub(crate) task: &'t Task,
     pub(crate) alloc: Global,
     /// Of the task, for the book's own application.
@@ -18,17 +18,17 @@ pub(crate) struct Expanded<'t> {
     pub(crate) departure: Option<Departure>,
 }
 
-impl<'t> Expanded<'t> {
+impl<'t> ExpandedPlans<'t> {
     ghost use Rattle.std.specs.Prelude.{◌≡◌, [], None};
 
     /// No expanded plans of a task.
-    pub(crate) fn none(alloc: Global, task: &'t Task, words: Words) -> Expanded<'t>
+    pub(crate) fn none(alloc: Global, task: &'t Task, words: Words) -> ExpandedPlans<'t>
         ensures task { result.task.now ≡ task.now }
         ensures entries { result.entries.items ≡ [] }
         ensures best { result.best ≡ None }
         ensures departure { result.departure ≡ None }
     {
-        Expanded {
+        ExpandedPlans {
             task,
             alloc,
             words,

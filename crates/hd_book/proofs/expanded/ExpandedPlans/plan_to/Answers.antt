@@ -6,7 +6,7 @@ use Rattle.hd_book.specs.declared.entry.Entry.{Entry}
 use Rattle.hd_book.specs.Settling.{expansions}
 use Rattle.hd_book.specs.Holding.{unmarked}
 use Rattle.hd_book.proofs.Walking.{root_plan, entry_plan}
-use Rattle.hd_book.proofs.expanded.Expanded.plan_to.Goals as goal
+use Rattle.hd_book.proofs.expanded.ExpandedPlans.plan_to.Goals as goal
 
 pub loop-kid-smaller : goal.loop-kid-smaller
 loop-kid-smaller c =

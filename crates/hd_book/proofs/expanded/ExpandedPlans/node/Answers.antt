@@ -1,6 +1,6 @@
 use Rattle.std.proofs.Common.{◌∙◌, sym}
 use Rattle.hd_book.proofs.Held.{entry_found, entry_missing}
-use Rattle.hd_book.proofs.expanded.Expanded.node.Goals as goal
+use Rattle.hd_book.proofs.expanded.ExpandedPlans.node.Goals as goal
 
 pub returns-in-Some : goal.returns-in-Some
 returns-in-Some c = sym (entry_found c.args.self.now c.requires.held c.args.number c.in-Some.entry.now (sym c.in-Some.ensures))

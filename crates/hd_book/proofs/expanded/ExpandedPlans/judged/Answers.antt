@@ -7,7 +7,7 @@ use Rattle.hd_book.specs.Settling.{expansions, knows_parent, place_of, is_posted
 use Rattle.hd_book.specs.Holding.{state_with, unmarked}
 use Rattle.hd_book.proofs.Held.{late, settled_before}
 use Rattle.hd_book.proofs.Judging.{found_at, found_nowhere, unknown, not_posted}
-use Rattle.hd_book.proofs.expanded.Expanded.judged.Goals as goal
+use Rattle.hd_book.proofs.expanded.ExpandedPlans.judged.Goals as goal
 
 pub returns-then-not-knows_parent-clause-refused : goal.returns-then-not-knows_parent-clause-refused
 returns-then-not-knows_parent-clause-refused c = ?

@@ -1,7 +1,7 @@
 use Rattle.std.proofs.Common.{◌≡◌, ◌<◌, ◌++◌, [], map, length, get_or, reverse}
 use Rattle.hd_book.specs.Settling.{expansions}
 use Rattle.hd_book.specs.Holding.{unmarked, IsExpanded}
-use Rattle.hd_book.proofs.expanded.Expanded.plan_to.Given as goal
+use Rattle.hd_book.proofs.expanded.ExpandedPlans.plan_to.Given as goal
 
 -- the plan is that of the entry where the walk stands, followed by the actions passed, the last one first
 abbrev pub invariant-loop-kid : goal.invariant-loop-kid

@@ -4,7 +4,7 @@ use Rattle.hd_task.specs.Plans.{node, step_by}
 use Rattle.hd_book.specs.declared.entry.Place.{Place}
 use Rattle.hd_book.specs.Holding.{node_at}
 use Rattle.hd_book.proofs.Held.{root_kid, entry_kid, root_leads, entry_state, entry_posted, entry_leads}
-use Rattle.hd_book.proofs.expanded.Expanded.reach.Goals as goal
+use Rattle.hd_book.proofs.expanded.ExpandedPlans.reach.Goals as goal
 
 pub returns-then-kid-eq-ROOT_PARENT : goal.returns-then-kid-eq-ROOT_PARENT
 returns-then-kid-eq-ROOT_PARENT c =

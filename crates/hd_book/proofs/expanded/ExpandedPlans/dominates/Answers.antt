@@ -6,7 +6,7 @@ use Rattle.hd_task.specs.Plans.{node}
 use Rattle.hd_book.specs.Settling.{node_by, dominates, expanded_node}
 use Rattle.hd_book.specs.Holding.{unmarked}
 use Rattle.hd_book.proofs.Held.{entry_found, entry_missing}
-use Rattle.hd_book.proofs.expanded.Expanded.dominates.Goals as goal
+use Rattle.hd_book.proofs.expanded.ExpandedPlans.dominates.Goals as goal
 
 pub returns-in-Some : goal.returns-in-Some
 returns-in-Some c =
