@@ -250,10 +250,10 @@ refused_by_first b outcomes e =
 
 -- what a table keeps, another with the same kids and marks keeps
 same_table :
-    (t : Task) (entries : List Entry) (best : Option Best) (departure : Option Departure) (table table' : KidsView) (tickets : List (Option Outgoing)) (most : ℕ)
-    → table'.kids ≡ table.kids → table'.marks ≡ table.marks → table'.entries ≡ table.entries
-    → IsHeldBy t entries best departure table tickets most → IsHeldBy t entries best departure table' tickets most
-same_table t entries best departure table table' tickets most ks ms n h = record {
+    (t : Task) (entries : List Entry) (best : Option Best) (departure : Option Departure) (table other : KidsView) (tickets : List (Option Outgoing)) (most : ℕ)
+    → other.kids ≡ table.kids → other.marks ≡ table.marks → other.entries ≡ table.entries
+    → IsHeldBy t entries best departure table tickets most → IsHeldBy t entries best departure other tickets most
+same_table t entries best departure table other tickets most ks ms n h = record {
   kept = subst (λ (xs : List Bool). IsKept (state_by t entries xs)) (sym ms) h.kept;
   plans = h.plans;
   posts = record { posted = ks ∙ h.posts.posted; entered = n ∙ h.posts.entered };

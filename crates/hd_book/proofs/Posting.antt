@@ -1,5 +1,6 @@
 -- What the expansions among outcomes post.
-use Rattle.std.proofs.Common.{◌≡◌, ℕ, ◌+◌, ◌-◌, ◌<◌, ◌≤◌, Bool, false, Option, Some, List, inl, inr, [], ◌∷◌, ◌++◌, map, replicate, length, get_or, refl, sym, ap, ap₂, ◌∙◌, subst, arith, append_assoc, append-nil}
+use Rattle.std.proofs.Common.{◌≡◌, ℕ, ◌+◌, ◌-◌, ◌<◌, ◌≤◌, Bool, false, Option, Some, List, inl, inr, [], ◌∷◌, ◌++◌, map, replicate, length, get_or, refl, sym, ap, ap₂, ◌∙◌, subst, arith, append_assoc, append-nil, length-append}
+use Rattle.std.specs.Prelude.{flat_map}
 use Rattle.std.specs.List.{AllByRecursion, AllPairs, fold, range_with_len}
 use Rattle.std.proofs.lemmas.Bool.{cases_lt}
 use Rattle.std.proofs.lemmas.List.{length-map, get_or_append_left, get_or_push, length_push, replicate-append-replicate}
@@ -8,6 +9,7 @@ use Rattle.std.proofs.lemmas.List.FromFn.{length-range_with_len, get_or-range_wi
 use Rattle.hd_base.proofs.Lists.{cons_parts}
 use Rattle.hd_task.specs.declared.task.Task.{Task}
 use Rattle.hd_task.specs.declared.plan.Kid.{Kid}
+use Rattle.hd_task.specs.declared.plan.TheConstants.{ROOT_PARENT}
 use Rattle.hd_task.specs.Plans.{Node, exec, node}
 use Rattle.hd_task.specs.Expansions.{is_applicable, applicable_at}
 use Rattle.hd_kids.specs.Kids.{KidsView, kid_from, ComesAfter, HasNone, with_entry, with_kid}
@@ -17,10 +19,10 @@ use Rattle.hd_node.specs.declared.batch.Outcome.{Outcome}
 use Rattle.hd_node.specs.declared.batch.Outcome.TheVariants.{Expanded, Duplicate, Bounded}
 use Rattle.hd_node.proofs.Steps.{children-actions}
 use Rattle.hd_book.specs.Kids.{kids_of, kids_from}
-use Rattle.hd_book.specs.Settling.{IsOf}
+use Rattle.hd_book.specs.Settling.{IsOf, entry_of}
 use Rattle.hd_book.specs.Holding.{node_at}
 use Rattle.hd_book.specs.declared.entry.Entry.{Entry}
-use Rattle.hd_book.specs.Growing.{entered_by, kids_in, with_kids, actions_of, posted_all}
+use Rattle.hd_book.specs.Growing.{entered_by, kids_at, kids_in, with_kids, actions_of, posted_one, posted_all}
 
 -- ---- the kids of one entry
 
@@ -39,6 +41,14 @@ marks_with : (actions : List ℕ) (table : KidsView) → (fold with_kid table ac
 marks_with [] table = sym (append-nil table.marks)
 marks_with (a ∷ actions) table =
     marks_with actions (with_kid table a) ∙ append_assoc table.marks (false ∷ []) (replicate (length actions) false)
+
+entry_room_with : (actions : List ℕ) (table : KidsView) → (fold with_kid table actions).entry_room ≡ table.entry_room
+entry_room_with [] table = refl
+entry_room_with (a ∷ actions) table = entry_room_with actions (with_kid table a)
+
+kid_room_with : (actions : List ℕ) (table : KidsView) → (fold with_kid table actions).kid_room ≡ table.kid_room - length actions
+kid_room_with [] table = omega arith
+kid_room_with (a ∷ actions) table = let rest = kid_room_with actions (with_kid table a) in omega (arith, rest)
 
 -- ---- the kids of outcomes
 
@@ -79,8 +89,12 @@ posted_marks (Expanded e ∷ outcomes) table =
     ∙ (append_assoc table.marks (replicate (length actions) false) (replicate (kids_in outcomes) false)
     ∙ ap (λ (ms : List Bool). table.marks ++ ms)
     (replicate-append-replicate (length actions) (kids_in outcomes) false ∙ ap (λ (n : ℕ). replicate (n + kids_in outcomes) false) count)))
-posted_marks (Duplicate k by ∷ outcomes) table = posted_marks outcomes table
-posted_marks (Bounded k h ∷ outcomes) table = posted_marks outcomes table
+posted_marks (Duplicate k by ∷ outcomes) table =
+    let e : kids_in outcomes ≡ 0 + kids_in outcomes = omega arith in
+    posted_marks outcomes table ∙ ap (λ (n : ℕ). table.marks ++ replicate n false) e
+posted_marks (Bounded k h ∷ outcomes) table =
+    let e : kids_in outcomes ≡ 0 + kids_in outcomes = omega arith in
+    posted_marks outcomes table ∙ ap (λ (n : ℕ). table.marks ++ replicate n false) e
 
 -- ---- what plans post that lead where outcomes do
 
@@ -142,3 +156,53 @@ after_one kids n a b after lt = λ i d within is.
 
 pub after_nothing : (kids : List Kid) (n a : ℕ) → HasNone kids n → ComesAfter kids n a
 after_nothing kids n a none = λ i d within is. absurd (none i d within is)
+
+-- ---- outcomes that are posted one after the other
+
+-- what is left to post once one outcome is posted, and room for it
+pub record IsNext (before after : KidsView) (outcomes later : List Outcome) : Type 0 where
+  pub left : posted_all after later ≡ posted_all before outcomes
+  pub entry_room : length (flat_map entry_of later) ≤ after.entry_room
+  pub kid_room : kids_in later ≤ after.kid_room
+  pub few : after.entries + length (flat_map entry_of later) ≤ ROOT_PARENT
+
+module _ (before after : KidsView) (outcomes later : List Outcome) (o : Outcome) (at : outcomes ≡ o ∷ later) (entry_room : length (flat_map entry_of outcomes) ≤ before.entry_room) (kid_room : kids_in outcomes ≤ before.kid_room) (few : before.entries + length (flat_map entry_of outcomes) ≤ ROOT_PARENT) where
+  pub next_expanded : (e : ExpansionView) → o ≡ Expanded e → after ≡ with_kids before (actions_of e.children) → IsNext before after outcomes later
+  next_expanded e is then =
+      let whole : outcomes ≡ Expanded e ∷ later = at ∙ ap (λ (x : Outcome). x ∷ later) is in
+      let actions = actions_of e.children in
+      let long : length actions ≡ length e.children = length-map e.children (λ (c : ChildView). c.action) in
+      let entries = ap (λ (os : List Outcome). length (flat_map entry_of os)) whole in
+      let kids = ap kids_in whole in
+      let entry_left = ap (λ (t : KidsView). t.entry_room) then ∙ entry_room_with actions (with_entry before) in
+      let kid_left = ap (λ (t : KidsView). t.kid_room) then ∙ kid_room_with actions (with_entry before) in
+      let count = ap (λ (t : KidsView). t.entries) then ∙ entries_with actions (with_entry before) in
+      record {
+        left = ap (λ (t : KidsView). posted_all t later) then ∙ sym (ap (posted_all before) whole);
+        entry_room = omega (arith, entries, entry_left, entry_room);
+        kid_room = omega (arith, kids, kid_left, long, kid_room);
+        few = omega (arith, entries, count, few);
+      }
+
+  pub next_other : ((e : ExpansionView) → o ≡ Expanded e → ⊥) → after ≡ before → IsNext before after outcomes later
+  next_other other then =
+      let alone = no_expansion o other in
+      let entries = ap (λ (os : List Outcome). length (flat_map entry_of os)) at in
+      let kids = ap kids_in at in
+      let one = alone.1 in
+      let none = alone.2 in
+      let more = length-append (entry_of o) (flat_map entry_of later) in
+      let entry_left = ap (λ (t : KidsView). t.entry_room) then in
+      let kid_left = ap (λ (t : KidsView). t.kid_room) then in
+      let count = ap (λ (t : KidsView). t.entries) then in
+      record {
+        left = ap (λ (t : KidsView). posted_all t later) (then ∙ sym (alone.0 before)) ∙ sym (ap (posted_all before) at);
+        entry_room = omega (arith, entries, more, one, entry_left, entry_room);
+        kid_room = omega (arith, kids, none, kid_left, kid_room);
+        few = omega (arith, entries, more, one, count, few);
+      }
+    where
+      no_expansion : (o : Outcome) → ((e : ExpansionView) → o ≡ Expanded e → ⊥) → ((t : KidsView) → posted_one t o ≡ t) × (length (entry_of o) ≡ 0) × (kids_at o ≡ 0)
+      no_expansion (Expanded e) h = absurd (h e refl)
+      no_expansion (Duplicate k by) h = (λ t. refl, refl, refl)
+      no_expansion (Bounded k h) g = (λ t. refl, refl, refl)

@@ -100,8 +100,10 @@ impl<'t> Content<'t> {
             &mut self.tickets,
             outcomes,
         )?;
-        self.expanded.settle_from(&mut self.kids, outcomes, 0)?;
-        Ok(parcels)
+        match self.expanded.settle_from(&mut self.kids, outcomes, 0) {
+            Ok(()) => Ok(parcels),
+            Err(refusal) => Err(refusal),
+        }
     }
 
     /// Adds a batch that is not refused; there is room for it, and its kids are settled.
