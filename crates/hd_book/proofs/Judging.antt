@@ -156,8 +156,8 @@ module _ (t : Task) (entries : List Kid) (marks0 : List Bool) (kept : IsKept (re
       let now = is_marked (holding marks) k in
       let then = is_marked before k || is_settled_by earlier k in
       elim (is_posted before k) as (λ b. is_posted before k ≡ b
-        → cond (not known) (Some UnknownParent) (cond (not b) (Some NotAKid) (cond now (Some SettledBefore) why))
-        ≡ cond (not known) (Some UnknownParent) (cond (not b) (Some NotAKid) (cond then (Some SettledBefore) why))) [
+      → cond (not known) (Some UnknownParent) (cond (not b) (Some NotAKid) (cond now (Some SettledBefore) why))
+      ≡ cond (not known) (Some UnknownParent) (cond (not b) (Some NotAKid) (cond then (Some SettledBefore) why))) [
         | true ↦ λ posted.
             let at = stands before kept k posted in
             let lt : p < length marks0 = within_marks k posted marks0 refl in
@@ -185,9 +185,10 @@ module _ (t : Task) (entries : List Kid) (marks0 : List Bool) (kept : IsKept (re
 -- what holds of each kid that outcomes settle
 pub all_known : (Q : Kid → Type 0) (outcomes : List Outcome) → ((q : Kid) → is_settled_by outcomes q ≡ true → Q q) → AllByRecursion (λ o. Q (kid_of o)) outcomes
 all_known Q [] h = tt
-all_known Q (o ∷ outcomes) h =
-    (h (kid_of o) (ap (λ (b : Bool). b || is_settled_by outcomes (kid_of o)) (same_kid-refl (kid_of o))),
-     all_known Q outcomes (λ q e. h q (or_right (same_kid q (kid_of o)) (is_settled_by outcomes q) e)))
+all_known Q (o ∷ outcomes) h = (
+  h (kid_of o) (ap (λ (b : Bool). b || is_settled_by outcomes (kid_of o)) (same_kid-refl (kid_of o))),
+  all_known Q outcomes (λ q e. h q (or_right (same_kid q (kid_of o)) (is_settled_by outcomes q) e)),
+)
 
 -- ---- an outcome that is right
 

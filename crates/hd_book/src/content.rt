@@ -27,11 +27,7 @@ impl<'t> Content<'t> {
     ///
     /// # Errors
     /// `NoMemory` where there is no room for it.
-    pub(crate) fn new(
-        alloc: Global,
-        task: &'t Task,
-        most: u64,
-    ) -> Result<Content<'t>, NoMemory>
+    pub(crate) fn new(alloc: Global, task: &'t Task, most: u64) -> Result<Content<'t>, NoMemory>
         ensures task { IfOk result (λ c. c.expanded.task.now ≡ task.now) }
         ensures entries { IfOk result (λ c. c.expanded.entries.items ≡ []) }
         ensures best { IfOk result (λ c. c.expanded.best ≡ None) }
