@@ -8,8 +8,8 @@ use Rattle.hd_book.proofs.Judging.{first_same}
 use Rattle.hd_book.proofs.After.{passes_all, refused_by_first}
 use Rattle.hd_book.proofs.content.Content.admit.Goals as goal
 
-pub returns-in-Err-clause-refused : goal.returns-in-Err-clause-refused
-returns-in-Err-clause-refused c =
+pub returns-clause-refused : goal.returns-clause-refused
+returns-clause-refused c =
     let s = c.args.self.now in
     let t = s.expanded.task.now in
     let os = c.args.outcomes.now in

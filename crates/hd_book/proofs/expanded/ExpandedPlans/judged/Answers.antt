@@ -94,8 +94,8 @@ returns-in-Some-refusal_by-clause-refused c =
     in
     inr (sym (late (knows_parent b k) (is_posted b k) (is_marked b k) (refusal_by b earlier o) known posted unmarked_kid) ∙ (sym c.refusal_by.ensures ∙ c.in-Some-refusal_by.is))
 
-pub returns-in-None-clause-right : goal.returns-in-None-clause-right
-returns-in-None-clause-right c =
+pub returns-clause-right : goal.returns-clause-right
+returns-clause-right c =
     let x = c.args.self.now in
     let b = state_with x c.args.kids.now.marks in
     let earlier = c.args.earlier.now in
