@@ -7,4 +7,5 @@ pub mod Marks
 pub mod Refusal
 pub mod Refusing
 pub mod Releasing
+pub mod Resuming
 pub mod Settling

@@ -14,8 +14,8 @@ use crate::entry::{Best, Entry, Place};
 use crate::expanded::ExpandedPlans;
 use hd_hmax::EstimateValue;
 use hd_kids::KidTable;
-use hd_node::{By, Outcome};
-use hd_pack::{Layout, Led, Packed, leads, pack};
+use hd_node::{By, Hashed, Outcome};
+use hd_pack::{Led, Packed, leads};
 use hd_task::{ActionId, Kid, NoMemory, ROOT_ACTION, ROOT_PARENT, Task};
 use hd_zobrist::Words;
 use std::alloc::Global;
@@ -49,7 +49,10 @@ fn step_from(
     )? {
         Led::No => Ok(None),
         Led::Departs => Ok(None),
-        Led::Next(state, _, cost) => Ok(Some(Place { state, cost })),
+        Led::Next(state, hash, cost) => Ok(Some(Place {
+            state: Hashed::known(state, hash),
+            cost,
+        })),
     }
 }
 
@@ -65,12 +68,12 @@ fn is_no_dearer(state: &Packed, cost: u64, reached: &Place) -> bool
     ensures { result ≡ dominates (Some (node state.now cost))
         (Some (node reached.now.state reached.now.cost)) }
 {
-    is_same(state, &reached.state) && cost <= reached.cost
+    is_same(state, reached.state.state()) && cost <= reached.cost
 }
 
 impl<'t> ExpandedPlans<'t> {
     /// Whether a kid is the root, or its parent is an entry.
-    fn knows_parent(&self, kid: Kid) -> bool
+    pub(crate) fn knows_parent(&self, kid: Kid) -> bool
         ensures { result ≡ knows_parent (unmarked self.now) kid }
     {
         (kid.parent == ROOT_PARENT && kid.action == ROOT_ACTION)
@@ -78,7 +81,7 @@ impl<'t> ExpandedPlans<'t> {
     }
 
     /// Where a posted kid leads, by the book's own application.
-    fn reach(&self, kid: Kid) -> Result<Place, NoMemory>
+    pub(crate) fn reach(&self, kid: Kid) -> Result<Place, NoMemory>
         requires held { IsExpanded self.now }
         requires known { knows_parent (unmarked self.now) kid ≡ true }
         requires posted { is_posted (unmarked self.now) kid ≡ true }
@@ -86,7 +89,7 @@ impl<'t> ExpandedPlans<'t> {
             ≡ Some (node c.state c.cost)) }
     {
         if kid.parent == ROOT_PARENT {
-            let state = pack(self.alloc, &Layout::new(self.task), &self.task.initial)?;
+            let state = Hashed::of(self.alloc, self.task, &self.words, &self.task.initial)?;
             return Ok(Place { state, cost: 0 });
         }
         let parent = self.entries.at(kid.parent as usize);
@@ -147,7 +150,9 @@ impl<'t> ExpandedPlans<'t> {
     {
         match outcome {
             Outcome::Expanded(expansion) => {
-                if is_same(&reached.state, expansion.state()) && reached.cost == expansion.cost() {
+                if is_same(reached.state.state(), expansion.state())
+                    && reached.cost == expansion.cost()
+                {
                     None
                 } else {
                     Some(Refusal::StateDiffers)
@@ -161,7 +166,7 @@ impl<'t> ExpandedPlans<'t> {
                 }
             }
             Outcome::Bounded(_, estimate) => {
-                if !is_same(&reached.state, estimate.state()) {
+                if !is_same(reached.state.state(), estimate.state()) {
                     Some(Refusal::StateDiffers)
                 } else if self.reaches(reached, estimate.value()) {
                     None

@@ -1,6 +1,6 @@
 //! The book of a search.
 use crate::content::Content;
-use crate::{Counts, Receipt, Redeemed, Refusal, Ticket, Verdict};
+use crate::{Counts, Fault, Receipt, Redeemed, Refusal, Ticket, Verdict};
 use hd_node::{Batch, Hashed};
 use hd_task::{Kid, NoMemory, Plan, Task};
 use std::alloc::Global;
@@ -28,7 +28,7 @@ impl<'t> Model for Book<'t> {
 }
 
 impl<'t> Book<'t> {
-    ghost use Rattle.std.specs.Prelude.{◌≡◌, ◌<◌, ◌≤◌, ◌^◌, None, true, length, slice_get, option_map, is_some, IfOk, IfErr, IfSome, OnOk, OnErr};
+    ghost use Rattle.std.specs.Prelude.{◌≡◌, ◌<◌, ◌≤◌, ◌^◌, [], None, true, length, slice_get, option_map, is_some, IfOk, IfErr, IfSome, OnOk, OnErr};
     ghost use Rattle.std.specs.Result.{is_ok};
     ghost use Rattle.hd_task.specs.declared.plan.TheConstants.{ROOT_PARENT};
     ghost use Rattle.hd_task.specs.Plans.{node};
@@ -40,6 +40,7 @@ impl<'t> Book<'t> {
     ghost use Rattle.hd_book.specs.Holding.{is_acknowledged, posted_count, settled_count, out_at, without};
     ghost use Rattle.hd_book.specs.Refusing.{refusal_to, IsRefusalTo};
     ghost use Rattle.hd_book.specs.Releasing.{IsReleased};
+    ghost use Rattle.hd_book.specs.Resuming.{first_fault, resumed_book, IsFaultOf};
     ghost use Rattle.hd_book.specs.Answers.{is_over, IsCoveredBook, IsAnswerOf, IsBoundPlanOf, IsValidPlan, IsTrueAnswer};
 
     /// The book of a search that has not begun, which may hold `most` entries: the root is posted.
@@ -54,6 +55,29 @@ impl<'t> Book<'t> {
         Ok(Book {
             content: Box::new(alloc, content)?,
         })
+    }
+
+    /// The book with exactly these entries, all acknowledged; no other kid is settled, and no batch was committed.
+    ///
+    /// # Errors
+    /// `Full` with the number 0 where there are more entries than there may be; `NoMemory` with the number 0; else the number of the first
+    /// entry that can't be the next one after those before it, with `UnknownParent`, `NotAKid` or `SettledBefore`.
+    pub fn resume(
+        alloc: Global,
+        task: &'t Task,
+        most: u64,
+        entries: &[Kid],
+    ) -> Result<Book<'t>, Fault>
+        requires { most < ROOT_PARENT }
+        ensures book { IfOk result (λ b. b ≡ resumed_book task.now most entries.now) }
+        ensures accepted { OnOk result (first_fault task.now [] entries.now ≡ None) }
+        ensures refused { IfErr result (λ e. IsFaultOf task.now most entries.now e.0 e.1) }
+    {
+        let content = Content::resume(alloc, task, most, entries)?;
+        match Box::new(alloc, content) {
+            Ok(content) => Ok(Book { content }),
+            Err(_) => Err((0, Refusal::NoMemory)),
+        }
     }
 
     /// Takes a batch: its expansions become entries, its kids are settled, and the ticket is redeemed for the kids of its

@@ -151,6 +151,26 @@ impl<'t> Content<'t> {
         number
     }
 
+    /// Adds a batch that is not refused, as [`Content::accept`], without a ticket.
+    pub(crate) fn enter_again(&mut self, outcomes: Vec<Outcome<'t>>, parcels: Vec<Parcel<'t>>)
+        requires of_task { AllByRecursion (IsOf self.old.expanded.task.now) outcomes.items }
+        requires room { HasRoomFor self.old outcomes.items parcels }
+        requires few { self.old.kids.entries + length (flat_map entry_of outcomes.items)
+            ≤ ROOT_PARENT }
+    {
+        let mut parcels = parcels;
+        let first = self.expanded.entries.len();
+        self.expanded.best = best_after(self.expanded.best, first, &outcomes);
+        self.expanded.departure = departure_after(self.expanded.departure, first, &outcomes);
+        post_all(&mut self.kids, &outcomes);
+        enter(
+            self.expanded.task,
+            &mut self.expanded.entries,
+            &mut parcels,
+            outcomes,
+        );
+    }
+
     /// Takes a batch, or refuses it, as [`crate::Book::commit`] says.
     pub(crate) fn commit(&mut self, batch: Batch<'t>) -> Result<Ticket, (Batch<'t>, Refusal)>
         requires held { IsHeld self.old }

@@ -1,6 +1,5 @@
 //! Expanded plans.
 use hd_node::{Hashed, Parcel};
-use hd_pack::Packed;
 use hd_task::{Kid, Sequence};
 
 /// An expanded plan: the kid that names it, and where it leads.
@@ -14,7 +13,7 @@ pub(crate) struct Entry {
 /// Where a kid leads, and what its plan costs.
 #[derive(Debug, Drop)]
 pub(crate) struct Place {
-    pub(crate) state: Packed,
+    pub(crate) state: Hashed,
     pub(crate) cost: u64,
 }
 

@@ -1,5 +1,5 @@
 //! Laws over the definitions of a book. Each function does nothing: its contract is the law.
-ghost use Rattle.std.specs.Prelude.{◌≡◌, ℕ, ◌<◌, ◌++◌, false, true, [], ◌∷◌, List, All, Some, None, map, length, flat_map};
+ghost use Rattle.std.specs.Prelude.{◌≡◌, ◌↔◌, ℕ, ◌<◌, ◌++◌, false, true, [], ◌∷◌, List, All, Some, None, map, length, flat_map};
 ghost use Rattle.std.specs.List.{AllByRecursion};
 ghost use Rattle.hd_task.specs.declared.task.Task.{Task};
 ghost use Rattle.hd_task.specs.declared.plan.TheConstants.{ROOT_PARENT};
@@ -10,7 +10,9 @@ ghost use Rattle.hd_task.specs.Covers.{IsCovered};
 ghost use Rattle.hd_hmax.specs.Rounds.{hmax};
 ghost use Rattle.hd_task.specs.Verdicts.{IsTrueVerdict, Optimal, NoPlan};
 ghost use Rattle.hd_node.specs.declared.batch.Outcome.{Outcome};
+ghost use Rattle.hd_task.specs.declared.plan.Kid.{Kid};
 ghost use Rattle.hd_book.specs.Kids.{posted_by};
+ghost use Rattle.hd_book.specs.Resuming.{first_fault, AreLegal};
 ghost use Rattle.hd_book.specs.Settling.{BookState, expansions, IsKept, IsOf, entry_of, first_refusal, all_settled};
 
 /// What a book posts names what its expansions generate, in order: a kid is a place in both.
@@ -45,4 +47,10 @@ pub fn full_books_decide()
     ensures no_plan { (b : BookState) → IsKept b → All (λ m. m ≡ true) b.marks
         → departures_of b.task (expansions b) ≡ [] → bound_of b.task (expansions b) ≡ None
         → IsTrueVerdict b.task NoPlan }
+{}
+
+/// A list of entries has no fault exactly where it names the plans of a legal list.
+pub fn faultless_entries_are_legal()
+    ensures { (t : Task) (entries : List Kid) → length entries < ROOT_PARENT
+        → (first_fault t [] entries ≡ None) ↔ AreLegal t entries }
 {}

@@ -3,10 +3,10 @@ ghost use Rattle.std.specs.Prelude.{◌≡◌};
 ghost use Rattle.std.specs.List.{AllByRecursion};
 ghost use Rattle.hd_book.specs.Settling.{IsOf};
 
-use crate::outcomes::{Pair, ROOT, Row, batch_of};
+use crate::outcomes::{Pair, ROOT, Row, batch_of, kid};
 use crate::scripts::{
-    Comes, Line, Says, Script, assert_counts, assert_node, assert_plan, assert_refused,
-    assert_spent, assert_taken, follow,
+    Comes, Line, Says, Script, assert_counts, assert_entries, assert_node, assert_plan,
+    assert_refused, assert_spent, assert_taken, follow,
 };
 use crate::tasks::{idle_actions, two_steps};
 use crate::trials::{Trial, Which, assert_trial};
@@ -682,4 +682,69 @@ const TWO_MORE: [Line; 2] = [
 fn entries_lead_to_their_states(rt: HostRuntime) -> Result<(), Fail> {
     let task = two_steps(&rt, rt.alloc())?;
     read_entries(&rt, rt.alloc(), &task)
+}
+
+// ---- resumption
+
+/// The root, and the kids of the two steps one after the other.
+const IN_ORDER: [Pair; 3] = [ROOT, (0, 0), (1, 1)];
+
+/// A list of entries is refused at this number for this reason.
+fn assert_fault(
+    rt: &impl Abort,
+    alloc: Global,
+    task: &Task,
+    entries: &[Pair],
+    fault: (u64, Refusal),
+) -> Result<(), Fail> {
+    let mut kids = Vec::new(alloc);
+    for pair in entries {
+        kids.push(kid(*pair))?;
+    }
+    match Book::resume(alloc, task, MOST, &kids) {
+        Ok(_) => panic!(rt; "no fault"),
+        Err(found) => assert!(rt; found == fault),
+    }
+    Ok(())
+}
+
+/// A book that is made again from its entries goes on as after its commits, without their number.
+fn resume_in_order(rt: &impl Abort, alloc: Global, task: &Task) -> Result<(), Fail> {
+    let mut kids = Vec::new(alloc);
+    for pair in IN_ORDER {
+        kids.push(kid(pair))?;
+    }
+    match Book::resume(alloc, task, MOST, &kids) {
+        Ok(book) => {
+            assert_counts(rt, &book, [3, 4, 3, 3, 0]);
+            assert_entries(rt, &book, &IN_ORDER);
+            assert!(rt; book.bound() == Some(2));
+            assert_plan(rt, &book, &[0, 1])?;
+        }
+        Err(_) => panic!(rt; "refused"),
+    }
+    Ok(())
+}
+
+#[test]
+fn a_book_is_made_again_from_its_entries(rt: HostRuntime) -> Result<(), Fail> {
+    let alloc = rt.alloc();
+    let task = two_steps(&rt, alloc)?;
+    resume_in_order(&rt, alloc, &task)?;
+    assert_fault(&rt, alloc, &task, &[(0, 0)], (0, Refusal::UnknownParent))?;
+    assert_fault(&rt, alloc, &task, &[ROOT, (0, 1)], (1, Refusal::NotAKid))?;
+    assert_fault(
+        &rt,
+        alloc,
+        &task,
+        &[ROOT, (0, 0), ROOT],
+        (2, Refusal::SettledBefore),
+    )?;
+    assert_fault(
+        &rt,
+        alloc,
+        &task,
+        &[ROOT, (1, 1)],
+        (1, Refusal::UnknownParent),
+    )
 }
