@@ -1,0 +1,5 @@
+//! Tests of what the threads of a search share.
+#![tactic(auto)]
+
+#[cfg(test)]
+mod bound;

@@ -1,0 +1,5 @@
+pub mod Counting
+pub mod Ordering
+pub mod Places
+pub mod Queueing
+pub mod Sums

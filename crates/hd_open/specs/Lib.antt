@@ -1,0 +1,6 @@
+pub mod Counts
+pub mod Kept
+pub mod Live
+pub mod Open
+pub mod Queue
+pub mod Totals

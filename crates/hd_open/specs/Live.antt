@@ -1,0 +1,27 @@
+-- Slots by arrival, of which some hold a node, and what stands in them. (Our own.)
+use Rattle.std.specs.Prelude.{◌≡◌, ℕ, List, [], ◌∷◌, Option, Some, None, length, take, slice_get}
+use Rattle.hd_open.specs.Totals.{IsNotAfter}
+
+-- the nodes that slots hold, in order
+abbrev pub live : {A : Type 0} → List (Option A) → List A
+live [] = []
+live (Some x ∷ slots) = x ∷ live slots
+live (None ∷ slots) = live slots
+
+-- how many nodes the slots before an arrival hold: the place of the node there among all
+abbrev pub place_at : {A : Type 0} → List (Option A) → ℕ → ℕ
+place_at slots arrival = length (live (take arrival slots))
+
+-- a slot holds a node
+abbrev pub IsFilled : {A : Type 0} → List (Option A) → ℕ → Type 0
+IsFilled {A} slots arrival = (x : A) × (slice_get slots arrival ≡ Some (Some x))
+
+-- a slot holds a node of this total
+abbrev pub IsAt : {A : Type 0} → (A → Option ℕ) → List (Option A) → ℕ → Option ℕ → Type 0
+IsAt {A} total slots arrival t = (x : A) × (slice_get slots arrival ≡ Some (Some x)) × (total x ≡ t)
+
+-- the node that a slot holds is the best one
+pub record IsBestArrival {A : Type 0} (total : A → Option ℕ) (slots : List (Option A)) (arrival : ℕ) : Type 0 where
+  pub node : A
+  pub there : slice_get slots arrival ≡ Some (Some node)
+  pub least : (k : ℕ) (other : A) → slice_get slots k ≡ Some (Some other) → IsNotAfter (total node) arrival (total other) k

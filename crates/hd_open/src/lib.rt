@@ -1,0 +1,15 @@
+//! The open list of a worker: the nodes that wait to be expanded, in the order in which they came.
+//!
+//! A node may be asked for by its place in that order, or as the best one: that of the least cost plus estimate, the earliest of
+//! equal ones. The nodes lie by their arrivals, and a slot that a node has left stays empty; a sorted queue finds the best one, and
+//! counts of groups of slots find places.
+#![tactic(auto)]
+
+mod counts;
+mod open;
+mod queue;
+mod slots;
+mod waits;
+
+pub use open::OpenList;
+pub use waits::Waits;
