@@ -3,3 +3,4 @@ pub mod Ordering
 pub mod Places
 pub mod Queueing
 pub mod Sums
+pub mod Taking

@@ -1,8 +1,9 @@
 -- Where nodes stand among those that slots hold.
-use Rattle.std.proofs.Common.{◌≡◌, ◌⊎◌, ℕ, zero, suc, ◌+◌, ◌<◌, ◌≤◌, List, [], ◌∷◌, ◌++◌, Option, Some, None, length, take, drop, set, slice_get, refl, sym, ap, ◌∙◌, subst, inl, inr, ⊎_elim, arith}
+use Rattle.std.proofs.Common.{◌≡◌, ◌⊎◌, ℕ, zero, suc, ◌+◌, ◌<◌, ◌≤◌, true, false, List, [], ◌∷◌, ◌++◌, Option, Some, None, is_some, length, take, drop, set, get_or, slice_get, refl, sym, ap, ◌∙◌, subst, inl, inr, ⊎_elim, arith}
 use Rattle.std.specs.List.{insert, remove}
 use Rattle.std.proofs.lemmas.List.{length-append, take_all, take-append-le, take-set-le}
-use Rattle.std.proofs.lemmas.Option.{none-some, same_Some, slice_get_within}
+use Rattle.std.proofs.lemmas.Bool.{cases_lt}
+use Rattle.std.proofs.lemmas.Option.{none-some, same_Some, slice_get_within, slice_get_read}
 use Rattle.hd_open.specs.Totals.{IsNotAfter, IsBest}
 use Rattle.hd_open.specs.Live.{live, place_at, IsFilled, IsBestArrival}
 
@@ -77,6 +78,36 @@ module _ {A : Type 0} where
   length-live-lt (None ∷ slots) zero at = let rest = length-live-le slots in omega arith
   length-live-lt (Some x ∷ slots) (suc i) at = let rest = length-live-lt slots i at in omega arith
   length-live-lt (None ∷ slots) (suc i) at = let rest = length-live-lt slots i at in omega arith
+
+  -- fewer nodes stand before an arrival than slots
+  pub place_at-le-arrival : (slots : List (Option A)) (m : ℕ) → place_at slots m ≤ m
+  place_at-le-arrival [] zero = omega arith
+  place_at-le-arrival [] (suc m) = omega arith
+  place_at-le-arrival (x ∷ slots) zero = omega arith
+  place_at-le-arrival (Some x ∷ slots) (suc m) = let rest = place_at-le-arrival slots m in omega arith
+  place_at-le-arrival (None ∷ slots) (suc m) = let rest = place_at-le-arrival slots m in omega arith
+
+  -- where nodes stand behind an arrival, it is among the slots
+  pub place_less : (slots : List (Option A)) (m : ℕ) → place_at slots m < length (live slots) → m < length slots
+  place_less slots m less =
+      elim (cases_lt m (length slots)) [
+        | inl lt ↦ lt
+        | inr le ↦ let all = place_all slots m le in absurd (omega arith)
+      ]
+
+  -- ---- a slot that is read
+
+  pub place_more_read :
+      (slots : List (Option A)) (i : ℕ) (o : Option A) → i < length slots → o ≡ get_or slots i o → is_some o ≡ true
+      → place_at slots (i + 1) ≡ place_at slots i + 1
+  place_more_read slots i None within read there = absurd (cc)
+  place_more_read slots i (Some x) within read there = place_more_some slots i x (slice_get_read slots (length slots) i (Some x) refl within read)
+
+  pub place_same_read :
+      (slots : List (Option A)) (i : ℕ) (o : Option A) → i < length slots → o ≡ get_or slots i o → is_some o ≡ false
+      → place_at slots (i + 1) ≡ place_at slots i
+  place_same_read slots i None within read gone = place_more_none slots i (slice_get_read slots (length slots) i None refl within read)
+  place_same_read slots i (Some x) within read gone = absurd (cc)
 
   -- ---- a node at its place
 
@@ -196,3 +227,16 @@ module _ {A : Type 0} where
         let from = live_from slots k other at in
         ⊎_elim (λ less. inl less) (λ same. inr (same.0, (let le = place_at-le slots i from.0 same.1 in let is = from.2 in omega arith))) (b.least from.0 other from.1);
   }
+
+  -- the same, of what contracts see
+  pub best_of_view :
+      (total : A → Option ℕ) (slots : List (Option A)) (nodes : List A) (i place : ℕ) → live slots ≡ nodes → IsBestArrival total slots i
+      → place ≡ place_at slots i → IsBest total nodes place
+  best_of_view total slots nodes i place is best at =
+      subst (λ (ns : List A). IsBest total ns place) is (subst (λ (k : ℕ). IsBest total (live slots) k) (sym at) (best_place total slots i best))
+
+  pub get_of_view :
+      (slots : List (Option A)) (nodes : List A) (i place : ℕ) (x : A) → live slots ≡ nodes → slice_get slots i ≡ Some (Some x)
+      → place_at slots i ≡ place → slice_get nodes place ≡ Some x
+  get_of_view slots nodes i place x is at stands =
+      subst (λ (ns : List A). slice_get ns place ≡ Some x) is (subst (λ (k : ℕ). slice_get (live slots) k ≡ Some x) stands (live_get slots i x at))

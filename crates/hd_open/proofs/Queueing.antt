@@ -14,22 +14,22 @@ use Rattle.hd_open.proofs.Ordering.{nat_cmp_not_greater, nat_cmp_same, entry_cmp
 use Rattle.hd_open.proofs.Places.{live_none, slice_get-set_else, slice_get-push_else}
 
 cond_stays : (b c : Bool) → c ≡ true → cond b true c ≡ true
-cond_stays true c yes = refl
-cond_stays false c yes = yes
+cond_stays true c held = refl
+cond_stays false c held = held
 
 -- ---- an entry comes
 
 pub added_finite :
     (q r : Queue) (t a : ℕ) → Updates entry_cmp q.finite r.finite (t, a) true → r.dead ≡ q.dead
     → (g : Option ℕ) (k : ℕ) → has q g k ≡ true → has r g k ≡ true
-added_finite q r t a up same (Some u) k yes = up.0 (u, k) ∙ cond_stays (is_eq (entry_cmp (t, a) (u, k))) (has q (Some u) k) yes
-added_finite q r t a up same None k yes = ap (λ (d : BTreeSet ℕ). contains nat_cmp d k) same ∙ yes
+added_finite q r t a up same (Some u) k held = up.0 (u, k) ∙ cond_stays (is_eq (entry_cmp (t, a) (u, k))) (has q (Some u) k) held
+added_finite q r t a up same None k held = ap (λ (d : BTreeSet ℕ). contains nat_cmp d k) same ∙ held
 
 pub added_dead :
     (q r : Queue) (a : ℕ) → Updates nat_cmp q.dead r.dead a true → r.finite ≡ q.finite
     → (g : Option ℕ) (k : ℕ) → has q g k ≡ true → has r g k ≡ true
-added_dead q r a up same (Some u) k yes = ap (λ (f : BTreeSet (ℕ × ℕ)). contains entry_cmp f (u, k)) same ∙ yes
-added_dead q r a up same None k yes = up.0 k ∙ cond_stays (is_eq (nat_cmp a k)) (has q None k) yes
+added_dead q r a up same (Some u) k held = ap (λ (f : BTreeSet (ℕ × ℕ)). contains entry_cmp f (u, k)) same ∙ held
+added_dead q r a up same None k held = up.0 k ∙ cond_stays (is_eq (nat_cmp a k)) (has q None k) held
 
 pub same_entries :
     (q r : Queue) → r.finite.keys ≡ q.finite.keys → r.dead.keys ≡ q.dead.keys
@@ -42,15 +42,15 @@ same_entries q r f d None k = ap (λ (ks : List ℕ). list_any (is_at (nat_cmp k
 pub least_finite :
     (q : Queue) (t a : ℕ) → IsLowerBound entry_cmp q.finite (t, a)
     → (g : Option ℕ) (k : ℕ) → has q g k ≡ true → IsNotAfter (Some t) a g k
-least_finite q t a least (Some u) k yes = entry_cmp_not_greater t a u k (least (u, k) yes)
-least_finite q t a least None k yes = inl refl
+least_finite q t a least (Some u) k held = entry_cmp_not_greater t a u k (least (u, k) held)
+least_finite q t a least None k held = inl refl
 
 pub least_dead :
     (q : Queue) (a : ℕ) → q.finite.keys ≡ [] → IsLowerBound nat_cmp q.dead a
     → (g : Option ℕ) (k : ℕ) → has q g k ≡ true → IsNotAfter None a g k
-least_dead q a none least (Some u) k yes =
-    let no : has q (Some u) k ≡ false = ap (λ (ks : List (ℕ × ℕ)). list_any (is_at (entry_cmp (u, k))) ks) none in absurd (cc)
-least_dead q a none least None k yes = inr (refl, nat_cmp_not_greater a k (least k yes))
+least_dead q a none least (Some u) k held =
+    let lacks : has q (Some u) k ≡ false = ap (λ (ks : List (ℕ × ℕ)). list_any (is_at (entry_cmp (u, k))) ks) none in absurd (cc)
+least_dead q a none least None k held = inr (refl, nat_cmp_not_greater a k (least k held))
 
 pub has_none :
     (q : Queue) → q.finite.keys ≡ [] → q.dead.keys ≡ [] → (g : Option ℕ) (k : ℕ) → has q g k ≡ false
@@ -60,24 +60,24 @@ has_none q f d None k = ap (λ (ks : List ℕ). list_any (is_at (nat_cmp k)) ks)
 -- ---- the first one goes
 
 cond_goes : (b c : Bool) → c ≡ true → (cond b false c ≡ true) ⊎ (b ≡ true)
-cond_goes true c yes = inr refl
-cond_goes false c yes = inl yes
+cond_goes true c held = inr refl
+cond_goes false c held = inl held
 
 pub dropped_finite :
     (q r : Queue) (t a : ℕ) → Updates entry_cmp q.finite r.finite (t, a) false → r.dead ≡ q.dead
     → (g : Option ℕ) (k : ℕ) → has q g k ≡ true → (has r g k ≡ true) ⊎ ((Some t ≡ g) × (a ≡ k))
-dropped_finite q r t a up same (Some u) k yes =
+dropped_finite q r t a up same (Some u) k held =
     ⊎_elim (λ stays. inl (up.0 (u, k) ∙ stays)) (λ gone. let is = entry_cmp_same t a u k gone in inr (ap Some is.0, is.1))
-    (cond_goes (is_eq (entry_cmp (t, a) (u, k))) (has q (Some u) k) yes)
-dropped_finite q r t a up same None k yes = inl (ap (λ (d : BTreeSet ℕ). contains nat_cmp d k) same ∙ yes)
+    (cond_goes (is_eq (entry_cmp (t, a) (u, k))) (has q (Some u) k) held)
+dropped_finite q r t a up same None k held = inl (ap (λ (d : BTreeSet ℕ). contains nat_cmp d k) same ∙ held)
 
 pub dropped_dead :
     (q r : Queue) (a : ℕ) → Updates nat_cmp q.dead r.dead a false → r.finite ≡ q.finite
     → (g : Option ℕ) (k : ℕ) → has q g k ≡ true → (has r g k ≡ true) ⊎ ((None ≡ g) × (a ≡ k))
-dropped_dead q r a up same (Some u) k yes = inl (ap (λ (f : BTreeSet (ℕ × ℕ)). contains entry_cmp f (u, k)) same ∙ yes)
-dropped_dead q r a up same None k yes =
+dropped_dead q r a up same (Some u) k held = inl (ap (λ (f : BTreeSet (ℕ × ℕ)). contains entry_cmp f (u, k)) same ∙ held)
+dropped_dead q r a up same None k held =
     ⊎_elim (λ stays. inl (up.0 k ∙ stays)) (λ gone. inr (refl, nat_cmp_same a k gone))
-    (cond_goes (is_eq (nat_cmp a k)) (has q None k) yes)
+    (cond_goes (is_eq (nat_cmp a k)) (has q None k) held)
 
 -- ---- nodes and their entries
 
@@ -122,7 +122,7 @@ module _ {A : Type 0} (total : A → Option ℕ) where
 
   -- where the queue has nothing, there are no nodes
   pub queued_none : (slots : List (Option A)) (q : Queue) → IsQueued total slots q → ((g : Option ℕ) (k : ℕ) → has q g k ≡ false) → live slots ≡ []
-  queued_none slots q queued none = live_none slots (λ k x at. let yes = queued k x at in let no = none (total x) k in absurd (cc))
+  queued_none slots q queued none = live_none slots (λ k x at. let held = queued k x at in let lacks = none (total x) k in absurd (cc))
 
   -- the first entry that is not stale is that of the best node
   pub queued_best :

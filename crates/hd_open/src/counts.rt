@@ -1,5 +1,5 @@
 //! How many slots hold a node, counted by groups, so that a place is found without going through all of them.
-ghost use Rattle.std.specs.Prelude.{◌≡◌, ◌+◌, ◌^◌, ◌<◌, ◌≤◌, ℕ, length, sum, take, slice_index, OnOk};
+ghost use Rattle.std.specs.Prelude.{◌≡◌, ◌+◌, ◌^◌, ◌<◌, ◌≤◌, ℕ, [], length, sum, take, slice_index, OnOk};
 ghost use Rattle.hd_open.specs.Counts.{IsRaised, AreRaised, AreSame, AreSome, AreBelowLimit, IsCovering, HasRoom};
 
 use hd_base::NoMemory;

@@ -98,7 +98,7 @@ impl<T: Waits> OpenList<T> {
     {
         self.gap = None;
         let arrival = best_arrival(self.slots.as_slice(), &mut self.queue)?;
-        let (node, gap) = take_from(self.slots.as_mut_slice(), &mut self.counts, arrival);
+        let (node, gap) = take_from(&mut self.slots, &mut self.counts, arrival);
         self.gap = Some(gap);
         Some(node)
     }
@@ -111,11 +111,7 @@ impl<T: Waits> OpenList<T> {
             return None;
         }
         let arrival = arrival_of(self.slots.as_slice(), &self.counts, place);
-        match self.slots.get(arrival) {
-            Some(Some(node)) => Some(node),
-            Some(None) => unreachable!(),
-            None => unreachable!(),
-        }
+        self.slots[arrival].as_ref()
     }
 
     /// Takes the node at a place out; nothing happens where there is none.
@@ -128,7 +124,7 @@ impl<T: Waits> OpenList<T> {
             return None;
         }
         let arrival = arrival_of(self.slots.as_slice(), &self.counts, place);
-        let (node, gap) = take_from(self.slots.as_mut_slice(), &mut self.counts, arrival);
+        let (node, gap) = take_from(&mut self.slots, &mut self.counts, arrival);
         self.gap = Some(gap);
         Some(node)
     }
@@ -146,7 +142,6 @@ impl<T: Waits + Drop> OpenList<T> {
             unreachable!();
         };
         self.gap = None;
-        let slots = self.slots.as_mut_slice();
-        put_into(slots, &mut self.counts, gap.arrival, node);
+        put_into(&mut self.slots, &mut self.counts, gap.arrival, node);
     }
 }

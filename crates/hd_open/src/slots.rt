@@ -77,6 +77,8 @@ pub(crate) fn arrival_of<T>(slots: &[Option<T>], counts: &Counts, place: usize) 
     ensures filled { IsFilled slots.now result }
     ensures place { place_at slots.now result ≡ place }
 {
+    // So that it is known that the places fit.
+    let _count = slots.len();
     let (greatest, left) = skip(counts.coarse.as_slice(), 0, place);
     let (greater, left) = skip(counts.middle.as_slice(), GROUP * greatest, left);
     let (group, left) = skip(counts.fine.as_slice(), GROUP * greater, left);
@@ -156,16 +158,17 @@ pub(crate) fn append<T>(
 
 /// Takes the node out of a slot, which is a gap from then on.
 pub(crate) fn take_from<T: Waits>(
-    slots: &mut [Option<T>],
+    slots: &mut Vec<Option<T>>,
     counts: &mut Counts,
     arrival: usize,
 ) -> (T, Gap)
-    requires counted { AreCounts slots.old counts.old }
-    requires filled { IsFilled slots.old arrival }
-    ensures node { slice_get slots.old arrival ≡ Some (Some result.0) }
+    requires within { arrival < length slots.old.items }
+    requires counted { AreCounts slots.old.items counts.old }
+    requires filled { IsFilled slots.old.items arrival }
+    ensures node { slice_get slots.old.items arrival ≡ Some (Some result.0) }
     ensures gap { result.1 ≡ record { arrival = arrival; total = T.total result.0 } }
-    ensures slots { slots.new ≡ slice_set slots.old arrival None }
-    ensures counted { AreCounts slots.new counts.new }
+    ensures slots { slots.new.items ≡ slice_set slots.old.items arrival None }
+    ensures counted { AreCounts slots.new.items counts.new }
 {
     counts.lower(arrival);
     match slots[arrival].take() {
@@ -179,16 +182,19 @@ pub(crate) fn take_from<T: Waits>(
 
 /// Puts a node into an empty slot.
 pub(crate) fn put_into<T: Drop>(
-    slots: &mut [Option<T>],
+    slots: &mut Vec<Option<T>>,
     counts: &mut Counts,
     arrival: usize,
     node: T,
 )
-    requires counted { AreCounts slots.old counts.old }
-    requires empty { slice_get slots.old arrival ≡ Some None }
-    ensures slots { slots.new ≡ slice_set slots.old arrival (Some node) }
-    ensures counted { AreCounts slots.new counts.new }
+    requires within { arrival < length slots.old.items }
+    requires counted { AreCounts slots.old.items counts.old }
+    requires empty { slice_get slots.old.items arrival ≡ Some None }
+    ensures slots { slots.new.items ≡ slice_set slots.old.items arrival (Some node) }
+    ensures counted { AreCounts slots.new.items counts.new }
 {
+    // So that it is known how many there are at most.
+    let _count = slots.len();
     counts.raise(arrival);
     slots[arrival] = Some(node);
 }

@@ -1,9 +1,12 @@
-use Rattle.hd_open.proofs.Counting.{some_counted, room_within}
-use Rattle.std.proofs.lemmas.Option.{slice_get_within}
+use Rattle.hd_open.proofs.Counting.{some_counted, room_within, counted_left}
 use Rattle.hd_open.proofs.slots.take_from.Goals as goal
 
 pub lower-requires-clause-room : goal.lower-requires-clause-room
-lower-requires-clause-room g c = room_within _ _ _ c.requires.counted.covering (slice_get_within _ _ _ c.requires.filled.1)
+lower-requires-clause-room g c = room_within c.args.counts.now _ _ c.requires.counted.covering c.requires.within
 
 pub lower-requires-clause-some : goal.lower-requires-clause-some
-lower-requires-clause-some g c = some_counted _ _ _ c.requires.filled.0 c.requires.counted c.requires.filled.1
+lower-requires-clause-some g c = some_counted c.args.slots.now.items c.args.counts.now c.args.arrival c.requires.filled.0 c.requires.counted c.requires.filled.1
+
+pub returns-clause-counted : goal.returns-clause-counted
+returns-clause-counted g c =
+    counted_left c.args.slots.now.items c.requires.filled.0 c.args.counts.now c.lower.new.self c.args.arrival c.requires.filled.1 c.requires.counted c.lower.ensures
