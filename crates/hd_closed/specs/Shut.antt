@@ -1,5 +1,5 @@
 -- What a closed list keeps. (Our own.)
-use Rattle.std.specs.Prelude.{◌≡◌, ℕ, ◌<◌, ◌≤◌, List, Option, Some, None, map, length, slice_get, IfSome}
+use Rattle.std.specs.Prelude.{◌≡◌, ℕ, ◌<◌, ◌≤◌, Bool, true, nat_lt, nat_le, if◌then◌else◌, List, Option, Some, None, map, length, slice_get, IfSome}
 use Rattle.std.specs.List.{AllByRecursion}
 use Rattle.std.specs.HashMap.{HashMap}
 use Rattle.std.specs.declared.hash.FoldHasher.{FoldHasher}
@@ -36,6 +36,24 @@ shut_numbered first given s = record { by = numbered first given s.by; state = s
 abbrev pub AreNumbered : ℕ → List ℕ → List Shut → List Shut → Type 0
 AreNumbered first given before after = after ≡ map (shut_numbered first given) before
 
+-- an expansion of this cost is cheaper than another, if there is one
+abbrev pub is_cheaper_than : Option Shut → ℕ → Bool
+is_cheaper_than None cost = true
+is_cheaper_than (Some s) cost = nat_lt cost s.cost
+
+abbrev pub is_cheaper : List Shut → Option ℕ → ℕ → Bool
+is_cheaper shuts None cost = true
+is_cheaper shuts (Some place) cost = is_cheaper_than (slice_get shuts place) cost
+
+-- what names an expansion, if there is one, and it costs no more than so much
+abbrev pub no_dearer_than : Option Shut → ℕ → Option By
+no_dearer_than None cost = None
+no_dearer_than (Some s) cost = if nat_le s.cost cost then Some s.by else None
+
+abbrev pub no_dearer : List Shut → Option ℕ → ℕ → Option By
+no_dearer shuts None cost = None
+no_dearer shuts (Some place) cost = no_dearer_than (slice_get shuts place) cost
+
 -- what is noted of a state is true of it
 pub record IsNoted (t : Task) (n : Note) : Type 0 where
   pub of_task : IsStateOf t n.state
@@ -61,3 +79,4 @@ pub record IsKept (t : Task) (notes : List Note) (heads : HashMap ℕ ℕ (Build
   pub within : AllByRecursion (λ s. s.state < length notes) shuts
   pub least : (k : ℕ) (n : Note) → slice_get notes k ≡ Some n → IsLeastOf shuts k n.least
   pub numbered : HasNumbered shuts entered
+  pub bounded : entered ≤ length shuts

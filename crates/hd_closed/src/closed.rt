@@ -1,12 +1,12 @@
 //! The closed list.
-ghost use Rattle.std.specs.Prelude.{◌≡◌, ℕ, ◌+◌, ◌<◌, ◌^◌, ◌++◌, [], ◌∷◌, true, false, Some, map, length, slice_get, slice_index, IfOk, IfSome, IfNone, OnOk, OnErr};
+ghost use Rattle.std.specs.Prelude.{◌≡◌, ℕ, ◌+◌, ◌<◌, ◌≤◌, ◌^◌, ◌++◌, [], ◌∷◌, true, false, Some, map, length, vec_len, vec_capacity, slice_get, slice_index, IfOk, IfSome, IfNone, OnOk, OnErr};
 ghost use Rattle.hd_task.specs.Plans.{IsStateOf};
 ghost use Rattle.hd_hmax.specs.Rounds.{hmax};
 ghost use Rattle.hd_hmax.specs.Value.{estimated};
 ghost use Rattle.hd_closed.specs.Numbering.{closed_numbered, numbered};
 ghost use Rattle.hd_closed.specs.Closed.{closed_at, BeginsWith, IsNamedBy, IsDearer};
 ghost use Rattle.hd_closed.specs.Notes.{state_of, AreChained};
-ghost use Rattle.hd_closed.specs.Shut.{HasNumbered, AreNumbered};
+ghost use Rattle.hd_closed.specs.Shut.{HasNumbered, AreNumbered, is_cheaper, no_dearer};
 
 use crate::notes::{Heads, Note, add, find};
 use crate::numbering::numbered;
@@ -63,24 +63,81 @@ impl<'t> Model for ClosedList<'t> {
         × (c.ready ≡ true → vec_len c.shuts < vec_capacity c.shuts) };
 }
 
-/// Names the expansions from a place on anew, once the batch that was given last is numbered from `first` on.
-fn number_from(shuts: &mut [Shut], from: usize, first: u64, given: &[u64]) -> usize
+/// Names the expansions from a place on anew, once the batch that was given last is numbered from `first` on. Those before it are entries,
+/// which keep their names.
+fn number_from(shuts: &mut [Shut], from: usize, first: u64, given: &[u64])
     requires fits { (k : ℕ) → first + slice_index given.now k < 2 ^ 64 }
     requires entered { HasNumbered shuts.old from }
-    ensures shuts { AreNumbered first given.now shuts.old shuts.new }
-    ensures entered { HasNumbered shuts.new result }
+    requires bounded { from ≤ length shuts.old }
+    ensures { AreNumbered first given.now shuts.old shuts.new }
+{
+    for place in from..shuts.len() {
+        let shut = shuts[place];
+        shuts[place] = Shut {
+            by: numbered(first, given, shut.by),
+            ..shut
+        };
+    }
+}
+
+/// A place up to which all expansions are entries, where they are so up to another.
+fn entered_from(shuts: &[Shut], from: usize) -> usize
+    requires entered { HasNumbered shuts.now from }
+    requires bounded { from ≤ length shuts.now }
+    ensures entered { HasNumbered shuts.now result }
+    ensures bounded { result ≤ length shuts.now }
 {
     let mut entered = from;
-    for place in from..shuts.len() {
-        let by = numbered(first, given, shuts[place].by);
-        shuts[place].by = by;
-        if let By::Entry(_) = by {
-            if entered == place {
-                entered = place + 1;
-            }
+    while entered < shuts.len() {
+        match shuts[entered].by {
+            By::Entry(_) => entered += 1,
+            By::Here(_) => return entered,
         }
     }
     entered
+}
+
+/// One expansion more, where there is room for it.
+fn push_shut(shuts: &mut Vec<Shut>, shut: Shut)
+    requires { vec_len shuts.old < vec_capacity shuts.old }
+    ensures { shuts.new.items ≡ shuts.old.items ++ shut ∷ [] }
+{
+    match shuts.push(shut) {
+        Ok(()) => {}
+        Err(_) => unreachable!(),
+    }
+}
+
+/// Whether an expansion of this cost is cheaper than that at a place, if there is one.
+fn is_cheaper(shuts: &[Shut], least: Option<usize>, cost: u64) -> bool
+    ensures { result ≡ is_cheaper shuts.now least cost }
+{
+    match least {
+        Some(place) => match shuts.get(place) {
+            Some(shut) => cost < shut.cost,
+            None => true,
+        },
+        None => true,
+    }
+}
+
+/// What names the expansion at a place, if there is one, and it costs no more.
+fn no_dearer(shuts: &[Shut], least: Option<usize>, cost: u64) -> Option<By>
+    ensures { result ≡ no_dearer shuts.now least cost }
+{
+    match least {
+        Some(place) => match shuts.get(place) {
+            Some(shut) => {
+                if shut.cost <= cost {
+                    Some(shut.by)
+                } else {
+                    None
+                }
+            }
+            None => None,
+        },
+        None => None,
+    }
 }
 
 impl<'t> ClosedList<'t> {
@@ -130,20 +187,20 @@ impl<'t> ClosedList<'t> {
     }
 
     /// The estimate of the state at a place. It is made where it is asked for first, and kept.
-    pub fn estimate(&mut self, hmax: &mut Hmax<'t>, place: usize) -> EstimateValue
+    pub fn estimate(&mut self, estimates: &mut Hmax<'t>, place: usize) -> EstimateValue
         requires place { place < length self.old.states }
-        requires of_task { hmax.old.task ≡ self.old.task }
+        requires of_task { estimates.old.task ≡ self.old.task }
         ensures value { IfSome (slice_get self.old.states place)
             (λ s. estimated result ≡ hmax self.old.task s) }
         ensures same { self.new ≡ self.old }
-        ensures task { hmax.new.task ≡ hmax.old.task }
+        ensures task { estimates.new.task ≡ estimates.old.task }
     {
-        let note = &mut self.notes[place];
-        if let Some(value) = note.value {
+        let known = self.notes[place].value;
+        if let Some(value) = known {
             return value;
         }
-        let value = hmax.value(note.state.state());
-        note.value = Some(value);
+        let value = estimates.value(self.notes[place].state.state());
+        self.notes[place].value = Some(value);
         value
     }
 
@@ -155,13 +212,7 @@ impl<'t> ClosedList<'t> {
         ensures none { IfNone result (IfSome (slice_get self.now.states place)
             (λ s. IsDearer self.now.closed s cost)) }
     {
-        let least = self.notes[place].least?;
-        let shut = &self.shuts[least];
-        if shut.cost <= cost {
-            Some(shut.by)
-        } else {
-            None
-        }
+        no_dearer(self.shuts.as_slice(), self.notes[place].least, cost)
     }
 
     /// Makes room for one expansion more.
@@ -190,20 +241,17 @@ impl<'t> ClosedList<'t> {
             ≡ self.old.closed ++ closed_at self.old.states place by cost ∷ [] }
     {
         let added = self.shuts.len();
+        let cheaper = is_cheaper(self.shuts.as_slice(), self.notes[place].least, cost);
         self.ready = false;
-        let pushed = self.shuts.push(Shut {
-            by,
-            state: place,
-            cost,
-        });
-        if pushed.is_err() {
-            unreachable!();
-        }
-        let is_cheaper = match self.notes[place].least {
-            Some(least) => cost < self.shuts[least].cost,
-            None => true,
-        };
-        if is_cheaper {
+        push_shut(
+            &mut self.shuts,
+            Shut {
+                by,
+                state: place,
+                cost,
+            },
+        );
+        if cheaper {
             self.notes[place].least = Some(added);
         }
     }
@@ -219,7 +267,7 @@ impl<'t> ClosedList<'t> {
             ≡ map (closed_numbered first given.now) self.old.closed }
         ensures ready { self.new.ready ≡ self.old.ready }
     {
-        let shuts = self.shuts.as_mut_slice();
-        self.entered = number_from(shuts, self.entered, first, given);
+        number_from(self.shuts.as_mut_slice(), self.entered, first, given);
+        self.entered = entered_from(self.shuts.as_slice(), self.entered);
     }
 }

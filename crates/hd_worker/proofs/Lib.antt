@@ -1,0 +1,5 @@
+pub mod Growing
+pub mod Judging
+pub mod Lists
+pub mod Numbering
+pub mod Turning

@@ -20,20 +20,20 @@ use std::collections::VecDeque;
 fn total_for<'t>(
     alloc: Global,
     known: &mut ClosedList<'t>,
-    hmax: &mut Hmax<'t>,
+    estimates: &mut Hmax<'t>,
     parcel: &Parcel<'t>,
 ) -> Result<(usize, Option<u128>), NoMemory>
     requires of_task { parcel.now.task ≡ known.old.task }
-    requires estimates { hmax.old.task ≡ known.old.task }
+    requires estimates { estimates.old.task ≡ known.old.task }
     ensures task { known.new.task ≡ known.old.task }
     ensures closed { known.new.closed ≡ known.old.closed }
     ensures begins { BeginsWith known.new.states known.old.states }
-    ensures estimates { hmax.new.task ≡ hmax.old.task }
+    ensures estimates { estimates.new.task ≡ estimates.old.task }
     ensures is_node { IfOk result (λ r. IsNodeOfParcel known.old.task known.new.states
         parcel.now r.0 r.1) }
 {
     let place = known.place_of(alloc, parcel.hashed())?;
-    let value = known.estimate(hmax, place);
+    let value = known.estimate(estimates, place);
     Ok((place, total_of(parcel.cost(), value)))
 }
 
@@ -80,15 +80,15 @@ pub(crate) fn open_all<'t>(
     known: &mut ClosedList<'t>,
     open: &mut OpenList<Node<'t>>,
     fresh: &mut VecDeque<Parcel<'t>>,
-    hmax: &mut Hmax<'t>,
+    estimates: &mut Hmax<'t>,
 ) -> Result<(), NoMemory>
-    requires estimates { hmax.old.task ≡ known.old.task }
+    requires estimates { estimates.old.task ≡ known.old.task }
     requires nodes { AllByRecursion (IsNodeOf known.old.task known.old.states) open.old.nodes }
     requires parcels { AllByRecursion (IsParcelOf known.old.task) fresh.old.items }
     ensures task { known.new.task ≡ known.old.task }
     ensures closed { known.new.closed ≡ known.old.closed }
     ensures begins { BeginsWith known.new.states known.old.states }
-    ensures estimates { hmax.new.task ≡ hmax.old.task }
+    ensures estimates { estimates.new.task ≡ estimates.old.task }
     ensures nodes { AllByRecursion (IsNodeOf known.old.task known.new.states) open.new.nodes }
     ensures parcels { AllByRecursion (IsParcelOf known.old.task) fresh.new.items }
     ensures waiting { waiting_by open.new.nodes fresh.new.items
@@ -98,7 +98,7 @@ pub(crate) fn open_all<'t>(
     ensures all { OnOk result (fresh.new.items ≡ []) }
 {
     while let Some(parcel) = fresh.front() {
-        let (state, total) = total_for(alloc, known, hmax, parcel)?;
+        let (state, total) = total_for(alloc, known, estimates, parcel)?;
         open_first(open, fresh, state, total)?;
     }
     Ok(())

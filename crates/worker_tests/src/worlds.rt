@@ -1,9 +1,10 @@
 //! Workers and a book, without threads: what they come to, whatever the order of their calls.
+use crate::alone::root;
 use crate::dice::Dice;
 use crate::texts::{Which, task};
 use hd_book::{Book, Redeemed, Verdict};
 use hd_node::Parcel;
-use hd_task::{Kid, ROOT_ACTION, ROOT_PARENT, Task};
+use hd_task::{ROOT_PARENT, Task};
 use hd_worker::{Lookup, Worker};
 use hd_zobrist::owner;
 use std::alloc::{AllocError, Global};
@@ -16,28 +17,19 @@ const WORKERS: usize = 3;
 /// A book, workers, and a mailbox for each.
 #[derive(Drop)]
 struct World<'t> {
-    task: &'t Task,
     book: Book<'t>,
-    lookup: Lookup<'t>,
     workers: Vec<Worker<'t>>,
     mailboxes: Vec<VecDeque<Parcel<'t>>>,
     /// No batch was refused.
     admitted: bool,
 }
 
-/// The parcel of the root.
-fn root<'t>(alloc: Global, task: &'t Task, lookup: &Lookup<'t>) -> Result<Parcel<'t>, Fail> {
-    let kid = Kid {
-        parent: ROOT_PARENT,
-        action: ROOT_ACTION,
-    };
-    let state = task.initial.copied(alloc)?;
-    Ok(Parcel::of(alloc, task, &lookup.words, kid, state, 0)?)
-}
-
 /// A world in which the root waits in its owner's mailbox.
-fn world_of<'t>(alloc: Global, task: &'t Task) -> Result<World<'t>, Fail> {
-    let lookup = Lookup::of(alloc, task)?;
+fn world_of<'t>(
+    alloc: Global,
+    task: &'t Task,
+    lookup: &Lookup<'t>,
+) -> Result<World<'t>, Fail> {
     let book = Book::new(alloc, task, ROOT_PARENT - 1)?;
     let mut workers = Vec::new(alloc);
     let mut mailboxes = Vec::new(alloc);
@@ -45,13 +37,11 @@ fn world_of<'t>(alloc: Global, task: &'t Task) -> Result<World<'t>, Fail> {
         workers.push(Worker::new(alloc, task, id, WORKERS))?;
         mailboxes.push(VecDeque::new(alloc))?;
     }
-    let root = root(alloc, task, &lookup)?;
+    let root = root(alloc, task, lookup)?;
     let to = owner(root.hash(), WORKERS);
     mailboxes[to].push_back(root)?;
     Ok(World {
-        task,
         book,
-        lookup,
         workers,
         mailboxes,
         admitted: true,
@@ -112,19 +102,23 @@ fn receive(world: &mut World, id: usize) -> Result<bool, Fail> {
 }
 
 /// One move at random.
-fn move_once(world: &mut World, dice: &mut Dice) -> Result<(), Fail> {
+fn move_once<'t>(
+    world: &mut World<'t>,
+    lookup: &mut Lookup<'t>,
+    dice: &mut Dice,
+) -> Result<(), Fail> {
     let id = dice.below(3) as usize;
     match dice.below(12) {
         0 | 1 => {
             let pick = dice.below(6) as usize;
-            world.workers[id].expand(&mut world.lookup, pick)?;
+            world.workers[id].expand(lookup, pick)?;
         }
         2 | 3 => {
-            world.workers[id].expand_best(&mut world.lookup)?;
+            world.workers[id].expand_best(lookup)?;
         }
         4 => {
-            let pick = world.workers[id].best(&mut world.lookup)?;
-            world.workers[id].expand(&mut world.lookup, pick.unwrap_or(1000))?;
+            let pick = world.workers[id].best(lookup)?;
+            world.workers[id].expand(lookup, pick.unwrap_or(1000))?;
         }
         5 | 6 => commit(world, id)?,
         7 => {
@@ -141,14 +135,22 @@ fn move_once(world: &mut World, dice: &mut Dice) -> Result<(), Fail> {
     Ok(())
 }
 
-/// Each worker does what it can, until there is nothing to do; within so many turns.
-fn finish(world: &mut World, turns: u64) -> Result<(), Fail> {
+/// Each worker does what it can, until all is settled; within so many turns.
+fn finish<'t>(
+    world: &mut World<'t>,
+    lookup: &mut Lookup<'t>,
+    turns: u64,
+) -> Result<(), Fail> {
     for _ in 0..turns {
+        let counts = world.book.counts();
+        if counts.posted == counts.settled {
+            return Ok(());
+        }
         for id in 0..WORKERS {
             while send(world, id, false)? {}
             while receive(world, id)? {}
             world.workers[id].see(world.book.bound());
-            world.workers[id].expand_best(&mut world.lookup)?;
+            world.workers[id].expand_best(lookup)?;
             commit(world, id)?;
         }
     }
@@ -168,21 +170,35 @@ fn cost_found(world: &World) -> Result<u64, Fail> {
 }
 
 /// What a run of so many random moves, and then to the end, finds.
-fn run(alloc: Global, task: &Task, seed: u64, moves: u64) -> Result<u64, Fail> {
+fn run<'t>(
+    alloc: Global,
+    task: &'t Task,
+    lookup: &mut Lookup<'t>,
+    seed: u64,
+    moves: u64,
+) -> Result<u64, Fail> {
     let mut dice = Dice::of(seed);
-    let mut world = world_of(alloc, task)?;
+    let mut world = world_of(alloc, task, lookup)?;
     for _ in 0..moves {
-        move_once(&mut world, &mut dice)?;
+        move_once(&mut world, lookup, &mut dice)?;
     }
-    finish(&mut world, 80)?;
+    finish(&mut world, lookup, 80)?;
     cost_found(&world)
 }
 
-/// How many runs of a task, of so many, find this cost.
-fn runs_found(alloc: Global, task: &Task, runs: u64, cost: u64) -> Result<u64, Fail> {
+/// How many runs of a task find this cost and have no batch refused, of so many from a seed on.
+fn runs_found(
+    alloc: Global,
+    task: &Task,
+    from: u64,
+    runs: u64,
+    cost: u64,
+) -> Result<u64, Fail> {
+    let mut lookup = Lookup::of(alloc, task)?;
     let mut found = 0u64;
-    for seed in 0..runs {
-        if run(alloc, task, seed, seed % 97)? == cost {
+    for turn in 0..runs {
+        let seed = from.wrapping_add(turn);
+        if run(alloc, task, &mut lookup, seed, seed % 97)? == cost {
             found = found.wrapping_add(1);
         }
     }
@@ -190,12 +206,29 @@ fn runs_found(alloc: Global, task: &Task, runs: u64, cost: u64) -> Result<u64, F
 }
 
 #[test]
-fn whatever_the_order_no_batch_is_refused_and_all_is_settled(
-    rt: HostRuntime,
-) -> Result<(), Fail> {
-    let ways = task(&rt, rt.alloc(), Which::TwoWays);
-    assert!(rt; runs_found(rt.alloc(), &ways, 1000, 3)? == 1000);
-    let switches = task(&rt, rt.alloc(), Which::Switches);
-    assert!(rt; runs_found(rt.alloc(), &switches, 1000, 3)? == 1000);
+fn whatever_the_order_two_ways_are_settled(rt: HostRuntime) -> Result<(), Fail> {
+    let task = task(&rt, rt.alloc(), Which::TwoWays);
+    assert!(rt; runs_found(rt.alloc(), &task, 0, 500, 3)? == 500);
+    Ok(())
+}
+
+#[test]
+fn whatever_the_order_two_ways_are_settled_further_on(rt: HostRuntime) -> Result<(), Fail> {
+    let task = task(&rt, rt.alloc(), Which::TwoWays);
+    assert!(rt; runs_found(rt.alloc(), &task, 500, 500, 3)? == 500);
+    Ok(())
+}
+
+#[test]
+fn whatever_the_order_switches_are_settled(rt: HostRuntime) -> Result<(), Fail> {
+    let task = task(&rt, rt.alloc(), Which::Switches);
+    assert!(rt; runs_found(rt.alloc(), &task, 0, 500, 3)? == 500);
+    Ok(())
+}
+
+#[test]
+fn whatever_the_order_switches_are_settled_further_on(rt: HostRuntime) -> Result<(), Fail> {
+    let task = task(&rt, rt.alloc(), Which::Switches);
+    assert!(rt; runs_found(rt.alloc(), &task, 500, 500, 3)? == 500);
     Ok(())
 }

@@ -1,3 +1,5 @@
+use Rattle.std.proofs.Common.{set, sym, subst}
+use Rattle.hd_open.specs.Counts.{AreCounts}
 use Rattle.hd_open.proofs.Counting.{some_counted, room_within, counted_left}
 use Rattle.hd_open.proofs.slots.take_from.Goals as goal
 
@@ -9,4 +11,5 @@ lower-requires-clause-some g c = some_counted c.args.slots.now.items c.args.coun
 
 pub returns-clause-counted : goal.returns-clause-counted
 returns-clause-counted g c =
-    counted_left c.args.slots.now.items c.requires.filled.0 c.args.counts.now c.lower.new.self c.args.arrival c.requires.filled.1 c.requires.counted c.lower.ensures
+    subst (λ o. AreCounts (set c.args.slots.now.items c.args.arrival o) c.lower.new.self) (sym c.take.ensures.after)
+    (counted_left c.args.slots.now.items c.requires.filled.0 c.args.counts.now c.lower.new.self c.args.arrival c.requires.filled.1 c.requires.counted c.lower.ensures)

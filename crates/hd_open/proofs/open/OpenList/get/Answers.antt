@@ -1,13 +1,16 @@
-use Rattle.std.proofs.Common.{◌≡◌, Some, slice_get, sym, ap, subst, ◌∙◌}
-use Rattle.std.proofs.lemmas.Option.{slice_get_within, get_or_from_slice_get}
+use Rattle.std.proofs.Common.{◌≡◌, Some, sym, ap, subst, ◌∙◌}
+use Rattle.std.proofs.lemmas.Option.{get_or_from_slice_get}
 use Rattle.hd_open.specs.Live.{IsFilled, place_at}
 use Rattle.hd_open.proofs.Places.{get_of_view}
 use Rattle.hd_open.proofs.open.OpenList.get.Goals as goal
 
-pub bounds-self-arrival : goal.bounds-self-arrival
-bounds-self-arrival g c =
-    let filled = subst (λ xs. IsFilled xs c.arrival_of-arrival.result) c.as_slice.ensures.value c.arrival_of-arrival.ensures.filled in
-    slice_get_within c.self.inside.slots.items c.arrival_of-arrival.result (Some filled.0) filled.1
-
 pub returns : goal.returns
-returns g c = ?
+returns g c =
+    let slots = c.self.inside.slots.items in
+    let i = c.arrival_of-arrival.result in
+    let filled = subst (λ xs. IsFilled xs i) c.as_slice.ensures.value c.arrival_of-arrival.ensures.filled in
+    let stands = subst (λ xs. place_at xs i ≡ c.args.place) c.as_slice.ensures.value c.arrival_of-arrival.ensures.place in
+    c.as_ref.ensures.value
+    ∙ (c.index.ensures
+    ∙ (get_or_from_slice_get slots i (Some filled.0) c.index.result.now filled.1
+    ∙ sym (get_of_view slots c.args.self.now.nodes i c.args.place filled.0 (ap (λ o. o.nodes) c.self.view_is) filled.1 stands)))

@@ -3,7 +3,7 @@ use Rattle.hd_open.specs.Live.{place_at}
 use Rattle.hd_open.specs.Counts.{AreCounts}
 use Rattle.hd_open.specs.Open.{TakesAt}
 use Rattle.hd_open.specs.Kept.{open_view, IsKept}
-use Rattle.hd_open.proofs.Taking.{gap_at, kept_left, taken_at}
+use Rattle.hd_open.proofs.Taking.{kept_left, taken_at}
 use Rattle.hd_open.proofs.open.OpenList.remove.Goals as goal
 
 pub invariant_of-self : goal.invariant_of-self
