@@ -197,10 +197,11 @@ module _ (t : Task) (entries0 : List Kid) (marks0 : List Bool) (kept0 : IsKept (
 
   pub all_numbered : (earlier later : List Outcome) → AreRight before (batch ++ earlier) later → AreRight after (map renamed earlier) (map renamed later)
   all_numbered earlier [] x = tt
-  all_numbered earlier (o ∷ later) x =
-      (right_numbered earlier o x.0,
-      subst (λ (os : List Outcome). AreRight after os (map renamed later)) (map-append renamed earlier (o ∷ []))
-      (all_numbered (earlier ++ o ∷ []) later (subst (λ (os : List Outcome). AreRight before os later) (append_assoc batch earlier (o ∷ [])) x.1)))
+  all_numbered earlier (o ∷ later) x = (
+    right_numbered earlier o x.0,
+    subst (λ (os : List Outcome). AreRight after os (map renamed later)) (map-append renamed earlier (o ∷ []))
+        (all_numbered (earlier ++ o ∷ []) later (subst (λ (os : List Outcome). AreRight before os later) (append_assoc batch earlier (o ∷ [])) x.1)),
+  )
 
   pub closed_after : (rest : List Outcome) (c : Closed) → IsClosedBy before (batch ++ rest) c → IsClosedBy after (map renamed rest) (closed_numbered (length entries0) given c)
   closed_after rest c x = by_numbered rest c.by (node c.state c.cost) x

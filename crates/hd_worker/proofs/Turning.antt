@@ -34,7 +34,7 @@ use Rattle.hd_book.specs.Holding.{Released, released_by}
 use Rattle.hd_closed.specs.Closed.{Closed, IsClosedAt}
 use Rattle.hd_closed.specs.Numbering.{closed_numbered}
 use Rattle.hd_worker.specs.Settling.{IsOutcomeOf, Again, Beyond, Anew, closed_by}
-use Rattle.hd_worker.specs.Worker.{WorkerView, empty_worker, owns}
+use Rattle.hd_worker.specs.Worker.{WorkerView, empty_worker, is_own, is_foreign}
 use Rattle.hd_worker.specs.Calls.{with_parcel, with_outcome, ExpandsTo, Expands, ExpandsBest, AtBest, AtNone, ranks, batch_of, after_batch, outcome_numbered, after_numbering, after_releasing, after_sending, after_return, after_seeing, after_closing}
 use Rattle.hd_worker.specs.Growth.{Grows}
 use Rattle.hd_worker.specs.Truth.{IsTrueOf, IsRight, AreRight, IsClosedBy, IsAtLeast, IsSeenOf, IsTrueWorker}
@@ -147,12 +147,12 @@ module _ (b : BookState) (w : WorkerView) (x : IsTrueWorker b w) where
   pub released_true : (rs : List Released) → AllByRecursion (IsTrueOf b) rs → IsTrueWorker b (after_releasing rs w)
   released_true rs t = record {
     of_task = x.of_task;
-    waiting = AllByRecursion-append (IsTrueOf b) w.waiting (filter (owns w) rs) x.waiting (AllByRecursion-filter (IsTrueOf b) (owns w) rs t);
+    waiting = AllByRecursion-append (IsTrueOf b) w.waiting (filter (is_own w.id w.workers) rs) x.waiting (AllByRecursion-filter (IsTrueOf b) (is_own w.id w.workers) rs t);
     numbered = x.numbered;
     outcomes = x.outcomes;
     closed = x.closed;
     outbox =
-        AllByRecursion-append (IsTrueOf b) w.outbox (filter (λ r. not (owns w r)) rs) x.outbox (AllByRecursion-filter (IsTrueOf b) (λ r. not (owns w r)) rs t);
+        AllByRecursion-append (IsTrueOf b) w.outbox (filter (is_foreign w.id w.workers) rs) x.outbox (AllByRecursion-filter (IsTrueOf b) (is_foreign w.id w.workers) rs t);
     seen = x.seen;
   }
 

@@ -1,5 +1,5 @@
 -- What each call of a worker does. (Our own; the search is HDA*, Kishimoto, Fukunaga and Botea 2013.)
-use Rattle.std.specs.Prelude.{◌≡◌, ℕ, ◌+◌, ◌-◌, Bool, true, false, not, List, [], ◌∷◌, ◌++◌, Option, Some, None, map, filter, take, drop, length, slice_get}
+use Rattle.std.specs.Prelude.{◌≡◌, ℕ, ◌+◌, ◌-◌, Bool, true, false, List, [], ◌∷◌, ◌++◌, Option, Some, None, map, filter, take, drop, length, slice_get}
 use Rattle.std.specs.List.{remove}
 use Rattle.hd_task.specs.declared.state.State.{State}
 use Rattle.hd_task.specs.declared.task.Task.{Task}
@@ -17,7 +17,7 @@ use Rattle.hd_open.specs.Totals.{IsBest}
 use Rattle.hd_closed.specs.Numbering.{numbered, closed_numbered}
 use Rattle.hd_worker.specs.Settling.{IsOutcomeOf, closed_by}
 use Rattle.hd_worker.specs.Totals.{total_at}
-use Rattle.hd_worker.specs.Worker.{WorkerView, owns}
+use Rattle.hd_worker.specs.Worker.{WorkerView, is_own, is_foreign}
 
 -- `take`: a parcel is the last open node
 abbrev pub with_parcel : Released → WorkerView → WorkerView
@@ -85,8 +85,8 @@ after_numbering first w = record w {
 -- `released`: its own parcels are open nodes, the others are in the outbox
 abbrev pub after_releasing : List Released → WorkerView → WorkerView
 after_releasing rs w = record w {
-  waiting = w.waiting ++ filter (owns w) rs;
-  outbox = w.outbox ++ filter (λ r. not (owns w r)) rs;
+  waiting = w.waiting ++ filter (is_own w.id w.workers) rs;
+  outbox = w.outbox ++ filter (is_foreign w.id w.workers) rs;
   room = w.room - length rs;
 }
 

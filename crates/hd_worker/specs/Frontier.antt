@@ -1,5 +1,5 @@
 -- Open nodes and the closed list, as contracts see them. (A*, Hart, Nilsson and Raphael 1968; HDA*, Kishimoto, Fukunaga and Botea 2013.)
-use Rattle.std.specs.Prelude.{◌≡◌, ℕ, ◌-◌, List, [], ◌∷◌, ◌++◌, Option, Some, None, map, slice_get}
+use Rattle.std.specs.Prelude.{◌≡◌, ℕ, ◌-◌, Bool, List, [], ◌∷◌, ◌++◌, Option, Some, None, map, filter, length, slice_get}
 use Rattle.std.specs.List.{remove}
 use Rattle.hd_task.specs.declared.state.State.{State}
 use Rattle.hd_task.specs.declared.task.Task.{Task}
@@ -33,6 +33,10 @@ arrived r f = record { task = f.task; waiting = f.waiting ++ r ∷ []; closed = 
 -- the same, where it takes some of the room
 abbrev pub received : Released → FrontierView → FrontierView
 received r f = with_room (f.room - 1) (arrived r f)
+
+-- of parcels that are released, those that are own ones are the last open nodes, in their order; all take some of the room
+abbrev pub opens : (Released → Bool) → List Released → FrontierView → FrontierView
+opens own rs f = record { task = f.task; waiting = f.waiting ++ filter own rs; closed = f.closed; room = f.room - length rs }
 
 -- an entry more is closed
 abbrev pub closed_too : ℕ → State → ℕ → FrontierView → FrontierView

@@ -1,5 +1,5 @@
 -- A worker, as contracts see it. (Our own; the search is HDA*, Kishimoto, Fukunaga and Botea 2013.)
-use Rattle.std.specs.Prelude.{ℕ, ◌%◌, ◌==◌, Bool, false, List, [], Option, None}
+use Rattle.std.specs.Prelude.{ℕ, ◌%◌, ◌==◌, Bool, false, not, List, [], Option, None}
 use Rattle.hd_task.specs.declared.task.Task.{Task}
 use Rattle.hd_zobrist.specs.Hash.{state_hash}
 use Rattle.hd_node.specs.declared.batch.Outcome.{Outcome}
@@ -39,5 +39,8 @@ empty_worker t id workers = record {
 }
 
 -- a worker owns the states whose hashes have its number as their remainder
-abbrev pub owns : WorkerView → Released → Bool
-owns w r = state_hash r.state % w.workers == w.id
+abbrev pub is_own : ℕ → ℕ → Released → Bool
+is_own id workers r = state_hash r.state % workers == id
+
+abbrev pub is_foreign : ℕ → ℕ → Released → Bool
+is_foreign id workers r = not (is_own id workers r)

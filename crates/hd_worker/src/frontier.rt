@@ -125,17 +125,17 @@ impl<'t> Frontier<'t> {
     }
 
     /// The parcels that came become open nodes.
-    fn open_all(&mut self, hmax: &mut Hmax<'t>) -> Result<(), NoMemory>
-        requires { hmax.old.task ≡ self.old.task }
+    fn open_all(&mut self, estimates: &mut Hmax<'t>) -> Result<(), NoMemory>
+        requires { estimates.old.task ≡ self.old.task }
         ensures same { self.new ≡ self.old }
-        ensures estimates { hmax.new.task ≡ hmax.old.task }
+        ensures estimates { estimates.new.task ≡ estimates.old.task }
     {
         open_all(
             self.alloc,
             &mut self.known,
             &mut self.open,
             &mut self.fresh,
-            hmax,
+            estimates,
         )
     }
 
@@ -143,10 +143,10 @@ impl<'t> Frontier<'t> {
     ///
     /// # Errors
     /// `NoMemory` where there is no room for the estimates.
-    pub(crate) fn best(&mut self, hmax: &mut Hmax<'t>) -> Result<Option<usize>, NoMemory>
-        requires { hmax.old.task ≡ self.old.task }
+    pub(crate) fn best(&mut self, estimates: &mut Hmax<'t>) -> Result<Option<usize>, NoMemory>
+        requires { estimates.old.task ≡ self.old.task }
         ensures same { self.new ≡ self.old }
-        ensures estimates { hmax.new.task ≡ hmax.old.task }
+        ensures estimates { estimates.new.task ≡ estimates.old.task }
         ensures best { IfOk result (λ r. IfSome r (IsBest (total_at self.old.task) self.old.waiting)) }
         ensures none { IfOk result (λ r. IfNone r (self.old.waiting ≡ [])) }
     {
@@ -155,7 +155,7 @@ impl<'t> Frontier<'t> {
             &mut self.known,
             &mut self.open,
             &mut self.fresh,
-            hmax,
+            estimates,
         )?;
         Ok(self.open.best())
     }

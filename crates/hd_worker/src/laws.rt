@@ -56,12 +56,12 @@ pub fn commits_stay_true()
         → first_refusal b [] (batch_of w) ≡ None
         → length (all_settled b (batch_of w)).entries < ROOT_PARENT
         → IsTrueWorker (all_settled b (batch_of w))
-            (after_numbering (length b.entries) (after_batch w)) }
+        (after_numbering (length b.entries) (after_batch w)) }
     ensures released { (b : BookState) (w : WorkerView) → IsKept b → IsTrueWorker b w
         → first_refusal b [] (batch_of w) ≡ None
         → length (all_settled b (batch_of w)).entries < ROOT_PARENT
         → AllByRecursion (IsTrueOf (all_settled b (batch_of w)))
-            (released_by (length b.entries) (batch_of w)) }
+        (released_by (length b.entries) (batch_of w)) }
     ensures grows { (b : BookState) (w : WorkerView) → IsKept b → IsTrueWorker b w
         → first_refusal b [] (batch_of w) ≡ None
         → length (all_settled b (batch_of w)).entries < ROOT_PARENT

@@ -13,6 +13,7 @@ mod judging;
 pub mod laws;
 mod lookup;
 mod node;
+mod releasing;
 mod worker;
 
 pub use lookup::Lookup;

@@ -7,12 +7,12 @@ ghost use Rattle.hd_book.specs.Holding.{parcel_of, IsParcelOf};
 ghost use Rattle.hd_worker.specs.Worker.{empty_worker};
 ghost use Rattle.hd_worker.specs.Calls.{with_parcel, after_release, after_sending, after_return, after_seeing, after_closing};
 
-use crate::deque::{push_front_reserved, push_reserved};
+use crate::deque::push_front_reserved;
 use crate::frontier::Frontier;
+use crate::releasing::place_all;
 use hd_base::NoMemory;
 use hd_node::{Hashed, Outcome, Parcel};
 use hd_task::Task;
-use hd_zobrist::owner;
 use std::alloc::Global;
 use std::collections::VecDeque;
 use std::marker::Model;
@@ -102,11 +102,6 @@ impl<'t> Worker<'t> {
         self.frontier.take(parcel)
     }
 
-    /// Whether this worker owns a parcel's state.
-    fn is_own(&self, parcel: &Parcel<'t>) -> bool {
-        owner(parcel.hash(), self.workers) == self.id
-    }
-
     /// Parcels that a batch has released: those whose states this worker owns are open nodes, the others are in the outbox. It takes no
     /// memory: the calls of `next_batch` made the room.
     pub fn released(&mut self, parcels: Vec<Parcel<'t>>)
@@ -114,14 +109,13 @@ impl<'t> Worker<'t> {
         requires of_task { AllByRecursion (IsParcelOf self.old.task) parcels.items }
         ensures { self.new ≡ after_release parcels.entry.items self.old }
     {
-        for parcel in parcels {
-            if self.is_own(&parcel) {
-                self.frontier.receive(parcel);
-            } else {
-                self.frontier.give_up(1);
-                push_reserved(&mut self.outbox, parcel);
-            }
-        }
+        place_all(
+            &mut self.frontier,
+            &mut self.outbox,
+            self.id,
+            self.workers,
+            parcels,
+        );
     }
 
     /// The first parcel of the outbox, if there is one. It takes no memory, and leaves room for the parcel to come back.
