@@ -143,16 +143,16 @@ left None = 0
 left (Some q) = q + 1
 
 up_to_last : (states : List State) (hash upto : ℕ) (o : Option ℕ) → IsLast states hash upto o → (k : ℕ) → k < upto → HasHash states hash k → IsUpTo k o
-up_to_last states hash upto None last k lt h = last k lt h
-up_to_last states hash upto (Some q) last k lt h =
+up_to_last known hash upto None last k lt h = last k lt h
+up_to_last known hash upto (Some q) last k lt h =
     elim (cases_lt q k) [
       | inl above ↦ absurd (last.2 k above lt h)
       | inr le ↦ le
     ]
 
 there_last : (states : List State) (hash upto : ℕ) (o : Option ℕ) → IsLast states hash upto o → (q : ℕ) → o ≡ Some q → HasHash states hash q
-there_last states hash upto None last q e = absurd (none-some q e)
-there_last states hash upto (Some p) last q e = subst (HasHash states hash) (same_Some p q e) last.1
+there_last known hash upto None last q e = absurd (none-some q e)
+there_last known hash upto (Some p) last q e = subst (HasHash known hash) (same_Some p q e) last.1
 
 left_last : (states : List State) (hash upto : ℕ) (o : Option ℕ) → IsLast states hash upto o → left o < upto + 1
 left_last states hash upto None last = omega arith

@@ -1,11 +1,11 @@
 -- What a closed list keeps, as states come, estimates are made and expansions are closed and named.
-use Rattle.std.proofs.Common.{◌≡◌, ◌≢◌, ◌⊎◌, inl, inr, ⊎_elim, ℕ, zero, suc, ◌+◌, ◌-◌, ◌<◌, ◌≤◌, Bool, true, false, cond, nat_eq, nat_le, List, [], ◌∷◌, ◌++◌, Option, Some, None, map, set, length, get_or, slice_get, Contains, IfSome, IfNone, refl, sym, ap, ap₂, ◌∙◌, subst, arith, length-append, length-set}
+use Rattle.std.proofs.Common.{◌≡◌, ◌≢◌, ◌⊎◌, inl, inr, ⊎_elim, ℕ, zero, suc, ◌+◌, ◌-◌, ◌<◌, ◌≤◌, Bool, true, false, cond, nat_eq, nat_le, List, [], ◌∷◌, ◌++◌, Option, Some, None, map, set, take, drop, length, get_or, slice_get, Contains, IfSome, IfNone, refl, sym, ap, ap₂, ◌∙◌, subst, arith, length-append, length-set, append-nil, drop_of_length-le, take_all}
 use Rattle.std.specs.Prelude.{option_map}
 use Rattle.std.specs.HashMap.{get}
 use Rattle.std.specs.List.{AllByRecursion}
 use Rattle.std.proofs.lemmas.Bool.{cases_lt, leb-true, leb-false, ltb-true, ltb-false}
 use Rattle.std.proofs.lemmas.List.{map-append, length-map}
-use Rattle.std.proofs.lemmas.Option.{none-some, same_Some, slice_get_within, slice_get-map, get_or_from_slice_get}
+use Rattle.std.proofs.lemmas.Option.{none-some, same_Some, slice_get_within, slice_get-map, slice_get_read, get_or_from_slice_get}
 use Rattle.hd_base.proofs.Lists.{AllByRecursion-append, AllByRecursion-push, AllByRecursion-slice_get}
 use Rattle.hd_base.proofs.Members.{Contains-map, IsFrom, IsFrom-from_map, Contains-first, Contains-later, Contains-nil, Contains-cons_cases}
 use Rattle.hd_base.proofs.Places.{place_of}
@@ -557,3 +557,27 @@ entered_more shuts place n x entered at is = λ j s lt there. by j s lt there (c
         let same : place ≡ j = omega arith in
         let equal : x ≡ s = same_Some x s (sym at ∙ (ap (slice_get shuts) same ∙ there)) in
         subst IsEntered (sym is ∙ ap (λ (y : Shut). y.by) equal) tt
+
+-- entries stay so when expansions are named anew
+pub entered_numbered : (first : ℕ) (given : List ℕ) (shuts : List Shut) (place : ℕ) → HasNumbered shuts place → HasNumbered (map (shut_numbered first given) shuts) place
+entered_numbered first given shuts place entered = λ j s lt there. by j s lt (slice_get shuts j) refl (sym (slice_get-map (shut_numbered first given) shuts j) ∙ there)
+  where
+    stays : (b : By) → IsEntered b → IsEntered (numbered first given b)
+    stays (Entry n) e = tt
+    stays (Here i) e = absurd e
+
+    by : (j : ℕ) (s : Shut) → j < place → (o : Option Shut) → slice_get shuts j ≡ o → option_map (shut_numbered first given) o ≡ Some s → IsEntered s.by
+    by j s lt None at e = absurd (none-some s e)
+    by j s lt (Some x) at e = subst (λ (y : Shut). IsEntered y.by) (same_Some (shut_numbered first given x) s e) (stays x.by (entered j x lt at))
+
+-- ---- parts that are read and written
+
+-- a slice that is written back
+pub written_back : {X : Type 0} (len : ℕ) (new items : List X) → length new ≡ len → length items ≡ len → take len (new ++ drop (length new) items) ≡ new
+written_back len new items e f =
+    ap (take len) (ap (λ ys. new ++ ys) (drop_of_length-le items (omega arith)) ∙ append-nil new) ∙ take_all len new (omega arith)
+
+-- a note that is read
+pub note_there : (notes : List Note) (states : List State) (place : ℕ) (n : Note) → map state_of notes ≡ states → place < length states → n ≡ get_or notes place n → slice_get notes place ≡ Some n
+note_there notes states place n are within read =
+    slice_get_read notes (length notes) place n refl (let same = ap length are in let count = length-map notes state_of in omega arith) read

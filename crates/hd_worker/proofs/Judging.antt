@@ -1,20 +1,34 @@
 -- How a node that is taken out is settled, from the parts.
-use Rattle.std.proofs.Common.{◌≡◌, ℕ, ◌+◌, ◌-◌, ◌^◌, ◌<◌, ◌≤◌, nat_le, min, Bool, true, false, Option, Some, None, List, map, slice_get, refl, sym, ap, ◌∙◌, subst, arith}
+use Rattle.std.proofs.Common.{◌≡◌, ℕ, ◌+◌, ◌-◌, ◌^◌, ◌<◌, ◌≤◌, nat_le, min, Bool, true, false, cond, Option, Some, None, IfSome, List, [], ◌∷◌, ◌++◌, map, filter, length, slice_get, refl, sym, ap, ap₂, ◌∙◌, subst, arith, append_assoc}
 use Rattle.std.specs.List.{AllByRecursion}
 use Rattle.std.proofs.lemmas.Bool.{le-leb, leb-true}
+use Rattle.std.proofs.lemmas.List.{map-append}
 use Rattle.std.specs.Prelude.{option_map}
-use Rattle.std.proofs.lemmas.Option.{none-some, same_Some, slice_get-map}
+use Rattle.std.proofs.lemmas.Option.{none-some, same_Some, slice_get-map, get_or_from_slice_get}
 use Rattle.hd_base.proofs.Truth.{each_way}
-use Rattle.hd_base.proofs.Lists.{AllByRecursion-slice_get}
+use Rattle.hd_base.proofs.Lists.{AllByRecursion-push, AllByRecursion-slice_get}
 use Rattle.hd_task.specs.declared.state.State.{State}
 use Rattle.hd_task.specs.declared.task.Task.{Task}
 use Rattle.hd_task.specs.Plans.{node}
+use Rattle.hd_task.specs.Covers.{Estimate}
+use Rattle.hd_hmax.specs.Estimate.{EstimateView}
+use Rattle.hd_hmax.specs.Rounds.{hmax}
+use Rattle.hd_node.specs.declared.batch.By.{By}
+use Rattle.hd_node.specs.declared.batch.By.TheVariants.{Here}
+use Rattle.hd_node.specs.declared.batch.Outcome.{Outcome}
+use Rattle.hd_node.specs.declared.batch.Outcome.TheVariants.{Expanded, Duplicate, Bounded}
+use Rattle.hd_node.specs.Expansion.{ExpansionView}
+use Rattle.hd_node.specs.Parcel.{ParcelView}
 use Rattle.hd_book.specs.Settling.{reaches}
-use Rattle.hd_book.specs.Holding.{Released, parcel_of}
+use Rattle.hd_book.specs.Holding.{Released, parcel_of, IsParcelOf}
+use Rattle.hd_closed.specs.Closed.{Closed, closed_at, nothing, BeginsWith, IsNamedBy, IsDearer}
+use Rattle.hd_closed.proofs.Chains.{get_front}
 use Rattle.hd_open.specs.Totals.{IsNotAfter, IsBest}
 use Rattle.hd_worker.specs.declared.node.Node.{Node}
-use Rattle.hd_worker.specs.Nodes.{released_of, IsNodeOf}
-use Rattle.hd_worker.specs.Totals.{total_of, total_at, is_reached}
+use Rattle.hd_worker.specs.Nodes.{released_of, waiting_by, IsNodeOfParcel, IsNodeOf, node_by, MovesFirst}
+use Rattle.hd_worker.specs.Frontier.{FrontierView, opens}
+use Rattle.hd_turns.specs.Settling.{IsOutcomeOf, Again, Beyond, Anew, is_beyond, closed_by}
+use Rattle.hd_turns.specs.Totals.{total_of, total_at, is_reached}
 
 -- a bound of 64 bits is reached by a total as by the cost and the estimate
 pub reached_same :
@@ -50,3 +64,109 @@ best_released t states nodes k all best = record {
         by : (o : Option Node) → slice_get nodes j ≡ o → option_map released_of o ≡ Some r → (n : Node) × (slice_get nodes j ≡ Some n) × (released_of n ≡ r)
         by None is e = absurd (none-some r e)
         by (Some n) is e = (n, is, same_Some (released_of n) r e)
+
+-- ---- outcomes
+
+-- what an expansion is, where it is an outcome
+expanded_parts : (e e' : ExpansionView) → Expanded e ≡ Expanded e' → e ≡ e'
+expanded_parts e e' same = ap expansion_in same
+  where
+    expansion_in : Outcome → ExpansionView
+    expansion_in (Expanded x) = x
+    expansion_in (Duplicate k by) = e
+    expansion_in (Bounded k h) = e
+
+pub closed_of_expanded :
+    (t : Task) (h : Estimate) (closed : List Closed) (seen : Option ℕ) (r : Released) (e : ExpansionView) → IsOutcomeOf t h closed seen r (Expanded e)
+    → (e.state ≡ r.state) × (e.cost ≡ r.cost)
+closed_of_expanded t h closed seen r e (Again c for is) = absurd (cc)
+closed_of_expanded t h closed seen r e (Beyond e' apart beyond is own state value) = absurd (cc)
+closed_of_expanded t h closed seen r e (Anew e' apart beyond is own kid state cost) =
+    let same = expanded_parts e e' is in (ap (λ (x : ExpansionView). x.state) same ∙ state, ap (λ (x : ExpansionView). x.cost) same ∙ cost)
+
+module _ (t : Task) (closed : List Closed) (seen : Option ℕ) (r : Released) (states : List State) (place : ℕ) (there : slice_get states place ≡ Some r.state) where
+  pub again :
+      (o : Outcome) (by : By) → IfSome (slice_get states place) (λ s. IsNamedBy closed s r.cost by) → o ≡ Duplicate r.kid by → IsOutcomeOf t (hmax t) closed seen r o
+  again o by named is =
+      let n : IsNamedBy closed r.state r.cost by = subst (λ (u : Option State). IfSome u (λ s. IsNamedBy closed s r.cost by)) there named in
+      Again n.0 n.1 (is ∙ ap (Duplicate r.kid) (sym n.2))
+
+  pub apart : IfSome (slice_get states place) (λ s. IsDearer closed s r.cost) → IsDearer closed r.state r.cost
+  apart dearer = subst (λ (u : Option State). IfSome u (λ s. IsDearer closed s r.cost)) there dearer
+
+  tested : (total : Option ℕ) (b : Bool) → total ≡ total_of r.cost (hmax t r.state) → ((c : ℕ) → seen ≡ Some c → c < 2 ^ 64) → is_reached seen total ≡ b → is_beyond (hmax t) seen r ≡ b
+  tested total b is small test = sym (reached_same seen r.state r.cost (hmax t r.state) small) ∙ (ap (is_reached seen) (sym is) ∙ test)
+
+  pub beyond :
+      (o : Outcome) (e : EstimateView) (total : Option ℕ) → IfSome (slice_get states place) (λ s. IsDearer closed s r.cost) → total ≡ total_of r.cost (hmax t r.state)
+      → ((c : ℕ) → seen ≡ Some c → c < 2 ^ 64) → is_reached seen total ≡ true → o ≡ Bounded r.kid e → e.task ≡ t → e.state ≡ r.state → IsOutcomeOf t (hmax t) closed seen r o
+  beyond o e total dearer is small test named own state =
+      Beyond e (apart dearer) (tested total true is small test) named own state (e.estimates ∙ ap₂ hmax own state)
+
+  pub anew :
+      (o : Outcome) (e : ExpansionView) (total : Option ℕ) → IfSome (slice_get states place) (λ s. IsDearer closed s r.cost) → total ≡ total_of r.cost (hmax t r.state)
+      → ((c : ℕ) → seen ≡ Some c → c < 2 ^ 64) → is_reached seen total ≡ false → o ≡ Expanded e → e.task ≡ t → e.kid ≡ r.kid → e.state ≡ r.state → e.cost ≡ r.cost
+      → IsOutcomeOf t (hmax t) closed seen r o
+  anew o e total dearer is small test named own kid state cost = Anew e (apart dearer) (tested total false is small test) named own kid state cost
+
+  -- what is closed with an outcome
+  pub closes :
+      (e : ExpansionView) (at : ℕ) (cost : ℕ) → IsOutcomeOf t (hmax t) closed seen r (Expanded e) → cost ≡ r.cost
+      → closed_at states place (Here at) cost ∷ [] ≡ closed_by at (Expanded e)
+  closes e at cost is same =
+      let parts = closed_of_expanded t (hmax t) closed seen r e is in
+      ap₂ (λ (u : State) (c : ℕ). let x : Closed = record { by = Here at; state = u; cost = c } in x ∷ [])
+      (get_or_from_slice_get states place r.state nothing there ∙ sym parts.0) (same ∙ sym parts.1)
+
+-- ---- parcels become nodes
+
+pub waiting_moved :
+    (nodes nodes' : List Node) (fresh fresh' : List ParcelView) (place : ℕ) (total : Option ℕ) → MovesFirst nodes fresh place total nodes' fresh' → waiting_by nodes' fresh' ≡ waiting_by nodes fresh
+waiting_moved nodes nodes' [] fresh' place total m = ap₂ waiting_by m.0 m.1
+waiting_moved nodes nodes' (p ∷ fresh) fresh' place total m =
+    ap₂ waiting_by m.0 m.1
+    ∙ (ap (λ (rs : List Released). rs ++ map parcel_of fresh) (map-append released_of nodes (node_by p place total ∷ []))
+    ∙ append_assoc (map released_of nodes) (parcel_of p ∷ []) (map parcel_of fresh))
+
+pub nodes_moved :
+    (t : Task) (states : List State) (nodes nodes' : List Node) (fresh fresh' : List ParcelView) (place : ℕ) (total : Option ℕ) → MovesFirst nodes fresh place total nodes' fresh'
+    → AllByRecursion (IsNodeOf t states) nodes → ((p : ParcelView) (rest : List ParcelView) → fresh ≡ p ∷ rest → IsNodeOfParcel t states p place total) → AllByRecursion (IsNodeOf t states) nodes'
+nodes_moved t states nodes nodes' [] fresh' place total m all first = subst (AllByRecursion (IsNodeOf t states)) (sym m.0) all
+nodes_moved t states nodes nodes' (p ∷ fresh) fresh' place total m all first =
+    subst (AllByRecursion (IsNodeOf t states)) (sym m.0) (AllByRecursion-push (IsNodeOf t states) nodes (node_by p place total) all (first p fresh refl))
+
+pub parcels_moved :
+    (t : Task) (nodes nodes' : List Node) (fresh fresh' : List ParcelView) (place : ℕ) (total : Option ℕ) → MovesFirst nodes fresh place total nodes' fresh'
+    → AllByRecursion (IsParcelOf t) fresh → AllByRecursion (IsParcelOf t) fresh'
+parcels_moved t nodes nodes' [] fresh' place total m all = subst (AllByRecursion (IsParcelOf t)) (sym m.1) all
+parcels_moved t nodes nodes' (p ∷ fresh) fresh' place total m all = subst (AllByRecursion (IsParcelOf t)) (sym m.1) all.1
+
+-- nodes are nodes of more states too
+pub nodes_stay : (t : Task) (states states' : List State) (nodes : List Node) → BeginsWith states' states → AllByRecursion (IsNodeOf t states) nodes → AllByRecursion (IsNodeOf t states') nodes
+nodes_stay t states states' [] begins all = tt
+nodes_stay t states states' (n ∷ nodes) begins all =
+    (record {
+      of_task = all.0.of_task;
+      there = ap (λ (xs : List State). slice_get xs n.state) begins.1 ∙ get_front states begins.0 n.state n.parcel.state all.0.there;
+      total_is = all.0.total_is;
+    },
+    nodes_stay t states states' nodes begins all.1)
+
+pub begins_twice : (a b c : List State) → BeginsWith b a → BeginsWith c b → BeginsWith c a
+begins_twice a b c first second =
+    (first.0 ++ second.0, second.1 ∙ (ap (λ (xs : List State). xs ++ second.0) first.1 ∙ append_assoc a first.0 second.0))
+
+-- ---- parcels that are released
+
+pub filter_more : (p : Released → Bool) (r : Released) (rs : List Released) → filter p (r ∷ []) ++ filter p rs ≡ filter p (r ∷ rs)
+filter_more p r rs =
+    elim (p r) as (λ b. cond b (r ∷ []) [] ++ filter p rs ≡ cond b (r ∷ filter p rs) (filter p rs)) [
+      | true ↦ refl
+      | false ↦ refl
+    ]
+
+pub opens_more : (own : Released → Bool) (r : Released) (rs : List Released) (f : FrontierView) → opens own rs (opens own (r ∷ []) f) ≡ opens own (r ∷ rs) f
+opens_more own r rs f =
+    ap₂ (λ (w : List Released) (n : ℕ). let x : FrontierView = record { task = f.task; waiting = w; closed = f.closed; room = n } in x)
+    (append_assoc f.waiting (filter own (r ∷ [])) (filter own rs) ∙ ap (λ (xs : List Released). f.waiting ++ xs) (filter_more own r rs))
+    (let one : length (r ∷ []) ≡ 1 = refl in let more : length (r ∷ rs) ≡ length rs + 1 = omega arith in omega arith)

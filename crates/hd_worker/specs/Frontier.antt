@@ -10,8 +10,8 @@ use Rattle.hd_book.specs.Holding.{Released}
 use Rattle.hd_open.specs.Totals.{IsBest}
 use Rattle.hd_closed.specs.Closed.{Closed}
 use Rattle.hd_closed.specs.Numbering.{closed_numbered}
-use Rattle.hd_worker.specs.Settling.{IsOutcomeOf, closed_by}
-use Rattle.hd_worker.specs.Totals.{total_at}
+use Rattle.hd_turns.specs.Settling.{IsOutcomeOf, closed_by}
+use Rattle.hd_turns.specs.Totals.{total_at}
 
 -- the task, the open nodes in order of arrival, the closed list in order, and how many parcels may still come without memory
 pub record FrontierView : Type 0 where

@@ -1,10 +1,4 @@
-pub mod Calls
 pub mod Frontier
-pub mod Growth
 pub mod Kept
 pub mod Lookup
 pub mod Nodes
-pub mod Settling
-pub mod Totals
-pub mod Truth
-pub mod Worker

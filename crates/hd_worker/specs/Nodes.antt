@@ -9,7 +9,7 @@ use Rattle.hd_node.specs.Parcel.{ParcelView}
 use Rattle.hd_book.specs.Holding.{Released, parcel_of, IsParcelOf}
 use Rattle.hd_closed.specs.Closed.{ClosedView}
 use Rattle.hd_worker.specs.declared.node.Node.{Node}
-use Rattle.hd_worker.specs.Totals.{total_of}
+use Rattle.hd_turns.specs.Totals.{total_of}
 
 abbrev pub released_of : Node → Released
 released_of n = parcel_of n.parcel

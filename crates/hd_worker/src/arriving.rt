@@ -1,5 +1,5 @@
 //! How parcels that came become open nodes.
-ghost use Rattle.std.specs.Prelude.{◌≡◌, ◌≤◌, ◌++◌, [], ◌∷◌, map, IfOk, OnOk, OnErr};
+ghost use Rattle.std.specs.Prelude.{◌≡◌, ◌+◌, ◌<◌, ◌≤◌, ◌++◌, [], ◌∷◌, map, IfOk, OnOk, OnErr};
 ghost use Rattle.std.specs.List.{AllByRecursion};
 ghost use Rattle.std.specs.VecDeque.{deque_len, deque_capacity};
 ghost use Rattle.hd_book.specs.Holding.{IsParcelOf};
@@ -47,15 +47,17 @@ fn open_first<'t>(
     state: usize,
     total: Option<u128>,
 ) -> Result<(), NoMemory>
+    requires { 0 < deque_len fresh.old }
     ensures moved { OnOk result (MovesFirst open.old.nodes fresh.old.items state total
         open.new.nodes fresh.new.items) }
     ensures nodes { OnErr result (open.new.nodes ≡ open.old.nodes) }
     ensures parcels { OnErr result (fresh.new.items ≡ fresh.old.items) }
     ensures fewer { deque_len fresh.new ≤ deque_len fresh.old }
+    ensures one_less { OnOk result (deque_len fresh.new + 1 ≡ deque_len fresh.old) }
     ensures capacity { deque_capacity fresh.new ≡ deque_capacity fresh.old }
 {
     let Some(parcel) = fresh.pop_front() else {
-        return Ok(());
+        unreachable!();
     };
     let node = Node {
         parcel,

@@ -4,7 +4,7 @@ ghost use Rattle.std.specs.List.{AllByRecursion};
 ghost use Rattle.hd_node.specs.declared.batch.TheConstants.{MAX_OUTCOMES};
 ghost use Rattle.hd_book.specs.Settling.{IsOf};
 ghost use Rattle.hd_book.specs.Growing.{kids_in};
-ghost use Rattle.hd_worker.specs.Calls.{ranks, batch_of, after_batch, after_numbering, outcome_numbered};
+ghost use Rattle.hd_turns.specs.Calls.{ranks, batch_of, after_batch, after_numbering, outcome_numbered};
 
 use crate::Worker;
 use crate::deque::reserve_more;

@@ -1,14 +1,26 @@
 //! The calls that settle open nodes.
-ghost use Rattle.std.specs.Prelude.{◌≡◌, [], IfOk, IfSome, IfNone, OnOk, OnErr};
+ghost use Rattle.std.specs.Prelude.{◌≡◌, ◌+◌, ◌≤◌, [], vec_len, IfOk, IfSome, IfNone, OnOk, OnErr};
 ghost use Rattle.hd_hmax.specs.Rounds.{hmax};
+ghost use Rattle.hd_node.specs.declared.batch.TheConstants.{MAX_OUTCOMES};
 ghost use Rattle.hd_open.specs.Totals.{IsBest};
 ghost use Rattle.hd_worker.specs.Lookup.{IsLookupOf};
-ghost use Rattle.hd_worker.specs.Totals.{total_at};
-ghost use Rattle.hd_worker.specs.Calls.{Expands, ExpandsBest};
+ghost use Rattle.hd_turns.specs.Totals.{total_at};
+ghost use Rattle.hd_turns.specs.Calls.{Expands, ExpandsBest};
 
 use crate::batching::push_outcome;
 use crate::{Lookup, Worker};
 use hd_base::NoMemory;
+use hd_node::Outcome;
+
+/// The place of the next outcome, counted from the first one of the batch that was given last.
+fn next_place(given: &Vec<u64>, outcomes: &Vec<Outcome<'_>>) -> usize
+    requires { vec_len given.now ≤ MAX_OUTCOMES }
+    ensures { result ≡ vec_len given.now + vec_len outcomes.now }
+{
+    // So that it is known that the sum fits.
+    let _room = outcomes.capacity();
+    given.len() + outcomes.len()
+}
 
 impl<'t> Worker<'t> {
     /// The place of the open node of the least cost plus estimate, the earliest of equal ones; those of infinite estimates come last. None
@@ -38,7 +50,7 @@ impl<'t> Worker<'t> {
         ensures err { OnErr result (self.new ≡ self.old) }
     {
         self.outcomes.reserve(1)?;
-        let place = self.given.len() + self.outcomes.len();
+        let place = next_place(&self.given, &self.outcomes);
         if let Some(outcome) = self.frontier.settle_at(lookup, self.seen, place, pick)? {
             push_outcome(&mut self.outcomes, outcome);
         }
@@ -56,7 +68,7 @@ impl<'t> Worker<'t> {
         ensures err { OnErr result (self.new ≡ self.old) }
     {
         self.outcomes.reserve(1)?;
-        let place = self.given.len() + self.outcomes.len();
+        let place = next_place(&self.given, &self.outcomes);
         if let Some(outcome) = self.frontier.settle_best(lookup, self.seen, place)? {
             push_outcome(&mut self.outcomes, outcome);
         }

@@ -4,7 +4,7 @@ ghost use Rattle.hd_task.specs.Plans.{IsStateOf};
 ghost use Rattle.hd_book.specs.Holding.{parcel_of};
 ghost use Rattle.hd_open.specs.Totals.{IsBest};
 ghost use Rattle.hd_worker.specs.Lookup.{IsLookupOf};
-ghost use Rattle.hd_worker.specs.Totals.{total_at};
+ghost use Rattle.hd_turns.specs.Totals.{total_at};
 ghost use Rattle.hd_worker.specs.Frontier.{empty_frontier, arrived, received, with_room, closed_too, all_numbered, SettlesAt, SettlesBest};
 
 use crate::arriving::open_all;

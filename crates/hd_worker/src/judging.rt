@@ -6,8 +6,8 @@ ghost use Rattle.hd_book.specs.Settling.{reaches};
 ghost use Rattle.hd_book.specs.Holding.{parcel_of};
 ghost use Rattle.hd_worker.specs.Lookup.{IsLookupOf};
 ghost use Rattle.hd_worker.specs.Nodes.{IsNodeOf};
-ghost use Rattle.hd_worker.specs.Totals.{total_of, is_reached};
-ghost use Rattle.hd_worker.specs.Settling.{IsOutcomeOf, closed_by};
+ghost use Rattle.hd_turns.specs.Totals.{total_of, is_reached};
+ghost use Rattle.hd_turns.specs.Settling.{IsOutcomeOf, closed_by};
 
 use crate::lookup::Lookup;
 use crate::node::Node;

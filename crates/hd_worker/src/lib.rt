@@ -1,7 +1,6 @@
 //! A worker of a search: its open nodes, its closed list, its outcomes, and the parcels that it sends to others.
 //!
-//! `specs/Calls.antt` says what each call does to plain lists. The laws say that where what a worker is given is true of a book, the book
-//! refuses none of its batches for what it says, and that all of this stays so as the book's entries grow.
+//! hd_turns says what each call does to plain lists, and that the batches of a worker are admissible where what it is given is true.
 #![tactic(auto)]
 
 mod arriving;
@@ -10,7 +9,6 @@ mod deque;
 mod expanding;
 mod frontier;
 mod judging;
-pub mod laws;
 mod lookup;
 mod node;
 mod releasing;

@@ -1,7 +1,7 @@
 //! Open nodes.
 ghost use Rattle.std.specs.Prelude.{◌≡◌};
 ghost use Rattle.hd_hmax.specs.Value.{estimated};
-ghost use Rattle.hd_worker.specs.Totals.{total_of};
+ghost use Rattle.hd_turns.specs.Totals.{total_of};
 
 use hd_hmax::EstimateValue;
 use hd_node::Parcel;

@@ -4,7 +4,7 @@ ghost use Rattle.std.specs.List.{AllByRecursion};
 ghost use Rattle.std.specs.VecDeque.{deque_len, deque_capacity};
 ghost use Rattle.hd_zobrist.specs.declared.owners.TheConstants.{MAX_WORKERS};
 ghost use Rattle.hd_book.specs.Holding.{parcel_of, IsParcelOf};
-ghost use Rattle.hd_worker.specs.Worker.{is_own, is_foreign};
+ghost use Rattle.hd_turns.specs.Worker.{is_own, is_foreign};
 ghost use Rattle.hd_worker.specs.Frontier.{opens};
 
 use crate::deque::push_reserved;

@@ -4,8 +4,8 @@ ghost use Rattle.std.specs.List.{AllByRecursion};
 ghost use Rattle.hd_task.specs.Plans.{IsStateOf};
 ghost use Rattle.hd_zobrist.specs.declared.owners.TheConstants.{MAX_WORKERS};
 ghost use Rattle.hd_book.specs.Holding.{parcel_of, IsParcelOf};
-ghost use Rattle.hd_worker.specs.Worker.{empty_worker};
-ghost use Rattle.hd_worker.specs.Calls.{with_parcel, after_release, after_sending, after_return, after_seeing, after_closing};
+ghost use Rattle.hd_turns.specs.Worker.{empty_worker};
+ghost use Rattle.hd_turns.specs.Calls.{with_parcel, after_release, after_sending, after_return, after_seeing, after_closing};
 
 use crate::deque::push_front_reserved;
 use crate::frontier::Frontier;
@@ -40,7 +40,7 @@ pub struct Worker<'t> {
 impl<'t> Model for Worker<'t> {
     ghost use Rattle.std.specs.Prelude.{map};
     ghost use Rattle.hd_book.specs.Holding.{parcel_of};
-    ghost use Rattle.hd_worker.specs.Worker.{WorkerView};
+    ghost use Rattle.hd_turns.specs.Worker.{WorkerView};
     ghost use Rattle.hd_task.specs.contracts.task.Task as tasks;
     ghost use Rattle.hd_node.specs.contracts.batch.Outcome as outcomes;
     ghost use Rattle.std.specs.Coded.{codes};

@@ -1,5 +1,5 @@
 use Rattle.std.proofs.Common.{◌≡◌, ◌≤◌, ◌++◌, drop}
-use Rattle.hd_worker.specs.Calls.{ranks}
+use Rattle.hd_turns.specs.Calls.{ranks}
 use Rattle.hd_worker.proofs.batching.ranks_of.Given as goal
 
 -- the numbers so far, and those that are left

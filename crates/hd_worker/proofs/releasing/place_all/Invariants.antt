@@ -3,7 +3,7 @@ use Rattle.std.specs.List.{AllByRecursion}
 use Rattle.std.specs.Vec.Iter.{into_iter_items}
 use Rattle.std.specs.VecDeque.{deque_len, deque_capacity}
 use Rattle.hd_book.specs.Holding.{parcel_of, IsParcelOf}
-use Rattle.hd_worker.specs.Worker.{is_own, is_foreign}
+use Rattle.hd_turns.specs.Worker.{is_own, is_foreign}
 use Rattle.hd_worker.specs.Frontier.{opens}
 use Rattle.hd_worker.proofs.releasing.place_all.Given as goal
 

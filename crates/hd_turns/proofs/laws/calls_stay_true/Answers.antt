@@ -1,6 +1,6 @@
 use Rattle.hd_hmax.specs.Rounds.{hmax}
-use Rattle.hd_worker.proofs.Turning.{empty_true, expands_true, expands_best_true, taken_true, released_true, sent_true, sends_true, returned_true, seen_true, closed_true}
-use Rattle.hd_worker.proofs.laws.calls_stay_true.Goals as goal
+use Rattle.hd_turns.proofs.Turning.{empty_true, expands_true, expands_best_true, taken_true, released_true, sent_true, sends_true, returned_true, seen_true, closed_true}
+use Rattle.hd_turns.proofs.laws.calls_stay_true.Goals as goal
 
 pub returns : goal.returns
 returns c = record {

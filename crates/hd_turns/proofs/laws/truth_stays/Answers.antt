@@ -1,5 +1,5 @@
-use Rattle.hd_worker.proofs.Growing.{worker_stays, true_stays, seen_stays}
-use Rattle.hd_worker.proofs.laws.truth_stays.Goals as goal
+use Rattle.hd_turns.proofs.Growing.{worker_stays, true_stays, seen_stays}
+use Rattle.hd_turns.proofs.laws.truth_stays.Goals as goal
 
 pub returns : goal.returns
 returns c = record {

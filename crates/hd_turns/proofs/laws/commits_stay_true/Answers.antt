@@ -1,5 +1,5 @@
-use Rattle.hd_worker.proofs.Turning.{committed_true, commit_releases, commit_grows}
-use Rattle.hd_worker.proofs.laws.commits_stay_true.Goals as goal
+use Rattle.hd_turns.proofs.Turning.{committed_true, commit_releases, commit_grows}
+use Rattle.hd_turns.proofs.laws.commits_stay_true.Goals as goal
 
 pub returns : goal.returns
 returns c = record {

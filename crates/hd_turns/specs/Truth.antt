@@ -8,7 +8,7 @@ use Rattle.hd_node.specs.Outcome.{kid_of}
 use Rattle.hd_book.specs.Settling.{BookState, expansions, knows_parent, is_posted, node_of, node_by, refusal_by, IsOf}
 use Rattle.hd_book.specs.Holding.{Released}
 use Rattle.hd_closed.specs.Closed.{Closed}
-use Rattle.hd_worker.specs.Worker.{WorkerView}
+use Rattle.hd_turns.specs.Worker.{WorkerView}
 
 -- a parcel is of a kid of the book, with the state and the cost that its plan leads to
 pub record IsTrueOf (b : BookState) (r : Released) : Type 0 where

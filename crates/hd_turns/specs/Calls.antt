@@ -15,9 +15,9 @@ use Rattle.hd_book.specs.Growing.{kids_in}
 use Rattle.hd_book.specs.Holding.{Released, parcel_of}
 use Rattle.hd_open.specs.Totals.{IsBest}
 use Rattle.hd_closed.specs.Numbering.{numbered, closed_numbered}
-use Rattle.hd_worker.specs.Settling.{IsOutcomeOf, closed_by}
-use Rattle.hd_worker.specs.Totals.{total_at}
-use Rattle.hd_worker.specs.Worker.{WorkerView, is_own, is_foreign}
+use Rattle.hd_turns.specs.Settling.{IsOutcomeOf, closed_by}
+use Rattle.hd_turns.specs.Totals.{total_at}
+use Rattle.hd_turns.specs.Worker.{WorkerView, is_own, is_foreign}
 
 -- `take`: a parcel is the last open node
 abbrev pub with_parcel : Released → WorkerView → WorkerView

@@ -38,11 +38,11 @@ use Rattle.hd_book.proofs.Naming.{plan_of-kid, posted_by-append, length-plans_of
 use Rattle.hd_book.proofs.Accepting.{Follows, at_first, batch_follows, batch_task, accepted_kept, all_entries, same_kid-refl}
 use Rattle.hd_closed.specs.Closed.{Closed}
 use Rattle.hd_closed.specs.Numbering.{numbered, closed_numbered}
-use Rattle.hd_worker.specs.Calls.{ranks, outcome_numbered}
-use Rattle.hd_worker.specs.Growth.{Grows}
-use Rattle.hd_worker.specs.Truth.{IsTrueOf, IsRight, AreRight, IsClosedBy}
-use Rattle.hd_worker.proofs.Lists.{slice_get-append_left, slice_get-append_right, then_at}
-use Rattle.hd_worker.proofs.Growing.{entry_stays, right_stays, right_moves}
+use Rattle.hd_turns.specs.Calls.{ranks, outcome_numbered}
+use Rattle.hd_turns.specs.Growth.{Grows}
+use Rattle.hd_turns.specs.Truth.{IsTrueOf, IsRight, AreRight, IsClosedBy}
+use Rattle.hd_turns.proofs.Lists.{slice_get-append_left, slice_get-append_right, then_at}
+use Rattle.hd_turns.proofs.Growing.{entry_stays, right_stays, right_moves}
 
 -- ---- outcomes that are right, and refusals
 

@@ -33,14 +33,14 @@ use Rattle.hd_book.specs.Settling.{BookState, IsKept, expansions, knows_parent, 
 use Rattle.hd_book.specs.Holding.{Released, released_by}
 use Rattle.hd_closed.specs.Closed.{Closed, IsClosedAt}
 use Rattle.hd_closed.specs.Numbering.{closed_numbered}
-use Rattle.hd_worker.specs.Settling.{IsOutcomeOf, Again, Beyond, Anew, closed_by}
-use Rattle.hd_worker.specs.Worker.{WorkerView, empty_worker, is_own, is_foreign}
-use Rattle.hd_worker.specs.Calls.{with_parcel, with_outcome, ExpandsTo, Expands, ExpandsBest, AtBest, AtNone, ranks, batch_of, after_batch, outcome_numbered, after_numbering, after_releasing, after_sending, after_return, after_seeing, after_closing}
-use Rattle.hd_worker.specs.Growth.{Grows}
-use Rattle.hd_worker.specs.Truth.{IsTrueOf, IsRight, AreRight, IsClosedBy, IsAtLeast, IsSeenOf, IsTrueWorker}
-use Rattle.hd_worker.proofs.Lists.{AllByRecursion-contains, AllByRecursion-map, AllByRecursion-weaker, AllByRecursion-filter, AllByRecursion-remove, AllByRecursion-rest, slice_get-append_front, slice_get-append_right}
-use Rattle.hd_worker.proofs.Growing.{accepted, both_accepted, reaches_lower, true_stays, all_true_stay, seen_stays, worker_stays}
-use Rattle.hd_worker.proofs.Numbering.{all_of_task, settled_or_none, split_right, push_right, grows, all_numbered, closed_after, all_released}
+use Rattle.hd_turns.specs.Settling.{IsOutcomeOf, Again, Beyond, Anew, closed_by}
+use Rattle.hd_turns.specs.Worker.{WorkerView, empty_worker, is_own, is_foreign}
+use Rattle.hd_turns.specs.Calls.{with_parcel, with_outcome, ExpandsTo, Expands, ExpandsBest, AtBest, AtNone, ranks, batch_of, after_batch, outcome_numbered, after_numbering, after_releasing, after_sending, after_return, after_seeing, after_closing}
+use Rattle.hd_turns.specs.Growth.{Grows}
+use Rattle.hd_turns.specs.Truth.{IsTrueOf, IsRight, AreRight, IsClosedBy, IsAtLeast, IsSeenOf, IsTrueWorker}
+use Rattle.hd_turns.proofs.Lists.{AllByRecursion-contains, AllByRecursion-map, AllByRecursion-weaker, AllByRecursion-filter, AllByRecursion-remove, AllByRecursion-rest, slice_get-append_front, slice_get-append_right}
+use Rattle.hd_turns.proofs.Growing.{accepted, both_accepted, reaches_lower, true_stays, all_true_stay, seen_stays, worker_stays}
+use Rattle.hd_turns.proofs.Numbering.{all_of_task, settled_or_none, split_right, push_right, grows, all_numbered, closed_after, all_released}
 
 -- ---- expand
 

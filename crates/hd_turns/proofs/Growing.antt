@@ -30,10 +30,10 @@ use Rattle.hd_book.specs.Settling.{BookState, expansions, same_kid, knows_parent
 use Rattle.hd_book.specs.Holding.{Released}
 use Rattle.hd_book.proofs.Naming.{posted_by-append}
 use Rattle.hd_closed.specs.Closed.{Closed}
-use Rattle.hd_worker.specs.Growth.{Grows}
-use Rattle.hd_worker.specs.Worker.{WorkerView}
-use Rattle.hd_worker.specs.Truth.{IsTrueOf, IsRight, AreRight, IsClosedBy, IsAtLeast, IsSeenOf, IsTrueWorker}
-use Rattle.hd_worker.proofs.Lists.{AllByRecursion-weaker, slice_get-append_front}
+use Rattle.hd_turns.specs.Growth.{Grows}
+use Rattle.hd_turns.specs.Worker.{WorkerView}
+use Rattle.hd_turns.specs.Truth.{IsTrueOf, IsRight, AreRight, IsClosedBy, IsAtLeast, IsSeenOf, IsTrueWorker}
+use Rattle.hd_turns.proofs.Lists.{AllByRecursion-weaker, slice_get-append_front}
 
 -- ---- tests
 

@@ -9,10 +9,10 @@ ghost use Rattle.hd_book.specs.declared.refusal.Refusal.TheVariants.{SettledBefo
 ghost use Rattle.hd_book.specs.Settling.{BookState, IsKept, expansions, node_by, first_refusal, all_settled};
 ghost use Rattle.hd_node.specs.declared.batch.By.TheVariants.{Entry};
 ghost use Rattle.hd_book.specs.Holding.{Released, released_by};
-ghost use Rattle.hd_worker.specs.Worker.{WorkerView, empty_worker};
-ghost use Rattle.hd_worker.specs.Growth.{Grows};
-ghost use Rattle.hd_worker.specs.Truth.{IsTrueOf, IsSeenOf, IsTrueWorker};
-ghost use Rattle.hd_worker.specs.Calls.{with_parcel, Expands, ExpandsBest, batch_of, after_batch, after_numbering, after_releasing, after_sending, after_return, after_seeing, after_closing};
+ghost use Rattle.hd_turns.specs.Worker.{WorkerView, empty_worker};
+ghost use Rattle.hd_turns.specs.Growth.{Grows};
+ghost use Rattle.hd_turns.specs.Truth.{IsTrueOf, IsSeenOf, IsTrueWorker};
+ghost use Rattle.hd_turns.specs.Calls.{with_parcel, Expands, ExpandsBest, batch_of, after_batch, after_numbering, after_releasing, after_sending, after_return, after_seeing, after_closing};
 
 /// Where all that a worker holds is true of a book, the book refuses a batch of its first outcomes for nothing that the batch says: for
 /// no parent that is unknown, no kid that is none, no state or cost that differs, no expansion that does not dominate, and no bound that

@@ -1,5 +1,0 @@
-use Rattle.hd_worker.proofs.Turning.{admissible}
-use Rattle.hd_worker.proofs.laws.batches_are_admissible.Goals as goal
-
-pub returns : goal.returns
-returns c = λ b w x. admissible b w x
