@@ -1,6 +1,6 @@
 -- How a node that is taken out is settled, from the parts.
-use Rattle.std.proofs.Common.{◌≡◌, ℕ, ◌+◌, ◌-◌, ◌^◌, ◌<◌, ◌≤◌, nat_le, min, Bool, true, false, cond, Option, Some, None, IfSome, List, [], ◌∷◌, ◌++◌, map, filter, length, slice_get, refl, sym, ap, ap₂, ◌∙◌, subst, arith, append_assoc}
-use Rattle.std.specs.List.{AllByRecursion}
+use Rattle.std.proofs.Common.{◌≡◌, ℕ, zero, suc, ◌+◌, ◌-◌, ◌^◌, ◌<◌, ◌≤◌, nat_le, min, Bool, true, false, cond, not, Option, Some, None, Result, Ok, Err, OnOk, OnErr, IfSome, List, [], ◌∷◌, ◌++◌, map, filter, length, slice_get, refl, sym, ap, ap₂, ◌∙◌, subst, arith, append_assoc, append-nil}
+use Rattle.std.specs.List.{AllByRecursion, insert, remove}
 use Rattle.std.proofs.lemmas.Bool.{le-leb, leb-true}
 use Rattle.std.proofs.lemmas.List.{map-append}
 use Rattle.std.specs.Prelude.{option_map}
@@ -26,7 +26,8 @@ use Rattle.hd_closed.proofs.Chains.{get_front}
 use Rattle.hd_open.specs.Totals.{IsNotAfter, IsBest}
 use Rattle.hd_worker.specs.declared.node.Node.{Node}
 use Rattle.hd_worker.specs.Nodes.{released_of, waiting_by, IsNodeOfParcel, IsNodeOf, node_by, MovesFirst}
-use Rattle.hd_worker.specs.Frontier.{FrontierView, opens}
+use Rattle.hd_turns.specs.Worker.{is_own, is_foreign}
+use Rattle.hd_worker.specs.Frontier.{FrontierView, with_room, received, opens}
 use Rattle.hd_turns.specs.Settling.{IsOutcomeOf, Again, Beyond, Anew, is_beyond, closed_by}
 use Rattle.hd_turns.specs.Totals.{total_of, total_at, is_reached}
 
@@ -144,13 +145,14 @@ parcels_moved t nodes nodes' (p ∷ fresh) fresh' place total m all = subst (All
 -- nodes are nodes of more states too
 pub nodes_stay : (t : Task) (states states' : List State) (nodes : List Node) → BeginsWith states' states → AllByRecursion (IsNodeOf t states) nodes → AllByRecursion (IsNodeOf t states') nodes
 nodes_stay t states states' [] begins all = tt
-nodes_stay t states states' (n ∷ nodes) begins all =
-    (record {
-      of_task = all.0.of_task;
-      there = ap (λ (xs : List State). slice_get xs n.state) begins.1 ∙ get_front states begins.0 n.state n.parcel.state all.0.there;
-      total_is = all.0.total_is;
-    },
-    nodes_stay t states states' nodes begins all.1)
+nodes_stay t states states' (n ∷ nodes) begins all = (
+  record {
+    of_task = all.0.of_task;
+    there = ap (λ (xs : List State). slice_get xs n.state) begins.1 ∙ get_front states begins.0 n.state n.parcel.state all.0.there;
+    total_is = all.0.total_is;
+  },
+  nodes_stay t states states' nodes begins all.1,
+)
 
 pub begins_twice : (a b c : List State) → BeginsWith b a → BeginsWith c b → BeginsWith c a
 begins_twice a b c first second =
@@ -170,3 +172,86 @@ opens_more own r rs f =
     ap₂ (λ (w : List Released) (n : ℕ). let x : FrontierView = record { task = f.task; waiting = w; closed = f.closed; room = n } in x)
     (append_assoc f.waiting (filter own (r ∷ [])) (filter own rs) ∙ ap (λ (xs : List Released). f.waiting ++ xs) (filter_more own r rs))
     (let one : length (r ∷ []) ≡ 1 = refl in let more : length (r ∷ rs) ≡ length rs + 1 = omega arith in omega arith)
+
+-- ---- results
+
+pub on_ok : {T E : Type 0} (r : Result T E) (P Q : Type 0) → (P → Q) → OnOk r P → OnOk r Q
+on_ok (Ok x) P Q f p = f p
+on_ok (Err e) P Q f p = tt
+
+pub on_err : {T E : Type 0} (r : Result T E) (P Q : Type 0) → (P → Q) → OnErr r P → OnErr r Q
+on_err (Ok x) P Q f p = tt
+on_err (Err e) P Q f p = f p
+
+-- ---- a parcel comes
+
+pub waiting_push : (nodes : List Node) (fresh fresh' : List ParcelView) (p : ParcelView) → fresh' ≡ fresh ++ p ∷ [] → waiting_by nodes fresh' ≡ waiting_by nodes fresh ++ parcel_of p ∷ []
+waiting_push nodes fresh fresh' p e =
+    ap (waiting_by nodes) e
+    ∙ (ap (λ (rs : List Released). map released_of nodes ++ rs) (map-append parcel_of fresh (p ∷ [])) ∙ sym (append_assoc (map released_of nodes) (map parcel_of fresh) (parcel_of p ∷ [])))
+
+-- a node goes, where all parcels are open nodes
+pub waiting_remove : (nodes : List Node) (k : ℕ) → waiting_by (remove nodes k) [] ≡ remove (waiting_by nodes []) k
+waiting_remove nodes k =
+    append-nil (map released_of (remove nodes k)) ∙ (map-remove nodes k ∙ ap (λ (rs : List Released). remove rs k) (sym (append-nil (map released_of nodes))))
+  where
+    map-remove : (ns : List Node) (k : ℕ) → map released_of (remove ns k) ≡ remove (map released_of ns) k
+    map-remove [] k = refl
+    map-remove (n ∷ ns) zero = refl
+    map-remove (n ∷ ns) (suc k) = ap (λ (rs : List Released). released_of n ∷ rs) (map-remove ns k)
+
+pub nodes_remove : (t : Task) (states : List State) (nodes : List Node) (k : ℕ) → AllByRecursion (IsNodeOf t states) nodes → AllByRecursion (IsNodeOf t states) (remove nodes k)
+nodes_remove t states [] k all = tt
+nodes_remove t states (n ∷ nodes) zero all = all.1
+nodes_remove t states (n ∷ nodes) (suc k) all = (all.0, nodes_remove t states nodes k all.1)
+
+-- a node is put back where it was taken out
+pub insert-remove : {X : Type 0} (xs : List X) (k : ℕ) (x : X) → slice_get xs k ≡ Some x → insert (remove xs k) k x ≡ xs
+insert-remove [] k x e = absurd (none-some x e)
+insert-remove {X} (y ∷ xs) zero x e = ap (λ (z : X). z ∷ xs) (sym (same_Some y x e))
+insert-remove {X} (y ∷ xs) (suc k) x e = ap (λ (zs : List X). y ∷ zs) (insert-remove xs k x e)
+
+-- ---- where one parcel goes
+
+pub own_opens : (own : Released → Bool) (r : Released) (f : FrontierView) → own r ≡ true → received r f ≡ opens own (r ∷ []) f
+own_opens own r f e =
+    ap (λ (b : Bool). let x : FrontierView = record { task = f.task; waiting = f.waiting ++ cond b (r ∷ []) []; closed = f.closed; room = f.room - 1 } in x) (sym e)
+
+pub foreign_opens : (own : Released → Bool) (r : Released) (f : FrontierView) → own r ≡ false → with_room (f.room - 1) f ≡ opens own (r ∷ []) f
+foreign_opens own r f e =
+    ap (λ (w : List Released). let x : FrontierView = record { task = f.task; waiting = w; closed = f.closed; room = f.room - 1 } in x) (sym (append-nil f.waiting))
+    ∙ ap (λ (b : Bool). let x : FrontierView = record { task = f.task; waiting = f.waiting ++ cond b (r ∷ []) []; closed = f.closed; room = f.room - 1 } in x) (sym e)
+
+pub own_stays : (id workers : ℕ) (r : Released) (rs : List Released) → is_own id workers r ≡ true → rs ≡ rs ++ filter (is_foreign id workers) (r ∷ [])
+own_stays id workers r rs e = sym (ap (λ (b : Bool). rs ++ cond (not b) (r ∷ []) []) e ∙ append-nil rs)
+
+pub foreign_goes : (id workers : ℕ) (r : Released) (rs : List Released) → is_own id workers r ≡ false → rs ++ r ∷ [] ≡ rs ++ filter (is_foreign id workers) (r ∷ [])
+foreign_goes id workers r rs e = ap (λ (b : Bool). rs ++ cond (not b) (r ∷ []) []) (sym e)
+
+pub opens_none : (own : Released → Bool) (f : FrontierView) → opens own [] f ≡ f
+opens_none own f = ap (λ (w : List Released). let x : FrontierView = record { task = f.task; waiting = w; closed = f.closed; room = f.room } in x) (append-nil f.waiting)
+
+-- ---- where all parcels are open nodes, and their places
+
+module _ (nodes : List Node) (waiting : List Released) (are : waiting_by nodes [] ≡ waiting) where
+  plain : map released_of nodes ≡ waiting
+  plain = sym (append-nil (map released_of nodes)) ∙ are
+
+  pub pick_there : (k : ℕ) (n : Node) → slice_get nodes k ≡ Some n → slice_get waiting k ≡ Some (released_of n)
+  pick_there k n at = ap (λ (rs : List Released). slice_get rs k) (sym plain) ∙ (slice_get-map released_of nodes k ∙ ap (option_map released_of) at)
+
+  pub none_there : (k : ℕ) → slice_get nodes k ≡ None → slice_get waiting k ≡ None
+  none_there k at = ap (λ (rs : List Released). slice_get rs k) (sym plain) ∙ (slice_get-map released_of nodes k ∙ ap (option_map released_of) at)
+
+  pub nothing_there : nodes ≡ [] → waiting ≡ []
+  nothing_there none = sym plain ∙ ap (map released_of) none
+
+  pub pick_gone : (nodes' : List Node) (fresh : List ParcelView) (k : ℕ) → nodes' ≡ remove nodes k → fresh ≡ [] → waiting_by nodes' fresh ≡ remove waiting k
+  pick_gone nodes' fresh k gone none = ap₂ waiting_by gone none ∙ (waiting_remove nodes k ∙ ap (λ (rs : List Released). remove rs k) are)
+
+  pub pick_back : (nodes' nodes'' : List Node) (fresh : List ParcelView) (k : ℕ) (n : Node) → slice_get nodes k ≡ Some n → nodes' ≡ remove nodes k → nodes'' ≡ insert nodes' k n → fresh ≡ [] → waiting_by nodes'' fresh ≡ waiting
+  pick_back nodes' nodes'' fresh k n at gone back none =
+      ap₂ waiting_by (back ∙ (ap (λ (ns : List Node). insert ns k n) gone ∙ insert-remove nodes k n at)) none ∙ are
+
+  pub best_there : (t : Task) (states : List State) (k : ℕ) → AllByRecursion (IsNodeOf t states) nodes → IsBest (λ n. n.total) nodes k → IsBest (total_at t) waiting k
+  best_there t states k all best = subst (λ (rs : List Released). IsBest (total_at t) rs k) plain (best_released t states nodes k all best)

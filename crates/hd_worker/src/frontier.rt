@@ -9,7 +9,7 @@ ghost use Rattle.hd_worker.specs.Frontier.{empty_frontier, arrived, received, wi
 
 use crate::arriving::open_all;
 use crate::deque::{push_beside, push_reserved, reserve_more};
-use crate::judging::settle;
+use crate::judging::settle_taken;
 use crate::lookup::Lookup;
 use crate::node::Node;
 use hd_base::NoMemory;
@@ -124,21 +124,6 @@ impl<'t> Frontier<'t> {
         self.room -= less;
     }
 
-    /// The parcels that came become open nodes.
-    fn open_all(&mut self, estimates: &mut Hmax<'t>) -> Result<(), NoMemory>
-        requires { estimates.old.task ≡ self.old.task }
-        ensures same { self.new ≡ self.old }
-        ensures estimates { estimates.new.task ≡ estimates.old.task }
-    {
-        open_all(
-            self.alloc,
-            &mut self.known,
-            &mut self.open,
-            &mut self.fresh,
-            estimates,
-        )
-    }
-
     /// The place of the open node of the least cost plus estimate, the earliest of equal ones; none where nothing is open.
     ///
     /// # Errors
@@ -176,26 +161,28 @@ impl<'t> Frontier<'t> {
         ensures settles { IfOk result (λ o. SettlesAt self.old.task seen place pick self.old o self.new) }
         ensures err { OnErr result (self.new ≡ self.old) }
     {
-        self.open_all(&mut lookup.hmax)?;
+        open_all(
+            self.alloc,
+            &mut self.known,
+            &mut self.open,
+            &mut self.fresh,
+            &mut lookup.hmax,
+        )?;
         self.known.reserve()?;
         let Some(node) = self.open.remove(pick) else {
             return Ok(None);
         };
-        match settle(
+        let outcome = settle_taken(
             self.alloc,
             self.task,
             &mut self.known,
+            &mut self.open,
             lookup,
             seen,
             place,
             node,
-        ) {
-            Ok(outcome) => Ok(Some(outcome)),
-            Err((node, error)) => {
-                self.open.put_back(node);
-                Err(error)
-            }
-        }
+        )?;
+        Ok(Some(outcome))
     }
 
     /// Settles the open node of the least cost plus estimate, the earliest of equal ones, if there is one.
@@ -213,26 +200,28 @@ impl<'t> Frontier<'t> {
         ensures settles { IfOk result (λ o. SettlesBest self.old.task seen place self.old o self.new) }
         ensures err { OnErr result (self.new ≡ self.old) }
     {
-        self.open_all(&mut lookup.hmax)?;
+        open_all(
+            self.alloc,
+            &mut self.known,
+            &mut self.open,
+            &mut self.fresh,
+            &mut lookup.hmax,
+        )?;
         self.known.reserve()?;
         let Some(node) = self.open.take_best() else {
             return Ok(None);
         };
-        match settle(
+        let outcome = settle_taken(
             self.alloc,
             self.task,
             &mut self.known,
+            &mut self.open,
             lookup,
             seen,
             place,
             node,
-        ) {
-            Ok(outcome) => Ok(Some(outcome)),
-            Err((node, error)) => {
-                self.open.put_back(node);
-                Err(error)
-            }
-        }
+        )?;
+        Ok(Some(outcome))
     }
 
     /// An entry more in the closed list.

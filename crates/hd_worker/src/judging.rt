@@ -1,12 +1,12 @@
 //! How a node that is taken out is settled.
-ghost use Rattle.std.specs.Prelude.{◌≡◌, ◌++◌, true, IsTrue, ◌↔◌, length, slice_get, Some, IfOk, IfErr, OnErr};
-ghost use Rattle.hd_task.specs.Plans.{node};
+ghost use Rattle.std.specs.Prelude.{◌≡◌, ◌++◌, true, IfOk, IfErr, IfSome, OnOk, OnErr};
+ghost use Rattle.std.specs.List.{insert};
 ghost use Rattle.hd_hmax.specs.Rounds.{hmax};
-ghost use Rattle.hd_book.specs.Settling.{reaches};
 ghost use Rattle.hd_book.specs.Holding.{parcel_of};
+ghost use Rattle.hd_open.specs.Open.{IsGapOf};
 ghost use Rattle.hd_worker.specs.Lookup.{IsLookupOf};
 ghost use Rattle.hd_worker.specs.Nodes.{IsNodeOf};
-ghost use Rattle.hd_turns.specs.Totals.{total_of, is_reached};
+ghost use Rattle.hd_turns.specs.Totals.{is_reached};
 ghost use Rattle.hd_turns.specs.Settling.{IsOutcomeOf, closed_by};
 
 use crate::lookup::Lookup;
@@ -15,6 +15,7 @@ use hd_base::NoMemory;
 use hd_closed::ClosedList;
 use hd_hmax::Estimate;
 use hd_node::{By, Expansion, Outcome};
+use hd_open::OpenList;
 use hd_task::Task;
 use std::alloc::Global;
 
@@ -82,7 +83,7 @@ fn outcome_of<'t>(
 ///
 /// # Errors
 /// The node, where there is no room for its expansion; nothing is closed.
-pub(crate) fn settle<'t>(
+fn settle<'t>(
     alloc: Global,
     task: &'t Task,
     known: &mut ClosedList<'t>,
@@ -111,4 +112,44 @@ pub(crate) fn settle<'t>(
         known.close(state, By::Here(place), cost);
     }
     Ok(outcome)
+}
+
+/// Settles the node that was taken out of the open nodes last.
+///
+/// # Errors
+/// `NoMemory` where there is no room for its expansion: the node is open again, at its place, and nothing is closed.
+pub(crate) fn settle_taken<'t>(
+    alloc: Global,
+    task: &'t Task,
+    known: &mut ClosedList<'t>,
+    open: &mut OpenList<Node<'t>>,
+    lookup: &mut Lookup<'t>,
+    seen: Option<u64>,
+    place: usize,
+    node: Node<'t>,
+) -> Result<Outcome<'t>, NoMemory>
+    requires of_task { known.old.task ≡ task.now }
+    requires ready { known.old.ready ≡ true }
+    requires lookup { IsLookupOf task.now lookup.old }
+    requires is_node { IsNodeOf task.now known.old.states node }
+    requires gap { IsGapOf node.total open.old.gap }
+    ensures lookup { IsLookupOf task.now lookup.new }
+    ensures task { known.new.task ≡ known.old.task }
+    ensures states { known.new.states ≡ known.old.states }
+    ensures outcome { IfOk result (λ o. IsOutcomeOf task.now (hmax task.now) known.old.closed seen
+        (parcel_of node.entry.parcel) o) }
+    ensures closed { IfOk result (λ o. known.new.closed
+        ≡ known.old.closed ++ closed_by place o) }
+    ensures nodes { OnOk result (open.new.nodes ≡ open.old.nodes) }
+    ensures back { OnErr result (IfSome open.old.gap (λ g.
+        open.new.nodes ≡ insert open.old.nodes g.0 node.entry)) }
+    ensures err { OnErr result (known.new ≡ known.old) }
+{
+    match settle(alloc, task, known, lookup, seen, place, node) {
+        Ok(outcome) => Ok(outcome),
+        Err((node, error)) => {
+            open.put_back(node);
+            Err(error)
+        }
+    }
 }

@@ -16,7 +16,7 @@ invariant_of-self-2 c =
     let i = c.self.inside in
     let s = c.in_ok-copy.copy in
     let task = sym (ap (λ (x : ClosedView). x.task) c.self.view_is) in
-    let of : IsStateOf i.task.now s = subst (IsStateOf i.task.now) (sym c.in_ok-copy.ensures) (subst (λ (t : Task). IsStateOf t c.args.state.now) task c.requires) in
+    let of : IsStateOf i.task.now s = subst (IsStateOf i.task.now) (sym c.in_ok-copy.ensures) (subst (λ (t : Task). IsStateOf t c.args.state.now) task c.requires.of_task) in
     let notes = c.in_ok-add.ensures.notes in
     let chained = subst (λ (xs : List Note). AreChained xs c.add.new.heads) notes c.in_ok-add.ensures.chained in (
       subst (λ (xs : List Note). IsKept i.task.now xs c.add.new.heads i.shuts.items i.entered) (sym notes)
