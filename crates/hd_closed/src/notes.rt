@@ -34,7 +34,7 @@ pub(crate) fn find(notes: &[Note], heads: &Heads, state: &Hashed) -> Option<usiz
     let mut next = heads.get(&state.hash()).copied();
     while let Some(place) = next {
         let note = &notes[place];
-        if note.state.state() == state.state() {
+        if *note.state.state() == *state.state() {
             return Some(place);
         }
         next = note.before;

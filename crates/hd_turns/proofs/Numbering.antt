@@ -86,13 +86,17 @@ length-ranks n (o ∷ outcomes) = ap suc (length-ranks (n + length (entry_of o))
 
 pub get_or-ranks : (n : ℕ) (outcomes : List Outcome) (i : ℕ) → i < length outcomes → get_or (ranks n outcomes) i 0 ≡ n + length (flat_map entry_of (take i outcomes))
 get_or-ranks n [] i lt = absurd (omega arith)
-get_or-ranks n (o ∷ outcomes) zero lt = let none : length (flat_map entry_of (take zero (o ∷ outcomes))) ≡ 0 = refl in omega arith
+get_or-ranks n (o ∷ outcomes) zero lt =
+    let none : length (flat_map entry_of (take zero (o ∷ outcomes))) ≡ 0 = refl in
+    let is : n ≡ n + length (flat_map entry_of (take zero (o ∷ outcomes))) = omega arith in
+    is
 get_or-ranks n (o ∷ outcomes) (suc i) lt =
     let rest = get_or-ranks (n + length (entry_of o)) outcomes i (omega arith) in
     let whole : length (flat_map entry_of (take (suc i) (o ∷ outcomes))) ≡ length (entry_of o) + length (flat_map entry_of (take i outcomes)) =
     length-append (entry_of o) (flat_map entry_of (take i outcomes))
     in
-    omega arith
+    let is : (n + length (entry_of o)) + length (flat_map entry_of (take i outcomes)) ≡ n + length (flat_map entry_of (take (suc i) (o ∷ outcomes))) = omega arith in
+    rest ∙ is
 
 -- ---- places of entries
 

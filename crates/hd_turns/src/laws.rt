@@ -1,12 +1,12 @@
 //! Laws over the definitions. Each function does nothing: its contract is the law.
-ghost use Rattle.std.specs.Prelude.{◌≡◌, ◌⊎◌, ◌<◌, ℕ, Option, Some, None, List, [], ◌∷◌, length, slice_get};
+ghost use Rattle.std.specs.Prelude.{◌≡◌, ◌⊎◌, ◌<◌, ℕ, Option, Some, None, List, [], length, slice_get};
 ghost use Rattle.std.specs.List.{AllByRecursion};
 ghost use Rattle.hd_task.specs.declared.plan.TheConstants.{ROOT_PARENT};
 ghost use Rattle.hd_task.specs.declared.state.State.{State};
-ghost use Rattle.hd_task.specs.Plans.{exec, node};
+ghost use Rattle.hd_task.specs.Plans.{node};
 ghost use Rattle.hd_hmax.specs.Rounds.{hmax};
 ghost use Rattle.hd_book.specs.declared.refusal.Refusal.TheVariants.{SettledBefore};
-ghost use Rattle.hd_book.specs.Settling.{BookState, IsKept, expansions, node_by, first_refusal, all_settled};
+ghost use Rattle.hd_book.specs.Settling.{BookState, IsKept, node_by, first_refusal, all_settled};
 ghost use Rattle.hd_node.specs.declared.batch.By.TheVariants.{Entry};
 ghost use Rattle.hd_book.specs.Holding.{Released, released_by};
 ghost use Rattle.hd_turns.specs.Worker.{WorkerView, empty_worker};

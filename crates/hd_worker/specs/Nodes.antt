@@ -1,7 +1,6 @@
 -- What open nodes keep. (Our own.)
 use Rattle.std.specs.Prelude.{◌≡◌, ℕ, ◌+◌, ◌≤◌, List, [], ◌∷◌, ◌++◌, Option, Some, map, slice_get}
 use Rattle.std.specs.List.{AllByRecursion}
-use Rattle.std.specs.VecDeque.{VecDeque, deque_len, deque_capacity}
 use Rattle.hd_task.specs.declared.state.State.{State}
 use Rattle.hd_task.specs.declared.task.Task.{Task}
 use Rattle.hd_hmax.specs.Rounds.{hmax}
@@ -36,9 +35,9 @@ abbrev pub MovesFirst : List Node → List ParcelView → ℕ → Option ℕ →
 MovesFirst nodes [] place total nodes' fresh' = (nodes' ≡ nodes) × (fresh' ≡ [])
 MovesFirst nodes (p ∷ fresh) place total nodes' fresh' = (nodes' ≡ nodes ++ node_by p place total ∷ []) × (fresh' ≡ fresh)
 
--- what the parts of a frontier keep
-pub record IsFrontier (t : Task) (known : ClosedView) (nodes : List Node) (fresh : VecDeque ParcelView) (room : ℕ) : Type 0 where
+-- what the parts of a frontier keep, where so many parcels came and there is room for so many
+pub record IsFrontier (t : Task) (known : ClosedView) (nodes : List Node) (fresh : List ParcelView) (len capacity room : ℕ) : Type 0 where
   pub of_task : known.task ≡ t
   pub nodes_of : AllByRecursion (IsNodeOf t known.states) nodes
-  pub parcels_of : AllByRecursion (IsParcelOf t) fresh.items
-  pub room_for : deque_len fresh + room ≤ deque_capacity fresh
+  pub parcels_of : AllByRecursion (IsParcelOf t) fresh
+  pub room_for : len + room ≤ capacity

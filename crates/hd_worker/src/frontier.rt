@@ -44,6 +44,7 @@ impl<'t> Model for Frontier<'t> {
 
     ghost coded = { Prim.hlevel (codes, tasks.the_row.coded) };
 
+    ghost use Rattle.std.specs.VecDeque.{deque_len, deque_capacity};
     ghost use Rattle.hd_worker.specs.Nodes.{waiting_by, IsFrontier};
 
     ghost view = { λ f. record {
@@ -53,7 +54,8 @@ impl<'t> Model for Frontier<'t> {
       room = f.room;
     } };
 
-    ghost invariant = { λ f. IsFrontier f.task.now f.known f.open.nodes f.fresh f.room };
+    ghost invariant = { λ f. IsFrontier f.task.now f.known f.open.nodes f.fresh.items
+        (deque_len f.fresh) (deque_capacity f.fresh) f.room };
 }
 
 impl<'t> Frontier<'t> {

@@ -49,6 +49,7 @@ impl<'t> Model for Worker<'t> {
 
     ghost coded = { Prim.hlevel (codes, tasks.the_row.coded, outcomes.the_row.coded) };
 
+    ghost use Rattle.std.specs.VecDeque.{deque_len, deque_capacity};
     ghost use Rattle.hd_worker.specs.Kept.{IsWorker};
 
     ghost view = { λ w. record {
@@ -65,7 +66,8 @@ impl<'t> Model for Worker<'t> {
       lent = w.lent;
     } };
 
-    ghost invariant = { λ w. IsWorker w.task.now w.id w.workers w.frontier w.given.items w.outcomes.items w.outbox w.lent };
+    ghost invariant = { λ w. IsWorker w.task.now w.id w.workers w.frontier w.given.items
+        w.outcomes.items w.outbox.items (deque_len w.outbox) (deque_capacity w.outbox) w.lent };
 }
 
 impl<'t> Worker<'t> {
