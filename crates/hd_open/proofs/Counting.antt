@@ -1,10 +1,10 @@
 -- Counts stay those of the slots.
-use Rattle.std.proofs.Common.{◌≡◌, ℕ, zero, suc, ◌+◌, ◌*◌, ◌/◌, ◌^◌, ◌<◌, ◌≤◌, List, [], ◌∷◌, ◌++◌, Option, Some, None, length, sum, take, get_or, set, slice_get, refl, sym, ap, ◌∙◌, subst, inl, inr, arith, length-append, length-set}
+use Rattle.std.proofs.Common.{◌≡◌, ℕ, ◌+◌, ◌*◌, ◌/◌, ◌^◌, ◌<◌, List, [], ◌∷◌, ◌++◌, Option, Some, None, length, sum, take, set, slice_get, refl, sym, ◌∙◌, subst, inl, inr, arith, length-append, length-set}
 use Rattle.std.proofs.lemmas.Bool.{cases_lt}
 use Rattle.hd_open.specs.declared.counts.Counts.{Counts}
 use Rattle.hd_open.specs.Live.{live, place_at}
 use Rattle.hd_open.specs.Counts.{IsRaised, AreRaised, AreSame, AreSome, AreBelowLimit, IsCovering, HasRoom, AreCounts, IsSummed}
-use Rattle.hd_open.proofs.Sums.{sum_take_more, sum-take-le, sum_all}
+use Rattle.hd_open.proofs.Sums.{sum_take_more, sum_all}
 use Rattle.hd_open.proofs.Places.{IsPlaced, place_more_some, place_at-le, place_at-le-all, place_all, length-live-le, length-live-lt, placed_push, placed_left, placed_set}
 
 -- groups of lists that have one more at a place

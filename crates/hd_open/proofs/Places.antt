@@ -1,11 +1,11 @@
 -- Where nodes stand among those that slots hold.
-use Rattle.std.proofs.Common.{◌≡◌, ◌⊎◌, ℕ, zero, suc, ◌+◌, ◌<◌, ◌≤◌, true, false, List, [], ◌∷◌, ◌++◌, Option, Some, None, is_some, length, take, drop, set, get_or, slice_get, refl, sym, ap, ◌∙◌, subst, inl, inr, ⊎_elim, arith}
+use Rattle.std.proofs.Common.{◌≡◌, ◌⊎◌, ℕ, zero, suc, ◌+◌, ◌<◌, ◌≤◌, true, false, List, [], ◌∷◌, ◌++◌, Option, Some, None, is_some, length, set, get_or, slice_get, refl, sym, ap, ◌∙◌, subst, inl, inr, ⊎_elim, arith}
 use Rattle.std.specs.List.{insert, remove}
 use Rattle.std.proofs.lemmas.List.{length-append, take_all, take-append-le, take-set-le}
 use Rattle.std.proofs.lemmas.Bool.{cases_lt}
 use Rattle.std.proofs.lemmas.Option.{none-some, same_Some, slice_get_within, slice_get_read}
-use Rattle.hd_open.specs.Totals.{IsNotAfter, IsBest}
-use Rattle.hd_open.specs.Live.{live, place_at, IsFilled, IsBestArrival}
+use Rattle.hd_open.specs.Totals.{IsBest}
+use Rattle.hd_open.specs.Live.{live, place_at, IsBestArrival}
 
 -- after a node has come to a slot, there is one more behind it
 pub record IsPlaced {A : Type 0} (before after : List (Option A)) (arrival : ℕ) : Type 0 where

@@ -1,15 +1,14 @@
 -- What a queue has, after entries have come and gone.
-use Rattle.std.proofs.Common.{◌≡◌, ◌⊎◌, ℕ, ◌+◌, ◌≤◌, Bool, true, false, cond, List, [], ◌∷◌, ◌++◌, Option, Some, None, length, set, slice_get, IsTrue, refl, sym, ap, ◌∙◌, subst, inl, inr, ⊎_elim, arith}
-use Rattle.std.specs.Ordering.{nat_cmp, is_eq, is_gt}
+use Rattle.std.proofs.Common.{◌≡◌, ◌⊎◌, ℕ, Bool, true, false, cond, List, [], ◌∷◌, ◌++◌, Option, Some, None, length, set, slice_get, refl, sym, ap, ◌∙◌, subst, inl, inr, ⊎_elim}
+use Rattle.std.specs.Ordering.{nat_cmp, is_eq}
 use Rattle.std.specs.List.{list_any}
 use Rattle.std.specs.BTreeMap.{is_at}
 use Rattle.std.specs.BTreeSet.{BTreeSet, contains, Updates, IsLowerBound}
 use Rattle.std.proofs.lemmas.Option.{none-some, same_Some}
 use Rattle.hd_open.specs.declared.queue.Queue.{Queue}
-use Rattle.hd_open.specs.declared.slots.Gap.{Gap}
 use Rattle.hd_open.specs.Totals.{IsNotAfter}
 use Rattle.hd_open.specs.Live.{live, IsAt, IsBestArrival}
-use Rattle.hd_open.specs.Queue.{entry_cmp, has, IsFirst, IsQueued}
+use Rattle.hd_open.specs.Queue.{entry_cmp, has, IsQueued}
 use Rattle.hd_open.proofs.Ordering.{nat_cmp_not_greater, nat_cmp_same, entry_cmp_not_greater, entry_cmp_same}
 use Rattle.hd_open.proofs.Places.{live_none, slice_get-set_else, slice_get-push_else}
 

@@ -1,6 +1,6 @@
 -- What an open list keeps, and what contracts see, where nodes come and go.
-use Rattle.std.proofs.Common.{◌≡◌, ◌≤◌, ℕ, List, ◌∷◌, ◌++◌, [], Option, Some, None, Result, Ok, Err, OnOk, true, length, set, slice_get, refl, sym, ap, ◌∙◌, subst, arith}
-use Rattle.std.specs.List.{insert, remove}
+use Rattle.std.proofs.Common.{◌≡◌, ◌≤◌, ℕ, List, ◌∷◌, ◌++◌, [], Option, Some, None, Result, Ok, Err, OnOk, true, length, set, slice_get, refl, ap, ◌∙◌, subst, arith}
+use Rattle.std.specs.List.{remove}
 use Rattle.std.proofs.lemmas.List.{take-set-le}
 use Rattle.std.proofs.lemmas.Option.{same_Some}
 use Rattle.hd_open.specs.declared.slots.Gap.{Gap}
@@ -12,7 +12,7 @@ use Rattle.hd_open.specs.Counts.{AreCounts}
 use Rattle.hd_open.specs.Queue.{has, IsQueued}
 use Rattle.hd_open.specs.Open.{Open, TakesAt, TakesBest}
 use Rattle.hd_open.specs.Kept.{open_view, IsKept}
-use Rattle.hd_open.proofs.Places.{live-append, live_get, live-set-none, live-set-some, emptied, best_place}
+use Rattle.hd_open.proofs.Places.{live-append, live_get, live-set-none, emptied, best_place}
 use Rattle.hd_open.proofs.Queueing.{queued_left, queued_back}
 
 module _ {A : Type 0} where

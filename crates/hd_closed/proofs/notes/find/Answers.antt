@@ -22,7 +22,7 @@ returns-then-eq-clause-found c =
     let n = c.index-notes-place.result in
     let within = search_within notes c.args.heads.now c.requires s c.in-Some.place (subst (λ o. IsSearch notes s o) c.in-Some.is c.loop-next.invariant) in
     noted_at notes c.in-Some.place n s (slice_get_read notes (length notes) c.in-Some.place n refl within c.index-notes-place.is)
-    (sym c.state.ensures ∙ (c.eq.ensures.states c.if-eq.true ∙ c.state-2.ensures))
+    (sym c.state.ensures ∙ (c.eq.ensures.states c.if-eq.true ∙ c.state-in-Some.ensures))
 
 pub loop-next-smaller : goal.loop-next-smaller
 loop-next-smaller c =
@@ -42,6 +42,6 @@ loop-next-preserved c =
     let within = search_within notes c.args.heads.now c.requires s c.in-Some.place search_now in
     search_goes_on notes c.args.heads.now c.requires s c.in-Some.place n search_now (slice_get_read notes (length notes) c.in-Some.place n refl within c.index-notes-place.is)
     (λ e.
-    let same : c.eq.result ≡ true = c.eq.ensures.same ∙ (ap₂ same_packing (c.state.ensures ∙ e) c.state-2.ensures ∙ same_equiv.refl s) in
+    let same : c.eq.result ≡ true = c.eq.ensures.same ∙ (ap₂ same_packing (c.state.ensures ∙ e) c.state-in-Some.ensures ∙ same_equiv.refl s) in
     let differ = c.if-eq.false in
     absurd (cc))

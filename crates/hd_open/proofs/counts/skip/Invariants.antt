@@ -1,4 +1,4 @@
-use Rattle.std.proofs.Common.{◌≡◌, ◌+◌, ◌-◌, ◌≤◌, length, sum, take}
+use Rattle.std.proofs.Common.{◌≡◌, ◌+◌, ◌-◌, length, sum, take}
 use Rattle.hd_open.proofs.counts.skip.Given as goal
 
 abbrev pub invariant-loop-at : goal.invariant-loop-at

@@ -1,6 +1,5 @@
 use Rattle.std.proofs.Common.{sum, ap, arith}
-use Rattle.hd_open.proofs.Counting.{all_coarse, sum_fine}
-use Rattle.hd_open.proofs.Places.{place_less}
+use Rattle.hd_open.proofs.Counting.{all_coarse}
 use Rattle.hd_open.proofs.slots.arrival_of.Goals as goal
 
 pub skip-greatest-requires : goal.skip-greatest-requires

@@ -1,4 +1,4 @@
-use Rattle.std.proofs.Common.{◌∙◌, ap, sym, arith}
+use Rattle.std.proofs.Common.{◌∙◌, sym, arith}
 use Rattle.hd_open.proofs.Places.{place_more_read, place_same_read}
 use Rattle.hd_open.proofs.slots.filled_after.Goals as goal
 use Rattle.hd_open.proofs.slots.filled_after.Goals.{then-is_some+else-left-eq0, else-is_some}

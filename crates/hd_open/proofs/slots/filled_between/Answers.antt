@@ -1,4 +1,4 @@
-use Rattle.std.proofs.Common.{◌∙◌, ap, sym, arith}
+use Rattle.std.proofs.Common.{◌∙◌, sym, arith}
 use Rattle.hd_open.proofs.Places.{place_at-le-arrival, place_more_read, place_same_read}
 use Rattle.hd_open.proofs.slots.filled_between.Goals as goal
 use Rattle.hd_open.proofs.slots.filled_between.Goals.{then-is_some, else-is_some}

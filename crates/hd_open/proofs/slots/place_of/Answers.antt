@@ -1,5 +1,4 @@
-use Rattle.std.proofs.Common.{◌≡◌, ℕ, ◌+◌, ◌/◌, ◌*◌, ◌^◌, ◌<◌, List, sum, take, subst, sym, rules, arith}
-use Rattle.hd_open.specs.Live.{place_at}
+use Rattle.std.proofs.Common.{◌≡◌, ℕ, ◌+◌, ◌/◌, ◌*◌, ◌^◌, ◌<◌, List, sum, take, subst, sym, arith}
 use Rattle.hd_open.proofs.Places.{place_at-le-all, length-live-le}
 use Rattle.hd_open.proofs.Counting.{fits_fine, fits_middle, fits_coarse, to_greater, to_group}
 use Rattle.hd_open.proofs.slots.place_of.Goals as goal

@@ -1,4 +1,4 @@
-use Rattle.std.proofs.Common.{List, ap, subst, ◌∙◌}
+use Rattle.std.proofs.Common.{ap, subst, ◌∙◌}
 use Rattle.hd_open.specs.Live.{place_at, IsBestArrival}
 use Rattle.hd_open.proofs.Places.{best_of_view}
 use Rattle.hd_open.proofs.open.OpenList.best.Goals as goal
