@@ -27,7 +27,8 @@ AllByRecursion-filter P p (x ∷ xs) all =
     ]
 
 pub AllByRecursion-remove : {X : Type 0} (P : X → Type 0) (xs : List X) (i : ℕ) → AllByRecursion P xs → AllByRecursion P (remove xs i)
-AllByRecursion-remove P [] i all = tt
+AllByRecursion-remove P [] zero all = tt
+AllByRecursion-remove P [] (suc i) all = tt
 AllByRecursion-remove P (x ∷ xs) zero all = all.1
 AllByRecursion-remove P (x ∷ xs) (suc i) all = (all.0, AllByRecursion-remove P xs i all.1)
 

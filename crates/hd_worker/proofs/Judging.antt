@@ -196,12 +196,14 @@ waiting_remove nodes k =
     append-nil (map released_of (remove nodes k)) ∙ (map-remove nodes k ∙ ap (λ (rs : List Released). remove rs k) (sym (append-nil (map released_of nodes))))
   where
     map-remove : (ns : List Node) (k : ℕ) → map released_of (remove ns k) ≡ remove (map released_of ns) k
-    map-remove [] k = refl
+    map-remove [] zero = refl
+    map-remove [] (suc k) = refl
     map-remove (n ∷ ns) zero = refl
     map-remove (n ∷ ns) (suc k) = ap (λ (rs : List Released). released_of n ∷ rs) (map-remove ns k)
 
 pub nodes_remove : (t : Task) (states : List State) (nodes : List Node) (k : ℕ) → AllByRecursion (IsNodeOf t states) nodes → AllByRecursion (IsNodeOf t states) (remove nodes k)
-nodes_remove t states [] k all = tt
+nodes_remove t states [] zero all = tt
+nodes_remove t states [] (suc k) all = tt
 nodes_remove t states (n ∷ nodes) zero all = all.1
 nodes_remove t states (n ∷ nodes) (suc k) all = (all.0, nodes_remove t states nodes k all.1)
 
