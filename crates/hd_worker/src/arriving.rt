@@ -42,15 +42,15 @@ fn total_for<'t>(
 /// # Errors
 /// `NoMemory` where there is no room for it; nothing has changed.
 fn open_first<'t>(
-    open: &mut OpenList<Node<'t>>,
+    nodes: &mut OpenList<Node<'t>>,
     fresh: &mut VecDeque<Parcel<'t>>,
     state: usize,
     total: Option<u128>,
 ) -> Result<(), NoMemory>
     requires { 0 < deque_len fresh.old }
-    ensures moved { OnOk result (MovesFirst open.old.nodes fresh.old.items state total
-        open.new.nodes fresh.new.items) }
-    ensures nodes { OnErr result (open.new.nodes ≡ open.old.nodes) }
+    ensures moved { OnOk result (MovesFirst nodes.old.nodes fresh.old.items state total
+        nodes.new.nodes fresh.new.items) }
+    ensures nodes { OnErr result (nodes.new.nodes ≡ nodes.old.nodes) }
     ensures parcels { OnErr result (fresh.new.items ≡ fresh.old.items) }
     ensures fewer { deque_len fresh.new ≤ deque_len fresh.old }
     ensures one_less { OnOk result (deque_len fresh.new + 1 ≡ deque_len fresh.old) }
@@ -64,7 +64,7 @@ fn open_first<'t>(
         state,
         total,
     };
-    match open.push(node) {
+    match nodes.push(node) {
         Ok(()) => Ok(()),
         Err((node, error)) => {
             push_front_reserved(fresh, node.parcel);
@@ -80,28 +80,28 @@ fn open_first<'t>(
 pub(crate) fn open_all<'t>(
     alloc: Global,
     known: &mut ClosedList<'t>,
-    open: &mut OpenList<Node<'t>>,
+    nodes: &mut OpenList<Node<'t>>,
     fresh: &mut VecDeque<Parcel<'t>>,
     estimates: &mut Hmax<'t>,
 ) -> Result<(), NoMemory>
     requires estimates { estimates.old.task ≡ known.old.task }
-    requires nodes { AllByRecursion (IsNodeOf known.old.task known.old.states) open.old.nodes }
+    requires nodes { AllByRecursion (IsNodeOf known.old.task known.old.states) nodes.old.nodes }
     requires parcels { AllByRecursion (IsParcelOf known.old.task) fresh.old.items }
     ensures task { known.new.task ≡ known.old.task }
     ensures closed { known.new.closed ≡ known.old.closed }
     ensures begins { BeginsWith known.new.states known.old.states }
     ensures estimates { estimates.new.task ≡ estimates.old.task }
-    ensures nodes { AllByRecursion (IsNodeOf known.old.task known.new.states) open.new.nodes }
+    ensures nodes { AllByRecursion (IsNodeOf known.old.task known.new.states) nodes.new.nodes }
     ensures parcels { AllByRecursion (IsParcelOf known.old.task) fresh.new.items }
-    ensures waiting { waiting_by open.new.nodes fresh.new.items
-        ≡ waiting_by open.old.nodes fresh.old.items }
+    ensures waiting { waiting_by nodes.new.nodes fresh.new.items
+        ≡ waiting_by nodes.old.nodes fresh.old.items }
     ensures fewer { deque_len fresh.new ≤ deque_len fresh.old }
     ensures capacity { deque_capacity fresh.new ≡ deque_capacity fresh.old }
     ensures all { OnOk result (fresh.new.items ≡ []) }
 {
     while let Some(parcel) = fresh.front() {
         let (state, total) = total_for(alloc, known, estimates, parcel)?;
-        open_first(open, fresh, state, total)?;
+        open_first(nodes, fresh, state, total)?;
     }
     Ok(())
 }

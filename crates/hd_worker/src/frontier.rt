@@ -28,7 +28,7 @@ pub(crate) struct Frontier<'t> {
     alloc: Global,
     task: &'t Task,
     known: ClosedList<'t>,
-    open: OpenList<Node<'t>>,
+    nodes: OpenList<Node<'t>>,
     /// Parcels that came behind the open nodes, and are not estimated yet.
     fresh: VecDeque<Parcel<'t>>,
     /// How many parcels may still come without memory.
@@ -49,12 +49,12 @@ impl<'t> Model for Frontier<'t> {
 
     ghost view = { λ f. record {
       task = f.task.now;
-      waiting = waiting_by f.open.nodes f.fresh.items;
+      waiting = waiting_by f.nodes.nodes f.fresh.items;
       closed = f.known.closed;
       room = f.room;
     } };
 
-    ghost invariant = { λ f. IsFrontier f.task.now f.known f.open.nodes f.fresh.items
+    ghost invariant = { λ f. IsFrontier f.task.now f.known f.nodes.nodes f.fresh.items
         (deque_len f.fresh) (deque_capacity f.fresh) f.room };
 }
 
@@ -67,7 +67,7 @@ impl<'t> Frontier<'t> {
             alloc,
             task,
             known: ClosedList::empty(alloc, task),
-            open: OpenList::empty(alloc),
+            nodes: OpenList::empty(alloc),
             fresh: VecDeque::new(alloc),
             room: 0,
         }
@@ -140,11 +140,11 @@ impl<'t> Frontier<'t> {
         open_all(
             self.alloc,
             &mut self.known,
-            &mut self.open,
+            &mut self.nodes,
             &mut self.fresh,
             estimates,
         )?;
-        Ok(self.open.best())
+        Ok(self.nodes.best())
     }
 
     /// Settles the open node at a place, if there is one. Its expansion is named by the place that its outcome has.
@@ -166,19 +166,19 @@ impl<'t> Frontier<'t> {
         open_all(
             self.alloc,
             &mut self.known,
-            &mut self.open,
+            &mut self.nodes,
             &mut self.fresh,
             &mut lookup.hmax,
         )?;
         self.known.reserve()?;
-        let Some(node) = self.open.remove(pick) else {
+        let Some(node) = self.nodes.remove(pick) else {
             return Ok(None);
         };
         let outcome = settle_taken(
             self.alloc,
             self.task,
             &mut self.known,
-            &mut self.open,
+            &mut self.nodes,
             lookup,
             seen,
             place,
@@ -205,19 +205,19 @@ impl<'t> Frontier<'t> {
         open_all(
             self.alloc,
             &mut self.known,
-            &mut self.open,
+            &mut self.nodes,
             &mut self.fresh,
             &mut lookup.hmax,
         )?;
         self.known.reserve()?;
-        let Some(node) = self.open.take_best() else {
+        let Some(node) = self.nodes.take_best() else {
             return Ok(None);
         };
         let outcome = settle_taken(
             self.alloc,
             self.task,
             &mut self.known,
-            &mut self.open,
+            &mut self.nodes,
             lookup,
             seen,
             place,

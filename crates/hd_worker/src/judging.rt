@@ -122,7 +122,7 @@ pub(crate) fn settle_taken<'t>(
     alloc: Global,
     task: &'t Task,
     known: &mut ClosedList<'t>,
-    open: &mut OpenList<Node<'t>>,
+    nodes: &mut OpenList<Node<'t>>,
     lookup: &mut Lookup<'t>,
     seen: Option<u64>,
     place: usize,
@@ -132,7 +132,7 @@ pub(crate) fn settle_taken<'t>(
     requires ready { known.old.ready ≡ true }
     requires lookup { IsLookupOf task.now lookup.old }
     requires is_node { IsNodeOf task.now known.old.states node }
-    requires gap { IsGapOf node.total open.old.gap }
+    requires gap { IsGapOf node.total nodes.old.gap }
     ensures lookup { IsLookupOf task.now lookup.new }
     ensures task { known.new.task ≡ known.old.task }
     ensures states { known.new.states ≡ known.old.states }
@@ -140,15 +140,15 @@ pub(crate) fn settle_taken<'t>(
         (parcel_of node.entry.parcel) o) }
     ensures closed { IfOk result (λ o. known.new.closed
         ≡ known.old.closed ++ closed_by place o) }
-    ensures nodes { OnOk result (open.new.nodes ≡ open.old.nodes) }
-    ensures back { OnErr result (IfSome open.old.gap (λ g.
-        open.new.nodes ≡ insert open.old.nodes g.0 node.entry)) }
+    ensures nodes { OnOk result (nodes.new.nodes ≡ nodes.old.nodes) }
+    ensures back { OnErr result (IfSome nodes.old.gap (λ g.
+        nodes.new.nodes ≡ insert nodes.old.nodes g.0 node.entry)) }
     ensures err { OnErr result (known.new ≡ known.old) }
 {
     match settle(alloc, task, known, lookup, seen, place, node) {
         Ok(outcome) => Ok(outcome),
         Err((node, error)) => {
-            open.put_back(node);
+            nodes.put_back(node);
             Err(error)
         }
     }

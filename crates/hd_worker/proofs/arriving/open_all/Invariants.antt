@@ -13,9 +13,9 @@ invariant-loop-parcel l = record {
   closed : l.known.closed ≡ l.fn.known.closed;
   begins : BeginsWith l.known.states l.fn.known.states;
   estimates : l.estimates.task ≡ l.fn.estimates.task;
-  nodes : AllByRecursion (IsNodeOf l.fn.known.task l.known.states) l.open.nodes;
+  nodes : AllByRecursion (IsNodeOf l.fn.known.task l.known.states) l.nodes.nodes;
   parcels : AllByRecursion (IsParcelOf l.fn.known.task) l.fresh.items;
-  waiting : waiting_by l.open.nodes l.fresh.items ≡ waiting_by l.fn.open.nodes l.fn.fresh.items;
+  waiting : waiting_by l.nodes.nodes l.fresh.items ≡ waiting_by l.fn.nodes.nodes l.fn.fresh.items;
   fewer : deque_len l.fresh ≤ deque_len l.fn.fresh;
   capacity : deque_capacity l.fresh ≡ deque_capacity l.fn.fresh;
 }
