@@ -1,2 +1,2 @@
 pub mod Batches
-pub mod Judging
+pub mod Settled
