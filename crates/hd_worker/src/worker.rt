@@ -42,12 +42,12 @@ impl<'t> Model for Worker<'t> {
     ghost use Rattle.hd_book.specs.Holding.{parcel_of};
     ghost use Rattle.hd_turns.specs.Worker.{WorkerView};
     ghost use Rattle.hd_task.specs.contracts.task.Task as tasks;
-    ghost use Rattle.hd_node.specs.contracts.batch.Outcome as outcomes;
+    ghost use Rattle.hd_node.specs.contracts.batch.Outcome as outcome_rows;
     ghost use Rattle.std.specs.Coded.{codes};
 
     ghost Value = { WorkerView };
 
-    ghost coded = { Prim.hlevel (codes, tasks.the_row.coded, outcomes.the_row.coded) };
+    ghost coded = { Prim.hlevel (codes, tasks.the_row.coded, outcome_rows.the_row.coded) };
 
     ghost use Rattle.std.specs.VecDeque.{deque_len, deque_capacity};
     ghost use Rattle.hd_worker.specs.Kept.{IsWorker};
