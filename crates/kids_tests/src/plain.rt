@@ -62,10 +62,12 @@ fn post(rt: &impl Abort, table: &mut KidTable, action: u32) -> Result<(), Fail> 
 }
 
 /// Settles a kid that is posted, or takes that back.
+#[tactic(auto, using(std::proofs::lemmas::List::get_or_default))]
 fn change(rt: &impl Abort, table: &mut KidTable, kid: Kid) {
     let place = table.place_of(kid);
     assert!(rt; place.is_some());
     if let Some(place) = place {
+        assert!(rt; (place as u64) < table.posted());
         if table.is_settled(place) {
             table.reopen(place);
         } else {

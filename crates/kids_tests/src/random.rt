@@ -12,7 +12,7 @@ fn actions(alloc: Global, chance: &mut Chance) -> Result<Vec<u32>, Fail> {
     let mut action = chance.below(4);
     for _ in 0..chance.below(12) {
         all.push(action)?;
-        action = action.saturating_add(1 + chance.below(6));
+        action = action.saturating_add(chance.below(6)).saturating_add(1);
     }
     Ok(all)
 }
