@@ -1,4 +1,5 @@
-# What expansion.sh and estimate.sh share: counts of one run of the program `bench`, whose path is $program. The folder $folder is for files.
+# What expansion.sh and estimate.sh share: counts of one run of the program `bench`, whose path is $program. The folder $folder is for files, and
+# $here is the top of the clone.
 
 # The instructions of a run: count_instructions FOLDER WORD NUMBER
 count_instructions() {
@@ -17,4 +18,14 @@ count_allocations() {
 # The children that the last run met.
 met_children() {
     awk 'NR == 1 { gsub(",", ""); print $3 }' "$folder/said"
+}
+
+# How often a function is called in a run, the instructions of these calls with all that they call, and the calls of the allocator from inside
+# them: count_calls FUNCTION FOLDER WORD NUMBER. callgrind collects only while the function runs; then the first instruction of the
+# allocator is counted once for each of its calls.
+count_calls() {
+    valgrind --tool=callgrind --collect-atstart=no --toggle-collect="$1" --dump-instr=yes --compress-strings=no --compress-pos=no \
+        --callgrind-out-file="$folder/counts" \
+        "$program" "$2/domain.pddl" "$2/problem.pddl" "$3" "$4" 2>"$folder/told" >"$folder/said"
+    echo "$(awk '/Collected *:/ { print $4 }' "$folder/told") $(awk -v counted="$1" -f "$here/bench/calls.awk" "$folder/counts")"
 }

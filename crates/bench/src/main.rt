@@ -15,7 +15,7 @@ use hd_check::{Checked, check};
 use hd_ground::ground;
 use hd_lex::tokens;
 use hd_pddl::{DomainAst, ProblemAst, read_domain, read_problem};
-use hd_search::searched;
+use hd_search::run_in_memory;
 use hd_task::Task;
 use hd_texts::{digest_of, task_of};
 use std::alloc::Global;
@@ -55,8 +55,8 @@ fn checked_facts(
 
 /// How many plans the search of a task expands.
 fn entries_in(alloc: Global, task: &Task) -> anyhow::Result<u64> {
-    let book = searched(alloc, task)?;
-    Ok(book.counts().entries)
+    let ended = run_in_memory(alloc, task)?;
+    Ok(ended.counts.entries)
 }
 
 /// How many plans the search of two texts' task expands.

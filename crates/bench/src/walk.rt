@@ -81,6 +81,22 @@ fn met_with(met: Met, children: &[Child]) -> Met {
     }
 }
 
+/// The expansion of a parcel: the one call that is counted by itself. It is never inlined, so that the program has it under its name.
+#[inline(never)]
+fn expand<'t>(
+    alloc: Global,
+    task: &'t Task,
+    tables: &mut Tables<'t>,
+    parcel: Parcel<'t>,
+) -> Result<Expansion<'t>, (Parcel<'t>, NoMemory)>
+    requires of_task { parcel.task ≡ task.now }
+    requires index { tables.old.successors.task ≡ task.now }
+    ensures task { IfOk result (λ e. e.task ≡ task.now) }
+    ensures index { tables.new.successors.task ≡ task.now }
+{
+    Expansion::of(alloc, task, &tables.words, &mut tables.successors, parcel)
+}
+
 /// Expands a parcel: what has been met with its children, and the parcel of one of them, if there is one.
 fn step<'t>(
     alloc: Global,
@@ -95,7 +111,7 @@ fn step<'t>(
     ensures index { tables.new.successors.task ≡ task.now }
 {
     let hash = parcel.hash();
-    match Expansion::of(alloc, task, &tables.words, &mut tables.successors, parcel) {
+    match expand(alloc, task, tables, parcel) {
         Ok(expansion) => {
             let met = met_with(met, expansion.children());
             let children = expansion.into_parts().children;

@@ -4,7 +4,7 @@ use crate::journals::{
     ROOT, append, appends, assert_bytes, created, disk_of, entry, kid, not_created, opened,
     root_entry, rooted,
 };
-use hd_image::Entry;
+use hd_image::{Entry, Kid};
 use hd_journal::{Journal, JournalError};
 use hd_store::MemoryDisk;
 use std::alloc::Global;
@@ -64,6 +64,8 @@ fn three_groups(rt: HostRuntime) -> Result<(), Fail> {
     append(rt.alloc(), &mut journal, 2, &[kid(1, 1)])?;
     let wanted: [Entry; 3] = [root_entry(), entry(kid(0, 0), 57), entry(kid(1, 1), 71)];
     assert_eq!(rt; journal.entries(), wanted.as_slice());
+    let kids: [Kid; 3] = [ROOT, kid(0, 0), kid(1, 1)];
+    assert_eq!(rt; journal.kids(rt.alloc())?.as_slice(), kids.as_slice());
     assert_bytes(&rt, journal, &TWO);
     Ok(())
 }

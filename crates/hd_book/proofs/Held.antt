@@ -1,219 +1,136 @@
--- What the parts of a book say of a kid: whether it is posted, and where it leads.
-use Rattle.std.proofs.Common.{◌≡◌, ◌≢◌, ℕ, suc, ◌+◌, ◌-◌, ◌<◌, ◌≤◌, ◌==◌, nat_lt, Bool, true, false, cond, not, ◌&&◌, ◌||◌, Option, Some, None, is_some, List, [], ◌∷◌, filter, length, get_or, slice_get, ◌⊎◌, inl, inr, refl, sym, ap, ap₂, ◌∙◌, subst, arith, true≢false}
-use Rattle.std.specs.Prelude.{option_and_then}
-use Rattle.std.specs.List.{list_any, range_with_len}
-use Rattle.std.proofs.lemmas.Bool.{cases_eq, and_parts, cond-false, eq-eqb, ne_eqb, ltb-true}
-use Rattle.std.proofs.lemmas.Option.{none-some, same_Some, slice_get-get_or, slice_get_past}
-use Rattle.std.proofs.lemmas.List.{get_or-map, length-map}
-use Rattle.std.proofs.lemmas.List.Sums.{passes_at_first}
-use Rattle.std.proofs.lemmas.List.Folds.{list_any-append, list_any_none}
-use Rattle.std.proofs.lemmas.List.Elements.{Contains-get_or}
-use Rattle.hd_base.proofs.Members.{Contains-filter, Contains-range_with_len, passes-from_filter}
-use Rattle.hd_base.proofs.Tests.{nat_lt-position_or_len, list_any-from_contains}
-use Rattle.hd_base.proofs.Truth.{or-false}
+-- What a book keeps, after each step.
+use Rattle.std.proofs.Common.{◌≡◌, ℕ, zero, suc, ◌+◌, ◌≤◌, ◌==◌, ◌||◌, Bool, true, false, cond, Some, None, Option, List, [], ◌∷◌, ◌++◌, length, set, slice_get, refl, sym, ◌∙◌, subst, arith}
+use Rattle.std.specs.Prelude.{Result, Ok, Err, IfOk, OnOk, OnErr, flat_map}
+use Rattle.std.specs.Option.{option_flatten}
+use Rattle.std.specs.List.{AllByRecursion}
+use Rattle.std.proofs.lemmas.Bool.{eqb-true}
+use Rattle.std.proofs.lemmas.List.{length-set, length-append}
+use Rattle.hd_base.proofs.Lists.{AllByRecursion-push}
 use Rattle.hd_task.specs.declared.task.Task.{Task}
-use Rattle.hd_task.specs.declared.plan.Kid.{Kid}
-use Rattle.hd_task.specs.declared.plan.TheConstants.{ROOT_PARENT, ROOT_ACTION}
-use Rattle.hd_task.specs.Plans.{Node, IsStateOf, step_by, step_of, start, exec, node}
-use Rattle.hd_task.specs.Departures.{action_departs}
-use Rattle.hd_task.specs.Expansions.{is_applicable, applicable_at}
-use Rattle.hd_task.proofs.Runs.{exec-push, exec-state, step_within}
-use Rattle.hd_book.specs.declared.entry.Entry.{Entry}
-use Rattle.hd_book.specs.declared.content.Content.{Content}
-use Rattle.hd_book.specs.declared.refusal.Refusal.{Refusal}
-use Rattle.hd_book.specs.declared.refusal.Refusal.TheVariants.{UnknownParent, NotAKid, SettledBefore}
-use Rattle.hd_book.specs.Kids.{root, kids_of, kids_from, posted_by}
-use Rattle.hd_book.specs.Settling.{expansions, same_kid, knows_parent, place_of, is_posted, is_marked, node_of}
-use Rattle.hd_book.specs.Holding.{kid_at, node_at, has, state_of, IsHeld}
-use Rattle.hd_book.proofs.Accepting.{same_kid-true}
-use Rattle.hd_book.proofs.Naming.{plan_of-kid, length-plans_of}
+use Rattle.hd_node.specs.declared.batch.Outcome.{Outcome}
+use Rattle.hd_node.specs.declared.batch.Outcome.TheVariants.{Expanded, Duplicate, Bounded}
+use Rattle.hd_entries.specs.Settling.{entry_of}
+use Rattle.hd_entries.specs.Holding.{EntriesView, settled_count}
+use Rattle.hd_tickets.specs.declared.not_out.NotOut.{NotOut}
+use Rattle.hd_tickets.specs.declared.outgoing.Outgoing.{Outgoing}
+use Rattle.hd_tickets.specs.declared.redeemed.Redeemed.{Redeemed}
+use Rattle.hd_tickets.specs.declared.redeemed.Redeemed.TheVariants.{Released, NotYet, Void}
+use Rattle.hd_tickets.specs.Queue.{QueueView, end_of, entries_of, are_acknowledged, with_batch}
+use Rattle.hd_tickets.specs.Batches.{Batches, TicketView, is_its}
+use Rattle.hd_tickets.specs.Steps.{entered, flushed, without, redeemed}
+use Rattle.hd_tickets.specs.Redeeming.{given_for, answer_for, redeemed_for}
+use Rattle.hd_tickets.proofs.Ends.{end_of-append, end_of_parts}
+use Rattle.hd_book.specs.View.{ParcelsView, book_of}
+use Rattle.hd_book.specs.Keeping.{IsOutgoingOf, IsHeld}
+use Rattle.hd_book.specs.Redeeming.{IsReleasedOf}
 
--- ---- the kids of an entry
+-- ---- a batch more
 
-any_of : (k : Kid) (n : ℕ) (actions : List ℕ) → k.parent ≡ n → list_any (same_kid k) (kids_of n actions) ≡ list_any (λ a. k.action == a) actions
-any_of k n [] e = refl
-any_of k n (a ∷ actions) e =
-    ap₂ (λ x y. x || y) (ap (λ b. b && (k.action == a)) (eq-eqb k.parent n e)) (any_of k n actions e)
+pub few_entries : (outcomes : List Outcome) → length (flat_map entry_of outcomes) ≤ length outcomes
+few_entries [] = omega arith
+few_entries (Expanded e ∷ outcomes) = omega (arith, few_entries outcomes)
+few_entries (Duplicate k by ∷ outcomes) = omega (arith, few_entries outcomes)
+few_entries (Bounded k h ∷ outcomes) = omega (arith, few_entries outcomes)
 
-none_of : (k : Kid) (n : ℕ) (actions : List ℕ) → k.parent ≢ n → list_any (same_kid k) (kids_of n actions) ≡ false
-none_of k n [] ne = refl
-none_of k n (a ∷ actions) ne =
-    ap₂ (λ x y. x || y) (ap (λ b. b && (k.action == a)) (ne_eqb k.parent n ne)) (none_of k n actions ne)
+entries_by : (q : QueueView) (count : ℕ) (v : Bool) → (count == 0) ≡ v → end_of q.acknowledged (cond v q.ends (q.ends ++ (entries_of q + count) ∷ [])) ≡ entries_of q + count
+entries_by q count true e = let none : count ≡ 0 = eqb-true count 0 e in omega (arith, none)
+entries_by q count false e = end_of-append q.acknowledged q.ends ((entries_of q + count) ∷ [])
 
--- the kids of entries that are numbered from a greater number on are others
-pub none_below : (t : Task) (k : Kid) (n : ℕ) (expanded : List (List ℕ)) → k.parent < n → list_any (same_kid k) (kids_from t n expanded) ≡ false
-none_below t k n [] lt = refl
-none_below t k n (p ∷ expanded) lt =
-    list_any-append (same_kid k) (kids_of n (applicable_at t (exec t p))) (kids_from t (n + 1) expanded)
-    ∙ ap₂ (λ x y. x || y) (none_of k n (applicable_at t (exec t p)) (λ e. omega arith)) (none_below t k (n + 1) expanded (omega arith))
+pub entries_more : (q : QueueView) (count : ℕ) → entries_of (with_batch count q) ≡ entries_of q + count
+entries_more q count = entries_by q count (count == 0) refl
 
--- and so are those of entries up to it
-pub none_above : (t : Task) (k : Kid) (n : ℕ) (expanded : List (List ℕ)) → n + length expanded ≤ k.parent → list_any (same_kid k) (kids_from t n expanded) ≡ false
-none_above t k n [] le = refl
-none_above t k n (p ∷ expanded) le =
-    list_any-append (same_kid k) (kids_of n (applicable_at t (exec t p))) (kids_from t (n + 1) expanded)
-    ∙ ap₂ (λ x y. x || y) (none_of k n (applicable_at t (exec t p)) (λ e. omega arith)) (none_above t k (n + 1) expanded (omega arith))
+pub held_again : (e d : EntriesView) (b a : Batches ParcelsView) → IsHeld (book_of e b) → d ≡ e → a ≡ b → IsHeld (book_of d a)
+held_again e d b a h same batches = subst (λ x. IsHeld (book_of x a)) (sym same) (subst (λ x. IsHeld (book_of e x)) (sym batches) h)
 
-at_entry : (t : Task) (k : Kid) (n : ℕ) (expanded : List (List ℕ)) → n ≤ k.parent → k.parent < n + length expanded → list_any (same_kid k) (kids_from t n expanded) ≡ list_any (λ a. k.action == a) (applicable_at t (exec t (get_or expanded (k.parent - n) [])))
-at_entry t k n [] le lt = absurd (omega arith)
-at_entry t k n (p ∷ expanded) le lt =
-    let whole = list_any-append (same_kid k) (kids_of n (applicable_at t (exec t p))) (kids_from t (n + 1) expanded) in
-    elim (cases_eq k.parent n) [
-      | inl e ↦
-          let first : k.parent - n ≡ 0 = omega arith in
-          whole
-          ∙ (ap₂ (λ x y. x || y) (any_of k n (applicable_at t (exec t p)) e) (none_below t k (n + 1) expanded (omega arith))
-          ∙ (or-false (list_any (λ a. k.action == a) (applicable_at t (exec t p)))
-          ∙ ap (λ i. list_any (λ a. k.action == a) (applicable_at t (exec t (get_or (p ∷ expanded) i [])))) (sym first)))
-      | inr ne ↦
-          let next : k.parent - n ≡ suc (k.parent - (n + 1)) = omega arith in
-          whole
-          ∙ (ap₂ (λ x y. x || y) (none_of k n (applicable_at t (exec t p)) ne) (at_entry t k (n + 1) expanded (omega arith) (omega arith))
-          ∙ ap (λ i. list_any (λ a. k.action == a) (applicable_at t (exec t (get_or (p ∷ expanded) i [])))) (sym next))
-    ]
+-- a batch is accepted
+pub held_entered :
+    (e d : EntriesView) (b a : Batches ParcelsView) (count more : ℕ) (released : ParcelsView)
+    → IsHeld (book_of e b)
+    → d.state.task ≡ e.state.task
+    → length d.state.entries ≡ length e.state.entries + count
+    → settled_count d.state ≡ settled_count e.state + more
+    → 1 ≤ more
+    → released.task ≡ d.state.task
+    → a ≡ entered count released b
+    → IsHeld (book_of d a)
+held_entered e d b a count more released h task entries settled some own is =
+    let out : Outgoing ParcelsView = record { first = entries_of b.queue; end = entries_of b.queue + count; released = released } in
+    let before : AllByRecursion (IsOutgoingOf d.state.task) b.tickets = subst (λ t. AllByRecursion (IsOutgoingOf t) b.tickets) (sym task) h.of_task in
+    let counted : entries_of b.queue ≡ length e.state.entries = h.counted in
+    let commits : length b.tickets ≤ settled_count e.state = h.commits in
+    subst (λ x. IsHeld (book_of d x)) (sym is) (record {
+      counted = omega (arith, entries_more b.queue count, counted, entries);
+      of_task = AllByRecursion-push (IsOutgoingOf d.state.task) b.tickets (Some out) before own;
+      commits = omega (arith, length-append b.tickets (Some out ∷ []), commits, settled, some);
+    })
 
--- ---- actions
+-- ---- groups
 
-step_of_none : (t : Task) (r : Node) (n : ℕ) → length t.actions ≤ n → step_by t r n ≡ None
-unfolding step_by
-step_of_none t r n le = ap (step_of t r) (slice_get_past t.actions n le)
+pub entries_flushed : (b : Batches ParcelsView) → entries_of (flushed b).queue ≡ entries_of b.queue
+entries_flushed b = end_of_parts b.queue.acknowledged b.queue.ends b.queue.out
 
--- an action that the task does not have is not applicable
-pub no_action : (t : Task) (r : Node) (n : ℕ) → length t.actions ≤ n → is_applicable t (Some r) n ≡ false
-no_action t r n le = ap (λ o. is_some o && not (action_departs t r n)) (step_of_none t r n le)
+-- the group that was out is acknowledged
+pub held_flushed : (e : EntriesView) (b : Batches ParcelsView) → IsHeld (book_of e b) → IsHeld (book_of e (flushed b))
+held_flushed e b h = record { counted = entries_flushed b ∙ h.counted; of_task = h.of_task; commits = h.commits }
 
-some_within : (t : Task) (r : Node) (n : ℕ) (o : Option Node) → step_by t r n ≡ o → is_some o ≡ true → n < length t.actions
-some_within t r n None e d = absurd (true≢false (sym d))
-some_within t r n (Some to) e d = step_within t r n to e
+-- ---- a ticket less
 
--- an action is among the applicable ones exactly where it is applicable
-applicable-any : (t : Task) (r : Node) (a : ℕ) → list_any (λ b. a == b) (applicable_at t (Some r)) ≡ is_applicable t (Some r) a
-unfolding applicable_at
-applicable-any t r a =
-    elim (is_applicable t (Some r) a) as (λ b. is_applicable t (Some r) a ≡ b → list_any (λ b. a == b) (filter (is_applicable t (Some r)) (range_with_len 0 (length t.actions))) ≡ b) [
-      | true ↦ λ e.
-          let lt = some_within t r a (step_by t r a) refl (and_parts (is_some (step_by t r a)) (not (action_departs t r a)) e).0 in
-          list_any-from_contains (λ b. a == b) (filter (is_applicable t (Some r)) (range_with_len 0 (length t.actions))) a
-          (Contains-filter (is_applicable t (Some r)) (range_with_len 0 (length t.actions)) a (Contains-range_with_len (length t.actions) a lt) e)
-          (eq-eqb a a refl)
-      | false ↦ λ e.
-          list_any_none (λ b. a == b) (filter (is_applicable t (Some r)) (range_with_len 0 (length t.actions)))
-          (λ i d lt.
-          let xs = filter (is_applicable t (Some r)) (range_with_len 0 (length t.actions)) in
-          ne_eqb a (get_or xs i d) (λ same.
-          true≢false (sym (subst (λ x. is_applicable t (Some r) x ≡ true) (sym same)
-          (passes-from_filter (is_applicable t (Some r)) (range_with_len 0 (length t.actions)) (get_or xs i d) (Contains-get_or xs i d lt))) ∙ e)))
-    ] refl
+AllByRecursion-set : {X : Type 0} (P : X → Type 0) (xs : List X) (n : ℕ) (x : X) → AllByRecursion P xs → P x → AllByRecursion P (set xs n x)
+AllByRecursion-set P [] n x h p = h
+AllByRecursion-set P (y ∷ xs) zero x h p = (p, h.1)
+AllByRecursion-set P (y ∷ xs) (suc n) x h p = (h.0, AllByRecursion-set P xs n x h.1 p)
 
--- ---- a book
+held_without : (e : EntriesView) (b : Batches ParcelsView) (n : ℕ) → IsHeld (book_of e b) → IsHeld (book_of e (without n b))
+held_without e b n h =
+    let commits : length b.tickets ≤ settled_count e.state = h.commits in
+    record {
+      counted = h.counted;
+      of_task = AllByRecursion-set (IsOutgoingOf e.state.task) b.tickets n None h.of_task tt;
+      commits = omega (arith, length-set b.tickets n None, commits);
+    }
 
-module _ (c : Content) (h : IsHeld c) where
-  abbrev t : Task
-  t = c.task.now
+held_by : (e : EntriesView) (b : Batches ParcelsView) (k : TicketView) (v : Bool) → IsHeld (book_of e b) → IsHeld (book_of e (cond v (without k.number b) b))
+held_by e b k true h = held_without e b k.number h
+held_by e b k false h = h
 
-  abbrev E : List (List ℕ)
-  E = expansions (state_of c)
+pub held_spent : (e : EntriesView) (b : Batches ParcelsView) (k : TicketView) → IsHeld (book_of e b) → IsHeld (book_of e (redeemed k b))
+held_spent e b k h = held_by e b k (are_acknowledged b.queue k.first k.end || b.halted) h
 
-  pub count : length E ≡ length c.entries.items
-  count =
-      sym (length-map E (exec t))
-      ∙ (ap length h.nodes ∙ length-map c.entries.items (λ e. Some (node_at e)))
+-- ---- a call that may be refused
 
-  pub short : length E < ROOT_PARENT
-  short = omega (arith, h.kept.short, length-plans_of (state_of c).entries E h.kept.named)
+pub held_if :
+    {X E : Type 0} (r : Result X E) (e : EntriesView) (b m a : Batches ParcelsView)
+    → IsHeld (book_of e b)
+    → IsHeld (book_of e m)
+    → OnOk r (a ≡ m)
+    → OnErr r (a ≡ b)
+    → IsHeld (book_of e a)
+held_if (Ok x) e b m a old new ok err = subst (λ z. IsHeld (book_of e z)) (sym ok) new
+held_if (Err x) e b m a old new ok err = subst (λ z. IsHeld (book_of e z)) (sym err) old
 
-  runs : (n : ℕ) (e d : Entry) → n < length c.entries.items → e ≡ get_or c.entries.items n d → exec t (get_or E n []) ≡ Some (node_at e)
-  runs n e d lt is =
-      let lt' : n < length E = omega (arith, count) in
-      sym (get_or-map (exec t) E n [] None lt')
-      ∙ (ap (λ xs. get_or xs n None) h.nodes
-      ∙ (get_or-map (λ e. Some (node_at e)) c.entries.items n d None lt ∙ ap (λ x. Some (node_at x)) (sym is)))
+-- ---- what is redeemed is of the task
 
-  -- the node of an entry
-  pub entry_node : (n : ℕ) (e d : Entry) → n < length c.entries.items → e ≡ get_or c.entries.items n d → option_and_then (exec t) (slice_get E n) ≡ Some (node_at e)
-  entry_node n e d lt is =
-      let lt' : n < length E = omega (arith, count) in
-      ap (option_and_then (exec t)) (slice_get-get_or E n [] lt') ∙ runs n e d lt is
+out_of_task : (t : Task) (tickets : List (Option (Outgoing ParcelsView))) (n : ℕ) → AllByRecursion (IsOutgoingOf t) tickets → IsOutgoingOf t (option_flatten (slice_get tickets n))
+out_of_task t [] n h = tt
+out_of_task t (x ∷ tickets) zero h = h.0
+out_of_task t (x ∷ tickets) (suc n) h = out_of_task t tickets n h.1
 
-  pub no_entry : (n : ℕ) → length c.entries.items ≤ n → option_and_then (exec t) (slice_get E n) ≡ None
-  no_entry n le = ap (option_and_then (exec t)) (slice_get_past E n (omega (arith, count)))
+given_by : (t : Task) (b : Batches ParcelsView) (k : TicketView) (released : ParcelsView) (v w : Bool) → released.task ≡ t → IsReleasedOf t (cond v (Released (record { first = k.first; end = k.end }) released) (cond w Void (NotYet k)))
+given_by t b k released true w is = is
+given_by t b k released false true is = tt
+given_by t b k released false false is = tt
 
-  pub entry_state : (n : ℕ) (e d : Entry) → n < length c.entries.items → e ≡ get_or c.entries.items n d → IsStateOf t e.state
-  entry_state n e d lt is = exec-state t (get_or E n []) (node_at e) (runs n e d lt is)
+answer_by : (t : Task) (b : Batches ParcelsView) (k : TicketView) (o : Outgoing ParcelsView) (v : Bool) → o.released.task ≡ t → IfOk {E = NotOut} (cond v (Ok (given_for b k o.released)) (Err (record {}))) (IsReleasedOf t)
+answer_by t b k o true is = given_by t b k o.released (are_acknowledged b.queue k.first k.end) b.halted is
+answer_by t b k o false is = tt
 
-  pub posted-any : (k : Kid) → is_posted (state_of c) k ≡ list_any (same_kid k) (posted_by t E)
-  posted-any k = nat_lt-position_or_len (same_kid k) (posted_by t E)
+answer_of_task : (t : Task) (b : Batches ParcelsView) (k : TicketView) (o : Option (Outgoing ParcelsView)) → IsOutgoingOf t o → IfOk (answer_for b k o) (IsReleasedOf t)
+answer_of_task t b k None is = tt
+answer_of_task t b k (Some o) is = answer_by t b k o (is_its k (Some o)) is
 
-  -- a kid of an entry is posted where its action is applicable
-  pub entry_posted : (k : Kid) (e d : Entry) → k.parent < length c.entries.items → e ≡ get_or c.entries.items k.parent d → is_applicable t (Some (node_at e)) k.action ≡ is_posted (state_of c) k
-  entry_posted k e d lt is =
-      let lt' : k.parent < length E = omega (arith, count) in
-      let other : same_kid k root ≡ false = ap (λ b. b && (k.action == ROOT_ACTION)) (ne_eqb k.parent ROOT_PARENT (λ e. omega (arith, short))) in
-      let first : k.parent - 0 ≡ k.parent = omega arith in
-      sym (applicable-any t (node_at e) k.action)
-      ∙ (ap (λ r. list_any (λ a. k.action == a) (applicable_at t r)) (sym (runs k.parent e d lt is))
-      ∙ (ap (λ i. list_any (λ a. k.action == a) (applicable_at t (exec t (get_or E i [])))) (sym first)
-      ∙ (sym (at_entry t k 0 E (omega arith) (omega arith))
-      ∙ (ap (λ b. b || list_any (same_kid k) (kids_from t 0 E)) (sym other) ∙ sym (posted-any k)))))
-
-  -- and leads where the action's step does
-  pub entry_leads : (k : Kid) (e d : Entry) (to : Node) → k.parent < length c.entries.items → e ≡ get_or c.entries.items k.parent d → step_by t (node_at e) k.action ≡ Some to → node_of (state_of c) k ≡ Some to
-  entry_leads k e d to lt is at =
-      let lt' : k.parent < length E = omega (arith, count) in
-      let r = node_at e in
-      ap (option_and_then (exec t)) (plan_of-kid E k.parent k.action (get_or E k.parent []) lt' short refl)
-      ∙ (exec-push t (get_or E k.parent []) r k.action (runs k.parent e d lt is) ∙ at)
-
-  -- a kid whose parent is known is the root, or of an entry
-  pub parent_known : (k : Kid) → knows_parent (state_of c) k ≡ true → (same_kid k root ≡ true) ⊎ (k.parent < length c.entries.items)
-  parent_known k e =
-      elim (same_kid k root) as (λ b. (b || nat_lt k.parent (length (state_of c).entries)) ≡ true → (b ≡ true) ⊎ (k.parent < length c.entries.items)) [
-        | true ↦ λ e. inl refl
-        | false ↦ λ e. inr (omega (arith, ltb-true k.parent (length (state_of c).entries) e, length-map c.entries.items kid_at))
-      ] e
-
-  pub root_kid : (k : Kid) → knows_parent (state_of c) k ≡ true → k.parent ≡ ROOT_PARENT → same_kid k root ≡ true
-  root_kid k e is =
-      elim (parent_known k e) [
-        | inl same ↦ same
-        | inr lt ↦ absurd (omega (arith, short, count))
-      ]
-
-  pub entry_kid : (k : Kid) → knows_parent (state_of c) k ≡ true → k.parent ≢ ROOT_PARENT → k.parent < length c.entries.items
-  entry_kid k e ne =
-      elim (parent_known k e) [
-        | inl same ↦ absurd (ne (ap (λ (q : Kid). q.parent) (same_kid-true k root same)))
-        | inr lt ↦ lt
-      ]
-
-  pub root_leads : (k : Kid) → same_kid k root ≡ true → node_of (state_of c) k ≡ Some (node t.initial 0)
-  unfolding start
-  root_leads k e = ap (node_of (state_of c)) (same_kid-true k root e)
-
-  -- the root is posted, and leads to the start
-  pub root_posted : (k : Kid) → same_kid k root ≡ true → is_posted (state_of c) k ≡ true
-  root_posted k e = posted-any k ∙ ap (λ b. b || list_any (same_kid k) (kids_from t 0 E)) e
-
-  -- a posted kid is marked where it is among the settled ones
-  pub marked_is : (k : Kid) → is_posted (state_of c) k ≡ true → is_marked (state_of c) k ≡ has c.settled.keys k
-  marked_is k e =
-      let P = posted_by t E in
-      let lt : place_of (state_of c) k < length P = ltb-true (place_of (state_of c) k) (length P) e in
-      let same : k ≡ get_or P (place_of (state_of c) k) root =
-      same_kid-true k (get_or P (place_of (state_of c) k) root) (passes_at_first (same_kid k) P root lt)
-      in
-      get_or-map (has c.settled.keys) P (place_of (state_of c) k) root true lt ∙ ap (has c.settled.keys) (sym same)
-
--- ---- the order of refusals
-
-pub late : (known posted settled : Bool) (why : Option Refusal) → known ≡ true → posted ≡ true → settled ≡ false → why ≡ cond (not known) (Some UnknownParent) (cond (not posted) (Some NotAKid) (cond settled (Some SettledBefore) why))
-late true true false why k p m = refl
-late true true true why k p m = absurd (true≢false m)
-late true false settled why k p m = absurd (true≢false (sym p))
-late false posted settled why k p m = absurd (true≢false (sym k))
-
-pub settled_before : (known posted settled : Bool) (why : Option Refusal) → known ≡ true → posted ≡ true → settled ≡ true → Some SettledBefore ≡ cond (not known) (Some UnknownParent) (cond (not posted) (Some NotAKid) (cond settled (Some SettledBefore) why))
-settled_before true true true why k p m = refl
-settled_before true true false why k p m = absurd (true≢false (sym m))
-settled_before true false settled why k p m = absurd (true≢false (sym p))
-settled_before false posted settled why k p m = absurd (true≢false (sym k))
+pub redeemed_of_task :
+    (e : EntriesView) (b : Batches ParcelsView) (k : TicketView) (r : Result (Redeemed ParcelsView) NotOut)
+    → IsHeld (book_of e b)
+    → r ≡ redeemed_for b k
+    → IfOk r (IsReleasedOf e.state.task)
+redeemed_of_task e b k r h is = subst (λ x. IfOk x (IsReleasedOf e.state.task)) (sym is) (answer_of_task e.state.task b k _ (out_of_task e.state.task b.tickets k.number h.of_task))

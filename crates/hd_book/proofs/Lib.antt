@@ -1,13 +1,2 @@
-pub mod Accepting
-pub mod Adding
-pub mod After
-pub mod Best
-pub mod Children
-pub mod Counting
-pub mod Deciding
+pub mod Between
 pub mod Held
-pub mod Marking
-pub mod Naming
-pub mod Same
-pub mod Spending
-pub mod Walking

@@ -1,9 +1,6 @@
-pub mod Answers
-pub mod Growing
-pub mod Holding
-pub mod Kids
-pub mod Marks
-pub mod Refusal
+pub mod Groups
+pub mod Keeping
+pub mod Redeeming
 pub mod Refusing
-pub mod Releasing
-pub mod Settling
+pub mod Steps
+pub mod View

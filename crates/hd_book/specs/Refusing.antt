@@ -1,24 +1,25 @@
--- When a batch is refused. (Our own.)
-use Rattle.std.specs.Prelude.{◌≡◌, ◌+◌, Bool, true, false, not, nat_le, if◌then◌else◌, List, [], flat_map, length, Option, Some, ◌⊎◌}
+-- When a book refuses a batch. (Our own.)
+use Rattle.std.specs.Prelude.{◌≡◌, ℕ, true, false, if◌then◌else◌, List, codes, Option, Some, option_map, ◌⊎◌}
 use Rattle.hd_node.specs.declared.batch.Outcome.{Outcome}
-use Rattle.hd_book.specs.declared.refusal.Refusal.{Refusal}
-use Rattle.hd_book.specs.declared.refusal.Refusal.TheVariants.{Halted, Full, NoMemory}
-use Rattle.hd_book.specs.Settling.{entry_of, first_refusal}
-use Rattle.hd_book.specs.Holding.{BookView}
+use Rattle.hd_entries.specs.declared.refusal.Refusal.TheVariants.{NoMemory}
+use Rattle.hd_entries.specs.Refusal as texts
+use Rattle.hd_entries.specs.Refusing as judged
+use Rattle.hd_book.specs.declared.refusal.CommitRefusal.{CommitRefusal}
+use Rattle.hd_book.specs.declared.refusal.CommitRefusal.TheVariants.{Halted, Refused}
+use Rattle.hd_book.specs.View.{BookView, entries_view}
 
--- a book has room for the entries of outcomes: with them it holds no more than it may
-abbrev pub has_room : BookView → List Outcome → Bool
-has_room b outcomes = nat_le (length b.state.entries + length (flat_map entry_of outcomes)) b.most
+-- its number, a space and its name
+abbrev pub text_of : CommitRefusal → List ℕ
+text_of Halted = codes "30 Halted"
+text_of (Refused r) = texts.text_of r
 
--- why a batch is refused, memory aside
-abbrev pub refusal_to : BookView → List Outcome → Option Refusal
+-- why a batch is refused, memory aside: a halted book refuses each, and else the entries tell
+abbrev pub refusal_to : BookView → List Outcome → Option CommitRefusal
 refusal_to b outcomes =
-    if b.halted then Some Halted
-    else if not (has_room b outcomes) then Some Full
-    else first_refusal b.state [] outcomes
+    if b.batches.halted then Some Halted else option_map Refused (judged.refusal_to (entries_view b) outcomes)
 
--- a refusal is the one of the batch; or want of memory, which stands for neither of the first two: the book is not halted, and
--- has room
-abbrev pub IsRefusalTo : BookView → List Outcome → Refusal → Type 0
+-- a refusal is the one of the batch; or want of memory, which stands neither for a halted book nor for one without room
+abbrev pub IsRefusalTo : BookView → List Outcome → CommitRefusal → Type 0
 IsRefusalTo b outcomes r =
-    ((r ≡ NoMemory) × (b.halted ≡ false) × (has_room b outcomes ≡ true)) ⊎ (refusal_to b outcomes ≡ Some r)
+    (refusal_to b outcomes ≡ Some r)
+    ⊎ ((r ≡ Refused NoMemory) × (b.batches.halted ≡ false) × (judged.has_room (entries_view b) outcomes ≡ true))

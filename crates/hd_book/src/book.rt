@@ -1,21 +1,30 @@
 //! The book of a search.
 use crate::content::Content;
-use crate::{Counts, Receipt, Redeemed, Refusal, Ticket, Verdict};
-use hd_node::Batch;
-use hd_task::{Kid, NoMemory, Task};
-use hd_zobrist::Words;
+use crate::{
+    CommitRefusal, Counts, Flushed, Group, NotOut, Parcels, Receipt, Redeemed, Refusal, Ticket,
+    Verdict,
+};
+use hd_entries::Entries;
+use hd_node::{Batch, Hashed, Parcel};
+use hd_task::{Departure, Kid, NoMemory, Plan, Task};
 use std::alloc::Global;
 use std::marker::Model;
 use std::ops::Range;
+use std::sync::ledger::{self, Blank, Ledger, Share};
 
-/// The book of a search: it takes batches of outcomes, and accepts none that is not justified.
-#[derive(Debug, Drop)]
-pub struct Book<'t> {
+/// The book of a search: it accepts no batch that is not justified, gives tickets for those that it accepts, and hands their entries out
+/// in groups. `L` counts its commits.
+///
+/// It is one pointer wide.
+#[derive(Drop)]
+pub struct Book<'t, L: Ledger> {
     content: Box<Content<'t>>,
+    made: ledger::Book<L>,
 }
 
-impl<'t> Model for Book<'t> {
-    ghost use Rattle.hd_book.specs.Holding.{BookView, view_of, IsHeld};
+impl<'t, L: Ledger> Model for Book<'t, L> {
+    ghost use Rattle.std.specs.Prelude.{◌≡◌, length};
+    ghost use Rattle.hd_book.specs.View.{BookView};
     ghost use Rattle.hd_task.specs.contracts.task.Task as tasks;
     ghost use Rattle.std.specs.Coded.{codes};
 
@@ -23,76 +32,188 @@ impl<'t> Model for Book<'t> {
 
     ghost coded = { Prim.hlevel (codes, tasks.the_row.coded) };
 
-    ghost view = { λ b. view_of b.content.value };
+    ghost view = { λ b. b.content.value };
 
-    ghost invariant = { λ b. IsHeld b.content.value };
+    // The ledger counts the batches.
+    ghost invariant = { λ b. b.made.total ≡ length b.content.value.batches.tickets };
 }
 
-impl<'t> Book<'t> {
-    ghost use Rattle.std.specs.Prelude.{◌≡◌, ◌<◌, ◌≤◌, ◌^◌, None, true, length, slice_get, is_some, IfOk, IfErr, IfSome, OnOk, OnErr};
-    ghost use Rattle.std.specs.Result.{is_ok};
-    ghost use Rattle.hd_task.specs.declared.plan.TheConstants.{ROOT_PARENT};
-    ghost use Rattle.hd_task.specs.Expansions.{bound_of};
-    ghost use Rattle.hd_book.specs.declared.refusal.Refusal.TheVariants as Refusal;
+impl<'t, L: Ledger> Book<'t, L> {
+    ghost use Rattle.std.specs.Prelude.{◌≡◌, ◌+◌, ◌<◌, ◌≤◌, ◌^◌, ◌&&◌, [], None, length, map, slice_get, option_map, is_ok, is_some, IfOk, IfErr, IfSome, OnOk, OnErr};
     ghost use Rattle.std.specs.List.{AllByRecursion};
-    ghost use Rattle.hd_book.specs.Settling.{IsOf, expansions, IsKept};
-    ghost use Rattle.hd_book.specs.Holding.{empty_book, BeginsWith, GainsEntries, state_after, GainsTicket, ticket_between};
-    ghost use Rattle.hd_book.specs.Holding.{is_acknowledged, posted_count, settled_count, out_at, without};
+    ghost use Rattle.hd_task.specs.declared.plan.TheConstants.{ROOT_PARENT};
+    ghost use Rattle.hd_task.specs.Plans.{node};
+    ghost use Rattle.hd_task.specs.Expansions.{bound_of, departures_of};
+    ghost use Rattle.hd_entries.specs.Settling.{IsOf, IsKept, expansions, entry_node};
+    ghost use Rattle.hd_entries.specs.Holding.{BeginsWith};
+    ghost use Rattle.hd_entries.specs.Resuming.{first_fault, open_kids, IsFaultOf, LeadsThere};
+    ghost use Rattle.hd_entries.specs.Answers.{is_over, IsCoveredBook, IsAnswerOf, IsBoundPlanOf, IsValidPlan, IsTrueAnswer};
+    ghost use Rattle.hd_tickets.specs.Queue.{is_due, is_idle, are_acknowledged};
+    ghost use Rattle.hd_tickets.specs.Redeeming.{redeemed_for};
+    ghost use Rattle.hd_book.specs.View.{counts_of};
+    ghost use Rattle.hd_book.specs.Steps.{new_book, resumed_book, after_commit, ticket_after, after_take, after_flush, after_hand_back, after_redeem, after_halt};
+    ghost use Rattle.hd_book.specs.Groups.{next_group, is_group_out};
     ghost use Rattle.hd_book.specs.Refusing.{refusal_to, IsRefusalTo};
-    ghost use Rattle.hd_book.specs.Releasing.{IsReleased};
-    ghost use Rattle.hd_book.specs.Answers.{is_over, IsCoveredBook, IsAnswerOf, IsTrueAnswer};
+    ghost use Rattle.hd_book.specs.Redeeming.{IsReleasedOf};
 
-    /// The book of a search that has not begun, which may hold `most` entries: the root is posted.
+    /// A book of these parts, whose ledger is new, with the share that is the whole of it.
+    fn open(blank: Blank, content: Box<Content<'t>>) -> (Book<'t, L>, Share<L>)
+        requires name { blank.name ≡ L.name }
+        requires parts { blank.parts ≡ L.parts }
+        requires none { content.value.batches.tickets ≡ [] }
+        ensures book { result.0 ≡ content.entry.value }
+        ensures share { (result.1.parts ≡ L.parts) × (result.1.amount ≡ 0) }
+    {
+        let (made, share) = blank.open::<L>();
+        (Book { content, made }, share)
+    }
+
+    /// The book of a search that has not begun, which may hold `most` entries: the root is posted. With it comes a share of the ledger
+    /// that counts its commits, which is the whole of it.
     ///
     /// # Errors
     /// `NoMemory` where there is no room for it.
-    pub fn new(alloc: Global, task: &'t Task, most: u64) -> Result<Book<'t>, NoMemory>
-        requires { most < ROOT_PARENT }
-        ensures { IfOk result (λ b. b ≡ empty_book task.now most) }
+    pub fn new(
+        blank: Blank,
+        alloc: Global,
+        task: &'t Task,
+        most: u64,
+    ) -> Result<(Book<'t, L>, Share<L>), NoMemory>
+        requires name { blank.name ≡ L.name }
+        requires parts { blank.parts ≡ L.parts }
+        requires most { most < ROOT_PARENT }
+        ensures book { IfOk result (λ r. r.0 ≡ new_book task.now most) }
+        ensures share { IfOk result (λ r. (r.1.parts ≡ L.parts) × (r.1.amount ≡ 0)) }
     {
-        let words = Words::new(alloc, task)?;
-        Ok(Book {
-            content: Box::new(alloc, Content::new(alloc, task, words, most))?,
-        })
+        let entries = Entries::new(alloc, task, most)?;
+        let content = Box::new(alloc, Content::of(alloc, entries))?;
+        Ok(Book::open(blank, content))
+    }
+
+    /// The book with exactly these entries, with its share as in [`Book::new`]: all entries are acknowledged, no other kid is settled,
+    /// nothing is committed yet. With it come the parcels of all posted kids that are no entries, in posting order.
+    ///
+    /// # Errors
+    /// `Full` with the number 0 where there are more entries than `most`; else the number of the first entry that can't be the next one
+    /// after those before it, with `UnknownParent`, `NotAKid` or `SettledBefore`; or `NoMemory`, never in place of `Full`.
+    pub fn resume(
+        blank: Blank,
+        alloc: Global,
+        task: &'t Task,
+        most: u64,
+        entries: &[Kid],
+    ) -> Result<(Book<'t, L>, Share<L>, Vec<Parcel<'t>>), (u64, Refusal)>
+        requires name { blank.name ≡ L.name }
+        requires parts { blank.parts ≡ L.parts }
+        requires most { most < ROOT_PARENT }
+        ensures book { IfOk result (λ r. r.0 ≡ resumed_book task.now most entries.now) }
+        ensures share { IfOk result (λ r. (r.1.parts ≡ L.parts) × (r.1.amount ≡ 0)) }
+        ensures accepted { OnOk result (first_fault task.now [] entries.now ≡ None) }
+        ensures parcels { IfOk result (λ r. map (λ p. p.kid) r.2.items
+            ≡ open_kids task.now entries.now) }
+        ensures lead { IfOk result (λ r. AllByRecursion (LeadsThere r.0.state) r.2.items) }
+        ensures refused { IfErr result (λ e. IsFaultOf task.now most entries.now e.0 e.1) }
+    {
+        let (entries, parcels) = Entries::resume(alloc, task, most, entries)?;
+        match Box::new(alloc, Content::of(alloc, entries)) {
+            Ok(content) => {
+                let (book, share) = Book::open(blank, content);
+                Ok((book, share, parcels))
+            }
+            Err(_) => Err((0, Refusal::NoMemory)),
+        }
     }
 
     /// Takes a batch: its expansions become entries, its kids are settled, and the ticket is redeemed for the kids of its
-    /// expansions.
+    /// expansions. The share counts one commit more. A batch without expansions is acknowledged at once.
     ///
     /// # Errors
-    /// The batch, and why it is refused: it is as it was, and so is the book. In this order: `Halted`, `Full`, then for each
-    /// outcome in order `UnknownParent`, `NotAKid`, `SettledBefore`, `StateDiffers`, `NotDominated`, `BelowBound`. `NoMemory`
+    /// The batch, and why it is refused: it is as it was, and so are the book and the share. In this order: `Halted`, `Full`, then for
+    /// each outcome in order `UnknownParent`, `NotAKid`, `SettledBefore`, `StateDiffers`, `NotDominated`, `BelowBound`. `NoMemory`
     /// may come in place of each but the first two, and of the ticket.
-    pub fn commit(&mut self, batch: Batch<'t>) -> Result<Ticket, (Batch<'t>, Refusal)>
+    pub fn commit(
+        &mut self,
+        share: &mut Share<L>,
+        batch: Batch<'t>,
+    ) -> Result<Ticket, (Batch<'t>, CommitRefusal)>
+        requires part { 0 < share.old.parts }
         requires of_task { AllByRecursion (IsOf self.old.state.task) batch.outcomes }
         ensures task { self.new.state.task ≡ self.old.state.task }
-        ensures most { self.new.most ≡ self.old.most }
         ensures begins { BeginsWith self.new.state.entries self.old.state.entries }
-        ensures grown { OnOk result (GainsEntries self.old self.new batch.entry.outcomes) }
         ensures accepted { OnOk result (refusal_to self.old batch.entry.outcomes ≡ None) }
-        ensures state { OnOk result (self.new.state ≡ state_after self.old batch.entry.outcomes) }
-        ensures tickets { OnOk result (GainsTicket self.old self.new batch.entry.outcomes) }
-        ensures halted { self.new.halted ≡ self.old.halted }
-        ensures ticket { IfOk result (λ k. k ≡ ticket_between self.old self.new) }
-        ensures refused { IfErr result (λ e. IsRefusalTo self.old batch.entry.outcomes e.1) }
-        ensures batch { IfErr result (λ e. e.0 ≡ batch.entry) }
-        ensures err { OnErr result (self.new ≡ self.old) }
+        ensures ticket { IfOk result (λ k. k ≡ ticket_after batch.entry.outcomes self.old) }
+        ensures committed { OnOk result
+            (self.new ≡ after_commit batch.entry.outcomes self.old) }
+        ensures counted { OnOk result ((share.new.amount ≡ share.old.amount + 1)
+            × (share.new.parts ≡ share.old.parts)) }
+        ensures refused { IfErr result (λ e. (e.0 ≡ batch.entry)
+            × IsRefusalTo self.old batch.entry.outcomes e.1) }
+        ensures err { OnErr result ((self.new ≡ self.old) × (share.new ≡ share.old)) }
     {
-        self.content.commit(batch)
+        match self.content.commit(batch) {
+            Ok(ticket) => {
+                self.made.add(share, 1);
+                Ok(ticket)
+            }
+            Err(refused) => Err(refused),
+        }
     }
 
-    /// Spends a ticket: what its batch releases, with a receipt of its entries. It takes no memory.
+    /// The next group goes out, to be appended to a journal: whole batches in the order of their commits, from the oldest on, as many as
+    /// fit into a group. None where nothing waits, or a group is out.
     ///
     /// # Errors
-    /// `NotOut` where the book has no such ticket out; the ticket is spent, and the book is as it was.
-    pub fn redeem(&mut self, ticket: Ticket) -> Result<Redeemed<'t>, Refusal>
+    /// `NoMemory` where there is no room for the group's pairs: nothing has changed.
+    pub fn take_pending(&mut self) -> Result<Option<Group>, NoMemory>
         ensures task { self.new.state.task ≡ self.old.state.task }
-        ensures most { self.new.most ≡ self.old.most }
         ensures begins { BeginsWith self.new.state.entries self.old.state.entries }
-        ensures out { is_ok result ≡ is_some (out_at self.old ticket) }
-        ensures released { IfOk result (IsReleased self.old.state.task (out_at self.old ticket)) }
-        ensures refused { IfErr result (λ r. r ≡ Refusal.NotOut) }
-        ensures spent { OnOk result (self.new ≡ without self.old ticket.number) }
+        ensures due { IfOk result (λ g. is_some g ≡ is_due self.old.batches.queue) }
+        ensures group { IfOk result (λ g. g ≡ next_group self.old) }
+        ensures taken { OnOk result (self.new ≡ after_take self.old) }
+        ensures err { OnErr result (self.new ≡ self.old) }
+    {
+        self.content.take_pending()
+    }
+
+    /// Acknowledges the entries of the group that is out: they are appended. It takes no memory.
+    ///
+    /// # Errors
+    /// `NotOut` where this group is not the one that is out: what said that it was appended is spent, and nothing has changed.
+    pub fn acknowledge(&mut self, flushed: Flushed) -> Result<(), NotOut>
+        ensures task { self.new.state.task ≡ self.old.state.task }
+        ensures begins { BeginsWith self.new.state.entries self.old.state.entries }
+        ensures out { is_ok result ≡ is_group_out self.old flushed }
+        ensures flushed { OnOk result (self.new ≡ after_flush self.old) }
+        ensures err { OnErr result (self.new ≡ self.old) }
+    {
+        self.content.acknowledge(flushed)
+    }
+
+    /// Hands back the group that is out: its batches wait again, before the others, and the book is halted. It takes no memory.
+    ///
+    /// # Errors
+    /// `NotOut` where this group is not the one that is out: it is spent, and nothing has changed.
+    pub fn hand_back(&mut self, group: Group) -> Result<(), NotOut>
+        ensures task { self.new.state.task ≡ self.old.state.task }
+        ensures begins { BeginsWith self.new.state.entries self.old.state.entries }
+        ensures out { is_ok result ≡ is_group_out self.old group }
+        ensures handed_back { OnOk result (self.new ≡ after_hand_back self.old) }
+        ensures err { OnErr result (self.new ≡ self.old) }
+    {
+        self.content.hand_back(group)
+    }
+
+    /// Redeems a ticket: for the kids of its batch's expansions, with a receipt, where the batch is acknowledged; else for nothing, where
+    /// the book is halted; else the ticket comes back. It takes no memory.
+    ///
+    /// # Errors
+    /// `NotOut` where no such ticket is out: the ticket is spent, and nothing has changed.
+    pub fn redeem(&mut self, ticket: Ticket) -> Result<Redeemed<Parcels<'t>>, NotOut>
+        ensures task { self.new.state.task ≡ self.old.state.task }
+        ensures begins { BeginsWith self.new.state.entries self.old.state.entries }
+        ensures given { result ≡ redeemed_for self.old.batches ticket }
+        ensures of_task { IfOk result (IsReleasedOf self.old.state.task) }
+        ensures redeemed { OnOk result (self.new ≡ after_redeem ticket self.old) }
         ensures err { OnErr result (self.new ≡ self.old) }
     {
         self.content.redeem(ticket)
@@ -101,41 +222,44 @@ impl<'t> Book<'t> {
     /// Spends a receipt: the numbers of its entries. It takes no memory.
     ///
     /// # Errors
-    /// `NotOut` where these are not acknowledged; a receipt of no entries always is. The receipt is spent.
-    pub fn present(&self, receipt: Receipt) -> Result<Range<u64>, Refusal>
-        ensures acknowledged { is_ok result ≡ is_acknowledged self.now receipt }
+    /// `NotOut` where these are not acknowledged; none always are. The receipt is spent.
+    pub fn present(&self, receipt: Receipt) -> Result<Range<u64>, NotOut>
+        ensures acknowledged { is_ok result
+            ≡ are_acknowledged self.now.batches.queue receipt.first receipt.end }
         ensures range { IfOk result (λ r. (r.start ≡ receipt.first) × (r.end ≡ receipt.end)) }
-        ensures refused { IfErr result (λ r. r ≡ Refusal.NotOut) }
     {
-        let range = receipt.into_range();
-        if range.start == range.end || range.end <= self.counts().acknowledged {
-            Ok(range)
-        } else {
-            Err(Refusal::NotOut)
-        }
+        self.content.tickets.present(receipt)
     }
 
-    /// From now on each commit is refused.
+    /// From now on each commit is refused. It takes no memory.
     pub fn halt(&mut self)
         ensures task { self.new.state.task ≡ self.old.state.task }
-        ensures most { self.new.most ≡ self.old.most }
         ensures begins { BeginsWith self.new.state.entries self.old.state.entries }
-        ensures state { self.new.state ≡ self.old.state }
-        ensures tickets { self.new.tickets ≡ self.old.tickets }
-        ensures halted { self.new.halted ≡ true }
+        ensures halted { self.new ≡ after_halt self.old }
     {
-        self.content.halted = true;
+        self.content.halt();
+    }
+
+    /// Whether each commit is refused.
+    pub fn is_halted(&self) -> bool
+        ensures { result ≡ self.now.batches.halted }
+    {
+        self.content.tickets.is_halted()
+    }
+
+    /// Whether nothing waits to be appended, and no group is out.
+    pub fn is_idle(&self) -> bool
+        ensures { result ≡ is_idle self.now.batches.queue }
+    {
+        self.content.tickets.is_idle()
     }
 
     /// How far the search has come. It takes no memory.
     pub fn counts(&self) -> Counts
+        ensures counts { result ≡ counts_of self.now }
         ensures kept { IsKept self.now.state }
-        ensures entries { result.entries ≡ length self.now.state.entries }
         ensures entries_few { result.entries ≤ self.now.most }
-        ensures posted { result.posted ≡ posted_count self.now.state }
-        ensures settled { result.settled ≡ settled_count self.now.state }
-        ensures acknowledged { result.acknowledged ≡ result.entries }
-        ensures commits { result.commits ≡ length self.now.tickets }
+        ensures acknowledged_few { result.acknowledged ≤ result.entries }
         ensures commits_few { result.commits ≤ result.settled }
         ensures settled_few { result.settled ≤ result.posted }
         ensures posted_few { result.posted < 2 ^ 61 }
@@ -143,37 +267,78 @@ impl<'t> Book<'t> {
         self.content.counts()
     }
 
+    /// The task.
+    pub fn task(&self) -> &'t Task
+        ensures { result.now ≡ self.now.state.task }
+    {
+        self.content.entries.task()
+    }
+
     /// The kid of the entry with this number, if there is such an entry.
     pub fn entry(&self, number: u64) -> Option<Kid>
         ensures { result ≡ slice_get self.now.state.entries number }
     {
-        match self.content.entries.get(number as usize) {
-            Some(entry) => Some(entry.kid),
-            None => None,
-        }
+        self.content.entries.entry(number)
+    }
+
+    /// Where the plan of the entry with this number leads, and what it costs, if there is such an entry.
+    pub fn node(&self, number: u64) -> Option<(&Hashed, u64)>
+        ensures { option_map (λ r. node r.0.now r.1) result
+            ≡ entry_node self.now.state number }
+    {
+        self.content.entries.node(number)
     }
 
     /// The least cost of an entry at which the goal holds, if there is one.
     pub fn bound(&self) -> Option<u64>
         ensures { result ≡ bound_of self.now.state.task (expansions self.now.state) }
     {
-        match self.content.best {
-            Some(best) => Some(best.cost),
-            None => None,
-        }
+        self.content.entries.bound()
     }
 
-    /// The answer, once all is settled.
+    /// The first departure from the range that was met, if there is one.
+    pub fn departure(&self) -> Option<Departure>
+        ensures { result ≡ slice_get
+            (departures_of self.now.state.task (expansions self.now.state)) 0 }
+    {
+        self.content.entries.departure()
+    }
+
+    /// The plan of the bound, if there is a bound: that of the least-numbered entry at which the goal holds at this cost. It is valid.
+    ///
+    /// # Errors
+    /// `NoMemory` where there is no room for the plan.
+    pub fn extract(&self) -> Result<Option<Plan>, NoMemory>
+        ensures plan { IfOk result (IsBoundPlanOf self.now.state.task (expansions self.now.state)) }
+        ensures valid { IfOk result (IsValidPlan self.now.state.task) }
+    {
+        self.content.entries.extract()
+    }
+
+    /// The answer, once all is settled, nothing waits to be appended, and no group is out.
     ///
     /// # Errors
     /// `NoMemory` where there is no room for a plan.
     pub fn verdict(&self) -> Result<Option<Verdict>, NoMemory>
-        ensures over { IfOk result (λ v. is_some v ≡ is_over self.now.state) }
-        ensures kept { IsKept self.now.state }
+        ensures over { IfOk result (λ v. is_some v
+            ≡ (is_over self.now.state && is_idle self.now.batches.queue)) }
         ensures covered { IfOk result (λ v. IfSome v (λ _. IsCoveredBook self.now.state)) }
         ensures answer { IfOk result (λ v. IfSome v (IsAnswerOf self.now.state)) }
         ensures is_true { IfOk result (λ v. IfSome v (IsTrueAnswer self.now.state.task)) }
     {
         self.content.verdict()
+    }
+
+    /// Changes nothing. What all shares of the ledger count in sum is the number of the batches that were accepted: no share counts more,
+    /// and the one that has all parts counts just that.
+    pub fn audit(&mut self, share: &mut Share<L>)
+        ensures same { self.new ≡ self.old }
+        ensures share { (share.new.parts ≡ share.old.parts)
+            × (share.new.amount ≡ share.old.amount) }
+        ensures bound { share.old.amount ≤ length self.old.batches.tickets }
+        ensures whole { share.old.parts ≡ L.parts
+            → share.old.amount ≡ length self.old.batches.tickets }
+    {
+        self.made.audit(share);
     }
 }

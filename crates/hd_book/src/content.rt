@@ -1,59 +1,279 @@
 //! The parts of a book.
-use crate::entry::{Best, Entry, Outgoing};
-use hd_task::{Departure, Kid, Task};
-use hd_zobrist::Words;
-use std::alloc::Global;
-use std::collections::HashSet;
+ghost use Rattle.std.specs.Prelude.{◌≡◌, ℕ, ◌+◌, ◌-◌, ◌<◌, ◌≤◌, ◌^◌, ◌++◌, ◌&&◌, true, false, [], None, length, drop, slice_get, vec_len, vec_capacity, is_ok, is_some, IfOk, IfErr, IfSome, OnOk, OnErr};
+ghost use Rattle.std.specs.List.{AllByRecursion};
+ghost use Rattle.hd_kids.specs.Kids.{same_kid};
+ghost use Rattle.hd_entries.specs.Settling.{IsOf, IsKept};
+ghost use Rattle.hd_entries.specs.Holding.{BeginsWith};
+ghost use Rattle.hd_entries.specs.Refusing.{has_room};
+ghost use Rattle.hd_entries.specs.Answers.{is_over, IsCoveredBook, IsAnswerOf, IsTrueAnswer};
+ghost use Rattle.hd_tickets.specs.declared.queue.TheConstants.{MAX_GROUP};
+ghost use Rattle.hd_tickets.specs.Queue.{is_due, is_idle};
+ghost use Rattle.hd_tickets.specs.Redeeming.{redeemed_for};
+ghost use Rattle.hd_book.specs.View.{book_of, counts_of};
+ghost use Rattle.hd_book.specs.Steps.{with_no_batches, after_commit, ticket_after, after_take, after_flush, after_hand_back, after_redeem, after_halt};
+ghost use Rattle.hd_book.specs.Groups.{entries_between, is_kid, begins_with, next_group, is_group_out};
+ghost use Rattle.hd_book.specs.Refusing.{refusal_to, IsRefusalTo};
+ghost use Rattle.hd_book.specs.Redeeming.{IsReleasedOf};
 
-/// The parts of a book.
+use crate::{
+    CommitRefusal, Counts, Flushed, Group, NotOut, Parcels, Redeemed, Refusal, Ticket, Verdict,
+};
+use hd_entries::Entries;
+use hd_node::Batch;
+use hd_task::{Kid, NoMemory};
+use hd_tickets::{MAX_GROUP, Tickets};
+use std::alloc::Global;
+use std::marker::Model;
+
+/// The parts of a book: its entries, and the tickets and groups of its batches.
 #[derive(Debug, Drop)]
 pub(crate) struct Content<'t> {
-    pub(crate) task: &'t Task,
-    pub(crate) alloc: Global,
-    /// Of the task, for the book's own application.
-    pub(crate) words: Words,
-    /// How many entries there may be.
-    pub(crate) most: u64,
-    pub(crate) entries: Vec<Entry>,
-    /// The kids that are settled.
-    pub(crate) settled: HashSet<Kid>,
-    /// How many kids are posted.
-    pub(crate) posted: u64,
-    pub(crate) best: Option<Best>,
-    /// The first departure.
-    pub(crate) departure: Option<Departure>,
-    /// What each accepted batch releases, until its ticket is spent.
-    pub(crate) tickets: Vec<Option<Outgoing<'t>>>,
-    pub(crate) halted: bool,
+    alloc: Global,
+    pub(crate) entries: Entries<'t>,
+    pub(crate) tickets: Tickets<Parcels<'t>>,
+}
+
+impl<'t> Model for Content<'t> {
+    ghost use Rattle.hd_book.specs.View.{BookView, book_of};
+    ghost use Rattle.hd_book.specs.Keeping.{IsHeld};
+    ghost use Rattle.hd_task.specs.contracts.task.Task as tasks;
+    ghost use Rattle.std.specs.Coded.{codes};
+
+    ghost Value = { BookView };
+
+    ghost coded = { Prim.hlevel (codes, tasks.the_row.coded) };
+
+    ghost view = { λ c. book_of c.entries c.tickets.batches };
+
+    ghost invariant = { λ c. IsHeld (book_of c.entries c.tickets.batches) };
+}
+
+/// Whether two kids are the same pair.
+fn is_same(one: &Kid, other: &Kid) -> bool
+    ensures { result ≡ same_kid one.now other.now }
+{
+    one.parent == other.parent && one.action == other.action
+}
+
+/// Whether the entry with this number is this kid.
+fn is_entry(entries: &Entries, number: u64, kid: &Kid) -> bool
+    ensures is_kid { result ≡ is_kid kid.now (slice_get entries.now.state.entries number) }
+    ensures within { result ≡ true → number < length entries.now.state.entries }
+{
+    match entries.entry(number) {
+        Some(entry) => is_same(kid, &entry),
+        None => false,
+    }
+}
+
+/// Whether the entries from a number on begin with these kids.
+fn begin_with(entries: &Entries, first: u64, kids: &[Kid]) -> bool
+    ensures begins { result ≡ begins_with kids.now (drop first entries.now.state.entries) }
+    ensures fits { result ≡ true → first + length kids.now < 2 ^ 64 }
+{
+    let count = entries.len();
+    let mut number = first;
+    for kid in kids {
+        if number >= count {
+            return false;
+        }
+        if !is_entry(entries, number, kid) {
+            return false;
+        }
+        number += 1;
+    }
+    true
+}
+
+/// Pushes the kids of the entries from `first` on and below `end` to a `Vec` that has room.
+fn push_entries(kids: &mut Vec<Kid>, entries: &Entries, first: u64, end: u64)
+    requires order { first ≤ end }
+    requires within { end ≤ length entries.now.state.entries }
+    requires room { vec_len kids.old + (end - first) ≤ vec_capacity kids.old }
+    ensures { kids.new.items
+        ≡ kids.old.items ++ entries_between entries.now.state.entries first end }
+{
+    for number in first..end {
+        match entries.entry(number) {
+            Some(kid) => kids.push_reserved(kid),
+            None => unreachable!(),
+        }
+    }
+}
+
+/// Makes room for the ticket of a batch; or refuses it, where the book is halted or the entries have no room.
+fn make_room<'t>(
+    entries: &Entries<'t>,
+    tickets: &mut Tickets<Parcels<'t>>,
+    batch: &Batch<'t>,
+) -> Result<(), CommitRefusal>
+    ensures same { tickets.new.batches ≡ tickets.old.batches }
+    ensures going { OnOk result (tickets.old.batches.halted ≡ false) }
+    ensures fits { OnOk result (has_room entries.now batch.now.outcomes ≡ true) }
+    ensures room { OnOk result (tickets.new.room ≡ true) }
+    ensures refused { IfErr result
+        (IsRefusalTo (book_of entries.now tickets.old.batches) batch.now.outcomes) }
+{
+    if tickets.is_halted() {
+        return Err(CommitRefusal::Halted);
+    }
+    if !entries.has_room(batch) {
+        return Err(CommitRefusal::Refused(Refusal::Full));
+    }
+    match tickets.reserve() {
+        Ok(()) => Ok(()),
+        Err(_) => Err(CommitRefusal::Refused(Refusal::NoMemory)),
+    }
 }
 
 impl<'t> Content<'t> {
-    ghost use Rattle.std.specs.Prelude.{◌≡◌, [], None, false};
-
-    /// The parts of a book without entries.
-    pub(crate) fn new(alloc: Global, task: &'t Task, words: Words, most: u64) -> Content<'t>
-        ensures task { result.task.now ≡ task.now }
-        ensures most { result.most ≡ most }
-        ensures entries { result.entries.items ≡ [] }
-        ensures settled { result.settled.keys ≡ [] }
-        ensures posted { result.posted ≡ 1 }
-        ensures best { result.best ≡ None }
-        ensures departure { result.departure ≡ None }
-        ensures tickets { result.tickets.items ≡ [] }
-        ensures halted { result.halted ≡ false }
+    /// These entries, which are all acknowledged, and no batches yet.
+    pub(crate) fn of(alloc: Global, entries: Entries<'t>) -> Content<'t>
+        ensures { result ≡ with_no_batches entries.entry }
     {
+        let acknowledged = entries.len();
         Content {
-            task,
             alloc,
-            words,
-            most,
-            entries: Vec::new(alloc),
-            settled: HashSet::new(alloc),
-            posted: 1,
-            best: None,
-            departure: None,
-            tickets: Vec::new(alloc),
-            halted: false,
+            entries,
+            tickets: Tickets::new(alloc, acknowledged),
         }
+    }
+
+    /// Takes a batch, or refuses it, as [`crate::Book::commit`] says.
+    pub(crate) fn commit(&mut self, batch: Batch<'t>) -> Result<Ticket, (Batch<'t>, CommitRefusal)>
+        requires { AllByRecursion (IsOf self.old.state.task) batch.outcomes }
+        ensures task { self.new.state.task ≡ self.old.state.task }
+        ensures begins { BeginsWith self.new.state.entries self.old.state.entries }
+        ensures accepted { OnOk result (refusal_to self.old batch.entry.outcomes ≡ None) }
+        ensures ticket { IfOk result (λ k. k ≡ ticket_after batch.entry.outcomes self.old) }
+        ensures committed { OnOk result
+            (self.new ≡ after_commit batch.entry.outcomes self.old) }
+        ensures refused { IfErr result (λ e. (e.0 ≡ batch.entry)
+            × IsRefusalTo self.old batch.entry.outcomes e.1) }
+        ensures err { OnErr result (self.new ≡ self.old) }
+    {
+        if let Err(refusal) = make_room(&self.entries, &mut self.tickets, &batch) {
+            return Err((batch, refusal));
+        }
+        let (settled, posted) = (self.entries.settled(), self.entries.posted());
+        prove!(settled <= posted);
+        let before = self.entries.len();
+        match self.entries.commit(batch) {
+            Ok(parcels) => {
+                let count = self.entries.len() - before;
+                let released = Parcels::of(self.entries.task(), parcels);
+                Ok(self.tickets.enter(count, released))
+            }
+            Err((batch, refusal)) => Err((batch, CommitRefusal::Refused(refusal))),
+        }
+    }
+
+    /// A `Vec` with room for the pairs of the next group.
+    fn room_for_group(&self) -> Result<Vec<Kid>, NoMemory>
+        ensures none { IfOk result (λ kids. kids.items ≡ []) }
+        ensures room { IfOk result (λ kids. (n : ℕ) → n ≤ MAX_GROUP
+            → self.now.batches.queue.acknowledged + n ≤ length self.now.state.entries
+            → n ≤ vec_capacity kids) }
+    {
+        let waiting = self.entries.len() - self.tickets.acknowledged();
+        let count = if waiting < MAX_GROUP {
+            waiting
+        } else {
+            MAX_GROUP
+        };
+        Vec::with_capacity(self.alloc, count as usize)
+    }
+
+    /// The next group goes out, as [`crate::Book::take_pending`] says.
+    pub(crate) fn take_pending(&mut self) -> Result<Option<Group>, NoMemory>
+        ensures due { IfOk result (λ g. is_some g ≡ is_due self.old.batches.queue) }
+        ensures group { IfOk result (λ g. g ≡ next_group self.old) }
+        ensures taken { OnOk result (self.new ≡ after_take self.old) }
+        ensures err { OnErr result (self.new ≡ self.old) }
+    {
+        let mut kids = self.room_for_group()?;
+        match self.tickets.take() {
+            Some(range) => {
+                push_entries(&mut kids, &self.entries, range.start, range.end);
+                Ok(Some(Group::of(range.start, kids)))
+            }
+            None => Ok(None),
+        }
+    }
+
+    /// Acknowledges the group that is out, as [`crate::Book::acknowledge`] says.
+    pub(crate) fn acknowledge(&mut self, flushed: Flushed) -> Result<(), NotOut>
+        ensures out { is_ok result ≡ is_group_out self.old flushed }
+        ensures flushed { OnOk result (self.new ≡ after_flush self.old) }
+        ensures err { OnErr result (self.new ≡ self.old) }
+    {
+        let (first, kids) = flushed.parts();
+        if !begin_with(&self.entries, first, &kids) {
+            return Err(NotOut);
+        }
+        self.tickets.acknowledge(first, first + kids.len() as u64)
+    }
+
+    /// Hands back the group that is out, as [`crate::Book::hand_back`] says.
+    pub(crate) fn hand_back(&mut self, group: Group) -> Result<(), NotOut>
+        ensures out { is_ok result ≡ is_group_out self.old group }
+        ensures handed_back { OnOk result (self.new ≡ after_hand_back self.old) }
+        ensures err { OnErr result (self.new ≡ self.old) }
+    {
+        let (first, kids) = group.parts();
+        if !begin_with(&self.entries, first, &kids) {
+            return Err(NotOut);
+        }
+        self.tickets.hand_back(first, first + kids.len() as u64)
+    }
+
+    /// Redeems a ticket, as [`crate::Book::redeem`] says.
+    pub(crate) fn redeem(&mut self, ticket: Ticket) -> Result<Redeemed<Parcels<'t>>, NotOut>
+        ensures given { result ≡ redeemed_for self.old.batches ticket }
+        ensures of_task { IfOk result (IsReleasedOf self.old.state.task) }
+        ensures redeemed { OnOk result (self.new ≡ after_redeem ticket self.old) }
+        ensures err { OnErr result (self.new ≡ self.old) }
+    {
+        self.tickets.redeem(ticket)
+    }
+
+    /// From now on each commit is refused.
+    pub(crate) fn halt(&mut self)
+        ensures { self.new ≡ after_halt self.old }
+    {
+        self.tickets.halt();
+    }
+
+    /// How far the search has come.
+    pub(crate) fn counts(&self) -> Counts
+        ensures counts { result ≡ counts_of self.now }
+        ensures kept { IsKept self.now.state }
+        ensures entries_few { result.entries ≤ self.now.most }
+        ensures acknowledged_few { result.acknowledged ≤ result.entries }
+        ensures commits_few { result.commits ≤ result.settled }
+        ensures settled_few { result.settled ≤ result.posted }
+        ensures posted_few { result.posted < 2 ^ 61 }
+    {
+        Counts {
+            entries: self.entries.len(),
+            posted: self.entries.posted(),
+            settled: self.entries.settled(),
+            acknowledged: self.tickets.acknowledged(),
+            commits: self.tickets.commits(),
+        }
+    }
+
+    /// The answer, once all is settled and all entries are acknowledged.
+    pub(crate) fn verdict(&self) -> Result<Option<Verdict>, NoMemory>
+        ensures over { IfOk result (λ v. is_some v
+            ≡ (is_over self.now.state && is_idle self.now.batches.queue)) }
+        ensures covered { IfOk result (λ v. IfSome v (λ _. IsCoveredBook self.now.state)) }
+        ensures answer { IfOk result (λ v. IfSome v (IsAnswerOf self.now.state)) }
+        ensures is_true { IfOk result (λ v. IfSome v (IsTrueAnswer self.now.state.task)) }
+    {
+        if !self.tickets.is_idle() {
+            return Ok(None);
+        }
+        self.entries.verdict()
     }
 }

@@ -1,4 +1,5 @@
 //! How far a search has come.
+
 /// How far a search has come.
 #[derive(Clone, Copy, Debug, PartialEq, Eq)]
 pub struct Counts {
@@ -6,9 +7,9 @@ pub struct Counts {
     pub entries: u64,
     /// How many plans are generated, the root's among them.
     pub posted: u64,
-    /// How many of those are expanded, or need not be.
+    /// How many of these are settled.
     pub settled: u64,
-    /// How many of the entries are acknowledged.
+    /// How many entries are acknowledged.
     pub acknowledged: u64,
     /// How many batches were accepted.
     pub commits: u64,

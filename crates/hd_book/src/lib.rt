@@ -1,26 +1,20 @@
-//! The book of a search: what it holds, when it refuses, and the laws by which what it holds is justified.
+//! The book of a search: what its threads share, what its journal is written from, and what a resumption makes again.
 //!
-//! `specs/Settling.antt` says what a book is, what each batch of outcomes does to it, and the refusals in their order. The
-//! laws say that a book which only takes batches that are not refused holds nothing that is not justified, and that a book
-//! whose kids are all settled decides the task.
+//! A book has the entries of a search, and of the batches that it accepted the tickets and the groups in which their entries are appended
+//! to a journal. `specs/View.antt` says what contracts see of it, and `specs/Steps.antt` what each call makes of that, by one equation
+//! each. A book counts its commits in a ledger: what its threads count in their shares adds up to it.
 #![tactic(auto)]
 
-mod admission;
-mod answering;
 mod book;
-mod commit;
 mod content;
 mod counts;
-mod entry;
-pub mod laws;
-mod redeeming;
+mod parcels;
 mod refusal;
-mod settling;
-mod ticket;
-mod verdict;
 
 pub use book::Book;
 pub use counts::Counts;
-pub use refusal::Refusal;
-pub use ticket::{Receipt, Redeemed, Ticket};
-pub use verdict::Verdict;
+pub use hd_entries::{Refusal, Verdict};
+pub use hd_journal::{Flushed, Group};
+pub use hd_tickets::{NotOut, Receipt, Redeemed, Ticket};
+pub use parcels::Parcels;
+pub use refusal::CommitRefusal;

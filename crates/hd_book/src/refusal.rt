@@ -1,68 +1,27 @@
-//! Why the book refuses.
-ghost use Rattle.std.specs.Prelude.{◌≡◌, Some};
-ghost use Rattle.hd_book.specs.Refusal.{text_of};
-ghost use Rattle.hd_book.specs.declared.refusal.Refusal.TheVariants.{NoMemory};
+//! Why a book refuses a batch.
+ghost use Rattle.std.specs.Prelude.{Some};
+ghost use Rattle.hd_book.specs.Refusing.{text_of};
 
-use std::alloc::{AllocError, AllocFailed};
+use hd_entries::Refusal;
 use std::fmt;
 use thiserror::Error;
 
-/// Why the book refuses.
+/// Why a book refuses a batch.
 #[derive(Clone, Copy, Debug, PartialEq, Eq, Error)]
-pub enum Refusal {
-    /// A kid is not the root, and its parent was no entry before the batch.
-    UnknownParent,
-    /// A kid's action is not applicable at its parent.
-    NotAKid,
-    /// A kid is settled already, by the book or by an earlier outcome of the batch.
-    SettledBefore,
-    /// An outcome's state or cost is not what the book's own application gives.
-    StateDiffers,
-    /// What a duplicate names has not its state at no greater cost.
-    NotDominated,
-    /// A kid's cost and estimate do not reach the bound.
-    BelowBound,
+pub enum CommitRefusal {
     /// The book is halted.
     Halted,
-    /// The entries would be more than can be numbered.
-    Full,
-    /// The book has no such ticket or receipt out.
-    NotOut,
-    /// Want of memory.
-    NoMemory,
+    /// The entries refuse it, or there is no memory.
+    Refused(Refusal),
 }
 
-impl fmt::Display for Refusal {
+impl fmt::Display for CommitRefusal {
     ghost output = { λ r. Some (text_of r) };
 
     fn fmt<W: fmt::Write>(&self, f: &mut fmt::Formatter<W>) -> fmt::Result {
         match self {
-            Refusal::UnknownParent => write!(f, "24 UnknownParent"),
-            Refusal::NotAKid => write!(f, "25 NotAKid"),
-            Refusal::SettledBefore => write!(f, "26 SettledBefore"),
-            Refusal::StateDiffers => write!(f, "27 StateDiffers"),
-            Refusal::NotDominated => write!(f, "28 NotDominated"),
-            Refusal::BelowBound => write!(f, "29 BelowBound"),
-            Refusal::Halted => write!(f, "30 Halted"),
-            Refusal::Full => write!(f, "31 Full"),
-            Refusal::NotOut => write!(f, "38 NotOut"),
-            Refusal::NoMemory => write!(f, "NoMemory"),
+            CommitRefusal::Halted => write!(f, "30 Halted"),
+            CommitRefusal::Refused(refusal) => write!(f, "{refusal}"),
         }
-    }
-}
-
-impl From<AllocError> for Refusal {
-    ghost from_gives = { λ _ r. r ≡ NoMemory };
-
-    fn from(_: AllocError) -> Refusal {
-        Refusal::NoMemory
-    }
-}
-
-impl<T: Drop> From<AllocFailed<T>> for Refusal {
-    ghost from_gives = { λ _ r. r ≡ NoMemory };
-
-    fn from(_: AllocFailed<T>) -> Refusal {
-        Refusal::NoMemory
     }
 }

@@ -2,6 +2,7 @@
 ghost use Rattle.std.specs.Prelude.{◌≡◌, ◌≤◌, ◌+ℤ◌, ◌*◌, ◌≤ℤ◌, pos, neg_ℤ, ◌^◌, [], map, length, IfOk, IfSome};
 ghost use Rattle.std.specs.List.{list_all, All};
 ghost use Rattle.hd_base.specs.Answers.{Judges};
+ghost use Rattle.hd_task.specs.declared.task.TheConstants.{MAX_AMOUNTS};
 ghost use Rattle.hd_task.specs.Expressions.{value_of};
 ghost use Rattle.hd_task.specs.Sums.{IsNear};
 ghost use Rattle.hd_task.specs.WellFormed.{is_number, constant_sum};
@@ -38,7 +39,7 @@ fn sum_of_constants(amounts: &[Expr]) -> Option<i128>
 
 /// The sum of an action's amounts, if all of them are constant, and 0 where one depends on the state.
 fn constant_price(action: &Action) -> u128
-    requires few { length action.now.costs ≤ 2 ^ 32 }
+    requires few { length action.now.costs ≤ MAX_AMOUNTS }
     ensures price { result ≡ constant_price action.now }
     ensures small { result ≤ 2 ^ 95 }
 {
@@ -51,7 +52,7 @@ fn constant_price(action: &Action) -> u128
 /// What an action costs at least, whatever the state.
 #[tactic(auto, unfolding(crate::specs::Prices::price))]
 fn price(task: &Task, action: &Action) -> u128
-    requires few { length action.now.costs ≤ 2 ^ 32 }
+    requires few { length action.now.costs ≤ MAX_AMOUNTS }
     ensures price { result ≡ price task.now action.now }
     ensures small { result ≤ 2 ^ 95 }
 {

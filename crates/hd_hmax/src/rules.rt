@@ -2,7 +2,8 @@
 //!
 //! A rule is an action, by its number, or behind the last action the goal. A place is that of a literal: first those of the atoms,
 //! then those of their negations; the last of each half stands for all atoms that the task lacks.
-ghost use Rattle.std.specs.Prelude.{◌≡◌, ℕ, ◌+◌, ◌*◌, ◌<◌, ◌≤◌, ◌^◌, ◌++◌, ◌∷◌, [], ◌==◌, Some, None, IfOk, OnOk, length, map, replicate, slice_get, slice_index_or, slice_set, nat_lt, if◌then◌else◌};
+ghost use Rattle.std.specs.Prelude.{◌≡◌, ℕ, ◌+◌, ◌*◌, ◌<◌, ◌≤◌, ◌++◌, ◌∷◌, [], ◌==◌, Some, None, IfOk, OnOk, length, map, replicate, slice_get, slice_index_or, slice_set, nat_lt, if◌then◌else◌};
+ghost use Rattle.hd_task.specs.declared.task.TheConstants.{MAX_ATOMS};
 ghost use Rattle.hd_task.specs.Effects.{names_atom};
 ghost use Rattle.hd_hmax.specs.Rules.{place, place_at, places, asked_of, asked_by, asked, needs, times, is_asked, added_places, deleted_places, brings_of, IsTransposed, AreRulesOf};
 
@@ -28,7 +29,7 @@ pub(crate) struct Rules<'t> {
     /// By action: the places of what it brings about, if a rule needs them.
     pub(crate) brings: Rows,
     // The places fit 32 bits.
-    ghost few: { atoms ≤ 2 ^ 20 },
+    ghost few: { atoms ≤ MAX_ATOMS },
     // They are those of the task.
     ghost of_task: { AreRulesOf task.now atoms prices.items counts.items askers brings },
 }
@@ -36,7 +37,7 @@ pub(crate) struct Rules<'t> {
 /// The place of an atom or of its negation.
 #[inline(always)]
 pub(crate) fn place_at(atoms: usize, atom: usize, positive: bool) -> usize
-    requires few { atoms ≤ 2 ^ 20 }
+    requires few { atoms ≤ MAX_ATOMS }
     requires within { atom ≤ atoms }
     ensures { result ≡ place_at atoms positive atom }
 {
@@ -45,7 +46,7 @@ pub(crate) fn place_at(atoms: usize, atom: usize, positive: bool) -> usize
 
 /// The place of a literal.
 fn place_of(atoms: usize, literal: Literal) -> usize
-    requires few { atoms ≤ 2 ^ 20 }
+    requires few { atoms ≤ MAX_ATOMS }
     ensures place { result ≡ place atoms literal }
     ensures within { result < places atoms }
 {
@@ -107,7 +108,7 @@ fn add_each(
     literals: &[Literal],
     rule: u32,
 ) -> Result<(), NoMemory>
-    requires few { atoms ≤ 2 ^ 20 }
+    requires few { atoms ≤ MAX_ATOMS }
     requires count { length lists.old.items ≡ places atoms }
     ensures count { OnOk result (length lists.new.items ≡ length lists.old.items) }
     ensures more { OnOk result ((p q : ℕ) → p < places atoms
@@ -130,7 +131,7 @@ fn add_rule(
     literals: &[Literal],
     rule: u32,
 ) -> Result<usize, NoMemory>
-    requires few { atoms ≤ 2 ^ 20 }
+    requires few { atoms ≤ MAX_ATOMS }
     requires count { length lists.old.items ≡ places atoms }
     ensures count { OnOk result (length lists.new.items ≡ length lists.old.items) }
     ensures needs { IfOk result (λ k. k ≡ length (asked_of atoms literals.now)) }
@@ -188,7 +189,7 @@ fn is_asked(askers: &Rows, place: usize) -> bool
 
 /// Puts the places of added atoms behind others, if a rule needs them.
 fn push_added(row: &mut Vec<u32>, atoms: usize, askers: &Rows, adds: &[u32]) -> Result<(), NoMemory>
-    requires few { atoms ≤ 2 ^ 20 }
+    requires few { atoms ≤ MAX_ATOMS }
     requires places { length askers.now ≡ places atoms }
     ensures { OnOk result (row.new.items
         ≡ row.old.items ++ added_places atoms askers.now adds.now) }
@@ -209,7 +210,7 @@ fn push_deleted(
     adds: &[u32],
     deletes: &[u32],
 ) -> Result<(), NoMemory>
-    requires few { atoms ≤ 2 ^ 20 }
+    requires few { atoms ≤ MAX_ATOMS }
     requires places { length askers.now ≡ places atoms }
     ensures { OnOk result (row.new.items
         ≡ row.old.items ++ deleted_places atoms askers.now adds.now deletes.now) }
@@ -232,7 +233,7 @@ fn brings_of(
     askers: &Rows,
     action: &Action,
 ) -> Result<Vec<u32>, NoMemory>
-    requires few { atoms ≤ 2 ^ 20 }
+    requires few { atoms ≤ MAX_ATOMS }
     requires places { length askers.now ≡ places atoms }
     ensures { IfOk result (λ v. v.items ≡ brings_of atoms askers.now action.now) }
 {
@@ -250,7 +251,7 @@ fn all_brings(
     askers: &Rows,
     actions: &[Action],
 ) -> Result<Rows, NoMemory>
-    requires few { atoms ≤ 2 ^ 20 }
+    requires few { atoms ≤ MAX_ATOMS }
     requires places { length askers.now ≡ places atoms }
     ensures { IfOk result (λ rows. rows ≡ map (brings_of atoms askers.now) actions.now) }
 {
@@ -265,7 +266,7 @@ fn all_brings(
 /// How many atoms a task has.
 fn atoms_of(task: &Task) -> usize
     ensures count { result ≡ length task.now.atoms }
-    ensures few { result ≤ 2 ^ 20 }
+    ensures few { result ≤ MAX_ATOMS }
 {
     task.atoms.len()
 }

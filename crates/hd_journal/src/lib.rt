@@ -10,6 +10,7 @@ mod create;
 mod error;
 mod group;
 mod journal;
+mod kids;
 pub mod laws;
 mod mending;
 mod open;

@@ -1,5 +1,6 @@
 //! How much a packed state takes.
-ghost use Rattle.std.specs.Prelude.{◌≡◌, ◌≤◌, ◌+◌, ◌*◌, ◌^◌, length};
+ghost use Rattle.std.specs.Prelude.{◌≡◌, ◌≤◌, ◌+◌, ◌*◌, length};
+ghost use Rattle.hd_task.specs.declared.task.TheConstants.{MAX_ATOMS, MAX_FLUENTS};
 ghost use Rattle.hd_pack.specs.Packing.{bytes_for};
 
 use crate::bits::bytes_for;
@@ -11,8 +12,8 @@ pub struct Layout {
     atoms: usize,
     fluents: usize,
     // There are no more than a task may have.
-    ghost few_atoms: { atoms ≤ 2 ^ 20 },
-    ghost few_fluents: { fluents ≤ 2 ^ 16 },
+    ghost few_atoms: { atoms ≤ MAX_ATOMS },
+    ghost few_fluents: { fluents ≤ MAX_FLUENTS },
 }
 
 impl Layout {

@@ -1,1 +1,9 @@
-pub mod Telling
+pub mod Anew
+pub mod Beginning
+pub mod Committing
+pub mod Counts
+pub mod Groups
+pub mod Journals
+pub mod Open
+pub mod Redeeming
+pub mod Turns

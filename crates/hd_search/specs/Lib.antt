@@ -1,5 +1,4 @@
 pub mod Answer
-pub mod Expanding
-pub mod Frontier
-pub mod Judged
-pub mod Refused
+pub mod Fault
+pub mod Open
+pub mod Searching

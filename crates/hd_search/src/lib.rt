@@ -1,11 +1,14 @@
-//! The search of a task, on one thread: from a task to its verdict.
+//! The search of a task over a journal, on one thread: a worker, the book that takes its batches, and the journal to which each is
+//! appended before anything follows from it.
 #![tactic(auto)]
 
-mod closed;
-mod expanding;
-mod frontier;
-mod judging;
+mod appending;
+mod fault;
+mod finishing;
+pub mod laws;
+mod resuming;
+mod runs;
 mod searching;
-mod waiting;
 
-pub use searching::{run, searched};
+pub use fault::RunFault;
+pub use runs::{ALONE, Ended, TOGETHER, run, run_in_memory};

@@ -1,195 +1,134 @@
-//! The search of a task, on one thread.
-ghost use Rattle.std.specs.Prelude.{◌≡◌, IfOk, IfErr, OnOk};
-ghost use Rattle.hd_book.specs.Answers.{IsTrueAnswer};
-ghost use Rattle.hd_search.specs.Answer.{IsAnswer};
-ghost use Rattle.hd_book.specs.Settling.{IsOf};
-ghost use Rattle.hd_book.specs.declared.refusal.Refusal.TheVariants as Refusal;
-ghost use Rattle.hd_search.specs.Expanding.{IsLookupOf};
-ghost use Rattle.hd_search.specs.Frontier.{IsOfTask};
-ghost use Rattle.hd_search.specs.Refused.{HasOut, IsOpen, Tells};
+//! A search that goes on, turn by turn.
+ghost use Rattle.std.specs.Prelude.{◌≡◌, ◌+◌, ◌<◌, ◌≤◌, ◌^◌, [], true, false, length, IfOk, IfErr, OnOk};
+ghost use Rattle.hd_image.specs.Image.{most_of};
+ghost use Rattle.hd_journal.specs.Journal.{kids_of};
+ghost use Rattle.hd_entries.specs.Settling.{BookState};
+ghost use Rattle.hd_entries.specs.Holding.{BeginsWith};
+ghost use Rattle.hd_entries.specs.Answers.{is_over};
+ghost use Rattle.hd_worker.specs.Lookup.{IsLookupOf};
+ghost use Rattle.hd_search.specs.Open.{Fits};
+ghost use Rattle.hd_search.specs.Searching.{Grows, IsGoing};
+ghost use Rattle.hd_search.specs.Fault.{Stops};
 
-use crate::closed::{Closed, Known};
-use crate::expanding::Expanding;
-use crate::frontier::Frontier;
-use crate::judging::{Judged, batch_of, closed_by, judge};
-use crate::waiting::Waiting;
+use crate::RunFault;
+use crate::finishing::finish;
 use hd_base::NoMemory;
-use hd_book::{Book, Redeemed, Refusal, Ticket, Verdict};
-use hd_node::{Outcome, Parcel};
-use hd_task::{Kid, ROOT_ACTION, ROOT_PARENT, Task};
-use hd_zobrist::Words;
-use std::alloc::Global;
+use hd_book::Book;
+use hd_journal::Journal;
+use hd_store::Store;
+use hd_worker::{Lookup, Worker};
+use std::sync::ledger::{Ledger, Share};
 
-/// How many entries a search may make: each has a number below that of the root's parent.
-pub const MOST_ENTRIES: u64 = ROOT_PARENT - 1;
-
-/// The parcel of the root.
-fn root<'t>(alloc: Global, task: &'t Task, words: &Words) -> Result<Parcel<'t>, NoMemory>
-    ensures { IfOk result (λ p. p.task ≡ task.now) }
-{
-    let kid = Kid {
-        parent: ROOT_PARENT,
-        action: ROOT_ACTION,
-    };
-    let state = task.initial.copied(alloc)?;
-    Parcel::of(alloc, task, words, kid, state, 0)
+/// A search that goes on: the book, the share that counts its commits, and the worker that settles what is open.
+#[derive(Drop)]
+pub(crate) struct Searching<'t, L: Ledger> {
+    pub(crate) book: Book<'t, L>,
+    pub(crate) share: Share<L>,
+    pub(crate) worker: Worker<'t>,
+    pub(crate) lookup: Lookup<'t>,
 }
 
-/// Commits an outcome alone: the number of its entry, if it is an expansion, and the ticket.
-fn commit_alone<'t>(
-    alloc: Global,
-    book: &mut Book<'t>,
-    outcome: Outcome<'t>,
-) -> Result<(u64, Ticket), Refusal>
-    requires of_task { IsOf book.old.state.task outcome }
-    requires running { IsOpen book.old }
-    ensures task { book.new.state.task ≡ book.old.state.task }
-    ensures running { IsOpen book.new }
-    ensures out { IfOk result (λ r. HasOut book.new r.1) }
-    ensures told { IfErr result (Tells book.old.state.task) }
-{
-    let batch = batch_of(alloc, outcome)?;
-    let entry = book.counts().entries;
-    match book.commit(batch) {
-        Ok(ticket) => Ok((entry, ticket)),
-        Err((_, refusal)) => Err(refusal),
-    }
-}
-
-/// Redeems a ticket that is out: what its batch releases waits from now on, by the total of the parcel that it comes from.
+/// Settles the best open nodes: so many of them, or as many as are open, and one at least.
 ///
 /// # Errors
-/// `NoMemory` alone.
-fn release<'t>(
-    book: &mut Book<'t>,
-    frontier: &mut Frontier<'t>,
-    ticket: Ticket,
-    total: u128,
-) -> Result<(), Refusal>
-    requires waiting { IsOfTask book.old.state.task frontier.old }
-    requires running { IsOpen book.old }
-    requires out { HasOut book.old ticket }
-    ensures task { book.new.state.task ≡ book.old.state.task }
-    ensures running { IsOpen book.new }
-    ensures waiting { OnOk result (IsOfTask book.old.state.task frontier.new) }
-    ensures told { IfErr result (λ r. r ≡ Refusal.NoMemory) }
+/// `NoMemory` where there is no room for an outcome.
+fn settle_best<'t>(
+    worker: &mut Worker<'t>,
+    lookup: &mut Lookup<'t>,
+    together: usize,
+) -> Result<(), NoMemory>
+    requires lookup { IsLookupOf worker.old.task lookup.old }
+    ensures lookup { IsLookupOf worker.old.task lookup.new }
+    ensures task { worker.new.task ≡ worker.old.task }
+    ensures fits { (b : BookState) → Fits b worker.old [] → Fits b worker.new [] }
+    ensures done { OnOk result (worker.new.outcomes ≡ [] → worker.new.waiting ≡ []) }
 {
-    let Redeemed::Released(receipt, parcels) = book.redeem(ticket)?;
-    book.present(receipt)?;
-    frontier.push_all(parcels, total)?;
+    for _node in 0..together.max(1) {
+        worker.expand_best(lookup)?;
+    }
     Ok(())
 }
 
-/// Goes on with a parcel that is taken: it waits on, or its outcome is committed alone and the ticket redeemed.
-fn settle<'t>(
-    alloc: Global,
-    task: &'t Task,
-    book: &mut Book<'t>,
-    frontier: &mut Frontier<'t>,
-    closed: &mut Closed,
-    expanding: &mut Expanding<'t>,
-    waiting: Waiting<'t>,
-) -> Result<(), Refusal>
-    requires task { book.old.state.task ≡ task.now }
-    requires running { IsOpen book.old }
-    requires parcel { waiting.parcel.task ≡ task.now }
-    requires frontier { IsOfTask task.now frontier.old }
-    requires lookup { IsLookupOf task.now expanding.old }
-    ensures task { book.new.state.task ≡ task.now }
-    ensures running { IsOpen book.new }
-    ensures frontier { OnOk result (IsOfTask task.now frontier.new) }
-    ensures lookup { IsLookupOf task.now expanding.new }
-    ensures told { IfErr result (Tells task.now) }
+/// Settles the best open nodes by the bound that the book has.
+///
+/// # Errors
+/// `NoMemory` where there is no room for an outcome.
+fn prepare<L: Ledger>(searching: &mut Searching<'_, L>, together: usize) -> Result<(), NoMemory>
+    requires fits { Fits searching.old.book.state searching.old.worker [] }
+    requires lookup { IsLookupOf searching.old.book.state.task searching.old.lookup }
+    ensures book { searching.new.book ≡ searching.old.book }
+    ensures share { searching.new.share.parts ≡ searching.old.share.parts }
+    ensures lookup { IsLookupOf searching.old.book.state.task searching.new.lookup }
+    ensures fits { OnOk result (Fits searching.old.book.state searching.new.worker []) }
+    ensures done { OnOk result
+        (searching.new.worker.outcomes ≡ [] → searching.new.worker.waiting ≡ []) }
 {
-    let (cost, total) = (waiting.parcel.cost(), waiting.rank.total);
-    let outcome = match judge(alloc, task, closed, expanding, book.bound(), waiting)? {
-        Judged::Settled(outcome) => outcome,
-        Judged::Waits(waiting) => {
-            frontier.wait(waiting)?;
+    searching.worker.see(searching.book.bound());
+    settle_best(&mut searching.worker, &mut searching.lookup, together)
+}
+
+/// One turn: settles the best open nodes, commits their outcomes, appends the entries among these, and opens what they lead to. No turn is
+/// left where nothing is open: then all is settled.
+///
+/// # Errors
+/// Want of memory, or why the book refuses the batch, or the journal its entries.
+fn turn<L: Ledger, S: Store>(
+    searching: &mut Searching<'_, L>,
+    journal: &mut Journal<S>,
+    together: usize,
+) -> Result<bool, RunFault>
+    requires going { IsGoing (most_of journal.old.version) (kids_of journal.old)
+        searching.old.book searching.old.worker searching.old.lookup }
+    requires part { 0 < searching.old.share.parts }
+    ensures task { searching.new.book.state.task ≡ searching.old.book.state.task }
+    ensures going { OnOk result (IsGoing (most_of journal.new.version) (kids_of journal.new)
+        searching.new.book searching.new.worker searching.new.lookup) }
+    ensures part { OnOk result (0 < searching.new.share.parts) }
+    ensures grows { OnOk result (Grows journal.old journal.new) }
+    ensures counted { IfOk result (λ again. again ≡ true
+        → length searching.new.book.batches.tickets
+        ≡ length searching.old.book.batches.tickets + 1) }
+    ensures few { IfOk result (λ again. again ≡ true
+        → length searching.new.book.batches.tickets ≤ 2 ^ 61) }
+    ensures over { IfOk result (λ again. again ≡ false
+        → is_over searching.new.book.state ≡ true) }
+    ensures begins { BeginsWith (kids_of journal.new) (kids_of journal.old) }
+    ensures told { IfErr result (Stops journal.old journal.new) }
+{
+    prepare(searching, together)?;
+    match searching.worker.next_batch()? {
+        Some(batch) => {
+            finish(searching, journal, batch)?;
+            Ok(true)
+        }
+        None => Ok(false),
+    }
+}
+
+/// Takes turns until all is settled.
+///
+/// # Errors
+/// Those of a turn.
+pub(crate) fn go_on<L: Ledger, S: Store>(
+    searching: &mut Searching<'_, L>,
+    journal: &mut Journal<S>,
+    together: usize,
+) -> Result<(), RunFault>
+    requires going { IsGoing (most_of journal.old.version) (kids_of journal.old)
+        searching.old.book searching.old.worker searching.old.lookup }
+    requires part { 0 < searching.old.share.parts }
+    ensures task { searching.new.book.state.task ≡ searching.old.book.state.task }
+    ensures going { OnOk result (IsGoing (most_of journal.new.version) (kids_of journal.new)
+        searching.new.book searching.new.worker searching.new.lookup) }
+    ensures over { OnOk result (is_over searching.new.book.state ≡ true) }
+    ensures grows { OnOk result (Grows journal.old journal.new) }
+    ensures begins { BeginsWith (kids_of journal.new) (kids_of journal.old) }
+    ensures told { IfErr result (Stops journal.old journal.new) }
+{
+    for _turn in 0..u64::MAX {
+        if !turn(searching, journal, together)? {
             return Ok(());
         }
-    };
-    let state = closed_by(alloc, &outcome)?;
-    let (entry, ticket) = commit_alone(alloc, book, outcome)?;
-    release(book, frontier, ticket, total)?;
-    if let Some(state) = state {
-        closed.close(state, Known { entry, cost })?;
     }
-    Ok(())
-}
-
-/// Settles parcels until none waits: the root's first, then always that of the least cost plus estimate.
-fn settle_all<'t>(
-    alloc: Global,
-    task: &'t Task,
-    book: &mut Book<'t>,
-    expanding: &mut Expanding<'t>,
-) -> Result<(), Refusal>
-    requires task { book.old.state.task ≡ task.now }
-    requires running { IsOpen book.old }
-    requires lookup { IsLookupOf task.now expanding.old }
-    ensures task { book.new.state.task ≡ task.now }
-    ensures running { IsOpen book.new }
-    ensures told { IfErr result (Tells task.now) }
-{
-    let mut frontier = Frontier::empty(alloc);
-    let mut closed = Closed::empty(alloc);
-    frontier.push(root(alloc, task, &expanding.words)?, 0)?;
-    for _turn in 0..u64::MAX {
-        let Some(waiting) = frontier.pop() else {
-            break;
-        };
-        settle(
-            alloc,
-            task,
-            book,
-            &mut frontier,
-            &mut closed,
-            expanding,
-            waiting,
-        )?;
-    }
-    Ok(())
-}
-
-/// Searches a task to the end: the book of the whole search.
-///
-/// The parcels that wait stand in one list. That of the least cost plus estimate (h-max) is taken, the earliest of equal ones,
-/// and committed alone: as a duplicate, else as bounded, else expanded. It is estimated when it is first taken, unless it is a
-/// duplicate: until then it waits by the cost plus estimate of the parcel that it comes from, which its own is never below.
-///
-/// # Errors
-/// Why the book refuses, or `NoMemory`: `Full` only where as many plans are expanded as there may be entries, `Halted` and
-/// `NotOut` never, and each other only where the book refuses an outcome for it. That none of these comes is tested, and not proved.
-pub fn searched<'t>(alloc: Global, task: &'t Task) -> Result<Book<'t>, Refusal>
-    ensures task { IfOk result (λ b. b.state.task ≡ task.now) }
-    ensures running { IfOk result IsOpen }
-    ensures told { IfErr result (Tells task.now) }
-{
-    let mut book = Book::new(alloc, task, MOST_ENTRIES)?;
-    let mut expanding = Expanding::of(alloc, task)?;
-    let ended = settle_all(alloc, task, &mut book, &mut expanding);
-    drop(expanding);
-    match ended {
-        Ok(()) => Ok(book),
-        Err(refusal) => Err(refusal),
-    }
-}
-
-/// Searches a task to the end, and answers its verdict.
-///
-/// # Errors
-/// Why the book refuses, or `NoMemory`: `Full` only where as many plans are expanded as there may be entries, `Halted` never,
-/// `NotOut` only where the book has kids that are not settled, and each other only where it refuses an outcome for it. That none of
-/// these comes is tested, and not proved.
-pub fn run(alloc: Global, task: &Task) -> Result<Verdict, Refusal>
-    ensures answer { IfOk result (IsAnswer task.now) }
-    ensures truth { IfOk result (IsTrueAnswer task.now) }
-    ensures told { IfErr result (Tells task.now) }
-{
-    let book = searched(alloc, task)?;
-    match book.verdict()? {
-        Some(verdict) => Ok(verdict),
-        None => Err(Refusal::NotOut),
-    }
+    unreachable!()
 }

@@ -1,6 +1,7 @@
 //! Marks on numbers: a bit each, in words.
-ghost use Rattle.std.specs.Prelude.{◌≡◌, ℕ, ◌≤◌, ◌<◌, ◌*◌, ◌/◌, ◌^◌, ◌==◌, ◌||◌, false, [], ◌∷◌, IfOk, length, find, nat_le};
+ghost use Rattle.std.specs.Prelude.{◌≡◌, ℕ, ◌≤◌, ◌<◌, ◌*◌, ◌/◌, ◌==◌, ◌||◌, false, [], ◌∷◌, IfOk, length, find, nat_le};
 ghost use Rattle.std.specs.List.{filter, range_with_len};
+ghost use Rattle.hd_task.specs.declared.task.TheConstants.{MAX_ACTIONS};
 ghost use Rattle.hd_successors.specs.Marks.{is_marked, words_for, FirstMark};
 
 use hd_base::NoMemory;
@@ -27,7 +28,7 @@ pub(crate) fn set_mark(marks: &mut [u64], number: usize)
 
 /// The first number that is marked, of those in the words from this place on.
 fn first_mark_in(marks: &[u64], place: usize) -> Option<usize>
-    requires { length marks.now ≤ 2 ^ 20 }
+    requires { length marks.now ≤ MAX_ACTIONS }
     ensures { FirstMark marks.now (64 * place) result }
 {
     let mut at = place;
@@ -43,7 +44,7 @@ fn first_mark_in(marks: &[u64], place: usize) -> Option<usize>
 
 /// The first number that is marked, from this one on.
 pub(crate) fn first_mark(marks: &[u64], from: usize) -> Option<usize>
-    requires { length marks.now ≤ 2 ^ 20 }
+    requires { length marks.now ≤ MAX_ACTIONS }
     ensures { FirstMark marks.now from result }
 {
     let place = from / 64;
@@ -72,8 +73,8 @@ pub(crate) fn first_bit(byte: u8, from: usize) -> Option<usize>
 
 /// The first number that is marked, from this one on, of so many.
 pub(crate) fn first_mark_below(marks: &[u64], from: u32, count: usize) -> Option<u32>
-    requires words { length marks.now ≤ 2 ^ 20 }
-    requires few { count ≤ 2 ^ 20 }
+    requires words { length marks.now ≤ MAX_ACTIONS }
+    requires few { count ≤ MAX_ACTIONS }
     ensures { result ≡ find (nat_le from) (filter (is_marked marks.now) (range_with_len 0 count)) }
 {
     match first_mark(marks, from as usize) {
@@ -90,8 +91,8 @@ pub(crate) fn first_mark_below(marks: &[u64], from: u32, count: usize) -> Option
 
 /// How many numbers are marked, of so many. It goes from one to the next.
 pub(crate) fn marks_below(marks: &[u64], count: usize) -> usize
-    requires words { length marks.now ≤ 2 ^ 20 }
-    requires few { count ≤ 2 ^ 20 }
+    requires words { length marks.now ≤ MAX_ACTIONS }
+    requires few { count ≤ MAX_ACTIONS }
     ensures { result ≡ length (filter (is_marked marks.now) (range_with_len 0 count)) }
 {
     let mut found = 0;

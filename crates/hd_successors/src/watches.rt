@@ -1,5 +1,6 @@
 //! Which actions watch an atom.
-ghost use Rattle.std.specs.Prelude.{◌≡◌, ℕ, ◌+◌, ◌*◌, ◌<◌, ◌≤◌, ◌/◌, ◌^◌, ◌==◌, ◌&&◌, ◌||◌, false, Some, IfOk, length, slice_get, nat_lt};
+ghost use Rattle.std.specs.Prelude.{◌≡◌, ℕ, ◌+◌, ◌*◌, ◌<◌, ◌≤◌, ◌/◌, ◌==◌, ◌&&◌, ◌||◌, false, Some, IfOk, length, slice_get, nat_lt};
+ghost use Rattle.hd_task.specs.declared.task.TheConstants.{MAX_ACTIONS, MAX_ATOMS};
 ghost use Rattle.hd_task.specs.Conditions.{has_atom};
 ghost use Rattle.hd_successors.specs.Watching.{IsWatchedBy, is_candidate};
 ghost use Rattle.hd_successors.specs.Seeing.{is_always, watches_one, other_passes, is_in_byte};
@@ -26,13 +27,13 @@ pub(crate) struct Watches {
     // The chains are of all actions.
     ghost chained: { AreChains watched last before (length watched) },
     // There are no more than a task may have.
-    ghost few_atoms: { length last ≤ 2 ^ 20 },
-    ghost few_actions: { length watched ≤ 2 ^ 20 },
+    ghost few_atoms: { length last ≤ MAX_ATOMS },
+    ghost few_actions: { length watched ≤ MAX_ACTIONS },
 }
 
 /// Puts an action at the end of the chain of what it watches first, and gives what stands before it.
 fn link(last: &mut [u32], watch: Watch, action: u32) -> u32
-    requires { action < 2 ^ 20 }
+    requires { action < MAX_ACTIONS }
     ensures last { last.new ≡ last_with last.old watch action }
     ensures before { result ≡ last_in last.old watch }
 {
@@ -54,7 +55,7 @@ fn chains_of(
     watched: &[Watch],
     atoms: usize,
 ) -> Result<(Vec<u32>, Vec<u32>), NoMemory>
-    requires { length watched.now ≤ 2 ^ 20 }
+    requires { length watched.now ≤ MAX_ACTIONS }
     ensures chains { IfOk result (λ r. AreChains watched.now r.0.items r.1.items
         (length watched.now)) }
     ensures atoms { IfOk result (λ r. length r.0.items ≡ atoms) }
@@ -122,8 +123,8 @@ impl Watches {
         initial: &[bool],
         atoms: usize,
     ) -> Result<Watches, NoMemory>
-        requires few_atoms { atoms ≤ 2 ^ 20 }
-        requires few_actions { length actions.now ≤ 2 ^ 20 }
+        requires few_atoms { atoms ≤ MAX_ATOMS }
+        requires few_actions { length actions.now ≤ MAX_ACTIONS }
         ensures watched { IfOk result (λ w. IsWatchedBy actions.now w.watched) }
         ensures atoms { IfOk result (λ w. length w.last ≡ atoms) }
     {
@@ -178,7 +179,7 @@ impl Watches {
     /// `base` on.
     fn mark_byte(&self, byte: u8, base: usize, state: &Packed, marks: &mut [u64])
         requires room { length self.now.watched ≤ 64 * length marks.old }
-        requires near { base ≤ 2 ^ 20 }
+        requires near { base ≤ MAX_ATOMS }
         ensures { (i : ℕ) → is_marked marks.new i
             ≡ ((watches_one (λ a. nat_lt a (length self.now.last) && is_in_byte byte base a)
             (slice_get self.now.watched i)

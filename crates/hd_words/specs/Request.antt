@@ -1,10 +1,16 @@
 -- What a request keeps. (Our own.)
-use Rattle.std.specs.Prelude.{◌≤◌}
+use Rattle.std.specs.Prelude.{ℕ, ◌≤◌}
 use Rattle.hd_words.specs.declared.request.Request.{Request}
-use Rattle.hd_words.specs.declared.request.Request.TheVariants.{Solve, Ground, Validate}
+use Rattle.hd_words.specs.declared.request.Request.TheVariants.{Solve, Resume, Ground, Validate}
+use Rattle.hd_words.specs.declared.request.TheConstants.{MAX_WORKERS}
+
+-- a number of workers
+abbrev pub IsWorkers : ℕ → Type 0
+IsWorkers workers = (1 ≤ workers) × (workers ≤ MAX_WORKERS)
 
 -- the number of workers of a search is one of 1 to 64; nothing else has workers
 abbrev pub HasWorkers : Request → Type 0
-HasWorkers (Solve domain problem workers) = (1 ≤ workers) × (workers ≤ 64)
+HasWorkers (Solve domain problem journal workers) = IsWorkers workers
+HasWorkers (Resume domain problem journal workers) = IsWorkers workers
 HasWorkers (Ground domain problem) = Unit {0}
 HasWorkers (Validate domain problem plan explain) = Unit {0}

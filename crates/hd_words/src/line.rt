@@ -10,11 +10,21 @@ const NAME: &str = "hplan";
 const SOLVE_HELP: &str = "\
 Reads both files, searches, and writes the plan that it finds to standard output: an action on a line, then its cost. All else
 goes to standard error.
+With --journal each step of the search is kept in a file before the search goes on from it: after a stop, at any moment,
+`resume` goes on from there. The file must not be there, or be empty.
 Exit status: 0 a plan of least cost is printed: it is valid, and no valid plan costs less;
   10 `no plan` is told: there is none, of any length;
   11 a number left the range from -10^15 to 10^15, and where it did is told: a plan that is printed is valid, but nothing is
      said of other plans, so one of them may cost less;
   1 a refusal, told on one line: nothing is printed, or a beginning of the plan where the output fails;
+  2 the command line is at fault.";
+
+/// What the help of `resume` ends with.
+const RESUME_HELP: &str = "\
+Goes on with the search of the same two files that `solve --journal` began, from what its journal holds, and answers as `solve`
+does. Of what was being written when it stopped nothing is left, or the whole. A journal that is whole is answered at once.
+Exit status: 0, 10 and 11 as of `solve`;
+  1 a refusal, told on one line: the journal is not there, or is one of other files, or damaged, or in use; or as of `solve`;
   2 the command line is at fault.";
 
 /// What the help of `ground` ends with.
@@ -59,11 +69,34 @@ fn of_task<'a>(alloc: Global, name: &'a str) -> Result<Command<'a>, AllocError> 
         .arg(file(alloc, "problem", "PROBLEM", "The file with the problem"))
 }
 
-/// `solve DOMAIN PROBLEM [--workers N]`.
+/// The file that a search is kept in.
+fn journal<'a>(alloc: Global, help: &'a str, required: bool) -> Arg<'a> {
+    Arg::new(alloc, "journal")
+        .long("journal")
+        .value_name("FILE")
+        .help(help)
+        .required(required)
+}
+
+/// `solve DOMAIN PROBLEM [--journal FILE] [--workers N]`.
 fn solve<'a>(alloc: Global) -> Result<Command<'a>, AllocError> {
     of_task(alloc, "solve")?
         .about("Prints a plan of least cost")
         .after_help(SOLVE_HELP)
+        .arg(journal(
+            alloc,
+            "The file to keep the search in; in memory if not given",
+            false,
+        ))?
+        .arg(workers(alloc))
+}
+
+/// `resume DOMAIN PROBLEM --journal FILE [--workers N]`.
+fn resume<'a>(alloc: Global) -> Result<Command<'a>, AllocError> {
+    of_task(alloc, "resume")?
+        .about("Goes on with a search that was stopped")
+        .after_help(RESUME_HELP)
+        .arg(journal(alloc, "The file that the search is kept in", true))?
         .arg(workers(alloc))
 }
 
@@ -102,6 +135,7 @@ pub fn command_line<'a>(alloc: Global) -> Result<Command<'a>, AllocError> {
         .subcommand_required(true)
         .arg_required_else_help(true)
         .subcommand(solve(alloc)?)?
+        .subcommand(resume(alloc)?)?
         .subcommand(ground(alloc)?)?
         .subcommand(validate(alloc)?)
 }

@@ -1,6 +1,6 @@
 //! What a command line asks for.
 ghost use Rattle.std.specs.Prelude.{◌≤◌, IfOk, IfSome};
-ghost use Rattle.hd_words.specs.Request.{HasWorkers};
+ghost use Rattle.hd_words.specs.Request.{HasWorkers, IsWorkers};
 
 use crate::error::WordsError;
 use crate::line::command_line;
@@ -20,6 +20,19 @@ pub enum Request {
         domain: String,
         /// The name of the file with the problem.
         problem: String,
+        /// The name of the file to keep the search in; in memory if none.
+        journal: Option<String>,
+        /// From 1 to [`MAX_WORKERS`].
+        workers: u32,
+    },
+    /// To go on with a search that was stopped.
+    Resume {
+        /// The name of the file with the domain.
+        domain: String,
+        /// The name of the file with the problem.
+        problem: String,
+        /// The name of the file that the search is kept in.
+        journal: String,
         /// From 1 to [`MAX_WORKERS`].
         workers: u32,
     },
@@ -55,24 +68,61 @@ fn refusal_of(alloc: Global, error: Error) -> WordsError {
     }
 }
 
+/// A number of workers, if it is one of 1 to 64.
+fn workers_in(found: &ArgMatches<'_>) -> Option<u32>
+    ensures { IfSome result IsWorkers }
+{
+    let workers = found.get_one::<u32>("workers")?;
+    if workers < 1 || workers > MAX_WORKERS {
+        return None;
+    }
+    Some(workers)
+}
+
+/// A text that may be there, as one of its own.
+fn owned(alloc: Global, text: Option<&str>) -> Result<Option<String>, AllocError> {
+    match text {
+        Some(text) => Ok(Some(String::from_str(alloc, text)?)),
+        None => Ok(None),
+    }
+}
+
 /// The request to solve, if its number of workers is one of 1 to 64.
 fn solve_request(
     alloc: Global,
     domain: &str,
     problem: &str,
-    workers: Option<u32>,
+    found: &ArgMatches<'_>,
 ) -> Result<Option<Request>, AllocError>
     ensures { IfOk result (λ found. IfSome found HasWorkers) }
 {
-    let Some(workers) = workers else {
+    let Some(workers) = workers_in(found) else {
         return Ok(None);
     };
-    if workers < 1 || workers > MAX_WORKERS {
-        return Ok(None);
-    }
     Ok(Some(Request::Solve {
         domain: String::from_str(alloc, domain)?,
         problem: String::from_str(alloc, problem)?,
+        journal: owned(alloc, found.get_str("journal"))?,
+        workers,
+    }))
+}
+
+/// The request to go on, if its journal is named, and its number of workers is one of 1 to 64.
+fn resume_request(
+    alloc: Global,
+    domain: &str,
+    problem: &str,
+    found: &ArgMatches<'_>,
+) -> Result<Option<Request>, AllocError>
+    ensures { IfOk result (λ found. IfSome found HasWorkers) }
+{
+    let (Some(journal), Some(workers)) = (found.get_str("journal"), workers_in(found)) else {
+        return Ok(None);
+    };
+    Ok(Some(Request::Resume {
+        domain: String::from_str(alloc, domain)?,
+        problem: String::from_str(alloc, problem)?,
+        journal: String::from_str(alloc, journal)?,
         workers,
     }))
 }
@@ -110,7 +160,8 @@ fn named_request(
         return Ok(None);
     };
     match name {
-        "solve" => solve_request(alloc, domain, problem, found.get_one::<u32>("workers")),
+        "solve" => solve_request(alloc, domain, problem, found),
+        "resume" => resume_request(alloc, domain, problem, found),
         "ground" => Ok(Some(Request::Ground {
             domain: String::from_str(alloc, domain)?,
             problem: String::from_str(alloc, problem)?,

@@ -6,9 +6,10 @@ use Rattle.hd_plan.specs.Text.{ReadsAs}
 use Rattle.hd_plan.proofs.Written.{plan_text_reads}
 use Rattle.hd_task.specs.declared.task.Task.{Task}
 use Rattle.hd_task.specs.Plans.{start}
-use Rattle.hd_book.specs.declared.verdict.Verdict.{Verdict}
-use Rattle.hd_book.specs.declared.verdict.Verdict.TheVariants.{Optimal, NoPlan, RangeLeft}
-use Rattle.hd_search.specs.Answer.{IsAnswer}
+use Rattle.hd_entries.specs.declared.verdict.Verdict.{Verdict}
+use Rattle.hd_entries.specs.declared.verdict.Verdict.TheVariants.{Optimal, NoPlan, RangeLeft}
+use Rattle.hd_task.specs.declared.plan.Kid.{Kid}
+use Rattle.hd_search.specs.Answer.{IsAnswerOf}
 use Rattle.hd_texts.specs.Tasks.{IsTaskOf}
 use Rattle.hd_transfer.specs.Instances.{plan_of}
 use Rattle.hd_transfer.proofs.Runs.{all_named, valid_there}
@@ -16,7 +17,7 @@ use Rattle.hd_printing.specs.Printing.{steps_of}
 use Rattle.hd_printing.proofs.Named.{are_steps, lower_steps}
 use Rattle.hd_printing.proofs.TextNames.{text_names}
 use Rattle.hd_printing.proofs.Valid.{validated_by}
-use Rattle.hplan.specs.declared.engine.Ending.{Ending}
+use Rattle.hplan.specs.declared.told.Ending.{Ending}
 use Rattle.hplan.specs.Answer.{IsTrueOfDomain, ending_of, written_of, IsSolved}
 use Rattle.hplan.specs.PlanFiles.{IsValidatedFile, IsFileOfValid, IsFileOfOptimal}
 use Rattle.hplan.specs.PlanText.{plan_at, plan_to, plan_text}
@@ -77,31 +78,31 @@ record IsOfSound (t : Task) (text : List ℕ) : Type 0 where
   sound : IsSound t plan
   is : text ≡ plan_text t plan
 
-sound_in : (t : Task) (v : Verdict) (text : List ℕ) → IsAnswer t v → text ≡ written_of t v → (text ≡ []) ⊎ IsOfSound t text
-sound_in t (Optimal p) text a is = inr (record { plan = p; sound = bound_plan_sound t a.expanded p a.legal a.answers.1; is = is })
-sound_in t NoPlan text a is = inl is
-sound_in t (RangeLeft d None) text a is = inl is
-sound_in t (RangeLeft d (Some p)) text a is = inr (record { plan = p; sound = bound_plan_sound t a.expanded p a.legal a.answers.1; is = is })
+sound_in : (t : Task) (kids : List Kid) (v : Verdict) (text : List ℕ) → IsAnswerOf t kids v → text ≡ written_of t v → (text ≡ []) ⊎ IsOfSound t text
+sound_in t kids (Optimal p) text a is = inr (record { plan = p; sound = bound_plan_sound t a.expanded p a.answer.legal a.answer.answers.1; is = is })
+sound_in t kids NoPlan text a is = inl is
+sound_in t kids (RangeLeft d None) text a is = inl is
+sound_in t kids (RangeLeft d (Some p)) text a is = inr (record { plan = p; sound = bound_plan_sound t a.expanded p a.answer.legal a.answer.answers.1; is = is })
 
 -- where the answer ends with an optimal plan
 record IsOfBest (l : LiftedTask) (t : Task) (text : List ℕ) : Type 0 where
   of : IsOfSound t text
   best : plans.IsOptimal l (plan_of t of.plan)
 
-best_in : (l : LiftedTask) (t : Task) (v : Verdict) (text : List ℕ) → IsAnswer t v → IsTrueOfDomain l t v → text ≡ written_of t v
+best_in : (l : LiftedTask) (t : Task) (kids : List Kid) (v : Verdict) (text : List ℕ) → IsAnswerOf t kids v → IsTrueOfDomain l t v → text ≡ written_of t v
     → Ending.Optimal ≡ ending_of t v → IsOfBest l t text
-best_in l t (Optimal p) text a best is ends = record {
-  of = record { plan = p; sound = bound_plan_sound t a.expanded p a.legal a.answers.1; is = is };
+best_in l t kids (Optimal p) text a best is ends = record {
+  of = record { plan = p; sound = bound_plan_sound t a.expanded p a.answer.legal a.answer.answers.1; is = is };
   best = best;
 }
-best_in l t NoPlan text a best is ends = absurd (cc)
-best_in l t (RangeLeft d p) text a best is ends = absurd (cc)
+best_in l t kids NoPlan text a best is ends = absurd (cc)
+best_in l t kids (RangeLeft d p) text a best is ends = absurd (cc)
 
 module _ (domain problem text : List ℕ) where
   of_answer : (P : List ℕ → Type 0) (ending : Ending) (s : IsSolved domain problem ending text)
       → ((p : List ℕ) → IsSound s.task p → P (plan_text s.task p)) → (text ≡ []) ⊎ P text
   of_answer P ending s holds =
-      elim (sound_in s.task s.solution.verdict text s.solution.is_answer s.solution.text) [
+      elim (sound_in s.task s.kids s.solution.verdict text s.solution.is_answer s.solution.text) [
         | inl none ↦ inl none
         | inr k ↦ inr (subst P (sym k.is) (holds k.plan k.sound))
       ]
@@ -114,7 +115,7 @@ module _ (domain problem text : List ℕ) where
 
   best_of : (s : IsSolved domain problem Ending.Optimal text) → IsOfBest s.is_task.lifted s.task text
   best_of s =
-      best_in s.is_task.lifted s.task s.solution.verdict text s.solution.is_answer s.is_true_of_domain s.solution.text s.solution.ends
+      best_in s.is_task.lifted s.task s.kids s.solution.verdict text s.solution.is_answer s.is_true_of_domain s.solution.text s.solution.ends
 
   pub optimal_validated : IsSolved domain problem Ending.Optimal text → IsValidatedFile domain problem text
   optimal_validated s =

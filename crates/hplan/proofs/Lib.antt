@@ -1,8 +1,11 @@
+pub mod Blaming
 pub mod Costs
 pub mod Explaining
 pub mod Files
 pub mod Going
+pub mod Keeping
 pub mod Legal
+pub mod Shelves
 pub mod Solving
 pub mod StepTexts
 pub mod TaskLines

@@ -6,18 +6,20 @@ use Rattle.hd_lifted.specs.declared.task.LiftedTask.{LiftedTask}
 use Rattle.hd_lifted.specs.Plans as plans
 use Rattle.hd_transfer.specs.Instances.{plan_of}
 use Rattle.hd_task.specs.declared.task.Task.{Task}
-use Rattle.hd_book.specs.declared.verdict.Verdict.{Verdict}
-use Rattle.hd_book.specs.declared.verdict.Verdict.TheVariants.{Optimal, NoPlan, RangeLeft}
-use Rattle.hd_book.specs.Answers as book
-use Rattle.hplan.specs.declared.engine.Ending.{Ending}
-use Rattle.hd_book.specs.declared.refusal.Refusal.{Refusal}
+use Rattle.hd_entries.specs.declared.verdict.Verdict.{Verdict}
+use Rattle.hd_entries.specs.declared.verdict.Verdict.TheVariants.{Optimal, NoPlan, RangeLeft}
+use Rattle.hd_entries.specs.Answers as entries
+use Rattle.hd_task.specs.declared.plan.Kid.{Kid}
+use Rattle.hplan.specs.declared.told.Ending.{Ending}
 use Rattle.hplan.specs.declared.fault.Fault.{Fault}
-use Rattle.hplan.specs.declared.fault.Fault.TheVariants.{Refused, NoMemory}
-use Rattle.hd_search.specs.Answer.{IsAnswer}
-use Rattle.hd_search.specs.Refused.{Tells}
+use Rattle.hd_search.specs.Answer.{IsAnswerOf}
+use Rattle.hd_texts.specs.Digest.{digest_of}
 use Rattle.hd_texts.specs.declared.fault.TaskFault.{TaskFault}
 use Rattle.hd_texts.specs.Tasks.{IsTaskOf, Explains}
-use Rattle.hplan.specs.Fault.{task_in}
+use Rattle.hd_plan.specs.declared.output.WriteError.{WriteError}
+use Rattle.hd_plan.specs.Output.{AppendsShort, KeepsFor, IsNoted}
+use Rattle.hplan.specs.Fault.{task_in, TellsUnwritten}
+use Rattle.hplan.specs.Kept.{Keeping, IsKeptIn, FailsIn}
 use Rattle.hplan.specs.PlanText.{plan_text}
 use Rattle.hplan.specs.TaskText.{departure_text}
 use Rattle.hplan.specs.Written.{IsUntouched, FailsToWrite}
@@ -55,47 +57,63 @@ ending_of t (Optimal p) = Ending.Optimal
 ending_of t NoPlan = Ending.NoPlan
 ending_of t (RangeLeft d p) = Ending.RangeLeft (departure_text t d)
 
--- the search of a task has this answer, which ends so and is written so
-pub record IsSolution (task : Task) (ending : Ending) (written : List ℕ) : Type 0 where
+-- the search of a task that has these entries has this answer, which ends so and is written so
+pub record IsSolution (task : Task) (kids : List Kid) (ending : Ending) (written : List ℕ) : Type 0 where
   pub verdict : Verdict
-  pub is_answer : IsAnswer task verdict
-  pub is_true : book.IsTrueAnswer task verdict
+  pub is_answer : IsAnswerOf task kids verdict
+  pub is_true : entries.IsTrueAnswer task verdict
   pub ends : ending ≡ ending_of task verdict
   pub text : written ≡ written_of task verdict
+
+-- the search of a task has this answer, and its entries are kept there
+pub record IsKeptSolution (k : Keeping) (task : Task) (digest : List ℕ) (ending : Ending) (written : List ℕ) : Type 0 where
+  pub kids : List Kid
+  pub solution : IsSolution task kids ending written
+  pub kept : IsKeptIn k digest kids
 
 -- two texts have this answer: that of the search of the task that they say, and it is true of the lifted task that they say
 pub record IsSolved (domain problem : List ℕ) (ending : Ending) (written : List ℕ) : Type 0 where
   pub task : Task
   pub is_task : IsTaskOf domain problem task
-  pub solution : IsSolution task ending written
+  pub kids : List Kid
+  pub solution : IsSolution task kids ending written
   pub is_true_of_domain : IsTrueOfDomain is_task.lifted task solution.verdict
 
+-- the same, and the entries of the search are kept there
+pub record IsKeptAnswer (k : Keeping) (domain problem : List ℕ) (ending : Ending) (written : List ℕ) : Type 0 where
+  pub solved : IsSolved domain problem ending written
+  pub kept : IsKeptIn k (digest_of domain problem) solved.kids
+
 -- the text of the answer is written, whole
-pub record Writes (domain problem : List ℕ) (old new : Option (List ℕ)) (ending : Ending) : Type 0 where
+pub record Writes (k : Keeping) (domain problem : List ℕ) (old new : Option (List ℕ)) (ending : Ending) : Type 0 where
   pub text : List ℕ
-  pub solved : IsSolved domain problem ending text
+  pub answer : IsKeptAnswer k domain problem ending text
   pub bytes : Appends old new text
 
 -- a text is all that is to be written of the answer to two texts, however that ends
-pub record IsAnswerText (domain problem : List ℕ) (text : List ℕ) : Type 0 where
+pub record IsAnswerText (k : Keeping) (domain problem : List ℕ) (text : List ℕ) : Type 0 where
   pub ending : Ending
-  pub solved : IsSolved domain problem ending text
-
--- why the search of a task has no answer: memory ran out, or the book refuses so
-pub data HasNoSolution (task : Task) : Fault → Type 0 where
-  OfMemory : HasNoSolution task NoMemory
-  OfBook : (r : Refusal) → Tells task r → HasNoSolution task (Refused r)
+  pub answer : IsKeptAnswer k domain problem ending text
 
 -- why two texts have no answer: what is told of the texts; or they say a task, and its search has none; or they have one, of whose text a
 -- beginning is written, and what is told of the error that the writer has answered. The writer is untouched where it is not to blame
-pub data HasNoAnswer (domain problem : List ℕ) (old new : Option (List ℕ)) (before noted : Option ErrorKind) : Fault → Type 0 where
+pub data HasNoAnswer (k : Keeping) (domain problem : List ℕ) (old new : Option (List ℕ)) (before noted : Option ErrorKind) : Fault → Type 0 where
   OfTexts : IsUntouched old new before noted → (f : TaskFault) → Explains domain problem f
-      → HasNoAnswer domain problem old new before noted (task_in f)
-  OfSearch : IsUntouched old new before noted → (t : Task) (f : Fault) → IsTaskOf domain problem t → HasNoSolution t f
-      → HasNoAnswer domain problem old new before noted f
-  OfOutput : (f : Fault) → FailsToWrite (IsAnswerText domain problem) old new noted f → HasNoAnswer domain problem old new before noted f
+      → HasNoAnswer k domain problem old new before noted (task_in f)
+  OfSearch : IsUntouched old new before noted → (t : Task) (f : Fault) → IsTaskOf domain problem t → FailsIn k t (digest_of domain problem) f
+      → HasNoAnswer k domain problem old new before noted f
+  OfOutput : (f : Fault) → FailsToWrite (IsAnswerText k domain problem) old new noted f → HasNoAnswer k domain problem old new before noted f
 
 -- the same, where nothing was to be written yet: whatever a writer holds, and is noted of it
-abbrev pub HasNoAnswerYet : List ℕ → List ℕ → Fault → Type 0
-HasNoAnswerYet domain problem f =
-    (bytes : Option (List ℕ)) (noted : Option ErrorKind) → HasNoAnswer domain problem bytes bytes noted noted f
+abbrev pub HasNoAnswerYet : Keeping → List ℕ → List ℕ → Fault → Type 0
+HasNoAnswerYet k domain problem f =
+    (bytes : Option (List ℕ)) (noted : Option ErrorKind) → HasNoAnswer k domain problem bytes bytes noted noted f
+
+-- a text is not written, or not all of it: memory ran out, and nothing is written; or a beginning is, which is not all of it, and the writer
+-- has answered an error. This is told of it
+pub record IsUnwritten (text : List ℕ) (old new : Option (List ℕ)) (before noted : Option ErrorKind) (fault : Fault) : Type 0 where
+  pub error : WriteError
+  pub short : AppendsShort old new text
+  pub memory : KeepsFor old new error
+  pub answered : IsNoted before noted error
+  pub told : TellsUnwritten error fault

@@ -2,7 +2,14 @@
 use Rattle.std.specs.Prelude.{◌≡◌, ◌≢◌, ◌⊎◌, ℕ, List, Option, Some, Result, MatchResult, codes}
 use Rattle.std.specs.declared.io.ErrorKind.{ErrorKind}
 use Rattle.std.specs.declared.io.ErrorKind.TheVariants.{OutOfMemory}
-use Rattle.hd_book.specs.Refusal as book
+use Rattle.hd_store.specs.declared.error.StoreError.{StoreError}
+use Rattle.hd_store.specs.declared.error.StoreError.TheVariants as store
+use Rattle.hd_journal.specs.declared.error.JournalError.{JournalError}
+use Rattle.hd_journal.specs.declared.error.JournalError.TheVariants as journaling
+use Rattle.hd_journal.specs.Error as journal
+use Rattle.hd_search.specs.declared.fault.RunFault.{RunFault}
+use Rattle.hd_search.specs.declared.fault.RunFault.TheVariants as searching
+use Rattle.hd_search.specs.Fault as search
 use Rattle.hd_plan.specs.declared.error.PlanTextError.{PlanTextError}
 use Rattle.hd_plan.specs.declared.error.PlanTextError.TheVariants as plan_text
 use Rattle.hd_plan.specs.Error as plan_reader
@@ -15,7 +22,7 @@ use Rattle.hd_texts.specs.declared.fault.TaskFault.TheVariants as texts
 use Rattle.hd_texts.specs.Fault as task
 use Rattle.hd_validate.specs.Error as validator
 use Rattle.hplan.specs.declared.fault.Fault.{Fault}
-use Rattle.hplan.specs.declared.fault.Fault.TheVariants.{Task, PlanText, Plan, Device, Refused, NoMemory}
+use Rattle.hplan.specs.declared.fault.Fault.TheVariants.{Task, PlanText, Plan, Device, Journal, Search, NoMemory}
 
 -- the printed form: that of the crate whose fault it is
 abbrev pub text_of : Fault → List ℕ
@@ -23,7 +30,8 @@ text_of (Task fault) = task.text_of fault
 text_of (PlanText error) = plan_reader.text_of error
 text_of (Plan error) = validator.text_of error
 text_of Device = codes "35 Device"
-text_of (Refused refusal) = book.text_of refusal
+text_of (Journal error) = journal.text_of error
+text_of (Search fault) = search.text_of fault
 text_of NoMemory = codes "NoMemory"
 
 -- a fault of the domain's and the problem's texts; want of memory is no fault of theirs
@@ -32,6 +40,16 @@ task_in (texts.Read source error) = Task (texts.Read source error)
 task_in (texts.Check source fault) = Task (texts.Check source fault)
 task_in (texts.Ground error) = Task (texts.Ground error)
 task_in texts.NoMemory = NoMemory
+
+-- a fault is one of the domain's and the problem's texts
+abbrev pub IsOfTexts : Fault → Type 0
+IsOfTexts (Task fault) = Unit {0}
+IsOfTexts (PlanText error) = ⊥
+IsOfTexts (Plan error) = ⊥
+IsOfTexts Device = ⊥
+IsOfTexts (Journal error) = ⊥
+IsOfTexts (Search fault) = ⊥
+IsOfTexts NoMemory = ⊥
 
 -- an error of a plan's text
 abbrev pub plan_read_in : PlanTextError → Fault
@@ -48,7 +66,32 @@ judged_in (judging.Departs step) = Plan (judging.Departs step)
 judged_in judging.GoalUnmet = Plan judging.GoalUnmet
 judged_in judging.NoMemory = NoMemory
 
+-- why a journal can't be begun, or gone on with; want of memory is no fault of it
+abbrev pub journal_in : JournalError → Fault
+journal_in journaling.NotAJournal = Journal journaling.NotAJournal
+journal_in journaling.OtherTask = Journal journaling.OtherTask
+journal_in (journaling.Damaged at) = Journal (journaling.Damaged at)
+journal_in journaling.Device = Journal journaling.Device
+journal_in journaling.Failed = Journal journaling.Failed
+journal_in journaling.JournalExists = Journal journaling.JournalExists
+journal_in journaling.NotOut = Journal journaling.NotOut
+journal_in journaling.NoMemory = NoMemory
+
+-- why a search has ended without an answer; want of memory is no fault of it
+abbrev pub search_in : RunFault → Fault
+search_in searching.Full = Search searching.Full
+search_in (searching.Damaged at) = Search (searching.Damaged at)
+search_in searching.Device = Search searching.Device
+search_in searching.Failed = Search searching.Failed
+search_in searching.NotOut = Search searching.NotOut
+search_in searching.NoMemory = NoMemory
+
 -- ---- files, readers and writers
+
+-- why a file was not lent
+abbrev pub store_in : StoreError → Fault
+store_in store.NoMemory = NoMemory
+store_in store.Failed = Device
 
 -- what is told of an error of this kind: want of memory, or else that the device failed
 abbrev pub TellsKind : ErrorKind → Fault → Type 0

@@ -1,5 +1,6 @@
 pub mod Answer
 pub mod Fault
+pub mod Kept
 pub mod Places
 pub mod PlanFiles
 pub mod PlanText

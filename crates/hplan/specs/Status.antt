@@ -1,7 +1,7 @@
 -- The exit status of an answer. (Our own.)
 use Rattle.std.specs.Prelude.{ℕ}
-use Rattle.hplan.specs.declared.engine.Ending.{Ending}
-use Rattle.hplan.specs.declared.engine.Ending.TheVariants.{Optimal, NoPlan, RangeLeft}
+use Rattle.hplan.specs.declared.told.Ending.{Ending}
+use Rattle.hplan.specs.declared.told.Ending.TheVariants.{Optimal, NoPlan, RangeLeft}
 use Rattle.hplan.specs.declared.program.TheConstants.{DONE, NO_PLAN, RANGE_LEFT}
 
 -- by how the answer ends

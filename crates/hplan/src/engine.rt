@@ -1,100 +1,60 @@
 //! From the bytes of two texts to the bytes of a plan.
-ghost use Rattle.std.specs.Prelude.{◌≡◌, ◌⊎◌, true, IfOk, IfErr, IfSome, OnOk, OnErr};
+ghost use Rattle.std.specs.Prelude.{◌≡◌, ◌⊎◌, IfOk, IfErr, OnOk, OnErr};
 ghost use Rattle.std.specs.Io.KnownBytes.{Appends};
 ghost use Rattle.hd_plan.specs.Output.{AppendsShort, KeepsFor, NotesError};
-ghost use Rattle.hd_plan.specs.PlanText as plans;
-ghost use Rattle.hplan.specs.Answer.{plan_in, written_of, ending_of, IsSolved, IsAnswerText, Writes, IsSolution, HasNoSolution, HasNoAnswer, HasNoAnswerYet};
-ghost use Rattle.hplan.specs.PlanText.{printed, plan_text, goes_through};
+ghost use Rattle.hplan.specs.Answer.{IsKeptAnswer, IsAnswerText, IsUnwritten, Writes, HasNoAnswer, HasNoAnswerYet};
+ghost use Rattle.hplan.specs.Fault.{IsOfTexts};
+ghost use Rattle.hplan.specs.Kept.{InMemory, InFile};
+ghost use Rattle.hplan.specs.PlanText.{printed};
 ghost use Rattle.hplan.specs.Written.{WritesFrontOfA};
 
 use crate::fault::{Fault, unwritten};
-use crate::naming::{NamedPlan, named_plan};
-use crate::text::departure_text;
-use hd_base::{NoMemory, Sequence};
-use hd_book::{Refusal, Verdict};
+use crate::kept::{Start, solution_in_file, solution_in_memory};
+use crate::naming::NamedPlan;
+use crate::places::Places;
+use crate::told::{Ending, Told};
 use hd_plan::{Watched, WriteError, write_plan};
-use hd_search::run;
-use hd_task::{Plan, Task};
-use hd_texts::task_of;
+use hd_texts::{digest_of, task_of};
 use std::alloc::Global;
 use std::io::Write;
 
-/// How an answer ends.
-#[derive(Debug, PartialEq, Eq, Drop)]
-pub enum Ending {
-    /// With a plan of least cost.
-    Optimal,
-    /// There is no plan.
-    NoPlan,
-    /// A number left the range: where, as it is told.
-    RangeLeft(Sequence<u8>),
-}
-
-/// A verdict's plan by its names.
-fn plan_of(alloc: Global, task: &Task, plan: &Plan) -> Result<NamedPlan, NoMemory>
-    requires { goes_through task.now plan.now ≡ true }
-    ensures { IfOk result (λ named.
-        plans.plan_text named.steps named.cost ≡ plan_text task.now plan.now) }
-{
-    match named_plan(alloc, task, plan)? {
-        Some(named) => Ok(named),
-        None => unreachable!(),
-    }
-}
-
-/// How a verdict ends, and its plan, if it has one.
-fn told_of(
-    alloc: Global,
-    task: &Task,
-    verdict: &Verdict,
-) -> Result<(Ending, Option<NamedPlan>), NoMemory>
-    requires { IfSome (plan_in verdict.now) (λ p. goes_through task.now p ≡ true) }
-    ensures ends { IfOk result (λ found. found.0 ≡ ending_of task.now verdict.now) }
-    ensures text { IfOk result (λ found. printed found.1 ≡ written_of task.now verdict.now) }
-{
-    match verdict {
-        Verdict::Optimal(plan) => Ok((Ending::Optimal, Some(plan_of(alloc, task, plan)?))),
-        Verdict::NoPlan => Ok((Ending::NoPlan, None)),
-        Verdict::RangeLeft(departure, plan) => {
-            let told = departure_text(alloc, task, *departure)?;
-            let plan = match plan {
-                Some(plan) => Some(plan_of(alloc, task, plan)?),
-                None => None,
-            };
-            Ok((Ending::RangeLeft(Sequence::from_vec(told)), plan))
-        }
-    }
-}
-
-/// What the search of a task answers: how it ends, and the plan that is written.
-fn solution_of(alloc: Global, task: &Task) -> Result<(Ending, Option<NamedPlan>), Fault>
-    ensures found { IfOk result (λ found. IsSolution task.now found.0 (printed found.1)) }
-    ensures refusal { IfErr result (HasNoSolution task.now) }
-{
-    let verdict = match run(alloc, task) {
-        Ok(verdict) => verdict,
-        Err(Refusal::NoMemory) => return Err(Fault::NoMemory),
-        Err(refusal) => return Err(Fault::Refused(refusal)),
-    };
-    match told_of(alloc, task, &verdict) {
-        Ok(found) => Ok(found),
-        Err(_) => Err(Fault::NoMemory),
-    }
-}
-
-/// The answer to two texts: how it ends, and the plan that is written.
-fn answer_of(
-    alloc: Global,
-    domain: &[u8],
-    problem: &[u8],
-) -> Result<(Ending, Option<NamedPlan>), Fault>
-    ensures found { IfOk result (λ found.
-        IsSolved domain.now problem.now found.0 (printed found.1)) }
-    ensures refusal { IfErr result (HasNoAnswerYet domain.now problem.now) }
+/// The answer to two texts; its search is kept in memory.
+fn answer_in_memory(alloc: Global, domain: &[u8], problem: &[u8]) -> Result<Told, Fault>
+    ensures found { IfOk result (λ told. IsKeptAnswer InMemory domain.now problem.now
+        told.ending (printed told.plan)) }
+    ensures refusal { IfErr result (HasNoAnswerYet InMemory domain.now problem.now) }
 {
     match task_of(alloc, domain, problem) {
         Ok(task) => {
-            let answer = solution_of(alloc, &task);
+            let answer = solution_in_memory(alloc, &task, &digest_of(domain, problem));
+            drop(task);
+            answer
+        }
+        Err(fault) => Err(Fault::from(fault)),
+    }
+}
+
+/// The answer to two texts; its search is kept in a file.
+fn answer_in_file<P: Places>(
+    alloc: Global,
+    places: &mut P,
+    name: &str,
+    start: Start,
+    domain: &[u8],
+    problem: &[u8],
+) -> Result<Told, Fault>
+    ensures found { IfOk result (λ told. IsKeptAnswer
+        (InFile start (P.file_of places.old name.now) (P.file_of places.new name.now))
+        domain.now problem.now told.ending (printed told.plan)) }
+    ensures refusal { IfErr result (HasNoAnswerYet
+        (InFile start (P.file_of places.old name.now) (P.file_of places.new name.now))
+        domain.now problem.now) }
+    ensures untouched { IfErr result (λ f. IsOfTexts f → places.new ≡ places.old) }
+{
+    match task_of(alloc, domain, problem) {
+        Ok(task) => {
+            let digest = digest_of(domain, problem);
+            let answer = solution_in_file(alloc, places, name, start, &task, &digest);
             drop(task);
             answer
         }
@@ -122,7 +82,33 @@ fn write_found<W: Write>(
     }
 }
 
-/// Answers the task that two texts say, and writes the text of its plan, if it has one.
+/// Writes the text of an answer's plan, if it has one, and tells how the answer ends.
+fn write_told<W: Write>(
+    alloc: Global,
+    told: Told,
+    out: &mut Watched<'_, W>,
+) -> Result<Ending, Fault>
+    ensures ends { IfOk result (λ ending. ending ≡ told.ending) }
+    ensures whole { OnOk result (Appends (W.contents out.old.writer.now)
+        (W.contents out.new.writer.now) (printed told.plan)) }
+    ensures no_fault { OnOk result (out.new.fault ≡ out.old.fault) }
+    ensures refusal { IfErr result (IsUnwritten (printed told.plan)
+        (W.contents out.old.writer.now) (W.contents out.new.writer.now)
+        out.old.fault out.new.fault) }
+{
+    let Told { ending, plan } = told;
+    let written = write_found(alloc, &plan, out);
+    drop(plan);
+    match written {
+        Ok(()) => Ok(ending),
+        Err(error) => {
+            drop(ending);
+            Err(unwritten(error))
+        }
+    }
+}
+
+/// Answers the task that two texts say, and writes the text of its plan, if it has one. The search is kept in memory.
 ///
 /// # Errors
 /// The first fault of the texts, or why the search fails, or what is told of the error that the writer has answered. A beginning of
@@ -134,28 +120,59 @@ pub fn solve<W: Write>(
     out: &mut Watched<'_, W>,
 ) -> Result<Ending, Fault>
     // The text is exactly that of the plan that the search of the task answers.
-    ensures whole { IfOk result (Writes domain.now problem.now (W.contents out.old.writer.now)
-        (W.contents out.new.writer.now)) }
+    ensures whole { IfOk result (Writes InMemory domain.now problem.now
+        (W.contents out.old.writer.now) (W.contents out.new.writer.now)) }
     ensures front { OnErr result
         ((W.contents out.new.writer.now ≡ W.contents out.old.writer.now)
-        ⊎ WritesFrontOfA (IsAnswerText domain.now problem.now)
+        ⊎ WritesFrontOfA (IsAnswerText InMemory domain.now problem.now)
         (W.contents out.old.writer.now) (W.contents out.new.writer.now)) }
 
     // Why there is no answer, and what is written then. `Device` is told only of an error that the writer has answered, after which a
     // beginning of the answer's text is written; none that it answers is passed over.
-    ensures refusal { IfErr result (HasNoAnswer domain.now problem.now
+    ensures refusal { IfErr result (HasNoAnswer InMemory domain.now problem.now
         (W.contents out.old.writer.now) (W.contents out.new.writer.now)
         out.old.fault out.new.fault) }
     ensures no_fault { OnOk result (out.new.fault ≡ out.old.fault) }
 {
-    let (ending, plan) = answer_of(alloc, domain, problem)?;
-    let written = write_found(alloc, &plan, out);
-    drop(plan);
-    match written {
-        Ok(()) => Ok(ending),
-        Err(error) => {
-            drop(ending);
-            Err(unwritten(error))
-        }
-    }
+    let told = answer_in_memory(alloc, domain, problem)?;
+    write_told(alloc, told, out)
+}
+
+/// The same, where the search is kept in a file: each of its entries is in the journal there before anything follows from it, and all
+/// of them are before anything is written to `out`. A new journal wants a file that is not there or empty; one that is there goes on
+/// from the entries that it has.
+///
+/// # Errors
+/// The same, and, behind the faults of the texts, that the file can't be had, begun or gone on with.
+pub fn solve_kept<P: Places, W: Write>(
+    alloc: Global,
+    places: &mut P,
+    name: &str,
+    start: Start,
+    domain: &[u8],
+    problem: &[u8],
+    out: &mut Watched<'_, W>,
+) -> Result<Ending, Fault>
+    // The text is that of the plan that the entries answer which the file has at the end; they begin with those that it had.
+    ensures whole { IfOk result (Writes
+        (InFile start (P.file_of places.old name.now) (P.file_of places.new name.now))
+        domain.now problem.now
+        (W.contents out.old.writer.now) (W.contents out.new.writer.now)) }
+    ensures front { OnErr result
+        ((W.contents out.new.writer.now ≡ W.contents out.old.writer.now)
+        ⊎ WritesFrontOfA (IsAnswerText
+        (InFile start (P.file_of places.old name.now) (P.file_of places.new name.now))
+        domain.now problem.now)
+        (W.contents out.old.writer.now) (W.contents out.new.writer.now)) }
+    ensures refusal { IfErr result (HasNoAnswer
+        (InFile start (P.file_of places.old name.now) (P.file_of places.new name.now))
+        domain.now problem.now
+        (W.contents out.old.writer.now) (W.contents out.new.writer.now)
+        out.old.fault out.new.fault) }
+    ensures no_fault { OnOk result (out.new.fault ≡ out.old.fault) }
+    // Texts at fault begin no journal.
+    ensures untouched { IfErr result (λ f. IsOfTexts f → places.new ≡ places.old) }
+{
+    let told = answer_in_file(alloc, places, name, start, domain, problem)?;
+    write_told(alloc, told, out)
 }

@@ -1,11 +1,13 @@
 //! Why there is no answer.
 ghost use Rattle.std.specs.IoError.{error_kind};
 ghost use Rattle.std.specs.Prelude.{◌≡◌, Some};
-ghost use Rattle.hplan.specs.Fault.{text_of, task_in, plan_read_in, judged_in, TellsKind, TellsUnwritten};
+ghost use Rattle.hplan.specs.Fault.{text_of, task_in, plan_read_in, judged_in, journal_in, search_in, store_in, TellsKind, TellsUnwritten};
 ghost use Rattle.hplan.specs.declared.fault.Fault.TheVariants as faults;
 
-use hd_book::Refusal;
+use hd_journal::JournalError;
 use hd_plan::{PlanTextError, WriteError};
+use hd_search::RunFault;
+use hd_store::StoreError;
 use hd_texts::TaskFault;
 use hd_validate::PlanError;
 use std::alloc::{AllocError, AllocFailed};
@@ -23,8 +25,10 @@ pub enum Fault {
     Plan(PlanError),
     /// A file could not be opened, read or written.
     Device,
-    /// The book of the search refuses.
-    Refused(Refusal),
+    /// The journal of the search can't be begun, or gone on with.
+    Journal(JournalError),
+    /// The search has ended without an answer.
+    Search(RunFault),
     /// Memory ran out.
     NoMemory,
 }
@@ -38,7 +42,8 @@ impl fmt::Display for Fault {
             Fault::PlanText(error) => write!(f, "{error}"),
             Fault::Plan(error) => write!(f, "{error}"),
             Fault::Device => write!(f, "35 Device"),
-            Fault::Refused(refusal) => write!(f, "{refusal}"),
+            Fault::Journal(error) => write!(f, "{error}"),
+            Fault::Search(fault) => write!(f, "{fault}"),
             Fault::NoMemory => write!(f, "NoMemory"),
         }
     }
@@ -95,6 +100,46 @@ pub fn judged_in(error: PlanError) -> Fault
         | PlanError::NegativeCost(_)
         | PlanError::Departs(_)
         | PlanError::GoalUnmet => Fault::Plan(error),
+    }
+}
+
+/// Why a journal can't be begun, or gone on with.
+pub fn journal_in(error: JournalError) -> Fault
+    ensures { result ≡ journal_in error }
+{
+    match error {
+        JournalError::NoMemory => Fault::NoMemory,
+        JournalError::NotAJournal
+        | JournalError::OtherTask
+        | JournalError::Damaged(_)
+        | JournalError::Device
+        | JournalError::Failed
+        | JournalError::JournalExists
+        | JournalError::NotOut => Fault::Journal(error),
+    }
+}
+
+/// Why a search has ended without an answer.
+pub fn search_in(fault: RunFault) -> Fault
+    ensures { result ≡ search_in fault }
+{
+    match fault {
+        RunFault::NoMemory => Fault::NoMemory,
+        RunFault::Full
+        | RunFault::Damaged(_)
+        | RunFault::Device
+        | RunFault::Failed
+        | RunFault::NotOut => Fault::Search(fault),
+    }
+}
+
+/// Why a file was not lent.
+pub fn store_in(error: StoreError) -> Fault
+    ensures { result ≡ store_in error }
+{
+    match error {
+        StoreError::NoMemory => Fault::NoMemory,
+        StoreError::Failed => Fault::Device,
     }
 }
 

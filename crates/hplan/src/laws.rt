@@ -5,8 +5,8 @@ ghost use Rattle.hd_task.specs.FormText.{form_text};
 ghost use Rattle.hd_task.specs.declared.form.GroundForm.{GroundForm};
 ghost use Rattle.hd_task.specs.declared.form.Names.{Names};
 ghost use Rattle.hd_printing.specs.Printing.{step_of};
-ghost use Rattle.hplan.specs.declared.engine.Ending.{Ending};
-ghost use Rattle.hplan.specs.declared.engine.Ending.TheVariants.{Optimal};
+ghost use Rattle.hplan.specs.declared.told.Ending.{Ending};
+ghost use Rattle.hplan.specs.declared.told.Ending.TheVariants.{Optimal};
 ghost use Rattle.hplan.specs.Answer.{IsSolved};
 ghost use Rattle.hplan.specs.PlanFiles.{IsValidatedFile, IsFileOfValid, IsFileOfOptimal};
 

@@ -1,23 +1,43 @@
 //! Where the program's files are.
-ghost use Rattle.std.specs.Prelude.{◌≡◌, ◌++◌, [], ◌∷◌, None, Some, IfOk, IfSome, OnOk, OnErr, map, option_map, string_bytes};
-ghost use Rattle.hplan.specs.Places.{file_in};
+ghost use Rattle.std.specs.Prelude.{◌≡◌, ◌++◌, ◌<◌, [], ◌∷◌, None, Some, IfOk, IfSome, OnOk, OnErr, MatchResult, length, option_map, slice_get, slice_set};
+ghost use Rattle.hd_store.specs.Device.{content_of};
+ghost use Rattle.hd_store.specs.MemoryDisk.{device_of};
+ghost use Rattle.hplan.specs.Places.{file_in, place_in, shown};
 
+use hd_store::{FileStore, MemoryDisk, Store, StoreError};
 use std::alloc::{AllocError, Global};
+use std::fs::File;
 use std::marker::Model;
 use std::rt::Files;
-use std::{fs, io};
+use std::{fs, io, mem};
 
-/// Where named files are read: the system's files, or byte lists in memory.
+/// Where named files are read, and lent as disks: the system's files, or byte lists in memory.
 pub trait Places {
     ghost use Rattle.std.specs.Prelude.{List, ℕ, Option, None};
 
     // The bytes of the file of this name, where they are known.
     ghost file_of: { Self → List ℕ → Option (List ℕ) } = { λ _ _. None };
 
+    /// A file that is lent.
+    type Disk: Store + Drop;
+
     /// The bytes of a file, whole.
     fn read(&mut self, alloc: Global, name: &str) -> io::Result<Vec<u8>>
         ensures { IfOk result (λ v.
             IfSome (file_of self.old name.now) (λ bytes. v.items ≡ bytes)) };
+
+    /// Lends a file, and makes it, empty, if it is to be made and is not there. It is to be given back.
+    ///
+    /// # Errors
+    /// A failure where it can't be had. Want of memory.
+    fn store(&mut self, alloc: Global, name: &str, make: bool) -> Result<Self::Disk, StoreError>
+        ensures { IfOk result (λ disk. IfSome (file_of self.old name.now)
+            (λ bytes. content_of (Self.Disk.device disk) ≡ bytes)) };
+
+    /// Takes a file back, as it is now.
+    fn give_back(&mut self, name: &str, disk: Self::Disk)
+        ensures { IfSome (file_of self.new name.now)
+            (λ bytes. content_of (Self.Disk.device disk) ≡ bytes) };
 }
 
 /// The system's files, of whose bytes nothing is known.
@@ -33,24 +53,36 @@ impl<'r, R> SystemFiles<'r, R> {
     }
 }
 
-impl<R: Files + AllocGlobal> Places for SystemFiles<'_, R> {
+impl<R: Files<File = File> + AllocGlobal> Places for SystemFiles<'_, R> {
+    type Disk = FileStore;
+
     fn read(&mut self, _alloc: Global, name: &str) -> io::Result<Vec<u8>> {
         fs::read(self.rt, name)
     }
+
+    fn store(&mut self, alloc: Global, name: &str, make: bool) -> Result<FileStore, StoreError> {
+        FileStore::open(self.rt, alloc, name, make)
+    }
+
+    fn give_back(&mut self, _name: &str, disk: FileStore) {
+        drop(disk);
+    }
 }
 
-/// Byte lists in memory, which contracts see as names with their bytes. A name names the first file that has it.
-#[derive(Debug, Drop)]
+/// Files in memory, which contracts see as names with their bytes. A name names the first file that has it. A file that is lent is
+/// empty until it is given back.
+#[derive(Drop)]
 pub struct Shelf {
-    files: Vec<(String, Vec<u8>)>,
+    files: Vec<(String, MemoryDisk)>,
 }
 
 impl Model for Shelf {
-    ghost use Rattle.std.specs.Prelude.{List, ℕ, map, string_bytes};
+    ghost use Rattle.std.specs.Prelude.{List, ℕ};
+    ghost use Rattle.hplan.specs.Places.{shown};
 
     ghost Value = { List (List ℕ × List ℕ) };
 
-    ghost view = { λ s. map (λ f. (string_bytes f.0, f.1.items)) s.files.items };
+    ghost view = { λ s. shown s.files.items };
 }
 
 impl Shelf {
@@ -63,6 +95,25 @@ impl Shelf {
         }
     }
 
+    /// One file more, whose bytes are those of a disk.
+    ///
+    /// # Errors
+    /// `AllocError` where there is no room for it; the shelf is then as it was.
+    pub fn put_disk(
+        &mut self,
+        alloc: Global,
+        name: &str,
+        disk: MemoryDisk,
+    ) -> Result<(), AllocError>
+        ensures ok { OnOk result (self.new
+            ≡ self.old ++ (name.now, content_of (device_of disk)) ∷ []) }
+        ensures err { OnErr result (self.new ≡ self.old) }
+    {
+        let name = String::from_str(alloc, name)?;
+        self.files.push((name, disk))?;
+        Ok(())
+    }
+
     /// One file more.
     ///
     /// # Errors
@@ -71,30 +122,72 @@ impl Shelf {
         ensures ok { OnOk result (self.new ≡ self.old ++ (name.now, bytes.now) ∷ []) }
         ensures err { OnErr result (self.new ≡ self.old) }
     {
-        let name = String::from_str(alloc, name)?;
         let bytes = Vec::from_slice(alloc, bytes)?;
-        self.files.push((name, bytes))?;
-        Ok(())
+        let disk = MemoryDisk::of(alloc, bytes)?;
+        self.put_disk(alloc, name, disk)
     }
 }
 
-/// The bytes of the first file of this name.
-fn find<'s>(files: &'s [(String, Vec<u8>)], name: &str) -> Option<&'s [u8]>
-    ensures { option_map (λ b. b.now) result
-        ≡ file_in (map (λ f. (string_bytes f.0, f.1.items)) files.now) name.now }
+/// The place of the first file of this name.
+fn place_of(files: &[(String, MemoryDisk)], name: &str) -> Option<usize>
+    ensures place { result ≡ place_in (shown files.now) name.now }
+    ensures within { IfSome result (λ place. place < length files.now) }
 {
+    let mut place = 0;
     let mut rest = files;
     while let [first, after @ ..] = rest {
         if first.0.as_str() == name {
-            return Some(first.1.as_slice());
+            return Some(place);
         }
+        place += 1;
         rest = after;
     }
     None
 }
 
+/// The bytes of the first file of this name.
+fn find<'s>(files: &'s [(String, MemoryDisk)], name: &str) -> Option<&'s [u8]>
+    ensures { option_map (λ b. b.now) result ≡ file_in (shown files.now) name.now }
+{
+    match place_of(files, name) {
+        Some(place) => Some(files[place].1.bytes()),
+        None => None,
+    }
+}
+
+/// Puts a disk in the place of one, which is answered.
+fn put_at(files: &mut [(String, MemoryDisk)], place: usize, disk: MemoryDisk) -> MemoryDisk
+    requires { place < length files.old }
+    ensures was { IfSome (slice_get files.old place) (λ file. result ≡ file.1) }
+    ensures now { IfSome (slice_get files.old place)
+        (λ file. files.new ≡ slice_set files.old place (file.0, disk)) }
+{
+    mem::replace(&mut files[place].1, disk)
+}
+
+/// Puts a disk in the place of the first file of this name, whose disk is answered; or else it is answered itself.
+fn exchange(
+    files: &mut [(String, MemoryDisk)],
+    name: &str,
+    disk: MemoryDisk,
+) -> Result<MemoryDisk, MemoryDisk>
+    ensures before { MatchResult result
+        (λ was. file_in (shown files.old) name.now ≡ Some (content_of (device_of was)))
+        (λ _. file_in (shown files.old) name.now ≡ None) }
+    ensures after { OnOk result
+        (file_in (shown files.new) name.now ≡ Some (content_of (device_of disk))) }
+    ensures none { OnErr result (files.new ≡ files.old) }
+{
+    match place_of(files, name) {
+        Some(place) => Ok(put_at(files, place, disk)),
+        None => Err(disk),
+    }
+}
+
 impl Places for Shelf {
     ghost file_of = { λ s name. file_in s name };
+
+    type Disk = MemoryDisk;
 
     fn read(&mut self, alloc: Global, name: &str) -> io::Result<Vec<u8>>
         ensures { IfOk result (λ v. file_in self.old name.now ≡ Some v.items) }
@@ -103,5 +196,20 @@ impl Places for Shelf {
             return Err(io::Error::from(io::ErrorKind::NotFound));
         };
         Ok(Vec::from_slice(alloc, bytes)?)
+    }
+
+    fn store(&mut self, alloc: Global, name: &str, make: bool) -> Result<MemoryDisk, StoreError> {
+        match exchange(&mut self.files, name, MemoryDisk::new(alloc)) {
+            Ok(disk) => Ok(disk),
+            Err(disk) if make => {
+                self.put_disk(alloc, name, MemoryDisk::new(alloc))?;
+                Ok(disk)
+            }
+            Err(_) => Err(StoreError::Failed),
+        }
+    }
+
+    fn give_back(&mut self, name: &str, disk: MemoryDisk) {
+        let _ = exchange(&mut self.files, name, disk);
     }
 }

@@ -3,16 +3,19 @@ ghost use Rattle.std.specs.Prelude.{◌≡◌, MatchResult};
 ghost use Rattle.hplan.specs.Status.{status_of_ending};
 ghost use Rattle.hplan.specs.declared.program.TheConstants.{DONE, REFUSED};
 
-use crate::engine::{Ending, solve};
+use crate::engine::{solve, solve_kept};
 use crate::fault::{Fault, device_fault};
 use crate::grounding::ground;
+use crate::kept::Start;
 use crate::output::write_out;
 use crate::places::{Places, SystemFiles};
 use crate::reasons::explain;
+use crate::told::Ending;
 use crate::validating::validate;
 use hd_plan::{Watched, put};
 use hd_words::{Request, WordsError, read_words};
 use std::alloc::Global;
+use std::fs::File;
 use std::io::Write;
 use std::rt::{Env, Files};
 use std::{env, io};
@@ -80,19 +83,35 @@ fn read<P: Places>(alloc: Global, places: &mut P, name: &str) -> Result<Vec<u8>,
     }
 }
 
-/// Reads two files, and writes the plan of their task.
+/// Reads two files, and writes the plan of their task. The search is kept in the file of a journal, if one is named.
 fn solve_files<P: Places, O: Write>(
     alloc: Global,
     places: &mut P,
     domain: &str,
     problem: &str,
+    journal: Option<(&str, Start)>,
     out: &mut O,
 ) -> Result<Ending, Fault> {
     let domain = read(alloc, places, domain)?;
     let problem = read(alloc, places, problem)?;
-    let ending = solve(alloc, &domain, &problem, &mut Watched::of(&mut *out))?;
+    let watched = &mut Watched::of(&mut *out);
+    let ended = match journal {
+        Some((name, start)) => solve_kept(alloc, places, name, start, &domain, &problem, watched),
+        None => solve(alloc, &domain, &problem, watched),
+    };
+    let ending = ended?;
     flush(out)?;
     Ok(ending)
+}
+
+/// The exit status of a search; how it ends is told, or its fault.
+fn status_of_search<E: Write>(err: &mut E, ended: Result<Ending, Fault>) -> u8
+    ensures { MatchResult ended (λ ending. result ≡ status_of_ending ending) (λ _. result ≡ REFUSED) }
+{
+    match ended {
+        Ok(ending) => tell(err, &ending),
+        Err(fault) => refuse(err, &fault),
+    }
 }
 
 /// Reads two files, and writes the actions of their task.
@@ -186,11 +205,28 @@ fn answer<P: Places, O: Write, E: Write>(
         Request::Solve {
             domain,
             problem,
+            journal,
             ..
-        } => match solve_files(alloc, places, domain.as_str(), problem.as_str(), out) {
-            Ok(ending) => tell(err, &ending),
-            Err(fault) => refuse(err, &fault),
-        },
+        } => {
+            let journal = match journal {
+                Some(name) => Some((name.as_str(), Start::New)),
+                None => None,
+            };
+            let names = (domain.as_str(), problem.as_str());
+            let ended = solve_files(alloc, places, names.0, names.1, journal, out);
+            status_of_search(err, ended)
+        }
+        Request::Resume {
+            domain,
+            problem,
+            journal,
+            ..
+        } => {
+            let journal = Some((journal.as_str(), Start::Kept));
+            let names = (domain.as_str(), problem.as_str());
+            let ended = solve_files(alloc, places, names.0, names.1, journal, out);
+            status_of_search(err, ended)
+        }
         Request::Ground { domain, problem } => {
             let done = ground_files(alloc, places, domain.as_str(), problem.as_str(), out);
             status_of(err, done)
@@ -217,7 +253,7 @@ fn answer<P: Places, O: Write, E: Write>(
 ///
 /// What was asked for goes to `out`, and everything else to `err`. Faults are looked for in this order: the command line;
 /// the domain's file, the problem's, the plan's; the domain's text, the problem's; their names, types and metric; the grounding (not to
-/// validate); the plan's text; the work itself.
+/// validate); the plan's text; the journal; the work itself.
 pub fn command<P: Places, O: Write, E: Write>(
     alloc: Global,
     words: &[String],
@@ -242,7 +278,7 @@ fn words_of<R: Env + AllocGlobal>(rt: &R) -> io::Result<Vec<String>> {
 }
 
 /// Runs the program with the system's words and files, and answers the exit status.
-pub fn start<R: Env + Files + AllocGlobal, O: Write, E: Write>(
+pub fn start<R: Env + Files<File = File> + AllocGlobal, O: Write, E: Write>(
     rt: &R,
     out: &mut O,
     err: &mut E,

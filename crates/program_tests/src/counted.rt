@@ -1,6 +1,6 @@
 //! How many plans a search expands, and how many kids are posted and settled. The numbers were worked out by hand: each state that can be
 //! reached is expanded once, at its least cost, and each of its kids is settled.
-use hd_search::searched;
+use hd_search::run_in_memory;
 use hd_texts::task_of;
 use hplan::Fault;
 use std::alloc::Global;
@@ -25,12 +25,12 @@ const TEN_PROBLEM: &str = "(define (problem ten1) (:domain ten) (:init) (:goal (
 /// The numbers of entries, of kids that were posted and of kids that were settled in the search of the task of two texts.
 fn counts_of(alloc: Global, domain: &str, problem: &str) -> Result<(u64, u64, u64), Fault> {
     let task = task_of(alloc, domain.as_bytes(), problem.as_bytes())?;
-    match searched(alloc, &task) {
-        Ok(book) => {
-            let counts = book.counts();
+    match run_in_memory(alloc, &task) {
+        Ok(ended) => {
+            let counts = ended.counts;
             Ok((counts.entries, counts.posted, counts.settled))
         }
-        Err(refusal) => Err(Fault::Refused(refusal)),
+        Err(fault) => Err(Fault::Search(fault)),
     }
 }
 

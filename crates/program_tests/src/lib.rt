@@ -13,6 +13,8 @@ mod digests;
 mod explained;
 #[cfg(test)]
 mod grounded;
+#[cfg(test)]
+mod kept;
 mod line;
 #[cfg(test)]
 mod numeric;

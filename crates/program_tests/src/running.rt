@@ -16,7 +16,7 @@ fn shown(alloc: Global, status: u8, out: &[u8], err: &[u8]) -> Result<Vec<u8>, A
 }
 
 /// The files of these names.
-fn shelf_of(alloc: Global, files: &[(&str, &[u8])]) -> Result<Shelf, AllocError> {
+pub fn shelf_of(alloc: Global, files: &[(&str, &[u8])]) -> Result<Shelf, AllocError> {
     let mut shelf = Shelf::empty(alloc);
     for (name, bytes) in files {
         shelf.put(alloc, name, bytes)?;
@@ -24,14 +24,19 @@ fn shelf_of(alloc: Global, files: &[(&str, &[u8])]) -> Result<Shelf, AllocError>
     Ok(shelf)
 }
 
-/// A run of these words over files of these names.
-pub fn run(alloc: Global, words: &[&str], files: &[(&str, &[u8])]) -> Result<Vec<u8>, AllocError> {
+/// A run of these words over the files of a shelf.
+pub fn run_over(alloc: Global, words: &[&str], shelf: &mut Shelf) -> Result<Vec<u8>, AllocError> {
     let words = line_of(alloc, words)?;
-    let mut shelf = shelf_of(alloc, files)?;
     let mut out = Vec::new(alloc);
     let mut err = Vec::new(alloc);
-    let status = command(alloc, &words, &mut shelf, &mut out, &mut err);
+    let status = command(alloc, &words, &mut *shelf, &mut out, &mut err);
     shown(alloc, status, &out, &err)
+}
+
+/// A run of these words over files of these names.
+pub fn run(alloc: Global, words: &[&str], files: &[(&str, &[u8])]) -> Result<Vec<u8>, AllocError> {
+    let mut shelf = shelf_of(alloc, files)?;
+    run_over(alloc, words, &mut shelf)
 }
 
 /// What stands between the first and the second bar of a run of status 0, whose standard error is empty.

@@ -11,9 +11,21 @@ fn read_line(alloc: Global, line: &[String]) -> Result<String, AllocError> {
             Request::Solve {
                 domain,
                 problem,
+                journal,
                 workers,
             },
-        ) => format!(in alloc; "solve {domain} {problem} {workers}"),
+        ) => match journal {
+            Some(journal) => format!(in alloc; "solve {domain} {problem} in {journal} {workers}"),
+            None => format!(in alloc; "solve {domain} {problem} {workers}"),
+        },
+        Ok(
+            Request::Resume {
+                domain,
+                problem,
+                journal,
+                workers,
+            },
+        ) => format!(in alloc; "resume {domain} {problem} in {journal} {workers}"),
         Ok(Request::Ground { domain, problem }) => {
             format!(in alloc; "ground {domain} {problem}")
         }
@@ -53,6 +65,14 @@ fn commands_take_files_and_a_number_of_workers(rt: HostRuntime) -> Result<(), Fa
             ["solve", "--workers=64", "d", "p"].as_slice(),
             "solve d p 64",
         ),
+        (
+            ["solve", "d", "p", "--journal", "j"].as_slice(),
+            "solve d p in j 4",
+        ),
+        (
+            ["resume", "--journal=j", "d", "p", "--workers", "2"].as_slice(),
+            "resume d p in j 2",
+        ),
         (["ground", "d", "p"].as_slice(), "ground d p"),
         (["validate", "d", "p", "s"].as_slice(), "validate d p s"),
         (
@@ -80,6 +100,18 @@ fn other_words_are_faults(rt: HostRuntime) -> Result<(), Fail> {
         (
             ["solve", "d", "p", "--workers", "65"].as_slice(),
             "fault: error: invalid value '65' for '--workers <N>': 65 is not in 1..=64",
+        ),
+        (
+            ["resume", "d", "p"].as_slice(),
+            "fault: error: the following required arguments were not provided:\n  --journal <FILE>",
+        ),
+        (
+            ["resume", "d", "p", "--journal", "j", "--workers", "65"].as_slice(),
+            "fault: error: invalid value '65' for '--workers <N>': 65 is not in 1..=64",
+        ),
+        (
+            ["ground", "d", "p", "--journal", "j"].as_slice(),
+            "fault: error: unexpected argument '--journal' found",
         ),
         (
             ["ground", "d", "p", "--workers", "1"].as_slice(),
@@ -133,6 +165,15 @@ fn help_and_version_are_shown(rt: HostRuntime) -> Result<(), Fail> {
             ["solve", "--help"].as_slice(),
             "shown: Prints a plan of least cost",
             ["--workers <N>", "Exit status: 0 a plan", "11 a number left"],
+        ),
+        (
+            ["resume", "--help"].as_slice(),
+            "shown: Goes on with a search that was stopped",
+            [
+                "--journal <FILE>",
+                "--workers <N>",
+                "Exit status: 0, 10 and 11",
+            ],
         ),
         (
             ["ground", "--help"].as_slice(),

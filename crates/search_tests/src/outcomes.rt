@@ -2,7 +2,7 @@
 ghost use Rattle.std.specs.Prelude.{◌≡◌, IfOk};
 ghost use Rattle.std.specs.List.{AllByRecursion};
 ghost use Rattle.hd_task.specs.Plans.{IsStateOf};
-ghost use Rattle.hd_book.specs.Settling.{IsOf};
+ghost use Rattle.hd_entries.specs.Settling.{IsOf};
 
 use crate::tasks::state;
 use hd_hmax::{Estimate, Hmax};

@@ -1,7 +1,16 @@
-use Rattle.hplan.proofs.Solving.{answer_unwritten}
+use Rattle.hplan.specs.Kept.{InMemory}
+use Rattle.hplan.proofs.Solving.{all_written, front_written, not_written}
 use Rattle.hplan.proofs.engine.solve.Goals as goal
 
-pub returns-in-Err-clause-refusal : goal.returns-in-Err-clause-refusal
-returns-in-Err-clause-refusal g c =
-    answer_unwritten c.args.domain.now c.args.problem.now _ _ _ _ _ _ c.in-Err.error _ c.in_ok-ending.ensures.found c.in-Err.ensures.short
-    c.in-Err.ensures.no_memory c.in-Err.ensures.fault c.unwritten.ensures
+pub returns-clause-whole : goal.returns-clause-whole
+returns-clause-whole g c =
+    all_written InMemory c.args.domain.now c.args.problem.now _ _ _ c.write_told.result c.in_ok-told.ensures.found c.write_told.ensures.ends
+    c.write_told.ensures.whole
+
+pub returns-clause-front : goal.returns-clause-front
+returns-clause-front g c =
+    front_written InMemory c.args.domain.now c.args.problem.now _ _ _ _ _ c.write_told.result c.in_ok-told.ensures.found c.write_told.ensures.refusal
+
+pub returns-clause-refusal : goal.returns-clause-refusal
+returns-clause-refusal g c =
+    not_written InMemory c.args.domain.now c.args.problem.now _ _ _ _ _ c.write_told.result c.in_ok-told.ensures.found c.write_told.ensures.refusal

@@ -1,5 +1,5 @@
 use Rattle.std.specs.List.{AllByRecursion}
-use Rattle.hd_book.specs.Settling.{IsOf}
+use Rattle.hd_entries.specs.Settling.{IsOf}
 use Rattle.search_tests.proofs.outcomes.batch_of.Given as goal
 
 -- the outcomes so far are of the task

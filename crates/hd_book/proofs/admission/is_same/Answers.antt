@@ -1,5 +1,0 @@
-use Rattle.hd_book.proofs.Same.{packings_tell}
-use Rattle.hd_book.proofs.admission.is_same.Goals as goal
-
-pub returns : goal.returns
-returns c = packings_tell c.eq.result c.args.one.now c.args.other.now c.eq.ensures.same c.eq.ensures.states

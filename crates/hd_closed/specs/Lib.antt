@@ -1,0 +1,4 @@
+pub mod Closed
+pub mod Notes
+pub mod Numbering
+pub mod Shut

@@ -1,0 +1,273 @@
+//! The closed list.
+ghost use Rattle.std.specs.Prelude.{◌≡◌, ℕ, ◌+◌, ◌<◌, ◌≤◌, ◌^◌, ◌++◌, [], ◌∷◌, true, false, Some, map, length, vec_len, vec_capacity, slice_get, slice_index, IfOk, IfSome, IfNone, OnOk, OnErr};
+ghost use Rattle.hd_task.specs.Plans.{IsStateOf};
+ghost use Rattle.hd_hmax.specs.Rounds.{hmax};
+ghost use Rattle.hd_hmax.specs.Value.{estimated};
+ghost use Rattle.hd_closed.specs.Numbering.{closed_numbered, numbered};
+ghost use Rattle.hd_closed.specs.Closed.{closed_at, BeginsWith, IsNamedBy, IsDearer};
+ghost use Rattle.hd_closed.specs.Notes.{state_of, AreChained};
+ghost use Rattle.hd_closed.specs.Shut.{HasNumbered, AreNumbered, is_cheaper, no_dearer};
+
+use crate::notes::{Heads, Note, add, find};
+use crate::numbering::numbered;
+use hd_base::NoMemory;
+use hd_hmax::{EstimateValue, Hmax};
+use hd_node::{By, Hashed};
+use hd_task::Task;
+use std::alloc::Global;
+use std::collections::HashMap;
+use std::marker::Model;
+
+/// An expansion: what names it, the place of its state's note, and what its plan costs.
+#[derive(Clone, Copy, Debug, PartialEq, Eq)]
+pub(crate) struct Shut {
+    pub(crate) by: By,
+    pub(crate) state: usize,
+    pub(crate) cost: u64,
+}
+
+/// The states that a worker has met, and the expansions that it knows of, in order.
+#[derive(Debug, Drop)]
+pub struct ClosedList<'t> {
+    task: &'t Task,
+    notes: Vec<Note>,
+    heads: Heads,
+    shuts: Vec<Shut>,
+    /// All expansions before this place are entries.
+    entered: usize,
+    /// There is room for one expansion more.
+    ready: bool,
+}
+
+impl<'t> Model for ClosedList<'t> {
+    ghost use Rattle.std.specs.Prelude.{◌≡◌, ◌<◌, true, map, vec_len, vec_capacity};
+    ghost use Rattle.hd_closed.specs.Closed.{ClosedView};
+    ghost use Rattle.hd_task.specs.contracts.task.Task as tasks;
+    ghost use Rattle.std.specs.Coded.{codes};
+
+    ghost Value = { ClosedView };
+
+    ghost coded = { Prim.hlevel (codes, tasks.the_row.coded) };
+
+    ghost use Rattle.hd_closed.specs.Notes.{state_of};
+    ghost use Rattle.hd_closed.specs.Shut.{closed_of, IsKept};
+
+    ghost view = { λ c. record {
+      task = c.task.now;
+      states = map state_of c.notes.items;
+      closed = map (closed_of (map state_of c.notes.items)) c.shuts.items;
+      ready = c.ready;
+    } };
+
+    ghost invariant = { λ c. IsKept c.task.now c.notes.items c.heads c.shuts.items c.entered
+        × (c.ready ≡ true → vec_len c.shuts < vec_capacity c.shuts) };
+}
+
+/// Names the expansions from a place on anew, once the batch that was given last is numbered from `first` on. Those before it are entries,
+/// which keep their names.
+fn number_from(shuts: &mut [Shut], from: usize, first: u64, given: &[u64])
+    requires fits { (k : ℕ) → first + slice_index given.now k < 2 ^ 64 }
+    requires entered { HasNumbered shuts.old from }
+    requires bounded { from ≤ length shuts.old }
+    ensures { AreNumbered first given.now shuts.old shuts.new }
+{
+    for place in from..shuts.len() {
+        let shut = shuts[place];
+        shuts[place] = Shut {
+            by: numbered(first, given, shut.by),
+            ..shut
+        };
+    }
+}
+
+/// A place up to which all expansions are entries, where they are so up to another.
+fn entered_from(shuts: &[Shut], from: usize) -> usize
+    requires entered { HasNumbered shuts.now from }
+    requires bounded { from ≤ length shuts.now }
+    ensures entered { HasNumbered shuts.now result }
+    ensures bounded { result ≤ length shuts.now }
+{
+    let mut entered = from;
+    while entered < shuts.len() {
+        match shuts[entered].by {
+            By::Entry(_) => entered += 1,
+            By::Here(_) => return entered,
+        }
+    }
+    entered
+}
+
+/// One expansion more, where there is room for it.
+fn push_shut(shuts: &mut Vec<Shut>, shut: Shut)
+    requires { vec_len shuts.old < vec_capacity shuts.old }
+    ensures { shuts.new.items ≡ shuts.old.items ++ shut ∷ [] }
+{
+    match shuts.push(shut) {
+        Ok(()) => {}
+        Err(_) => unreachable!(),
+    }
+}
+
+/// Whether an expansion of this cost is cheaper than that at a place, if there is one.
+fn is_cheaper(shuts: &[Shut], least: Option<usize>, cost: u64) -> bool
+    ensures { result ≡ is_cheaper shuts.now least cost }
+{
+    match least {
+        Some(place) => match shuts.get(place) {
+            Some(shut) => cost < shut.cost,
+            None => true,
+        },
+        None => true,
+    }
+}
+
+/// What names the expansion at a place, if there is one, and it costs no more.
+fn no_dearer(shuts: &[Shut], least: Option<usize>, cost: u64) -> Option<By>
+    ensures { result ≡ no_dearer shuts.now least cost }
+{
+    match least {
+        Some(place) => match shuts.get(place) {
+            Some(shut) => {
+                if shut.cost <= cost {
+                    Some(shut.by)
+                } else {
+                    None
+                }
+            }
+            None => None,
+        },
+        None => None,
+    }
+}
+
+impl<'t> ClosedList<'t> {
+    /// No states and no expansions.
+    pub fn empty(alloc: Global, task: &'t Task) -> ClosedList<'t>
+        ensures { result ≡ record { task = task.now; states = []; closed = []; ready = false } }
+    {
+        ClosedList {
+            task,
+            notes: Vec::new(alloc),
+            heads: HashMap::new(alloc),
+            shuts: Vec::new(alloc),
+            entered: 0,
+            ready: false,
+        }
+    }
+
+    /// The state at a place, with its hash.
+    pub fn state(&self, place: usize) -> &Hashed
+        requires { place < length self.now.states }
+        ensures state { slice_get self.now.states place ≡ Some result.now }
+        ensures of_task { IsStateOf self.now.task result.now }
+    {
+        &self.notes[place].state
+    }
+
+    /// The place of a state. One that was not met before comes behind the others, as a copy.
+    ///
+    /// # Errors
+    /// `NoMemory` where there is no room for it.
+    pub fn place_of(&mut self, alloc: Global, state: &Hashed) -> Result<usize, NoMemory>
+        requires of_task { IsStateOf self.old.task state.now }
+        ensures task { self.new.task ≡ self.old.task }
+        ensures begins { BeginsWith self.new.states self.old.states }
+        ensures closed { self.new.closed ≡ self.old.closed }
+        ensures ready { self.new.ready ≡ self.old.ready }
+        ensures place { IfOk result (λ k. slice_get self.new.states k ≡ Some state.now) }
+        ensures err { OnErr result (self.new ≡ self.old) }
+    {
+        if let Some(place) = find(self.notes.as_slice(), &self.heads, state) {
+            return Ok(place);
+        }
+        let copy = state.copied(alloc)?;
+        let place = self.notes.len();
+        add(&mut self.notes, &mut self.heads, copy)?;
+        Ok(place)
+    }
+
+    /// The estimate of the state at a place. It is made where it is asked for first, and kept.
+    pub fn estimate(&mut self, estimates: &mut Hmax<'t>, place: usize) -> EstimateValue
+        requires place { place < length self.old.states }
+        requires of_task { estimates.old.task ≡ self.old.task }
+        ensures value { IfSome (slice_get self.old.states place)
+            (λ s. estimated result ≡ hmax self.old.task s) }
+        ensures same { self.new ≡ self.old }
+        ensures task { estimates.new.task ≡ estimates.old.task }
+    {
+        let known = self.notes[place].value;
+        if let Some(value) = known {
+            return value;
+        }
+        let value = estimates.value(self.notes[place].state.state());
+        self.notes[place].value = Some(value);
+        value
+    }
+
+    /// What names an expansion of the state at a place that costs no more, if there is one.
+    pub fn dominating(&self, place: usize, cost: u64) -> Option<By>
+        requires { place < length self.now.states }
+        ensures named { IfSome result (λ by. IfSome (slice_get self.now.states place)
+            (λ s. IsNamedBy self.now.closed s cost by)) }
+        ensures none { IfNone result (IfSome (slice_get self.now.states place)
+            (λ s. IsDearer self.now.closed s cost)) }
+    {
+        no_dearer(self.shuts.as_slice(), self.notes[place].least, cost)
+    }
+
+    /// Makes room for one expansion more.
+    ///
+    /// # Errors
+    /// `NoMemory` where there is none.
+    pub fn reserve(&mut self) -> Result<(), NoMemory>
+        ensures task { self.new.task ≡ self.old.task }
+        ensures states { self.new.states ≡ self.old.states }
+        ensures closed { self.new.closed ≡ self.old.closed }
+        ensures ready { OnOk result (self.new.ready ≡ true) }
+        ensures err { OnErr result (self.new ≡ self.old) }
+    {
+        self.shuts.reserve(1)?;
+        self.ready = true;
+        Ok(())
+    }
+
+    /// One expansion more, of the state at a place. It takes no memory.
+    pub fn close(&mut self, place: usize, by: By, cost: u64)
+        requires place { place < length self.old.states }
+        requires ready { self.old.ready ≡ true }
+        ensures task { self.new.task ≡ self.old.task }
+        ensures states { self.new.states ≡ self.old.states }
+        ensures closed { self.new.closed
+            ≡ self.old.closed ++ closed_at self.old.states place by cost ∷ [] }
+    {
+        let added = self.shuts.len();
+        let cheaper = is_cheaper(self.shuts.as_slice(), self.notes[place].least, cost);
+        self.ready = false;
+        push_shut(
+            &mut self.shuts,
+            Shut {
+                by,
+                state: place,
+                cost,
+            },
+        );
+        if cheaper {
+            self.notes[place].least = Some(added);
+        }
+    }
+
+    /// Names all expansions anew, once the batch that was given last is numbered from `first` on: of each outcome of that batch,
+    /// `given` has how many expansions stand before it. It takes no memory, and looks only at expansions from the first one on that
+    /// had no number before.
+    pub fn number(&mut self, first: u64, given: &[u64])
+        requires { (k : ℕ) → first + slice_index given.now k < 2 ^ 64 }
+        ensures task { self.new.task ≡ self.old.task }
+        ensures states { self.new.states ≡ self.old.states }
+        ensures closed { self.new.closed
+            ≡ map (closed_numbered first given.now) self.old.closed }
+        ensures ready { self.new.ready ≡ self.old.ready }
+    {
+        number_from(self.shuts.as_mut_slice(), self.entered, first, given);
+        self.entered = entered_from(self.shuts.as_slice(), self.entered);
+    }
+}

@@ -1,0 +1,16 @@
+pub mod Accepting
+pub mod Adding
+pub mod After
+pub mod Again
+pub mod Best
+pub mod Children
+pub mod Deciding
+pub mod Faultless
+pub mod Held
+pub mod Judging
+pub mod Marking
+pub mod Naming
+pub mod Posting
+pub mod Same
+pub mod Slots
+pub mod Walking

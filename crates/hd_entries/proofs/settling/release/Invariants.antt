@@ -1,0 +1,18 @@
+use Rattle.std.proofs.Common.{◌≡◌, ◌+◌, ◌≤◌, ◌++◌, map, length, vec_len, vec_capacity}
+use Rattle.std.specs.List.{AllByRecursion}
+use Rattle.hd_task.specs.Plans.{IsStateOf}
+use Rattle.hd_node.specs.Children.{ChildView}
+use Rattle.hd_entries.specs.Holding.{parcel_of, released_from, IsParcelOf}
+use Rattle.hd_entries.proofs.settling.release.Given as goal
+
+-- the children pushed so far, and room for those that are left
+abbrev pub invariant-loop-child : goal.invariant-loop-child
+invariant-loop-child l = record {
+  whole : l.yielded ++ l.child-iterator ≡ l.fn.children;
+  room : vec_len l.parcels + length l.child-iterator ≤ vec_capacity l.parcels;
+  of_task : AllByRecursion (λ (c : ChildView). IsStateOf l.task c.state) l.child-iterator;
+  released : map parcel_of l.parcels.items ≡ map parcel_of l.fn.parcels.items ++ map (released_from l.entry) l.yielded;
+  len : vec_len l.parcels ≡ vec_len l.fn.parcels + length l.yielded;
+  capacity : vec_capacity l.fn.parcels ≤ vec_capacity l.parcels;
+  tasks : AllByRecursion (IsParcelOf l.task) l.parcels.items;
+}

@@ -1,0 +1,11 @@
+pub mod Admitting
+pub mod Answers
+pub mod Growing
+pub mod Holding
+pub mod Kids
+pub mod Marks
+pub mod Refusal
+pub mod Refusing
+pub mod Resuming
+pub mod Settling
+pub mod Waiting

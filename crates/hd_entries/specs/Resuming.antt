@@ -1,0 +1,61 @@
+-- What a list of entries is made into again, and what may be wrong with such a list. (Our own.)
+use Rattle.std.specs.Prelude.{◌≡◌, ℕ, ◌<◌, ◌≤◌, ◌||◌, Bool, not, nat_lt, if◌then◌else◌, List, [], ◌∷◌, ◌++◌, map, length, Option, Some, None, option_map, ◌⊎◌}
+use Rattle.std.specs.List.{list_any, filter}
+use Rattle.std.specs.Option.{option_or}
+use Rattle.hd_task.specs.declared.task.Task.{Task}
+use Rattle.hd_task.specs.declared.plan.Kid.{Kid}
+use Rattle.hd_task.specs.Plans.{node}
+use Rattle.hd_task.specs.Entries.{plans_of}
+use Rattle.hd_task.specs.Expansions.{IsLegal}
+use Rattle.hd_kids.specs.Kids.{root, same_kid}
+use Rattle.hd_node.specs.Parcel.{ParcelView}
+use Rattle.hd_entries.specs.declared.refusal.Refusal.{Refusal}
+use Rattle.hd_entries.specs.declared.refusal.Refusal.TheVariants.{UnknownParent, NotAKid, SettledBefore, Full, NoMemory}
+use Rattle.hd_entries.specs.Kids.{posted_by}
+use Rattle.hd_entries.specs.Settling.{BookState, node_of}
+use Rattle.hd_entries.specs.Holding.{EntriesView, plans_at}
+
+-- a kid is among some
+abbrev pub has : List Kid → Kid → Bool
+has kids k = list_any (same_kid k) kids
+
+-- why a kid can't be the next entry after these
+abbrev pub fault_at : Task → List Kid → Kid → Option Refusal
+fault_at t before k =
+    if not (same_kid k root || nat_lt k.parent (length before)) then Some UnknownParent
+    else if not (has (posted_by t (plans_at before)) k) then Some NotAKid
+    else if has before k then Some SettledBefore
+    else None
+
+-- the first fault of entries that come after others: the number of the entry, and why it can't stand there
+abbrev pub first_fault : Task → List Kid → List Kid → Option (ℕ × Refusal)
+first_fault t before [] = None
+first_fault t before (k ∷ later) =
+    option_or (option_map (λ (r : Refusal). (length before, r)) (fault_at t before k)) (first_fault t (before ++ k ∷ []) later)
+
+-- entries name the plans of a legal list
+abbrev pub AreLegal : Task → List Kid → Type 0
+AreLegal t entries = (expanded : List (List ℕ)) × (plans_of entries ≡ Some expanded) × IsLegal t expanded
+
+-- a search with exactly these entries: the kids that are entries are settled, and no other
+abbrev pub resumed_state : Task → List Kid → BookState
+resumed_state t entries = record { task = t; entries = entries; marks = map (has entries) (posted_by t (plans_at entries)) }
+
+-- the same, where there may be so many entries
+abbrev pub resumed : Task → ℕ → List Kid → EntriesView
+resumed t most entries = record { state = resumed_state t entries; most = most }
+
+-- the posted kids that are no entries, in posting order
+abbrev pub open_kids : Task → List Kid → List Kid
+open_kids t entries = filter (λ k. not (has entries k)) (posted_by t (plans_at entries))
+
+-- a parcel is of a search's task, and says of its kid where that leads
+pub record LeadsThere (b : BookState) (p : ParcelView) : Type 0 where
+  pub task : p.task ≡ b.task
+  pub leads : node_of b p.kid ≡ Some (node p.state p.cost)
+
+-- why a search is not made again from entries: there are more than there may be, or one of them is faulty; or there is no memory
+abbrev pub IsFaultOf : Task → ℕ → List Kid → ℕ → Refusal → Type 0
+IsFaultOf t most entries n r =
+    ((n ≡ 0) × (r ≡ Full) × (most < length entries))
+    ⊎ ((length entries ≤ most) × ((r ≡ NoMemory) ⊎ (first_fault t [] entries ≡ Some (n, r))))

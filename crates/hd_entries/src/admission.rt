@@ -1,0 +1,244 @@
+//! Whether a batch is refused: the book is only read.
+ghost use Rattle.std.specs.Prelude.{◌≡◌, ◌≤◌, true, Some, is_some, IfOk, IfErr, IfSome, OnOk, OnErr, None, length, take, drop, ◌⊎◌};
+ghost use Rattle.hd_task.specs.Plans.{IsStateOf, node, step_by};
+ghost use Rattle.hd_node.specs.Outcome.{kid_of};
+ghost use Rattle.hd_entries.specs.Settling.{expansions, knows_parent, is_posted, node_of, node_by, same_state, dominates, reaches, refusal_by};
+ghost use Rattle.hd_entries.specs.Admitting.{IsRight, IsWrong, first_wrong, marks_after, with_marks};
+ghost use Rattle.hd_task.specs.Expansions.{is_applicable, bound_of};
+ghost use Rattle.hd_hmax.specs.Value.{estimated};
+ghost use Rattle.hd_entries.specs.Holding.{node_at, state_with, unmarked, IsExpanded, HasKids};
+ghost use Rattle.hd_entries.specs.declared.refusal.Refusal.TheVariants as Refusal;
+
+use crate::Refusal;
+use crate::entry::{Best, Entry, Place};
+use crate::expanded::ExpandedPlans;
+use hd_hmax::EstimateValue;
+use hd_kids::KidTable;
+use hd_node::{By, Outcome};
+use hd_pack::{Layout, Led, Packed, leads, pack};
+use hd_task::{ActionId, Kid, NoMemory, ROOT_ACTION, ROOT_PARENT, Task};
+use hd_zobrist::Words;
+use std::alloc::Global;
+
+/// Where an action leads from an entry, if it is applicable there.
+fn step_from(
+    alloc: Global,
+    task: &Task,
+    words: &Words,
+    entry: &Entry,
+    action: u32,
+) -> Result<Option<Place>, NoMemory>
+    requires of_task { IsStateOf task.now entry.now.state }
+    ensures applicable { IfOk result (λ r. is_some r
+        ≡ is_applicable task.now (Some (node_at entry.now)) action) }
+    ensures leads { IfOk result (λ r. IfSome r (λ p.
+        step_by task.now (node_at entry.now) action ≡ Some (node p.state p.cost))) }
+{
+    if action as usize >= task.actions.len() {
+        return Ok(None);
+    }
+    let (state, hash) = (entry.state.state(), entry.state.hash());
+    match leads(
+        alloc,
+        task,
+        words,
+        state,
+        hash,
+        entry.cost,
+        ActionId(action),
+    )? {
+        Led::No => Ok(None),
+        Led::Departs => Ok(None),
+        Led::Next(state, _, cost) => Ok(Some(Place { state, cost })),
+    }
+}
+
+/// Whether two packed states are equal.
+fn is_same(one: &Packed, other: &Packed) -> bool
+    ensures { result ≡ same_state one.now other.now }
+{
+    *one == *other
+}
+
+/// Whether a node has a place's state at no greater cost.
+fn is_no_dearer(state: &Packed, cost: u64, reached: &Place) -> bool
+    ensures { result ≡ dominates (Some (node state.now cost))
+        (Some (node reached.now.state reached.now.cost)) }
+{
+    is_same(state, &reached.state) && cost <= reached.cost
+}
+
+impl<'t> ExpandedPlans<'t> {
+    /// Whether a kid is the root, or its parent is an entry.
+    pub(crate) fn knows_parent(&self, kid: Kid) -> bool
+        ensures { result ≡ knows_parent (unmarked self.now) kid }
+    {
+        (kid.parent == ROOT_PARENT && kid.action == ROOT_ACTION)
+            || (kid.parent as usize) < self.entries.len()
+    }
+
+    /// Where a posted kid leads, by the book's own application.
+    fn reach(&self, kid: Kid) -> Result<Place, NoMemory>
+        requires held { IsExpanded self.now }
+        requires known { knows_parent (unmarked self.now) kid ≡ true }
+        requires posted { is_posted (unmarked self.now) kid ≡ true }
+        ensures { IfOk result (λ c. node_of (unmarked self.now) kid
+            ≡ Some (node c.state c.cost)) }
+    {
+        if kid.parent == ROOT_PARENT {
+            let state = pack(self.alloc, &Layout::new(self.task), &self.task.initial)?;
+            return Ok(Place { state, cost: 0 });
+        }
+        let parent = self.entries.at(kid.parent as usize);
+        match step_from(self.alloc, self.task, &self.words, parent, kid.action)? {
+            Some(place) => Ok(place),
+            None => unreachable!(),
+        }
+    }
+
+    /// Whether what a duplicate names has a state at no greater cost.
+    fn dominates(&self, earlier: &[Outcome<'t>], by: By, reached: &Place) -> bool
+        requires held { IsExpanded self.now }
+        ensures { result ≡ dominates (node_by (unmarked self.now) earlier.now by)
+            (Some (node reached.now.state reached.now.cost)) }
+    {
+        match by {
+            By::Entry(number) => match self.entries.get(number as usize) {
+                Some(entry) => is_no_dearer(entry.state.state(), entry.cost, reached),
+                None => false,
+            },
+            By::Here(place) => match earlier.get(place) {
+                Some(Outcome::Expanded(better)) => {
+                    is_no_dearer(better.state(), better.cost(), reached)
+                }
+                Some(Outcome::Duplicate(_, _)) => false,
+                Some(Outcome::Bounded(_, _)) => false,
+                None => false,
+            },
+        }
+    }
+
+    /// Whether a cost and an estimate reach the bound, or the estimate is infinite.
+    fn reaches(&self, reached: &Place, estimate: EstimateValue) -> bool
+        requires held { IsExpanded self.now }
+        ensures { result ≡ reaches (bound_of self.now.task.now (expansions (unmarked self.now)))
+            (Some (node reached.now.state reached.now.cost)) (estimated estimate) }
+    {
+        match (self.best, estimate) {
+            (_, EstimateValue::Dead) => true,
+            (None, EstimateValue::Cost(_)) => false,
+            (Some(Best { cost: bound, .. }), EstimateValue::Cost(value)) => {
+                u128::from(bound) <= u128::from(reached.cost).saturating_add(value)
+            }
+        }
+    }
+
+    /// Why an outcome is refused by what it says of where its kid leads.
+    fn refusal_by(
+        &self,
+        earlier: &[Outcome<'t>],
+        outcome: &Outcome<'t>,
+        reached: &Place,
+    ) -> Option<Refusal>
+        requires held { IsExpanded self.now }
+        requires leads { node_of (unmarked self.now) (kid_of outcome.now)
+            ≡ Some (node reached.now.state reached.now.cost) }
+        ensures { result ≡ refusal_by (unmarked self.now) earlier.now outcome.now }
+    {
+        match outcome {
+            Outcome::Expanded(expansion) => {
+                if is_same(&reached.state, expansion.state()) && reached.cost == expansion.cost() {
+                    None
+                } else {
+                    Some(Refusal::StateDiffers)
+                }
+            }
+            Outcome::Duplicate(_, by) => {
+                if self.dominates(earlier, *by, reached) {
+                    None
+                } else {
+                    Some(Refusal::NotDominated)
+                }
+            }
+            Outcome::Bounded(_, estimate) => {
+                if !is_same(&reached.state, estimate.state()) {
+                    Some(Refusal::StateDiffers)
+                } else if self.reaches(reached, estimate.value()) {
+                    None
+                } else {
+                    Some(Refusal::BelowBound)
+                }
+            }
+        }
+    }
+
+    /// The place of an outcome's kid, where the outcome is right. The kids of the outcomes before it in its batch are settled already.
+    ///
+    /// # Errors
+    /// Why it is refused, or `NoMemory`.
+    fn judged(
+        &self,
+        kids: &KidTable,
+        earlier: &[Outcome<'t>],
+        outcome: &Outcome<'t>,
+    ) -> Result<usize, Refusal>
+        requires held { IsExpanded self.now }
+        requires posts { HasKids self.now.task.now self.now.entries.items kids.now }
+        ensures right { IfOk result
+            (IsRight (state_with self.now kids.now.marks) earlier.now outcome.now) }
+        ensures refused { IfErr result
+            (IsWrong (state_with self.now kids.now.marks) earlier.now outcome.now) }
+    {
+        let kid = outcome.kid();
+        if !self.knows_parent(kid) {
+            return Err(Refusal::UnknownParent);
+        }
+        let Some(place) = kids.place_of(kid) else {
+            return Err(Refusal::NotAKid);
+        };
+        if kids.is_settled(place) {
+            return Err(Refusal::SettledBefore);
+        }
+        let reached = self.reach(kid)?;
+        match self.refusal_by(earlier, outcome, &reached) {
+            Some(refusal) => Err(refusal),
+            None => Ok(place),
+        }
+    }
+
+    /// Settles the kids of the outcomes from a number on, each before the next outcome is judged; or none of them, where one is refused.
+    ///
+    /// # Errors
+    /// Why the first that is not right is refused, or `NoMemory`; the table is as it was.
+    pub(crate) fn settle_from(
+        &self,
+        kids: &mut KidTable,
+        outcomes: &[Outcome<'t>],
+        number: usize,
+    ) -> Result<(), Refusal>
+        requires held { IsExpanded self.now }
+        requires posts { HasKids self.now.task.now self.now.entries.items kids.old }
+        requires within { number ≤ length outcomes.now }
+        ensures right { OnOk result (first_wrong (state_with self.now kids.old.marks)
+            (take number outcomes.now) (drop number outcomes.now) ≡ None) }
+        ensures settled { OnOk result (kids.new ≡ with_marks kids.old
+            (marks_after (state_with self.now kids.old.marks) (drop number outcomes.now))) }
+        ensures refused { IfErr result (λ r. (r ≡ Refusal.NoMemory)
+            ⊎ (first_wrong (state_with self.now kids.old.marks)
+            (take number outcomes.now) (drop number outcomes.now) ≡ Some r)) }
+        ensures err { OnErr result (kids.new ≡ kids.old) }
+    {
+        if number == outcomes.len() {
+            return Ok(());
+        }
+        let place = self.judged(kids, &outcomes[..number], &outcomes[number])?;
+        kids.settle(place);
+        match self.settle_from(kids, outcomes, number + 1) {
+            Ok(()) => Ok(()),
+            Err(refusal) => {
+                kids.reopen(place);
+                Err(refusal)
+            }
+        }
+    }
+}

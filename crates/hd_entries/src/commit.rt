@@ -1,0 +1,169 @@
+//! A commit in two steps: one that may refuse and makes the room, and one that changes the book and can't fail.
+ghost use Rattle.std.specs.Prelude.{◌≡◌, ℕ, ◌+◌, ◌<◌, ◌≤◌, ◌^◌, ◌++◌, [], ◌∷◌, List, Some, None, vec_len, vec_capacity, length, map, flat_map, option_map, IfOk, IfErr, OnOk, OnErr};
+ghost use Rattle.std.specs.List.{AllByRecursion};
+ghost use Rattle.hd_task.specs.declared.plan.TheConstants.{ROOT_PARENT};
+ghost use Rattle.hd_kids.specs.Kids.{IsSame};
+ghost use Rattle.hd_entries.specs.Settling.{entry_of, all_settled, IsOf};
+ghost use Rattle.hd_entries.specs.Holding.{kid_at, parcel_of, released_by, state_of, view_of, BeginsWith, IsHeld, IsParcelOf, SettlesEach};
+ghost use Rattle.hd_entries.specs.Admitting.{SameButMarks, HasRoomFor, marks_after};
+ghost use Rattle.hd_entries.specs.Growing.{entered_by, best_by, departure_by, kids_in, posted_all};
+ghost use Rattle.hd_entries.specs.Refusing.{has_room, refusal_to, IsRefusalTo};
+ghost use Rattle.hd_entries.specs.declared.refusal.Refusal.TheVariants as Refusal;
+
+use crate::Refusal;
+use crate::content::Content;
+use crate::entry::Entry;
+use crate::settling::{best_after, departure_after, enter, kids_of, post_all};
+use hd_chunks::Chunks;
+use hd_kids::KidTable;
+use hd_node::{Batch, Outcome, Parcel};
+use hd_task::NoMemory;
+use std::alloc::Global;
+
+/// How many outcomes are expansions.
+fn count_entries(outcomes: &[Outcome]) -> usize
+    ensures count { result ≡ length (flat_map entry_of outcomes.now) }
+    ensures few { result ≤ length outcomes.now }
+{
+    let mut count = 0;
+    for outcome in outcomes {
+        if let Outcome::Expanded(_) = outcome {
+            count += 1;
+        }
+    }
+    count
+}
+
+/// Makes room for what outcomes add, and a `Vec` for the parcels of their kids.
+fn make_room<'t>(
+    alloc: Global,
+    entries: &mut Chunks<Entry>,
+    kids: &mut KidTable,
+    outcomes: &[Outcome<'t>],
+) -> Result<Vec<Parcel<'t>>, NoMemory>
+    requires fits { kids_in outcomes.now < 2 ^ 64 }
+    ensures entries { entries.new.items ≡ entries.old.items }
+    ensures kids { IsSame kids.old kids.new }
+    ensures room_entries { OnOk result
+        (length (flat_map entry_of outcomes.now) ≤ entries.new.room) }
+    ensures room_entered { OnOk result
+        (length (flat_map entry_of outcomes.now) ≤ kids.new.entry_room) }
+    ensures room_kids { OnOk result (kids_in outcomes.now ≤ kids.new.kid_room) }
+    ensures parcels { IfOk result (λ ps.
+        (ps.items ≡ []) × (kids_in outcomes.now ≤ vec_capacity ps)) }
+{
+    let (entry_count, kid_count) = (count_entries(outcomes), kids_of(outcomes));
+    entries.reserve(entry_count)?;
+    kids.reserve(entry_count, kid_count)?;
+    Vec::with_capacity(alloc, kid_count)
+}
+
+impl<'t> Content<'t> {
+    /// Whether there is room for the entries of outcomes.
+    pub(crate) fn has_room(&self, outcomes: &[Outcome<'t>]) -> bool
+        requires held { IsHeld self.now }
+        ensures { result ≡ has_room (view_of self.now) outcomes.now }
+    {
+        let entries = self.expanded.entries.len() as u64;
+        entries.saturating_add(count_entries(outcomes) as u64) <= self.most
+    }
+
+    /// Makes room for a batch of these outcomes, and a `Vec` for the parcels of their kids, and settles their kids; or refuses it.
+    pub(crate) fn admit(&mut self, outcomes: &[Outcome<'t>]) -> Result<Vec<Parcel<'t>>, Refusal>
+        requires held { IsHeld self.old }
+        requires fits { kids_in outcomes.now < 2 ^ 64 }
+        ensures same { SameButMarks self.old self.new }
+        ensures accepted { OnOk result (refusal_to (view_of self.old) outcomes.now ≡ None) }
+        ensures refused { IfErr result (IsRefusalTo (view_of self.old) outcomes.now) }
+        ensures marks { OnOk result (self.new.kids.marks
+            ≡ marks_after (state_of self.old) outcomes.now) }
+        ensures err { OnErr result (self.new.kids.marks ≡ self.old.kids.marks) }
+        ensures room { IfOk result (HasRoomFor self.new outcomes.now) }
+    {
+        if !self.has_room(outcomes) {
+            return Err(Refusal::Full);
+        }
+        let parcels = make_room(
+            self.expanded.alloc,
+            &mut self.expanded.entries,
+            &mut self.kids,
+            outcomes,
+        )?;
+        match self.expanded.settle_from(&mut self.kids, outcomes, 0) {
+            Ok(()) => Ok(parcels),
+            Err(refusal) => Err(refusal),
+        }
+    }
+
+    /// Adds a batch that is not refused; there is room for it, and its kids are settled. Gives the parcels of its expansions' kids.
+    pub(crate) fn accept(
+        &mut self,
+        outcomes: Vec<Outcome<'t>>,
+        parcels: Vec<Parcel<'t>>,
+    ) -> Vec<Parcel<'t>>
+        requires of_task { AllByRecursion (IsOf self.old.expanded.task.now) outcomes.items }
+        requires room { HasRoomFor self.old outcomes.items parcels }
+        requires few { self.old.kids.entries + length (flat_map entry_of outcomes.items)
+            ≤ ROOT_PARENT }
+        ensures task { self.new.expanded.task.now ≡ self.old.expanded.task.now }
+        ensures most { self.new.most ≡ self.old.most }
+        ensures entries { self.new.expanded.entries.items ≡ self.old.expanded.entries.items
+            ++ entered_by outcomes.entry.items }
+        ensures kids { self.new.kids ≡ posted_all self.old.kids outcomes.entry.items }
+        ensures best { self.new.expanded.best ≡ best_by self.old.expanded.best
+            (length self.old.expanded.entries.items) outcomes.entry.items }
+        ensures departure { self.new.expanded.departure
+            ≡ departure_by self.old.expanded.departure
+            (length self.old.expanded.entries.items) outcomes.entry.items }
+        ensures parcels { map parcel_of result.items
+            ≡ released_by (length self.old.expanded.entries.items) outcomes.entry.items }
+        ensures of_task { AllByRecursion (IsParcelOf self.old.expanded.task.now) result.items }
+    {
+        let mut parcels = parcels;
+        let first = self.expanded.entries.len();
+        self.expanded.best = best_after(self.expanded.best, first, &outcomes);
+        self.expanded.departure = departure_after(self.expanded.departure, first, &outcomes);
+        post_all(&mut self.kids, &outcomes);
+        enter(
+            self.expanded.task,
+            &mut self.expanded.entries,
+            &mut parcels,
+            outcomes,
+        );
+        parcels
+    }
+
+    /// Takes a batch, or refuses it, as [`crate::Entries::commit`] says.
+    pub(crate) fn commit(
+        &mut self,
+        batch: Batch<'t>,
+    ) -> Result<Vec<Parcel<'t>>, (Batch<'t>, Refusal)>
+        requires held { IsHeld self.old }
+        requires of_task { AllByRecursion (IsOf self.old.expanded.task.now) batch.outcomes }
+        ensures held { IsHeld self.new }
+        ensures task { self.new.expanded.task.now ≡ self.old.expanded.task.now }
+        ensures most { self.new.most ≡ self.old.most }
+        ensures begins { BeginsWith (map kid_at self.new.expanded.entries.items)
+            (map kid_at self.old.expanded.entries.items) }
+        ensures grown { OnOk result (map kid_at self.new.expanded.entries.items
+            ≡ map kid_at self.old.expanded.entries.items ++ flat_map entry_of batch.entry.outcomes) }
+        ensures accepted { OnOk result (refusal_to (view_of self.old) batch.entry.outcomes ≡ None) }
+        ensures state { OnOk result (state_of self.new
+            ≡ all_settled (state_of self.old) batch.entry.outcomes) }
+        ensures settled { OnOk result
+            (SettlesEach (state_of self.old) (state_of self.new) batch.entry.outcomes) }
+        ensures parcels { IfOk result (λ ps. map parcel_of ps.items
+            ≡ released_by (length self.old.expanded.entries.items) batch.entry.outcomes) }
+        ensures of_task { IfOk result (λ ps.
+            AllByRecursion (IsParcelOf self.old.expanded.task.now) ps.items) }
+        ensures refused { IfErr result (λ e.
+            IsRefusalTo (view_of self.old) batch.entry.outcomes e.1) }
+        ensures batch { IfErr result (λ e. e.0 ≡ batch.entry) }
+        ensures err { OnErr result (view_of self.new ≡ view_of self.old) }
+    {
+        match self.admit(batch.outcomes.as_slice()) {
+            Ok(parcels) => Ok(self.accept(batch.outcomes.into_vec(), parcels)),
+            Err(refusal) => Err((batch, refusal)),
+        }
+    }
+}

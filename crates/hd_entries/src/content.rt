@@ -1,0 +1,44 @@
+//! The parts of what is held of a search.
+use crate::expanded::ExpandedPlans;
+use hd_kids::KidTable;
+use hd_task::{NoMemory, Task};
+use hd_zobrist::Words;
+use std::alloc::Global;
+
+/// The parts of what is held of a search.
+#[derive(Debug, Drop)]
+pub(crate) struct Content<'t> {
+    pub(crate) expanded: ExpandedPlans<'t>,
+    /// What the expanded plans have posted, and what of it is settled.
+    pub(crate) kids: KidTable,
+    /// How many entries there may be.
+    pub(crate) most: u64,
+}
+
+impl<'t> Content<'t> {
+    ghost use Rattle.std.specs.Prelude.{◌≡◌, [], ◌∷◌, None, false, IfOk};
+    ghost use Rattle.hd_kids.specs.Kids.{root};
+
+    /// The parts of a search without entries: the root is posted.
+    ///
+    /// # Errors
+    /// `NoMemory` where there is no room for it.
+    pub(crate) fn new(alloc: Global, task: &'t Task, most: u64) -> Result<Content<'t>, NoMemory>
+        ensures task { IfOk result (λ c. c.expanded.task.now ≡ task.now) }
+        ensures entries { IfOk result (λ c. c.expanded.entries.items ≡ []) }
+        ensures best { IfOk result (λ c. c.expanded.best ≡ None) }
+        ensures departure { IfOk result (λ c. c.expanded.departure ≡ None) }
+        ensures kids { IfOk result (λ c. c.kids.kids ≡ root ∷ []) }
+        ensures marks { IfOk result (λ c. c.kids.marks ≡ false ∷ []) }
+        ensures entered { IfOk result (λ c. c.kids.entries ≡ 0) }
+        ensures most { IfOk result (λ c. c.most ≡ most) }
+    {
+        let words = Words::new(alloc, task)?;
+        let kids = KidTable::new(alloc)?;
+        Ok(Content {
+            expanded: ExpandedPlans::none(alloc, task, words),
+            kids,
+            most,
+        })
+    }
+}

@@ -1,0 +1,208 @@
+//! The entries of a search.
+use crate::content::Content;
+use crate::{Refusal, Verdict};
+use hd_node::{Batch, Hashed, Parcel};
+use hd_task::{Departure, Kid, NoMemory, Plan, Task};
+use std::alloc::Global;
+use std::marker::Model;
+
+/// The entries of a search, with the kids that they post and what of those is settled: no batch is accepted that is not justified.
+#[derive(Debug, Drop)]
+pub struct Entries<'t> {
+    content: Content<'t>,
+}
+
+impl<'t> Model for Entries<'t> {
+    ghost use Rattle.hd_entries.specs.Holding.{EntriesView, view_of, IsHeld};
+    ghost use Rattle.hd_task.specs.contracts.task.Task as tasks;
+    ghost use Rattle.std.specs.Coded.{codes};
+
+    ghost Value = { EntriesView };
+
+    ghost coded = { Prim.hlevel (codes, tasks.the_row.coded) };
+
+    ghost view = { λ b. view_of b.content };
+
+    ghost invariant = { λ b. IsHeld b.content };
+}
+
+impl<'t> Entries<'t> {
+    ghost use Rattle.std.specs.Prelude.{◌≡◌, ◌<◌, ◌≤◌, ◌^◌, [], None, length, map, slice_get, option_map, is_some, IfOk, IfErr, IfSome, OnOk, OnErr};
+    ghost use Rattle.hd_task.specs.declared.plan.TheConstants.{ROOT_PARENT};
+    ghost use Rattle.hd_task.specs.Plans.{node};
+    ghost use Rattle.hd_task.specs.Expansions.{bound_of, departures_of};
+    ghost use Rattle.std.specs.List.{AllByRecursion};
+    ghost use Rattle.hd_entries.specs.Settling.{IsOf, expansions, entry_node, IsKept, all_settled};
+    ghost use Rattle.hd_entries.specs.Holding.{no_entries, BeginsWith, GainsEntries, SettlesEach, posted_count, settled_count};
+    ghost use Rattle.hd_entries.specs.Holding.{parcel_of, released_by, IsParcelOf};
+    ghost use Rattle.hd_entries.specs.Refusing.{has_room, refusal_to, IsRefusalTo};
+    ghost use Rattle.hd_entries.specs.Resuming.{first_fault, open_kids, resumed, IsFaultOf, LeadsThere};
+    ghost use Rattle.hd_entries.specs.Answers.{is_over, IsCoveredBook, IsAnswerOf, IsBoundPlanOf, IsValidPlan, IsTrueAnswer};
+
+    /// No entries, of which there may be `most`: the root is posted.
+    ///
+    /// # Errors
+    /// `NoMemory` where there is no room for it.
+    pub fn new(alloc: Global, task: &'t Task, most: u64) -> Result<Entries<'t>, NoMemory>
+        requires { most < ROOT_PARENT }
+        ensures { IfOk result (λ b. b ≡ no_entries task.now most) }
+    {
+        Ok(Entries {
+            content: Content::new(alloc, task, most)?,
+        })
+    }
+
+    /// Exactly these entries, with no other kid settled; and the parcels of all posted kids that are no entries, in posting order.
+    ///
+    /// # Errors
+    /// `Full` with the number 0 where there are more entries than `most`; else the number of the first entry that can't be the next one
+    /// after those before it, with `UnknownParent`, `NotAKid` or `SettledBefore`; or `NoMemory`, never in place of `Full`.
+    pub fn resume(
+        alloc: Global,
+        task: &'t Task,
+        most: u64,
+        entries: &[Kid],
+    ) -> Result<(Entries<'t>, Vec<Parcel<'t>>), (u64, Refusal)>
+        requires { most < ROOT_PARENT }
+        ensures entries { IfOk result (λ r. r.0 ≡ resumed task.now most entries.now) }
+        ensures accepted { OnOk result (first_fault task.now [] entries.now ≡ None) }
+        ensures kept { IfOk result (λ r. IsKept r.0.state) }
+        ensures parcels { IfOk result (λ r. map (λ p. p.kid) r.1.items
+            ≡ open_kids task.now entries.now) }
+        ensures lead { IfOk result (λ r. AllByRecursion (LeadsThere r.0.state) r.1.items) }
+        ensures refused { IfErr result (λ e. IsFaultOf task.now most entries.now e.0 e.1) }
+    {
+        let (content, parcels) = Content::resume(alloc, task, most, entries)?;
+        Ok((Entries { content }, parcels))
+    }
+
+    /// Whether there is room for the entries of a batch.
+    pub fn has_room(&self, batch: &Batch<'t>) -> bool
+        ensures { result ≡ has_room self.now batch.now.outcomes }
+    {
+        self.content.has_room(batch.outcomes.as_slice())
+    }
+
+    /// Takes a batch: its expansions become entries, and its kids are settled. Gives the parcels of the kids of its expansions, in order.
+    ///
+    /// # Errors
+    /// The batch, and why it is refused: it is as it was, and so are the entries. In this order: `Full`, then for each outcome in order
+    /// `UnknownParent`, `NotAKid`, `SettledBefore`, `StateDiffers`, `NotDominated`, `BelowBound`. `NoMemory` may come in place of each
+    /// but the first, and of the parcels.
+    pub fn commit(&mut self, batch: Batch<'t>) -> Result<Vec<Parcel<'t>>, (Batch<'t>, Refusal)>
+        requires of_task { AllByRecursion (IsOf self.old.state.task) batch.outcomes }
+        ensures task { self.new.state.task ≡ self.old.state.task }
+        ensures most { self.new.most ≡ self.old.most }
+        ensures begins { BeginsWith self.new.state.entries self.old.state.entries }
+        ensures grown { OnOk result
+            (GainsEntries self.old.state self.new.state batch.entry.outcomes) }
+        ensures accepted { OnOk result (refusal_to self.old batch.entry.outcomes ≡ None) }
+        ensures state { OnOk result (self.new.state
+            ≡ all_settled self.old.state batch.entry.outcomes) }
+        ensures settled { OnOk result
+            (SettlesEach self.old.state self.new.state batch.entry.outcomes) }
+        ensures parcels { IfOk result (λ ps. map parcel_of ps.items
+            ≡ released_by (length self.old.state.entries) batch.entry.outcomes) }
+        ensures of_task { IfOk result (λ ps. AllByRecursion (IsParcelOf self.old.state.task)
+            ps.items) }
+        ensures refused { IfErr result (λ e. IsRefusalTo self.old batch.entry.outcomes e.1) }
+        ensures batch { IfErr result (λ e. e.0 ≡ batch.entry) }
+        ensures err { OnErr result (self.new ≡ self.old) }
+    {
+        self.content.commit(batch)
+    }
+
+    /// The task.
+    pub fn task(&self) -> &'t Task
+        ensures { result.now ≡ self.now.state.task }
+    {
+        self.content.expanded.task
+    }
+
+    /// How many entries there are: plans that are expanded. It takes no memory.
+    pub fn len(&self) -> u64
+        ensures kept { IsKept self.now.state }
+        ensures len { result ≡ length self.now.state.entries }
+        ensures few { result ≤ self.now.most }
+        ensures numbered { result < ROOT_PARENT }
+    {
+        self.content.expanded.entries.len() as u64
+    }
+
+    /// How many kids are posted: plans that are generated, the root's among them. It takes no memory.
+    pub fn posted(&self) -> u64
+        ensures posted { result ≡ posted_count self.now.state }
+        ensures few { result < 2 ^ 61 }
+    {
+        self.content.posted()
+    }
+
+    /// How many kids are settled: they are entries, or need not be. It takes no memory.
+    pub fn settled(&self) -> u64
+        ensures settled { result ≡ settled_count self.now.state }
+        ensures few { result ≤ posted_count self.now.state }
+    {
+        self.content.settled()
+    }
+
+    /// The kid of the entry with this number, if there is such an entry.
+    pub fn entry(&self, number: u64) -> Option<Kid>
+        ensures { result ≡ slice_get self.now.state.entries number }
+    {
+        match self.content.expanded.entries.get(number as usize) {
+            Some(entry) => Some(entry.kid),
+            None => None,
+        }
+    }
+
+    /// Where the plan of the entry with this number leads, and what it costs, if there is such an entry.
+    pub fn node(&self, number: u64) -> Option<(&Hashed, u64)>
+        ensures { option_map (λ r. node r.0.now r.1) result
+            ≡ entry_node self.now.state number }
+    {
+        self.content.expanded.node(number)
+    }
+
+    /// The least cost of an entry at which the goal holds, if there is one.
+    pub fn bound(&self) -> Option<u64>
+        ensures { result ≡ bound_of self.now.state.task (expansions self.now.state) }
+    {
+        match self.content.expanded.best {
+            Some(best) => Some(best.cost),
+            None => None,
+        }
+    }
+
+    /// The first departure from the range that was met, if there is one.
+    pub fn departure(&self) -> Option<Departure>
+        ensures { result ≡ slice_get
+            (departures_of self.now.state.task (expansions self.now.state)) 0 }
+    {
+        self.content.expanded.departure
+    }
+
+    /// The plan of the bound, if there is a bound: that of the least-numbered entry at which the goal holds at this cost. It is valid.
+    ///
+    /// # Errors
+    /// `NoMemory` where there is no room for the plan.
+    pub fn extract(&self) -> Result<Option<Plan>, NoMemory>
+        ensures plan { IfOk result (IsBoundPlanOf self.now.state.task (expansions self.now.state)) }
+        ensures valid { IfOk result (IsValidPlan self.now.state.task) }
+    {
+        self.content.extract()
+    }
+
+    /// The answer, once all is settled.
+    ///
+    /// # Errors
+    /// `NoMemory` where there is no room for a plan.
+    pub fn verdict(&self) -> Result<Option<Verdict>, NoMemory>
+        ensures over { IfOk result (λ v. is_some v ≡ is_over self.now.state) }
+        ensures kept { IsKept self.now.state }
+        ensures covered { IfOk result (λ v. IfSome v (λ _. IsCoveredBook self.now.state)) }
+        ensures answer { IfOk result (λ v. IfSome v (IsAnswerOf self.now.state)) }
+        ensures is_true { IfOk result (λ v. IfSome v (IsTrueAnswer self.now.state.task)) }
+    {
+        self.content.verdict()
+    }
+}

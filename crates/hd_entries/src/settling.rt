@@ -1,0 +1,236 @@
+//! What an accepted batch does to the parts of a book. Nothing here asks for memory: the room was made before.
+ghost use Rattle.std.specs.Prelude.{◌≡◌, ℕ, ◌+◌, ◌<◌, ◌≤◌, ◌^◌, ◌++◌, [], ◌∷◌, List, Some, vec_len, vec_capacity, length, map, flat_map, slice_get, option_map};
+ghost use Rattle.std.specs.List.{AllByRecursion, AllPairs};
+ghost use Rattle.hd_task.specs.declared.plan.TheConstants.{ROOT_PARENT};
+ghost use Rattle.hd_task.specs.Applying.{says_yes};
+ghost use Rattle.hd_task.specs.Expansions.{goal_cost, departure_at};
+ghost use Rattle.hd_task.specs.Plans.{IsStateOf, node};
+ghost use Rattle.hd_node.specs.Children.{ChildView};
+ghost use Rattle.hd_entries.specs.Settling.{entry_of, IsOf};
+ghost use Rattle.hd_entries.specs.Holding.{parcel_of, released_from, released_at, released_by, IsParcelOf};
+ghost use Rattle.hd_entries.specs.Growing.{entered, entered_by, better, best_by, departure_by, kids_at, kids_in, actions_of, with_kids, posted_all};
+
+use crate::entry::{Best, Entry};
+use hd_chunks::Chunks;
+use hd_kids::KidTable;
+use hd_node::{Child, Children, Expansion, Outcome, Parcel};
+use hd_task::{Departure, GoalTest, Task};
+
+/// How many kids the expansions among outcomes have.
+pub(crate) fn kids_of(outcomes: &[Outcome]) -> usize
+    requires fits { kids_in outcomes.now < 2 ^ 64 }
+    ensures { result ≡ kids_in outcomes.now }
+{
+    let mut count = 0usize;
+    for outcome in outcomes {
+        if let Outcome::Expanded(expansion) = outcome {
+            count += expansion.children().len();
+        }
+    }
+    count
+}
+
+/// What an expansion costs, if it meets the goal.
+fn goal_cost(expansion: &Expansion) -> Option<u64>
+    ensures { result ≡ goal_cost expansion.now.task
+        (Some (node expansion.now.state expansion.now.cost)) }
+{
+    match expansion.goal() {
+        GoalTest::Yes => Some(expansion.cost()),
+        GoalTest::No => None,
+        GoalTest::Departs => None,
+    }
+}
+
+/// The better one of what is best so far and a later entry.
+fn better(best: Option<Best>, entry: usize, cost: Option<u64>) -> Option<Best>
+    ensures { result ≡ better best entry cost }
+{
+    match (best, cost) {
+        (best, None) => best,
+        (None, Some(cost)) => Some(Best { cost, entry }),
+        (Some(best), Some(cost)) => {
+            if cost < best.cost {
+                Some(Best { cost, entry })
+            } else {
+                Some(best)
+            }
+        }
+    }
+}
+
+/// The best after outcomes, where the next entry has the number `first`.
+pub(crate) fn best_after(best: Option<Best>, first: usize, outcomes: &[Outcome]) -> Option<Best>
+    requires fits { first + length outcomes.now < 2 ^ 64 }
+    ensures { result ≡ best_by best first outcomes.now }
+{
+    let mut best = best;
+    let mut entry = first;
+    for outcome in outcomes {
+        if let Outcome::Expanded(expansion) = outcome {
+            best = better(best, entry, goal_cost(expansion));
+            entry += 1;
+        }
+    }
+    best
+}
+
+/// The first departure after outcomes, where the next entry has the number `first`.
+pub(crate) fn departure_after(
+    departure: Option<Departure>,
+    first: usize,
+    outcomes: &[Outcome],
+) -> Option<Departure>
+    requires fits { first + length outcomes.now < 2 ^ 64 }
+    ensures { result ≡ departure_by departure first outcomes.now }
+{
+    let mut departure = departure;
+    let mut entry = first;
+    for outcome in outcomes {
+        if let Outcome::Expanded(expansion) = outcome {
+            if departure.is_none() {
+                departure = first_departure(expansion, entry as u64);
+            }
+            entry += 1;
+        }
+    }
+    departure
+}
+
+/// The first departure of an expansion that is the entry of this number.
+fn first_departure(expansion: &Expansion, entry: u64) -> Option<Departure>
+    ensures { result ≡ option_map (departure_at entry) (slice_get expansion.now.departures 0) }
+{
+    match expansion.departures().first() {
+        Some(by) => Some(Departure { entry, by: *by }),
+        None => None,
+    }
+}
+
+/// Posts the children of an expansion, as the kids of an entry more.
+fn post(kids: &mut KidTable, children: &[Child])
+    requires entry_room { 0 < kids.old.entry_room }
+    requires kid_room { length children.now ≤ kids.old.kid_room }
+    requires few { kids.old.entries < ROOT_PARENT }
+    requires rises { AllPairs (λ (a b : ℕ). a < b) (actions_of children.now) }
+    ensures { kids.new ≡ with_kids kids.old (actions_of children.now) }
+{
+    kids.enter();
+    for child in children {
+        kids.post(child.action());
+    }
+}
+
+/// Posts the kids of the expansions among outcomes.
+pub(crate) fn post_all(kids: &mut KidTable, outcomes: &[Outcome])
+    requires entry_room { length (flat_map entry_of outcomes.now) ≤ kids.old.entry_room }
+    requires kid_room { kids_in outcomes.now ≤ kids.old.kid_room }
+    requires few { kids.old.entries + length (flat_map entry_of outcomes.now) ≤ ROOT_PARENT }
+    ensures { kids.new ≡ posted_all kids.old outcomes.now }
+{
+    for outcome in outcomes {
+        if let Outcome::Expanded(expansion) = outcome {
+            post(kids, expansion.children());
+        }
+    }
+}
+
+/// Pushes the kids of an entry as parcels.
+fn release<'t>(parcels: &mut Vec<Parcel<'t>>, task: &'t Task, entry: u64, children: Children)
+    requires room { vec_len parcels.old + length children ≤ vec_capacity parcels.old }
+    requires of_task { AllByRecursion (λ (c : ChildView). IsStateOf task.now c.state) children }
+    requires tasks { AllByRecursion (IsParcelOf task.now) parcels.old.items }
+    ensures released { map parcel_of parcels.new.items ≡ map parcel_of parcels.old.items
+        ++ map (released_from entry) children }
+    ensures len { vec_len parcels.new ≡ vec_len parcels.old + length children }
+    ensures capacity { vec_capacity parcels.old ≤ vec_capacity parcels.new }
+    ensures tasks { AllByRecursion (IsParcelOf task.now) parcels.new.items }
+{
+    for child in children {
+        parcels.push_reserved(Parcel::of_child(task, entry, child));
+    }
+}
+
+/// Adds an expansion to the entries, and its kids to the parcels.
+fn enter_expansion<'t>(
+    task: &'t Task,
+    entries: &mut Chunks<Entry>,
+    parcels: &mut Vec<Parcel<'t>>,
+    expansion: Expansion<'t>,
+)
+    requires of_task { expansion.task ≡ task.now }
+    requires room { 0 < entries.old.room }
+    requires parcels { vec_len parcels.old + length expansion.children ≤ vec_capacity parcels.old }
+    requires tasks { AllByRecursion (IsParcelOf task.now) parcels.old.items }
+    ensures entries { entries.new.items ≡ entries.old.items
+        ++ record {
+          kid = expansion.entry.kid;
+          state = expansion.entry.state;
+          cost = expansion.entry.cost;
+        } ∷ [] }
+    ensures entries_room { entries.new.room + 1 ≡ entries.old.room }
+    ensures released { map parcel_of parcels.new.items ≡ map parcel_of parcels.old.items
+        ++ map (released_from (length entries.old.items)) expansion.entry.children }
+    ensures len { vec_len parcels.new ≡ vec_len parcels.old + length expansion.entry.children }
+    ensures capacity { vec_capacity parcels.old ≤ vec_capacity parcels.new }
+    ensures tasks { AllByRecursion (IsParcelOf task.now) parcels.new.items }
+{
+    let parts = expansion.into_parts();
+    let entry = entries.len() as u64;
+    release(parcels, task, entry, parts.children);
+    entries.push(Entry {
+        kid: parts.kid,
+        state: parts.state,
+        cost: parts.cost,
+    });
+}
+
+/// Adds an outcome to the entries, if it is an expansion, and its kids to the parcels.
+fn enter_outcome<'t>(
+    task: &'t Task,
+    entries: &mut Chunks<Entry>,
+    parcels: &mut Vec<Parcel<'t>>,
+    outcome: Outcome<'t>,
+)
+    requires of_task { IsOf task.now outcome }
+    requires room { length (entered outcome) ≤ entries.old.room }
+    requires parcels { vec_len parcels.old + kids_at outcome ≤ vec_capacity parcels.old }
+    requires tasks { AllByRecursion (IsParcelOf task.now) parcels.old.items }
+    ensures entries { entries.new.items ≡ entries.old.items ++ entered outcome.entry }
+    ensures count { length entries.new.items
+        ≡ length entries.old.items + length (entry_of outcome.entry) }
+    ensures entries_room { entries.new.room + length (entered outcome.entry) ≡ entries.old.room }
+    ensures released { map parcel_of parcels.new.items ≡ map parcel_of parcels.old.items
+        ++ released_at (length entries.old.items) outcome.entry }
+    ensures kids { vec_len parcels.new ≡ vec_len parcels.old + kids_at outcome.entry }
+    ensures capacity { vec_capacity parcels.old ≤ vec_capacity parcels.new }
+    ensures tasks { AllByRecursion (IsParcelOf task.now) parcels.new.items }
+{
+    match outcome {
+        Outcome::Expanded(expansion) => enter_expansion(task, entries, parcels, expansion),
+        Outcome::Duplicate(_, _) => {}
+        Outcome::Bounded(_, _) => {}
+    }
+}
+
+/// Adds the expansions among outcomes of a task to the entries, and their kids to the parcels.
+pub(crate) fn enter<'t>(
+    task: &'t Task,
+    entries: &mut Chunks<Entry>,
+    parcels: &mut Vec<Parcel<'t>>,
+    outcomes: Vec<Outcome<'t>>,
+)
+    requires of_task { AllByRecursion (IsOf task.now) outcomes.items }
+    requires room { length (entered_by outcomes.items) ≤ entries.old.room }
+    requires parcels { vec_len parcels.old + kids_in outcomes.items ≤ vec_capacity parcels.old }
+    requires tasks { AllByRecursion (IsParcelOf task.now) parcels.old.items }
+    ensures entries { entries.new.items ≡ entries.old.items ++ entered_by outcomes.entry.items }
+    ensures released { map parcel_of parcels.new.items ≡ map parcel_of parcels.old.items
+        ++ released_by (length entries.old.items) outcomes.entry.items }
+    ensures kids { vec_len parcels.new ≡ vec_len parcels.old + kids_in outcomes.entry.items }
+    ensures tasks { AllByRecursion (IsParcelOf task.now) parcels.new.items }
+{
+    for outcome in outcomes {
+        enter_outcome(task, entries, parcels, outcome);
+    }
+}

@@ -1,9 +1,0 @@
--- What a search looks up. (Our own.)
-use Rattle.std.specs.Prelude.{◌≡◌}
-use Rattle.hd_task.specs.declared.task.Task.{Task}
-use Rattle.hd_search.specs.declared.expanding.Expanding.{Expanding}
-
--- it is of a task
-pub record IsLookupOf (t : Task) (x : Expanding) : Type 0 where
-  pub index : x.successors.task ≡ t
-  pub estimates : x.hmax.task ≡ t

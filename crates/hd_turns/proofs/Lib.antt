@@ -1,0 +1,4 @@
+pub mod Growing
+pub mod Lists
+pub mod Numbering
+pub mod Turning

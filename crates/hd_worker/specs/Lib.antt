@@ -1,0 +1,4 @@
+pub mod Frontier
+pub mod Kept
+pub mod Lookup
+pub mod Nodes

@@ -1,0 +1,77 @@
+//! The calls that settle open nodes.
+ghost use Rattle.std.specs.Prelude.{◌≡◌, ◌+◌, ◌≤◌, [], vec_len, IfOk, IfSome, IfNone, OnOk, OnErr};
+ghost use Rattle.hd_hmax.specs.Rounds.{hmax};
+ghost use Rattle.hd_node.specs.declared.batch.TheConstants.{MAX_OUTCOMES};
+ghost use Rattle.hd_open.specs.Totals.{IsBest};
+ghost use Rattle.hd_worker.specs.Lookup.{IsLookupOf};
+ghost use Rattle.hd_turns.specs.Totals.{total_at};
+ghost use Rattle.hd_turns.specs.Calls.{Expands, ExpandsBest};
+
+use crate::batching::push_outcome;
+use crate::{Lookup, Worker};
+use hd_base::NoMemory;
+use hd_node::Outcome;
+
+/// The place of the next outcome, counted from the first one of the batch that was given last.
+fn next_place(given: &Vec<u64>, outcomes: &Vec<Outcome<'_>>) -> usize
+    requires { vec_len given.now ≤ MAX_OUTCOMES }
+    ensures { result ≡ vec_len given.now + vec_len outcomes.now }
+{
+    // So that it is known that the sum fits.
+    let _room = outcomes.capacity();
+    given.len() + outcomes.len()
+}
+
+impl<'t> Worker<'t> {
+    /// The place of the open node of the least cost plus estimate, the earliest of equal ones; those of infinite estimates come last. None
+    /// where nothing is open. Nodes that have no estimate yet are estimated, unless their state was before.
+    ///
+    /// # Errors
+    /// `NoMemory` where there is no room for what is kept of estimates.
+    pub fn best(&mut self, lookup: &mut Lookup<'t>) -> Result<Option<usize>, NoMemory>
+        requires { IsLookupOf self.old.task lookup.old }
+        ensures lookup { IsLookupOf self.old.task lookup.new }
+        ensures same { self.new ≡ self.old }
+        ensures best { IfOk result (λ r. IfSome r (IsBest (total_at self.old.task) self.old.waiting)) }
+        ensures none { IfOk result (λ r. IfNone r (self.old.waiting ≡ [])) }
+    {
+        self.frontier.best(&mut lookup.hmax)
+    }
+
+    /// Makes the open node at a place, in the order of arrival, an outcome: a duplicate by the closed list; else bounded by the bound that
+    /// was seen last, or by an infinite estimate; else expanded. Where there is no such place, nothing happens.
+    ///
+    /// # Errors
+    /// `NoMemory` where there is no room for it; the node is open again.
+    pub fn expand(&mut self, lookup: &mut Lookup<'t>, pick: usize) -> Result<(), NoMemory>
+        requires { IsLookupOf self.old.task lookup.old }
+        ensures lookup { IsLookupOf self.old.task lookup.new }
+        ensures ok { OnOk result (Expands self.old.task (hmax self.old.task) pick self.old self.new) }
+        ensures err { OnErr result (self.new ≡ self.old) }
+    {
+        self.outcomes.reserve(1)?;
+        let place = next_place(&self.given, &self.outcomes);
+        if let Some(outcome) = self.frontier.settle_at(lookup, self.seen, place, pick)? {
+            push_outcome(&mut self.outcomes, outcome);
+        }
+        Ok(())
+    }
+
+    /// Does what `expand` does at the answer of `best`, in one step; nothing where nothing is open.
+    ///
+    /// # Errors
+    /// `NoMemory` where there is no room for it; the node is open again.
+    pub fn expand_best(&mut self, lookup: &mut Lookup<'t>) -> Result<(), NoMemory>
+        requires { IsLookupOf self.old.task lookup.old }
+        ensures lookup { IsLookupOf self.old.task lookup.new }
+        ensures ok { OnOk result (ExpandsBest self.old.task self.old self.new) }
+        ensures err { OnErr result (self.new ≡ self.old) }
+    {
+        self.outcomes.reserve(1)?;
+        let place = next_place(&self.given, &self.outcomes);
+        if let Some(outcome) = self.frontier.settle_best(lookup, self.seen, place)? {
+            push_outcome(&mut self.outcomes, outcome);
+        }
+        Ok(())
+    }
+}

@@ -1,0 +1,215 @@
+-- From what is told of a journal to what is told of the file that holds it.
+use Rattle.std.proofs.Common.{◌≡◌, ◌≢◌, ◌⊎◌, inl, inr, ℕ, ◌+◌, true, false, Ok, Err, Option, Some, None, List, [], ◌∷◌, ◌++◌, map, length, refl, sym, ap, ◌∙◌, subst, IfSome, arith, ◌<◌}
+use Rattle.std.specs.Prelude.{flat_map, Result, IfOk, IfErr, OnOk}
+use Rattle.std.proofs.lemmas.List.{map-append, length-map}
+use Rattle.std.proofs.lemmas.Option.{none-some}
+use Rattle.hd_task.specs.declared.task.Task.{Task}
+use Rattle.hd_task.specs.declared.plan.Kid.{Kid}
+use Rattle.hd_store.specs.declared.store.Store.{Ghosts}
+use Rattle.hd_store.specs.Device.{Device, content_of}
+use Rattle.hd_image.specs.declared.version.Version.{Version}
+use Rattle.hd_image.specs.declared.entry.Entry.{Entry}
+use Rattle.hd_image.specs.declared.header.TheConstants.{FIRST_GATE}
+use Rattle.hd_image.specs.Image.{most_of, opened, entry_width, entries_of, entries_in}
+use Rattle.hd_journal.specs.declared.error.JournalError.{JournalError}
+use Rattle.hd_journal.specs.declared.error.JournalError.TheVariants as journal
+use Rattle.hd_journal.specs.declared.journal.Journal as of
+use Rattle.hd_journal.specs.Answers.{StandsIn}
+use Rattle.hd_journal.specs.Journal.{IsOf, device_of, kid_of, kids_of}
+use Rattle.hd_entries.specs.Holding.{BeginsWith}
+use Rattle.hd_search.specs.declared.fault.RunFault.{RunFault}
+use Rattle.hd_search.specs.declared.fault.RunFault.TheVariants as searching
+use Rattle.hd_search.specs.Fault.{IsDamagedAt, IsFaulty, Stops, Tells}
+use Rattle.hd_search.specs.Searching.{Grows}
+use Rattle.hplan.specs.declared.fault.Fault.{Fault}
+use Rattle.hplan.specs.declared.kept.Start.{Start}
+use Rattle.hplan.specs.declared.kept.Start.TheVariants.{New, Kept}
+use Rattle.hplan.specs.Fault.{journal_in, search_in}
+use Rattle.hplan.specs.declared.told.Told.{Told}
+use Rattle.hplan.specs.Answer.{IsSolution, IsKeptSolution}
+use Rattle.hplan.specs.PlanText.{printed}
+use Rattle.hplan.specs.Kept.{kids_in, FailsIn, InMemory, InFile, IsJournalOf, BeganWith, IsKept, TellsOfFile, StandThere, HasFaultyEntry, TellsOfSearch, HasNoSolution, OfMemory, OfFile, OfEntry, OfSearch, IsBegun, IsRefusedRun}
+
+-- ---- a journal that is not begun
+
+-- why a journal is not begun is why there is no solution
+pub not_begun : (start : Start) (t : Task) (digest before after : List ℕ) (e : JournalError) → TellsOfFile start digest before after e
+    → HasNoSolution start t digest before after (journal_in e)
+not_begun start t digest before after journal.NotAJournal k = OfFile journal.NotAJournal k
+not_begun start t digest before after journal.OtherTask k = OfFile journal.OtherTask k
+not_begun start t digest before after (journal.Damaged at) k = OfFile (journal.Damaged at) k
+not_begun start t digest before after journal.Device k = OfFile journal.Device k
+not_begun start t digest before after journal.Failed k = OfFile journal.Failed k
+not_begun start t digest before after journal.JournalExists k = OfFile journal.JournalExists k
+not_begun start t digest before after journal.NotOut k = OfFile journal.NotOut k
+not_begun start t digest before after journal.NoMemory k = OfMemory
+
+-- ---- the entries of groups
+
+kids_of_entries : (v : Version) (at : ℕ) (kids : List Kid) → map kid_of (entries_of v at kids) ≡ kids
+kids_of_entries v at [] = refl
+kids_of_entries v at (kid ∷ kids) = ap (λ (ks : List Kid). kid ∷ ks) (kids_of_entries v (at + entry_width v) kids)
+
+kids_of_groups : (v : Version) (gate : ℕ) (groups : List (List Kid)) → map kid_of (entries_in v gate groups) ≡ kids_in groups
+kids_of_groups v gate [] = refl
+kids_of_groups v gate (kids ∷ groups) =
+    let next = gate + length (opened v kids) in
+    map-append kid_of (entries_of v (gate + 5) kids) (entries_in v next groups)
+    ∙ ap (λ (ks : List Kid). ks ++ map kid_of (entries_in v next groups)) (kids_of_entries v (gate + 5) kids)
+    ∙ ap (λ (ks : List Kid). kids ++ ks) (kids_of_groups v next groups)
+
+-- no entries, no faulty one
+none_faulty : (t : Task) (entries : List Entry) (at : ℕ) → entries ≡ [] → ¬ IsDamagedAt t entries at
+none_faulty t [] at is k = none-some (k.number, k.why) k.first
+none_faulty t (entry ∷ entries) at is k = absurd (cc)
+
+module _ {S : Type 0} {G : Ghosts S} where
+  -- the pairs of a journal are those of its groups
+  kids_by : (digest : List ℕ) (groups : List (List Kid)) (j : of.Journal S G) → IsOf digest groups j → kids_of j ≡ kids_in groups
+  kids_by digest groups j is = ap (map kid_of) is.entries ∙ kids_of_groups j.version FIRST_GATE groups
+
+  journal_by : (digest : List ℕ) (groups : List (List Kid)) (j : of.Journal S G) → IsOf digest groups j
+      → IsJournalOf digest (kids_of j) (content_of (device_of j))
+  journal_by digest groups j is = record {
+    version = j.version;
+    groups = groups;
+    sound = is.sound;
+    bytes = is.content;
+    entries = kids_by digest groups j is;
+  }
+
+  -- ---- a journal that is gone on with
+
+  begins_by : (old new : of.Journal S G) (kids : List Kid) → Grows old new → kids_of old ≡ kids → BeginsWith (kids_of new) kids
+  begins_by old new kids grows is = subst (λ (ks : List Kid). BeginsWith (kids_of new) ks) is grows.begins
+
+  pub is_kept : (start : Start) (digest before : List ℕ) (old new : of.Journal S G) → IsBegun start digest before old → Grows old new
+      → IsKept start digest (kids_of new) before (content_of (device_of new))
+  is_kept New digest before old new begun grows =
+      let more = grows.groups digest [] begun.1 in
+      record { began = begun.0; holds = journal_by digest ([] ++ more.0) new more.1 }
+  is_kept Kept digest before old new begun grows =
+      let first = begun.0 in
+      let more = grows.groups digest first.0 first.1 in
+      record {
+        began = λ v groups stands. begins_by old new (kids_in groups) grows (kids_by digest groups old (begun.1 v groups stands).1);
+        holds = journal_by digest (first.0 ++ more.0) new more.1;
+      }
+
+  -- ---- a search that has no answer
+
+  runs_on : (start : Start) (digest before : List ℕ) (old : of.Journal S G) → IsBegun start digest before old → old.failed ≡ false
+  runs_on New digest before old begun = begun.1.running
+  runs_on Kept digest before old begun = begun.0.1.running
+
+  faulty_entry : (start : Start) (t : Task) (digest before : List ℕ) (old : of.Journal S G) (at : ℕ) → IsBegun start digest before old
+      → IsDamagedAt t old.entries.items at → HasFaultyEntry start t digest before at
+  faulty_entry New t digest before old at begun faulty = none_faulty t old.entries.items at begun.1.entries faulty
+  faulty_entry Kept t digest before old at begun faulty =
+      let there : StandThere digest before old.entries.items =
+      λ v groups stands.
+      let k = begun.1 v groups stands in
+      subst (λ (w : Version). old.entries.items ≡ entries_in w FIRST_GATE groups) k.0 k.1.entries
+      in
+      (old.entries.items, there, faulty)
+
+  -- a journal that has too many entries has no room for a batch more
+  too_many : (old : of.Journal S G) → most_of old.version < length old.entries.items → TellsOfSearch searching.Full
+  too_many old many =
+      let same : length (kids_of old) ≡ length old.entries.items = length-map old.entries.items kid_of in
+      (old.version, kids_of old, omega (arith, many, same))
+
+  refused_first : (start : Start) (t : Task) (digest before after : List ℕ) (old : of.Journal S G) (why : RunFault)
+      → IsBegun start digest before old → IsFaulty t (most_of old.version) old.entries.items why
+      → HasNoSolution start t digest before after (search_in why)
+  refused_first start t digest before after old searching.Full begun k = OfSearch searching.Full (too_many old k)
+  refused_first start t digest before after old (searching.Damaged at) begun k =
+      OfEntry at (faulty_entry start t digest before old at begun k)
+  refused_first start t digest before after old searching.Device begun k = absurd (k)
+  refused_first start t digest before after old searching.Failed begun k = absurd (k)
+  refused_first start t digest before after old searching.NotOut begun k = absurd (k)
+  refused_first start t digest before after old searching.NoMemory begun k = OfMemory
+
+  stopped : (start : Start) (t : Task) (digest before after : List ℕ) (old new : of.Journal S G) (why : RunFault) → old.failed ≡ false
+      → Stops old new why → HasNoSolution start t digest before after (search_in why)
+  stopped start t digest before after old new searching.Full running k = OfSearch searching.Full (new.version, kids_of new, k)
+  stopped start t digest before after old new (searching.Damaged at) running k = absurd (k)
+  stopped start t digest before after old new searching.Device running k = OfSearch searching.Device tt
+  stopped start t digest before after old new searching.Failed running k = let no : false ≡ true = sym running ∙ k.0 in absurd (cc)
+  stopped start t digest before after old new searching.NotOut running k = absurd (k)
+  stopped start t digest before after old new searching.NoMemory running k = OfMemory
+
+  told_by : (start : Start) (t : Task) (digest before after : List ℕ) (old new : of.Journal S G) (why : RunFault)
+      → IsBegun start digest before old → Tells t old new why → HasNoSolution start t digest before after (search_in why)
+  told_by start t digest before after old new why begun (inl k) = refused_first start t digest before after old why begun k.1
+  told_by start t digest before after old new why begun (inr k) =
+      stopped start t digest before after old new why (runs_on start digest before old begun) k
+
+  pub refused_run : (start : Start) (t : Task) (digest before after : List ℕ) (old new : of.Journal S G) (f : Fault)
+      → IsBegun start digest before old → IsRefusedRun t old new f → HasNoSolution start t digest before after f
+  refused_run start t digest before after old new f begun (inl is) = subst (HasNoSolution start t digest before after) (sym is) OfMemory
+  refused_run start t digest before after old new f begun (inr k) =
+      subst (HasNoSolution start t digest before after) (sym k.1) (told_by start t digest before after old new k.0 begun k.2)
+
+-- ---- a journal that is begun, by what is answered
+
+module _ {S : Type 0} {G : Ghosts S} where
+  pub begun_kept : (digest : List ℕ) (old : Device) (r : Result (of.Journal S G) (S × JournalError))
+      → IfOk r (λ j. (groups : List (List Kid)) × IsOf digest groups j)
+      → ((v : Version) (groups : List (List Kid)) → StandsIn v digest groups (content_of old)
+      → IfOk r (λ j. (j.version ≡ v) × IsOf digest groups j))
+      → IfOk r (IsBegun Kept digest (content_of old))
+  begun_kept digest old (Ok j) whole there = (whole, there)
+  begun_kept digest old (Err e) whole there = tt
+
+  -- ---- what is answered over a journal
+
+  pub solved_on : (start : Start) (t : Task) (digest before after : List ℕ) (old new : of.Journal S G) (r : Result Told Fault)
+      → IsBegun start digest before old → content_of (device_of new) ≡ after
+      → IfOk r (λ told. IsSolution t (kids_of new) told.ending (printed told.plan)) → OnOk r (Grows old new)
+      → IfOk r (λ told. (kids : List Kid) × IsSolution t kids told.ending (printed told.plan) × IsKept start digest kids before after)
+  solved_on start t digest before after old new (Ok told) begun left solution grows =
+      (kids_of new, solution, subst (IsKept start digest (kids_of new) before) left (is_kept start digest before old new begun grows))
+  solved_on start t digest before after old new (Err f) begun left solution grows = tt
+
+  pub unsolved_on : (start : Start) (t : Task) (digest before after : List ℕ) (old new : of.Journal S G) (r : Result Told Fault)
+      → IsBegun start digest before old → IfErr r (IsRefusedRun t old new) → IfErr r (HasNoSolution start t digest before after)
+  unsolved_on start t digest before after old new (Ok told) begun refused = tt
+  unsolved_on start t digest before after old new (Err f) begun refused = refused_run start t digest before after old new f begun refused
+
+-- ---- in memory
+
+pub solved_in_memory : (t : Task) (digest before after : List ℕ) (r : Result Told Fault) → before ≡ []
+    → IfOk r (λ told. (kids : List Kid) × IsSolution t kids told.ending (printed told.plan) × IsKept New digest kids before after)
+    → IfOk r (λ told. IsKeptSolution InMemory t digest told.ending (printed told.plan))
+solved_in_memory t digest before after (Ok told) empty s = record {
+  kids = s.0;
+  solution = s.1;
+  kept = (after, subst (λ (b : List ℕ). IsKept New digest s.0 b after) empty s.2);
+}
+solved_in_memory t digest before after (Err f) empty s = tt
+
+pub unsolved_in_memory : (t : Task) (digest before after : List ℕ) (r : Result Told Fault) → before ≡ []
+    → IfErr r (HasNoSolution New t digest before after) → IfErr r (FailsIn InMemory t digest)
+unsolved_in_memory t digest before after (Ok told) empty s = tt
+unsolved_in_memory t digest before after (Err f) empty s = (after, subst (λ (b : List ℕ). HasNoSolution New t digest b after f) empty s)
+
+-- ---- in a file
+
+pub solved_in_file : (start : Start) (old new : Option (List ℕ)) (t : Task) (digest before after : List ℕ) (r : Result Told Fault)
+    → IfSome old (λ bytes. before ≡ bytes) → IfSome new (λ bytes. after ≡ bytes)
+    → IfOk r (λ told. (kids : List Kid) × IsSolution t kids told.ending (printed told.plan) × IsKept start digest kids before after)
+    → IfOk r (λ told. IsKeptSolution (InFile start old new) t digest told.ending (printed told.plan))
+solved_in_file start old new t digest before after (Ok told) was is s = record {
+  kids = s.0;
+  solution = s.1;
+  kept = record { before = before; after = after; known_before = was; known_after = is; holds = s.2 };
+}
+solved_in_file start old new t digest before after (Err f) was is s = tt
+
+pub unsolved_in_file : (start : Start) (old new : Option (List ℕ)) (t : Task) (digest before after : List ℕ) (r : Result Told Fault)
+    → IfSome old (λ bytes. before ≡ bytes) → IfSome new (λ bytes. after ≡ bytes)
+    → IfErr r (HasNoSolution start t digest before after) → IfErr r (FailsIn (InFile start old new) t digest)
+unsolved_in_file start old new t digest before after (Ok told) was is s = tt
+unsolved_in_file start old new t digest before after (Err f) was is s =
+    inr (record { before = before; after = after; known_before = was; known_after = is; holds = s })

@@ -1,0 +1,130 @@
+-- Files in memory: the place of a name's first file, and what stands there.
+use Rattle.std.proofs.Common.{◌≡◌, inl, inr, ◌≤◌, get_or, ℕ, zero, suc, ◌+◌, Bool, true, false, Option, Some, None, List, [], ◌∷◌, length, map, refl, sym, ap, ◌∙◌, subst, arith, ◌<◌}
+use Rattle.std.specs.Prelude.{option_map, if◌then◌else◌, IfSome, String, string_bytes}
+use Rattle.std.specs.List.{slice_get, slice_set}
+use Rattle.std.specs.Str.{bytes_eq}
+use Rattle.std.proofs.lemmas.List.{map-set}
+use Rattle.std.proofs.lemmas.Option.{none-some, same_Some, slice_get-map, slice_get_cases, slice_get-get_or}
+use Rattle.hd_store.specs.declared.memory.MemoryDisk.{MemoryDisk}
+use Rattle.hd_store.specs.MemoryDisk.{device_of}
+use Rattle.hd_store.specs.Device.{content_of}
+use Rattle.hplan.specs.Places.{file_in, place_in, shown}
+
+-- ---- places that are counted on
+
+abbrev counted_on : Option ℕ → Option ℕ
+counted_on o = option_map (λ (place : ℕ). place + 1) o
+
+not_first : (o : Option ℕ) → ¬ (counted_on o ≡ Some zero)
+not_first None e = none-some zero e
+not_first (Some k) e = let no : k + 1 ≡ zero = same_Some (k + 1) zero e in absurd (omega (arith, no))
+
+one_less : (o : Option ℕ) (place : ℕ) → counted_on o ≡ Some (suc place) → o ≡ Some place
+one_less None place e = absurd (none-some (suc place) e)
+one_less (Some k) place e =
+    let same : k + 1 ≡ suc place = same_Some (k + 1) (suc place) e in
+    ap Some (omega (arith, same))
+
+none_before : (o : Option ℕ) → counted_on o ≡ None → o ≡ None
+none_before None e = refl
+none_before (Some k) e = absurd (none-some (k + 1) (sym e))
+
+-- ---- the first file of a name
+
+module _ (name : List ℕ) where
+  abbrev first_by : Bool → Option ℕ → Option ℕ
+  first_by b later = if b then Some 0 else counted_on later
+
+  abbrev file_by : Bool → List ℕ → Option (List ℕ) → Option (List ℕ)
+  file_by b bytes later = if b then Some bytes else later
+
+  -- a name that has no place has no file
+  pub none_there : (fs : List (List ℕ × List ℕ)) → place_in fs name ≡ None → file_in fs name ≡ None
+  none_there [] e = refl
+  none_there (f ∷ fs) e =
+      elim (bytes_eq f.0 name) as (λ b. first_by b (place_in fs name) ≡ None → file_by b f.1 (file_in fs name) ≡ None) [
+        | true ↦ λ e. absurd (none-some 0 (sym e))
+        | false ↦ λ e. none_there fs (none_before (place_in fs name) e)
+      ] e
+
+  -- the file at its place
+  file_there : (fs : List (List ℕ × List ℕ)) (place : ℕ) → place_in fs name ≡ Some place
+      → (f : List ℕ × List ℕ) → slice_get fs place ≡ Some f → file_in fs name ≡ Some f.1
+  file_there [] place e f at = absurd (none-some place e)
+  file_there (x ∷ fs) zero e f at =
+      elim (bytes_eq x.0 name) as (λ b. first_by b (place_in fs name) ≡ Some zero → file_by b x.1 (file_in fs name) ≡ Some f.1) [
+        | true ↦ λ e. ap (λ (y : List ℕ × List ℕ). Some y.1) (same_Some x f at)
+        | false ↦ λ e. absurd (not_first (place_in fs name) e)
+      ] e
+  file_there (x ∷ fs) (suc place) e f at =
+      elim (bytes_eq x.0 name) as (λ b. first_by b (place_in fs name) ≡ Some (suc place) → file_by b x.1 (file_in fs name) ≡ Some f.1) [
+        | true ↦ λ e. let no : 0 ≡ suc place = same_Some 0 (suc place) e in absurd (omega (arith, no))
+        | false ↦ λ e. file_there fs place (one_less (place_in fs name) place e) f at
+      ] e
+
+  -- other bytes at its place
+  file_then : (fs : List (List ℕ × List ℕ)) (place : ℕ) → place_in fs name ≡ Some place
+      → (f : List ℕ × List ℕ) → slice_get fs place ≡ Some f → (bytes : List ℕ) → file_in (slice_set fs place (f.0, bytes)) name ≡ Some bytes
+  file_then [] place e f at bytes = absurd (none-some place e)
+  file_then (x ∷ fs) zero e f at bytes =
+      subst (λ (y : List ℕ × List ℕ). file_in ((y.0, bytes) ∷ fs) name ≡ Some bytes) (same_Some x f at)
+      (elim (bytes_eq x.0 name) as (λ b. first_by b (place_in fs name) ≡ Some zero → file_by b bytes (file_in fs name) ≡ Some bytes) [
+        | true ↦ λ e. refl
+        | false ↦ λ e. absurd (not_first (place_in fs name) e)
+      ] e)
+  file_then (x ∷ fs) (suc place) e f at bytes =
+      elim (bytes_eq x.0 name) as (λ b. first_by b (place_in fs name) ≡ Some (suc place)
+      → file_by b x.1 (file_in (slice_set fs place (f.0, bytes)) name) ≡ Some bytes) [
+        | true ↦ λ e. let no : 0 ≡ suc place = same_Some 0 (suc place) e in absurd (omega (arith, no))
+        | false ↦ λ e. file_then fs place (one_less (place_in fs name) place e) f at bytes
+      ] e
+
+-- ---- the same of disks
+
+abbrev shown_one : {A : Type 0} → String A × MemoryDisk → List ℕ × List ℕ
+shown_one f = (string_bytes f.0, content_of (device_of f.1))
+
+-- an element that is there
+there_at : {X : Type 0} (xs : List X) (place : ℕ) → place < length xs → (x : X) × (slice_get xs place ≡ Some x)
+there_at xs place within =
+    elim (slice_get_cases xs place).1 [
+      | inl k ↦ (k.0, k.2)
+      | inr k ↦ let past : length xs ≤ place = k.0 in absurd (omega (arith, within, past))
+    ]
+
+of_some : {X : Type 0} (o : Option X) (x : X) (P : X → Type 0) → o ≡ Some x → IfSome o P → P x
+of_some {X = X} o x P is holds = subst (λ (q : Option X). IfSome q P) is holds
+
+module _ {A : Type 0} (name : List ℕ) (fs : List (String A × MemoryDisk)) (place : ℕ) (is : Some place ≡ place_in (shown fs) name) where
+  shown_at : (f : String A × MemoryDisk) → slice_get fs place ≡ Some f → slice_get (shown fs) place ≡ Some (shown_one f)
+  shown_at f at = slice_get-map shown_one fs place ∙ ap (option_map shown_one) at
+
+  disk_there : (f : String A × MemoryDisk) → slice_get fs place ≡ Some f → file_in (shown fs) name ≡ Some (content_of (device_of f.1))
+  disk_there f at = file_there name (shown fs) place (sym is) (shown_one f) (shown_at f at)
+
+  disk_then : (f : String A × MemoryDisk) (disk : MemoryDisk) → slice_get fs place ≡ Some f
+      → file_in (shown (slice_set fs place (f.0, disk))) name ≡ Some (content_of (device_of disk))
+  disk_then f disk at =
+      ap (λ (xs : List (List ℕ × List ℕ)). file_in xs name) (map-set shown_one fs place (f.0, disk))
+      ∙ file_then name (shown fs) place (sym is) (shown_one f) (shown_at f at) (content_of (device_of disk))
+
+  -- the bytes that are read there
+  pub disk_read : (f : String A × MemoryDisk) (bytes : List ℕ) → place < length fs → bytes ≡ content_of (device_of (get_or fs place f).1)
+      → Some bytes ≡ file_in (shown fs) name
+  disk_read f bytes within read =
+      sym (disk_there (get_or fs place f) (slice_get-get_or fs place f within) ∙ ap Some (sym read))
+
+  -- the disk that was there, and the one that is put there
+  pub disk_was : (was : MemoryDisk) → place < length fs → IfSome (slice_get fs place) (λ f. was ≡ f.1)
+      → file_in (shown fs) name ≡ Some (content_of (device_of was))
+  disk_was was within holds =
+      let x = there_at fs place within in
+      disk_there x.0 x.1 ∙ ap (λ (d : MemoryDisk). Some (content_of (device_of d))) (sym (of_some (slice_get fs place) x.0 (λ f. was ≡ f.1) x.1 holds))
+
+  pub disk_now : (new : List (String A × MemoryDisk)) (disk : MemoryDisk) → place < length fs
+      → IfSome (slice_get fs place) (λ f. new ≡ slice_set fs place (f.0, disk)) → file_in (shown new) name ≡ Some (content_of (device_of disk))
+  disk_now new disk within holds =
+      let x = there_at fs place within in
+      ap (λ (xs : List (String A × MemoryDisk)). file_in (shown xs) name)
+      (of_some (slice_get fs place) x.0 (λ f. new ≡ slice_set fs place (f.0, disk)) x.1 holds)
+      ∙ disk_then x.0 disk x.1

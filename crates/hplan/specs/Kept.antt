@@ -1,0 +1,143 @@
+-- Where a search is kept, and what a file holds of it before and afterwards. (Our own.)
+use Rattle.std.specs.Prelude.{◌≡◌, ◌≢◌, ◌⊎◌, ℕ, ◌+◌, ◌<◌, List, [], length, flat_map, Option, IfSome}
+use Rattle.std.specs.List.{AllByRecursion}
+use Rattle.hd_task.specs.declared.task.Task.{Task}
+use Rattle.hd_task.specs.declared.plan.Kid.{Kid}
+use Rattle.hd_node.specs.declared.batch.TheConstants.{MAX_OUTCOMES}
+use Rattle.hd_store.specs.declared.store.Store.{Ghosts}
+use Rattle.hd_store.specs.declared.error.StoreError.{StoreError}
+use Rattle.hd_image.specs.declared.version.Version.{Version}
+use Rattle.hd_image.specs.declared.entry.Entry.{Entry}
+use Rattle.hd_image.specs.declared.header.TheConstants.{FIRST_GATE}
+use Rattle.hd_image.specs.declared.error.ImageError.TheVariants as image
+use Rattle.hd_image.specs.Image.{IsGroup, entries_in, image, most_of}
+use Rattle.hd_image.specs.Reading.{IsRefused}
+use Rattle.hd_journal.specs.declared.error.JournalError.{JournalError}
+use Rattle.hd_journal.specs.declared.error.JournalError.TheVariants as journal
+use Rattle.hd_journal.specs.declared.journal.Journal as of
+use Rattle.hd_journal.specs.Answers.{StandsIn}
+use Rattle.hd_journal.specs.Journal.{IsOf}
+use Rattle.hd_entries.specs.Holding.{BeginsWith}
+use Rattle.hd_search.specs.declared.fault.RunFault.{RunFault}
+use Rattle.hd_search.specs.declared.fault.RunFault.TheVariants as searching
+use Rattle.hd_search.specs.Fault.{IsDamagedAt, Tells}
+use Rattle.hplan.specs.declared.fault.Fault.{Fault}
+use Rattle.hplan.specs.declared.fault.Fault.TheVariants.{Journal, Search, NoMemory}
+use Rattle.hplan.specs.declared.kept.Start.{Start}
+use Rattle.hplan.specs.declared.kept.Start.TheVariants.{New, Kept}
+use Rattle.hplan.specs.Fault.{search_in, store_in}
+
+-- ---- what a file holds
+
+-- the entries of groups, in order
+abbrev pub kids_in : List (List Kid) → List Kid
+kids_in groups = flat_map (λ (group : List Kid). group) groups
+
+-- a content is the whole journal of these entries, for the task of this digest: their groups, each behind its open gate, and then a closed
+-- gate, which is the last byte
+pub record IsJournalOf (digest : List ℕ) (kids : List Kid) (content : List ℕ) : Type 0 where
+  pub version : Version
+  pub groups : List (List Kid)
+  pub sound : AllByRecursion (IsGroup version) groups
+  pub bytes : content ≡ image version digest groups
+  pub entries : kids ≡ kids_in groups
+
+-- what a search that has these entries began with: an empty file, where it is new; else they begin with those of the groups that stood in it
+abbrev pub BeganWith : Start → List ℕ → List Kid → List ℕ → Type 0
+BeganWith New digest kids content = content ≡ []
+BeganWith Kept digest kids content = (v : Version) (groups : List (List Kid)) → StandsIn v digest groups content → BeginsWith kids (kids_in groups)
+
+-- a file holds these entries now, and what it held before is among them
+pub record IsKept (start : Start) (digest : List ℕ) (kids : List Kid) (before after : List ℕ) : Type 0 where
+  pub began : BeganWith start digest kids before
+  pub holds : IsJournalOf digest kids after
+
+-- ---- why a search over a file has no answer
+
+-- what is told of a file that is to be begun, or gone on with: it is not empty; or it is no journal, one of another task or damaged. It is as it was then
+abbrev pub TellsOfFile : Start → List ℕ → List ℕ → List ℕ → JournalError → Type 0
+TellsOfFile New digest before after journal.NotAJournal = ⊥
+TellsOfFile New digest before after journal.OtherTask = ⊥
+TellsOfFile New digest before after (journal.Damaged at) = ⊥
+TellsOfFile New digest before after journal.Device = Unit {0}
+TellsOfFile New digest before after journal.Failed = ⊥
+TellsOfFile New digest before after journal.JournalExists = (before ≢ []) × (after ≡ before)
+TellsOfFile New digest before after journal.NotOut = ⊥
+TellsOfFile New digest before after journal.NoMemory = Unit {0}
+TellsOfFile Kept digest before after journal.NotAJournal = IsRefused digest before image.NotAJournal × (after ≡ before)
+TellsOfFile Kept digest before after journal.OtherTask = IsRefused digest before image.OtherTask × (after ≡ before)
+TellsOfFile Kept digest before after (journal.Damaged at) = IsRefused digest before (image.Damaged at) × (after ≡ before)
+TellsOfFile Kept digest before after journal.Device = Unit {0}
+TellsOfFile Kept digest before after journal.Failed = ⊥
+TellsOfFile Kept digest before after journal.JournalExists = ⊥
+TellsOfFile Kept digest before after journal.NotOut = ⊥
+TellsOfFile Kept digest before after journal.NoMemory = Unit {0}
+
+-- these are the entries of the groups that stand in a content, if any do
+abbrev pub StandThere : List ℕ → List ℕ → List Entry → Type 0
+StandThere digest content entries =
+    (v : Version) (groups : List (List Kid)) → StandsIn v digest groups content → entries ≡ entries_in v FIRST_GATE groups
+
+-- the entry that stands at this place of a file is the first that is faulty; a new file has none
+abbrev pub HasFaultyEntry : Start → Task → List ℕ → List ℕ → ℕ → Type 0
+HasFaultyEntry New t digest content at = ⊥
+HasFaultyEntry Kept t digest content at = (entries : List Entry) × StandThere digest content entries × IsDamagedAt t entries at
+
+-- what a fault of the search itself tells: that a journal has no room for the entries of one batch more, or that the device failed. No
+-- other is told
+abbrev pub TellsOfSearch : RunFault → Type 0
+TellsOfSearch searching.Full = (v : Version) × (kids : List Kid) × (most_of v < length kids + MAX_OUTCOMES)
+TellsOfSearch (searching.Damaged at) = ⊥
+TellsOfSearch searching.Device = Unit {0}
+TellsOfSearch searching.Failed = ⊥
+TellsOfSearch searching.NotOut = ⊥
+TellsOfSearch searching.NoMemory = ⊥
+
+-- why the search of a task over a file has no answer: memory ran out; or what is told of the file, of an entry in it, or of the search
+pub data HasNoSolution (start : Start) (t : Task) (digest before after : List ℕ) : Fault → Type 0 where
+  OfMemory : HasNoSolution start t digest before after NoMemory
+  OfFile : (error : JournalError) → TellsOfFile start digest before after error → HasNoSolution start t digest before after (Journal error)
+  OfEntry : (at : ℕ) → HasFaultyEntry start t digest before at → HasNoSolution start t digest before after (Search (searching.Damaged at))
+  OfSearch : (fault : RunFault) → TellsOfSearch fault → HasNoSolution start t digest before after (Search fault)
+
+-- ---- where a search is kept
+
+-- in memory; or in a file, as a new journal or in the one that is there, and these are its bytes before and afterwards, where they are known
+pub data Keeping : Type 0 where
+  InMemory : Keeping
+  InFile : Start → Option (List ℕ) → Option (List ℕ) → Keeping
+
+-- this is so of the bytes of a file before and afterwards, which are these where they are known
+pub record OnFile (old new : Option (List ℕ)) (P : List ℕ → List ℕ → Type 0) : Type 0 where
+  pub before : List ℕ
+  pub after : List ℕ
+  pub known_before : IfSome old (λ bytes. before ≡ bytes)
+  pub known_after : IfSome new (λ bytes. after ≡ bytes)
+  pub holds : P before after
+
+-- a search is kept there with these entries
+abbrev pub IsKeptIn : Keeping → List ℕ → List Kid → Type 0
+IsKeptIn InMemory digest kids = (after : List ℕ) × IsKept New digest kids [] after
+IsKeptIn (InFile start old new) digest kids = OnFile old new (IsKept start digest kids)
+
+-- a file was not lent, and this is told of it
+abbrev pub IsNotLent : Fault → Type 0
+IsNotLent fault = (error : StoreError) × (fault ≡ store_in error)
+
+-- why the search of a task that is kept there has no answer
+abbrev pub FailsIn : Keeping → Task → List ℕ → Fault → Type 0
+FailsIn InMemory t digest fault = (after : List ℕ) × HasNoSolution New t digest [] after fault
+FailsIn (InFile start old new) t digest fault = IsNotLent fault ⊎ OnFile old new (λ before after. HasNoSolution start t digest before after fault)
+
+-- ---- a journal that is begun
+
+-- a journal was begun, or is gone on with: it has no groups, or those that stood there
+abbrev pub IsBegun : {S : Type 0} {G : Ghosts S} → Start → List ℕ → List ℕ → of.Journal S G → Type 0
+IsBegun New digest before begun = (before ≡ []) × IsOf digest [] begun
+IsBegun Kept digest before begun =
+    ((groups : List (List Kid)) × IsOf digest groups begun)
+    × ((v : Version) (groups : List (List Kid)) → StandsIn v digest groups before → (begun.version ≡ v) × IsOf digest groups begun)
+
+-- a search over a journal has no answer: memory ran out, or this is told of the fault by which it ended
+abbrev pub IsRefusedRun : {S : Type 0} {G : Ghosts S} → Task → of.Journal S G → of.Journal S G → Fault → Type 0
+IsRefusedRun t old new fault = (fault ≡ NoMemory) ⊎ ((why : RunFault) × (fault ≡ search_in why) × Tells t old new why)

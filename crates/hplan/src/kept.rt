@@ -1,0 +1,136 @@
+//! The search of a task over a journal, in memory or in a file.
+ghost use Rattle.std.specs.Prelude.{◌≡◌, List, IfOk, IfErr, OnOk};
+ghost use Rattle.hd_task.specs.declared.plan.Kid.{Kid};
+ghost use Rattle.hd_store.specs.Device.{content_of};
+ghost use Rattle.hd_journal.specs.Journal.{kids_of};
+ghost use Rattle.hd_search.specs.Fault.{Tells};
+ghost use Rattle.hd_search.specs.Searching.{Grows};
+ghost use Rattle.hplan.specs.declared.fault.Fault.TheVariants as faults;
+ghost use Rattle.hplan.specs.Answer.{IsSolution, IsKeptSolution};
+ghost use Rattle.hplan.specs.Kept.{IsBegun, IsKept, TellsOfFile, HasNoSolution, FailsIn, IsRefusedRun, InMemory, InFile};
+ghost use Rattle.hplan.specs.PlanText.{printed};
+
+use crate::fault::{Fault, journal_in, search_in, store_in};
+use crate::places::Places;
+use crate::told::{Told, told_of};
+use hd_journal::{DIGEST_LEN, Journal, JournalError};
+use hd_search::{ALONE, TOGETHER, run};
+use hd_store::{MemoryDisk, Store};
+use hd_task::Task;
+use std::alloc::Global;
+
+/// What a search that is kept in a file begins with.
+#[derive(Clone, Copy, Debug, PartialEq, Eq)]
+pub enum Start {
+    /// A new journal, in a file that is not there or empty.
+    New,
+    /// The journal that the file holds.
+    Kept,
+}
+
+/// What the search of a task answers over a journal.
+fn solution_of<S: Store>(
+    alloc: Global,
+    task: &Task,
+    journal: &mut Journal<S>,
+    together: usize,
+) -> Result<Told, Fault>
+    ensures found { IfOk result (λ told.
+        IsSolution task.now (kids_of journal.new) told.ending (printed told.plan)) }
+    ensures grows { OnOk result (Grows journal.old journal.new) }
+    ensures refusal { IfErr result (IsRefusedRun task.now journal.old journal.new) }
+{
+    let ended = match run(alloc, task, journal, together) {
+        Ok(ended) => ended,
+        Err(fault) => return Err(search_in(fault)),
+    };
+    match told_of(alloc, task, &ended.verdict) {
+        Ok(told) => Ok(told),
+        Err(_) => Err(Fault::NoMemory),
+    }
+}
+
+/// A journal on a store: a new one, or the one that is there.
+fn journal_on<S: Store>(
+    alloc: Global,
+    start: Start,
+    digest: &[u8; DIGEST_LEN],
+    store: S,
+) -> Result<Journal<S>, (S, JournalError)>
+    ensures begun { IfOk result (IsBegun start digest.now (content_of (S.device store))) }
+    ensures refused { IfErr result (λ e. TellsOfFile start digest.now
+        (content_of (S.device store)) (content_of (S.device e.0)) e.1) }
+{
+    match start {
+        Start::New => Journal::create(alloc, store, digest),
+        Start::Kept => Journal::open(alloc, store, digest),
+    }
+}
+
+/// What the search of a task answers over a journal on a store, and the store as it is then.
+fn solution_on<S: Store>(
+    alloc: Global,
+    task: &Task,
+    start: Start,
+    digest: &[u8; DIGEST_LEN],
+    together: usize,
+    store: S,
+) -> (S, Result<Told, Fault>)
+    ensures found { IfOk result.1 (λ told. (kids : List Kid)
+        × IsSolution task.now kids told.ending (printed told.plan)
+        × IsKept start digest.now kids (content_of (S.device store))
+        (content_of (S.device result.0))) }
+    ensures refusal { IfErr result.1 (HasNoSolution start task.now digest.now
+        (content_of (S.device store)) (content_of (S.device result.0))) }
+{
+    match journal_on(alloc, start, digest, store) {
+        Ok(journal) => {
+            let mut journal = journal;
+            let found = solution_of(alloc, task, &mut journal, together);
+            (journal.into_store(), found)
+        }
+        Err((store, error)) => (store, Err(journal_in(error))),
+    }
+}
+
+/// What the search of a task answers over a journal in memory.
+pub fn solution_in_memory(
+    alloc: Global,
+    task: &Task,
+    digest: &[u8; DIGEST_LEN],
+) -> Result<Told, Fault>
+    ensures found { IfOk result (λ told. IsKeptSolution InMemory task.now digest.now
+        told.ending (printed told.plan)) }
+    ensures refusal { IfErr result (FailsIn InMemory task.now digest.now) }
+{
+    let disk = MemoryDisk::new(alloc);
+    let (disk, found) = solution_on(alloc, task, Start::New, digest, ALONE, disk);
+    drop(disk);
+    found
+}
+
+/// What the search of a task answers over a journal in a file.
+pub fn solution_in_file<P: Places>(
+    alloc: Global,
+    places: &mut P,
+    name: &str,
+    start: Start,
+    task: &Task,
+    digest: &[u8; DIGEST_LEN],
+) -> Result<Told, Fault>
+    ensures found { IfOk result (λ told. IsKeptSolution
+        (InFile start (P.file_of places.old name.now) (P.file_of places.new name.now))
+        task.now digest.now told.ending (printed told.plan)) }
+    ensures refusal { IfErr result (FailsIn
+        (InFile start (P.file_of places.old name.now) (P.file_of places.new name.now))
+        task.now digest.now) }
+{
+    let is_made = matches!(start, Start::New);
+    let disk = match places.store(alloc, name, is_made) {
+        Ok(disk) => disk,
+        Err(error) => return Err(store_in(error)),
+    };
+    let (disk, found) = solution_on(alloc, task, start, digest, TOGETHER, disk);
+    places.give_back(name, disk);
+    found
+}
