@@ -1,6 +1,6 @@
 -- From what is told of a journal to what is told of the file that holds it.
-use Rattle.std.proofs.Common.{◌≡◌, ◌≢◌, ◌⊎◌, inl, inr, ℕ, ◌+◌, true, false, Ok, Err, Option, Some, None, List, [], ◌∷◌, ◌++◌, map, length, refl, sym, ap, ◌∙◌, subst, IfSome, arith, ◌<◌}
-use Rattle.std.specs.Prelude.{flat_map, Result, IfOk, IfErr, OnOk}
+use Rattle.std.proofs.Common.{◌≡◌, inl, inr, ℕ, ◌+◌, true, false, Ok, Err, Option, List, [], ◌∷◌, ◌++◌, map, length, refl, sym, ap, ◌∙◌, subst, IfSome, arith, ◌<◌}
+use Rattle.std.specs.Prelude.{Result, IfOk, IfErr, OnOk}
 use Rattle.std.proofs.lemmas.List.{map-append, length-map}
 use Rattle.std.proofs.lemmas.Option.{none-some}
 use Rattle.hd_task.specs.declared.task.Task.{Task}
@@ -28,7 +28,7 @@ use Rattle.hplan.specs.Fault.{journal_in, search_in}
 use Rattle.hplan.specs.declared.told.Told.{Told}
 use Rattle.hplan.specs.Answer.{IsSolution, IsKeptSolution}
 use Rattle.hplan.specs.PlanText.{printed}
-use Rattle.hplan.specs.Kept.{kids_in, FailsIn, InMemory, InFile, IsJournalOf, BeganWith, IsKept, TellsOfFile, StandThere, HasFaultyEntry, TellsOfSearch, HasNoSolution, OfMemory, OfFile, OfEntry, OfSearch, IsBegun, IsRefusedRun}
+use Rattle.hplan.specs.Kept.{kids_in, FailsIn, InMemory, InFile, IsJournalOf, IsKept, TellsOfFile, StandThere, HasFaultyEntry, TellsOfSearch, HasNoSolution, OfMemory, OfFile, OfEntry, OfSearch, IsBegun, IsRefusedRun}
 
 -- ---- a journal that is not begun
 
