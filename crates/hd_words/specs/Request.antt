@@ -1,7 +1,7 @@
 -- What a request keeps. (Our own.)
 use Rattle.std.specs.Prelude.{ℕ, ◌≤◌}
 use Rattle.hd_words.specs.declared.request.Request.{Request}
-use Rattle.hd_words.specs.declared.request.Request.TheVariants.{Solve, Resume, Ground, Validate}
+use Rattle.hd_words.specs.declared.request.Request.TheVariants.{Solve, Resume, Certify, Ground, Validate}
 use Rattle.hd_words.specs.declared.request.TheConstants.{MAX_WORKERS}
 
 -- a number of workers
@@ -12,5 +12,6 @@ IsWorkers workers = (1 ≤ workers) × (workers ≤ MAX_WORKERS)
 abbrev pub HasWorkers : Request → Type 0
 HasWorkers (Solve domain problem journal workers) = IsWorkers workers
 HasWorkers (Resume domain problem journal workers) = IsWorkers workers
+HasWorkers (Certify domain problem journal) = Unit {0}
 HasWorkers (Ground domain problem) = Unit {0}
 HasWorkers (Validate domain problem plan explain) = Unit {0}

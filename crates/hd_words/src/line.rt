@@ -27,6 +27,15 @@ Exit status: 0, 10 and 11 as of `solve`;
   1 a refusal, told on one line: the journal is not there, or is one of other files, or damaged, or in use; or as of `solve`;
   2 the command line is at fault.";
 
+/// What the help of `certify` ends with.
+const CERTIFY_HELP: &str = "\
+Tells what the journal of a search of the same two files shows by itself, whoever made it: `certified optimal; cost = N`,
+`certified no plan`, or `not certified`, which is said of a search that has not ended, and of one where a number left the range.
+The journal is read, and left as it is.
+Exit status: 0 the verdict is certified: it is true of all plans;
+  1 it is not; or a refusal, told on one line: the journal is not there, or is one of other files, or damaged;
+  2 the command line is at fault.";
+
 /// What the help of `ground` ends with.
 const GROUND_HELP: &str = "\
 Reads both files, and writes to standard output how many actions, atoms and fluents the task has, and then each action behind
@@ -100,6 +109,14 @@ fn resume<'a>(alloc: Global) -> Result<Command<'a>, AllocError> {
         .arg(workers(alloc))
 }
 
+/// `certify DOMAIN PROBLEM --journal FILE`.
+fn certify<'a>(alloc: Global) -> Result<Command<'a>, AllocError> {
+    of_task(alloc, "certify")?
+        .about("Tells what the journal of a search shows")
+        .after_help(CERTIFY_HELP)
+        .arg(journal(alloc, "The file that the search is kept in", true))
+}
+
 /// `ground DOMAIN PROBLEM`.
 fn ground<'a>(alloc: Global) -> Result<Command<'a>, AllocError> {
     Ok(
@@ -136,6 +153,7 @@ pub fn command_line<'a>(alloc: Global) -> Result<Command<'a>, AllocError> {
         .arg_required_else_help(true)
         .subcommand(solve(alloc)?)?
         .subcommand(resume(alloc)?)?
+        .subcommand(certify(alloc)?)?
         .subcommand(ground(alloc)?)?
         .subcommand(validate(alloc)?)
 }

@@ -36,6 +36,15 @@ pub enum Request {
         /// From 1 to [`MAX_WORKERS`].
         workers: u32,
     },
+    /// To tell what a journal shows by itself.
+    Certify {
+        /// The name of the file with the domain.
+        domain: String,
+        /// The name of the file with the problem.
+        problem: String,
+        /// The name of the journal's file.
+        journal: String,
+    },
     /// To print the actions that a task has.
     Ground {
         /// The name of the file with the domain.
@@ -127,6 +136,25 @@ fn resume_request(
     }))
 }
 
+/// The request to certify, if its journal is named.
+fn certify_request(
+    alloc: Global,
+    domain: &str,
+    problem: &str,
+    journal: Option<&str>,
+) -> Result<Option<Request>, AllocError>
+    ensures { IfOk result (λ found. IfSome found HasWorkers) }
+{
+    let Some(journal) = journal else {
+        return Ok(None);
+    };
+    Ok(Some(Request::Certify {
+        domain: String::from_str(alloc, domain)?,
+        problem: String::from_str(alloc, problem)?,
+        journal: String::from_str(alloc, journal)?,
+    }))
+}
+
 /// The request to validate, if its plan is named.
 fn validate_request(
     alloc: Global,
@@ -162,6 +190,7 @@ fn named_request(
     match name {
         "solve" => solve_request(alloc, domain, problem, found),
         "resume" => resume_request(alloc, domain, problem, found),
+        "certify" => certify_request(alloc, domain, problem, found.get_str("journal")),
         "ground" => Ok(Some(Request::Ground {
             domain: String::from_str(alloc, domain)?,
             problem: String::from_str(alloc, problem)?,

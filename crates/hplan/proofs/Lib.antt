@@ -1,4 +1,5 @@
 pub mod Blaming
+pub mod Certifying
 pub mod Costs
 pub mod Explaining
 pub mod Files

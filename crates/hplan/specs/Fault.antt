@@ -10,6 +10,8 @@ use Rattle.hd_journal.specs.Error as journal
 use Rattle.hd_search.specs.declared.fault.RunFault.{RunFault}
 use Rattle.hd_search.specs.declared.fault.RunFault.TheVariants as searching
 use Rattle.hd_search.specs.Fault as search
+use Rattle.hd_certify.specs.declared.error.CertifyError.{CertifyError}
+use Rattle.hd_certify.specs.declared.error.CertifyError.TheVariants as certifying
 use Rattle.hd_plan.specs.declared.error.PlanTextError.{PlanTextError}
 use Rattle.hd_plan.specs.declared.error.PlanTextError.TheVariants as plan_text
 use Rattle.hd_plan.specs.Error as plan_reader
@@ -85,6 +87,12 @@ search_in searching.Device = Search searching.Device
 search_in searching.Failed = Search searching.Failed
 search_in searching.NotOut = Search searching.NotOut
 search_in searching.NoMemory = NoMemory
+
+-- why the entries of a journal show nothing; want of memory is no fault of theirs
+abbrev pub certify_in : CertifyError → Fault
+certify_in certifying.Full = Search searching.Full
+certify_in (certifying.Damaged at) = Search (searching.Damaged at)
+certify_in certifying.NoMemory = NoMemory
 
 -- ---- files, readers and writers
 

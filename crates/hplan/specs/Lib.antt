@@ -1,4 +1,5 @@
 pub mod Answer
+pub mod Certifying
 pub mod Fault
 pub mod Kept
 pub mod Places

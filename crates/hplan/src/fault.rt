@@ -1,9 +1,10 @@
 //! Why there is no answer.
 ghost use Rattle.std.specs.IoError.{error_kind};
 ghost use Rattle.std.specs.Prelude.{◌≡◌, Some};
-ghost use Rattle.hplan.specs.Fault.{text_of, task_in, plan_read_in, judged_in, journal_in, search_in, store_in, TellsKind, TellsUnwritten};
+ghost use Rattle.hplan.specs.Fault.{text_of, task_in, plan_read_in, judged_in, journal_in, search_in, certify_in, store_in, TellsKind, TellsUnwritten};
 ghost use Rattle.hplan.specs.declared.fault.Fault.TheVariants as faults;
 
+use hd_certify::CertifyError;
 use hd_journal::JournalError;
 use hd_plan::{PlanTextError, WriteError};
 use hd_search::RunFault;
@@ -130,6 +131,17 @@ pub fn search_in(fault: RunFault) -> Fault
         | RunFault::Device
         | RunFault::Failed
         | RunFault::NotOut => Fault::Search(fault),
+    }
+}
+
+/// Why the entries of a journal show nothing.
+pub fn certify_in(error: CertifyError) -> Fault
+    ensures { result ≡ certify_in error }
+{
+    match error {
+        CertifyError::NoMemory => Fault::NoMemory,
+        CertifyError::Full => Fault::Search(RunFault::Full),
+        CertifyError::Damaged(at) => Fault::Search(RunFault::Damaged(at)),
     }
 }
 

@@ -1,7 +1,8 @@
-//! The planner hplan: from a command line to a plan (`solve`), the actions of a task (`ground`), or the
-//! verdict on a plan (`validate`).
+//! The planner hplan: from a command line to a plan (`solve`, `resume`), what a journal shows by itself
+//! (`certify`), the actions of a task (`ground`), or the verdict on a plan (`validate`).
 #![tactic(auto)]
 
+mod certifying;
 mod cost;
 mod engine;
 mod fault;
@@ -17,6 +18,7 @@ mod text;
 mod told;
 mod validating;
 
+pub use certifying::certify;
 pub use engine::{solve, solve_kept};
 pub use fault::Fault;
 pub use grounding::ground;

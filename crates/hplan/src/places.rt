@@ -23,8 +23,9 @@ pub trait Places {
 
     /// The bytes of a file, whole.
     fn read(&mut self, alloc: Global, name: &str) -> io::Result<Vec<u8>>
-        ensures { IfOk result (λ v.
-            IfSome (file_of self.old name.now) (λ bytes. v.items ≡ bytes)) };
+        ensures bytes { IfOk result (λ v.
+            IfSome (file_of self.old name.now) (λ bytes. v.items ≡ bytes)) }
+        ensures alone { self.new ≡ self.old };
 
     /// Lends a file, and makes it, empty, if it is to be made and is not there. It is to be given back.
     ///
@@ -190,7 +191,7 @@ impl Places for Shelf {
     type Disk = MemoryDisk;
 
     fn read(&mut self, alloc: Global, name: &str) -> io::Result<Vec<u8>>
-        ensures { IfOk result (λ v. file_in self.old name.now ≡ Some v.items) }
+        ensures found { IfOk result (λ v. file_in self.old name.now ≡ Some v.items) }
     {
         let Some(bytes) = find(self.files.as_slice(), name) else {
             return Err(io::Error::from(io::ErrorKind::NotFound));

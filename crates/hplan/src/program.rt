@@ -1,8 +1,9 @@
 //! The program: from the words of a command line to an exit status.
 ghost use Rattle.std.specs.Prelude.{◌≡◌, MatchResult};
-ghost use Rattle.hplan.specs.Status.{status_of_ending};
+ghost use Rattle.hplan.specs.Status.{status_of_ending, status_of_certificate};
 ghost use Rattle.hplan.specs.declared.program.TheConstants.{DONE, REFUSED};
 
+use crate::certifying::certify;
 use crate::engine::{solve, solve_kept};
 use crate::fault::{Fault, device_fault};
 use crate::grounding::ground;
@@ -23,7 +24,7 @@ use std::{env, io};
 /// The exit status of an answer, and of help.
 const DONE: u8 = 0;
 
-/// The exit status of a refusal.
+/// The exit status of a refusal, and of a journal that shows no verdict.
 const REFUSED: u8 = 1;
 
 /// The exit status of a faulty command line.
@@ -128,6 +129,34 @@ fn ground_files<P: Places, O: Write>(
     flush(out)
 }
 
+/// Reads two files, and tells what the journal in a third shows of their task. Whether it shows a verdict is answered.
+fn certify_files<P: Places, O: Write>(
+    alloc: Global,
+    places: &mut P,
+    domain: &str,
+    problem: &str,
+    journal: &str,
+    out: &mut O,
+) -> Result<bool, Fault> {
+    let domain = read(alloc, places, domain)?;
+    let problem = read(alloc, places, problem)?;
+    let watched = &mut Watched::of(&mut *out);
+    let is_certified = certify(alloc, places, journal, &domain, &problem, watched)?;
+    flush(out)?;
+    Ok(is_certified)
+}
+
+/// The exit status of what a journal shows; a fault is told.
+fn status_of_certificate<E: Write>(err: &mut E, certified: Result<bool, Fault>) -> u8
+    ensures { MatchResult certified (λ yes. result ≡ status_of_certificate yes) (λ _. result ≡ REFUSED) }
+{
+    match certified {
+        Ok(true) => DONE,
+        Ok(false) => REFUSED,
+        Err(fault) => refuse(err, &fault),
+    }
+}
+
 /// The bytes of a domain's file, a problem's and a plan's.
 #[derive(Drop)]
 struct PlanFiles {
@@ -227,6 +256,15 @@ fn answer<P: Places, O: Write, E: Write>(
             let ended = solve_files(alloc, places, names.0, names.1, journal, out);
             status_of_search(err, ended)
         }
+        Request::Certify {
+            domain,
+            problem,
+            journal,
+        } => {
+            let names = (domain.as_str(), problem.as_str(), journal.as_str());
+            let certified = certify_files(alloc, places, names.0, names.1, names.2, out);
+            status_of_certificate(err, certified)
+        }
         Request::Ground { domain, problem } => {
             let done = ground_files(alloc, places, domain.as_str(), problem.as_str(), out);
             status_of(err, done)
@@ -248,8 +286,8 @@ fn answer<P: Places, O: Write, E: Write>(
 
 /// Runs the words of a command line, of which the first is the program's name, and answers the exit status.
 ///
-/// The status is 0 for a plan, the actions of a task, a valid plan, the help and the version, 1 for a fault, 2 for a faulty command line, 10
-/// where there is no plan and 11 where a number left the range.
+/// The status is 0 for a plan, the actions of a task, a valid plan, a journal that shows a verdict, the help and the version, 1 for a fault and
+/// a journal that shows no verdict, 2 for a faulty command line, 10 where there is no plan and 11 where a number left the range.
 ///
 /// What was asked for goes to `out`, and everything else to `err`. Faults are looked for in this order: the command line;
 /// the domain's file, the problem's, the plan's; the domain's text, the problem's; their names, types and metric; the grounding (not to

@@ -1,9 +1,14 @@
-//! The texts of departures, of tasks and of verdicts on plans.
-ghost use Rattle.std.specs.Prelude.{◌≡◌, ◌++◌, IfOk, OnOk, string_bytes};
+//! The texts of departures, of tasks, of verdicts on plans and of what journals show.
+ghost use Rattle.std.specs.Prelude.{◌≡◌, ◌++◌, Some, IfOk, OnOk, string_bytes};
+ghost use Rattle.hd_plan.specs.PlanText.{line_end};
+ghost use Rattle.hd_task.specs.Plans.{Node};
+ghost use Rattle.hplan.specs.Certifying.{certified_text, optimal_text, CanBeTold};
 ghost use Rattle.hplan.specs.TaskText.{action_text, departure_text, count_line, numbered_line, numbered_lines, task_text};
 ghost use Rattle.hplan.specs.Verdict.{valid_text};
 
+use crate::cost::cost_of;
 use hd_base::NoMemory;
+use hd_certify::Certified;
 use hd_task::{DepartsBy, Departure, Task, push_form};
 use std::alloc::Global;
 
@@ -93,4 +98,42 @@ pub fn valid_text(alloc: Global, cost: u64) -> Result<Vec<u8>, NoMemory>
     let mut text = format!(in alloc; "valid; cost = {cost}")?;
     text.push_str("\n")?;
     Ok(text.into_bytes())
+}
+
+/// A line of its own.
+fn line_of(alloc: Global, text: &str) -> Result<Vec<u8>, NoMemory>
+    ensures { IfOk result (λ v. v.items ≡ text.now ++ line_end) }
+{
+    let mut line = String::from_str(alloc, text)?;
+    line.push_str("\n")?;
+    Ok(line.into_bytes())
+}
+
+/// How it is told that a plan of this cost is shown to be optimal.
+fn optimal_text(alloc: Global, cost: u64) -> Result<Vec<u8>, NoMemory>
+    ensures { (r : Node) → r.cost ≡ cost
+        → IfOk result (λ v. v.items ≡ optimal_text (Some r)) }
+{
+    let mut text = format!(in alloc; "certified optimal; cost = {cost}")?;
+    text.push_str("\n")?;
+    Ok(text.into_bytes())
+}
+
+/// How it is told what is shown of a task.
+pub fn certified_text(
+    alloc: Global,
+    task: &Task,
+    shown: &Option<Certified>,
+) -> Result<Vec<u8>, NoMemory>
+    requires { CanBeTold task.now shown.now }
+    ensures { IfOk result (λ v. v.items ≡ certified_text task.now shown.now) }
+{
+    match shown {
+        Some(Certified::Optimal(plan)) => match cost_of(alloc, task, plan)? {
+            Some(cost) => optimal_text(alloc, cost),
+            None => unreachable!(),
+        },
+        Some(Certified::NoPlan) => line_of(alloc, "certified no plan"),
+        None => line_of(alloc, "not certified"),
+    }
 }

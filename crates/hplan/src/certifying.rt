@@ -1,0 +1,178 @@
+//! From the bytes of two texts and of a journal to what the journal shows by itself.
+ghost use Rattle.std.specs.Prelude.{◌≡◌, ◌⊎◌, IfOk, IfErr, IfSome, OnErr, OnOk};
+ghost use Rattle.hd_image.specs.Image.{most_of};
+ghost use Rattle.hd_journal.specs.Journal.{found_in, version_in};
+ghost use Rattle.hd_certify.specs.Certificate.{IsTrueOf};
+ghost use Rattle.hplan.specs.Certifying.{CanBeTold, IsShownIn, IsToldBy, IsCertificate, IsCertificateText, OnContent, ShowsNothing, FailsOnFile, HasNoCertificate, HasNoCertificateYet};
+ghost use Rattle.hplan.specs.Written.{WritesA, WritesFrontOfA};
+
+use crate::fault::{Fault, certify_in, device_fault, journal_in};
+use crate::output::write_out;
+use crate::places::Places;
+use crate::text::certified_text;
+use hd_base::Sequence;
+use hd_certify::Certified;
+use hd_image::{Entry, Found, Version, read};
+use hd_journal::{DIGEST_LEN, JournalError};
+use hd_plan::Watched;
+use hd_task::Task;
+use hd_texts::{digest_of, task_of};
+use std::alloc::Global;
+use std::io::Write;
+
+/// What is told of what a journal shows.
+#[derive(Debug, Drop)]
+struct Certificate {
+    /// Whether it shows a verdict.
+    is_certified: bool,
+    /// How it is told.
+    text: Vec<u8>,
+}
+
+/// The entries of what was found, and how many a journal of its version may have.
+fn entries_of(alloc: Global, found: Found) -> (Sequence<Entry>, u64)
+    ensures entries { result.0 ≡ found_in found }
+    ensures most { result.1 ≡ most_of (version_in found) }
+{
+    match found {
+        Found::Unmade | Found::HalfMade => (Sequence::empty(alloc), Version::Two.most()),
+        Found::Journal(contents) => {
+            let most = contents.version.most();
+            (contents.entries, most)
+        }
+    }
+}
+
+/// What the bytes of a journal show of a task.
+fn shown_in(
+    alloc: Global,
+    task: &Task,
+    digest: &[u8; DIGEST_LEN],
+    content: &[u8],
+) -> Result<Option<Certified>, Fault>
+    ensures shown { IfOk result (IsShownIn task.now digest.now content.now) }
+    ensures is_true { IfOk result (λ shown. IfSome shown (IsTrueOf task.now)) }
+    ensures can_be_told { IfOk result (CanBeTold task.now) }
+    ensures refusal { IfErr result (ShowsNothing task.now digest.now content.now) }
+{
+    let found = match read(alloc, content, digest) {
+        Ok(found) => found,
+        Err(error) => return Err(journal_in(JournalError::from(error))),
+    };
+    let (entries, most) = entries_of(alloc, found);
+    let shown = hd_certify::certify(alloc, task, most, entries.as_slice());
+    drop(entries);
+    match shown {
+        Ok(shown) => Ok(shown),
+        Err(error) => Err(certify_in(error)),
+    }
+}
+
+/// What is told of what the bytes of a journal show of a task.
+fn told_in(
+    alloc: Global,
+    task: &Task,
+    digest: &[u8; DIGEST_LEN],
+    content: &[u8],
+) -> Result<Certificate, Fault>
+    ensures told { IfOk result (λ c.
+        IsToldBy task.now digest.now content.now c.is_certified c.text.items) }
+    ensures refusal { IfErr result (ShowsNothing task.now digest.now content.now) }
+{
+    let shown = shown_in(alloc, task, digest, content)?;
+    let text = certified_text(alloc, task, &shown);
+    let is_certified = shown.is_some();
+    drop(shown);
+    match text {
+        Ok(text) => Ok(Certificate { is_certified, text }),
+        Err(_) => Err(Fault::NoMemory),
+    }
+}
+
+/// What is told of what the file of a journal shows of a task. The file is read, and left alone.
+fn told_of_file<P: Places>(
+    alloc: Global,
+    places: &mut P,
+    name: &str,
+    task: &Task,
+    digest: &[u8; DIGEST_LEN],
+) -> Result<Certificate, Fault>
+    ensures told { IfOk result (λ c. OnContent (P.file_of places.old name.now)
+        (λ content. IsToldBy task.now digest.now content c.is_certified c.text.items)) }
+    ensures refusal { IfErr result
+        (FailsOnFile task.now digest.now (P.file_of places.old name.now)) }
+    ensures alone { places.new ≡ places.old }
+{
+    let content = match places.read(alloc, name) {
+        Ok(content) => content,
+        Err(error) => return Err(device_fault(error)),
+    };
+    let told = told_in(alloc, task, digest, &content);
+    drop(content);
+    told
+}
+
+/// What is told of what the file of a journal shows of the task of two texts.
+fn certificate_of<P: Places>(
+    alloc: Global,
+    places: &mut P,
+    name: &str,
+    domain: &[u8],
+    problem: &[u8],
+) -> Result<Certificate, Fault>
+    ensures found { IfOk result (λ c. IsCertificate domain.now problem.now
+        (P.file_of places.old name.now) c.is_certified c.text.items) }
+    ensures refusal { IfErr result (HasNoCertificateYet domain.now problem.now
+        (P.file_of places.old name.now)) }
+    ensures alone { places.new ≡ places.old }
+{
+    match task_of(alloc, domain, problem) {
+        Ok(task) => {
+            let digest = digest_of(domain, problem);
+            let told = told_of_file(alloc, places, name, &task, &digest);
+            drop(task);
+            told
+        }
+        Err(fault) => Err(Fault::from(fault)),
+    }
+}
+
+/// Tells what the journal in a file shows by itself of the task that two texts say, whoever made it: `certified optimal; cost = N`,
+/// `certified no plan`, or `not certified`; and answers whether it shows a verdict. The file is read, and left alone.
+///
+/// # Errors
+/// The first fault of the texts; that the file can't be read; why its bytes are no journal of theirs; the first entry that is no step
+/// of a search of the task; or what is told of the error that the writer has answered. A beginning of the text has then been written,
+/// and not all of it, and else nothing.
+pub fn certify<P: Places, W: Write>(
+    alloc: Global,
+    places: &mut P,
+    name: &str,
+    domain: &[u8],
+    problem: &[u8],
+    out: &mut Watched<'_, W>,
+) -> Result<bool, Fault>
+    // What is told is shown by the file's bytes, and true of all plans of the domain.
+    ensures whole { IfOk result (λ yes. WritesA
+        (IsCertificate domain.now problem.now (P.file_of places.old name.now) yes)
+        (W.contents out.old.writer.now) (W.contents out.new.writer.now)) }
+    ensures front { OnErr result
+        ((W.contents out.new.writer.now ≡ W.contents out.old.writer.now)
+        ⊎ WritesFrontOfA
+        (IsCertificateText domain.now problem.now (P.file_of places.old name.now))
+        (W.contents out.old.writer.now) (W.contents out.new.writer.now)) }
+    ensures refusal { IfErr result (HasNoCertificate domain.now problem.now
+        (P.file_of places.old name.now)
+        (W.contents out.old.writer.now) (W.contents out.new.writer.now)
+        out.old.fault out.new.fault) }
+    ensures no_fault { OnOk result (out.new.fault ≡ out.old.fault) }
+    ensures alone { places.new ≡ places.old }
+{
+    let Certificate { is_certified, text } = certificate_of(alloc, places, name, domain, problem)?;
+    let written = write_out(out, &text);
+    drop(text);
+    match written {
+        Ok(()) => Ok(is_certified),
+        Err(fault) => Err(fault),
+    }
+}
