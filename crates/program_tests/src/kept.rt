@@ -10,7 +10,7 @@ use std::test::Fail;
 use text_tests::samples::{L, L_PROBLEM};
 
 /// The journal of the whole search of two actions: the header, then three groups of an entry each.
-const WHOLE: [u8; 81] = [
+pub const WHOLE: [u8; 81] = [
     0x01, 0x48, 0x44, 0x50, 0x4a, 0x02, 0x22, 0xae, 0x9a, 0x86, 0x72, 0xdd, 0x75, 0x39, 0xc6, 0x57,
     0xf4, 0xb8, 0x20, 0x19, 0xbe, 0x00, 0x41, 0x35, 0xc6, 0x78, 0x17, 0xc0, 0xa9, 0x31, 0x87, 0xf7,
     0x58, 0xec, 0x88, 0xdd, 0xac, 0xc4, 0x01, 0x01, 0x00, 0x00, 0x00, 0xff, 0xff, 0xff, 0xff, 0xff,
@@ -28,7 +28,7 @@ const BEGIN: [&str; 5] = ["solve", "d", "p", "--journal", "j"];
 const GO_ON: [&str; 5] = ["resume", "d", "p", "--journal", "j"];
 
 /// What a run prints, and what the file of the journal then holds, if it is there.
-type Kept = (Vec<u8>, Option<Vec<u8>>);
+pub type Kept = (Vec<u8>, Option<Vec<u8>>);
 
 /// The bytes of the journal's file, if it is there.
 fn journal_on(alloc: Global, shelf: &mut Shelf) -> Option<Vec<u8>> {
@@ -36,7 +36,7 @@ fn journal_on(alloc: Global, shelf: &mut Shelf) -> Option<Vec<u8>> {
 }
 
 /// A run of a command over two texts and the file of a journal, if there is one.
-fn kept(
+pub fn kept(
     alloc: Global,
     command: &str,
     domain: &str,
@@ -64,7 +64,7 @@ fn resumed(alloc: Global, journal: &[u8]) -> Result<Kept, AllocError> {
 }
 
 /// Whether a run printed this and left these bytes.
-fn is(found: &Kept, run: &[u8], bytes: &[u8]) -> bool {
+pub fn is(found: &Kept, run: &[u8], bytes: &[u8]) -> bool {
     let left = match &found.1 {
         Some(left) => left.as_slice() == bytes,
         None => false,
@@ -73,7 +73,7 @@ fn is(found: &Kept, run: &[u8], bytes: &[u8]) -> bool {
 }
 
 /// These bytes, one behind the other.
-fn joined(alloc: Global, parts: &[&[u8]]) -> Result<Vec<u8>, AllocError> {
+pub fn joined(alloc: Global, parts: &[&[u8]]) -> Result<Vec<u8>, AllocError> {
     let mut all = Vec::new(alloc);
     for part in parts {
         all.extend_from_slice(part)?;

@@ -26,6 +26,13 @@ fn read_line(alloc: Global, line: &[String]) -> Result<String, AllocError> {
                 workers,
             },
         ) => format!(in alloc; "resume {domain} {problem} in {journal} {workers}"),
+        Ok(
+            Request::Certify {
+                domain,
+                problem,
+                journal,
+            },
+        ) => format!(in alloc; "certify {domain} {problem} in {journal}"),
         Ok(Request::Ground { domain, problem }) => {
             format!(in alloc; "ground {domain} {problem}")
         }
@@ -73,6 +80,10 @@ fn commands_take_files_and_a_number_of_workers(rt: HostRuntime) -> Result<(), Fa
             ["resume", "--journal=j", "d", "p", "--workers", "2"].as_slice(),
             "resume d p in j 2",
         ),
+        (
+            ["certify", "d", "p", "--journal", "j"].as_slice(),
+            "certify d p in j",
+        ),
         (["ground", "d", "p"].as_slice(), "ground d p"),
         (["validate", "d", "p", "s"].as_slice(), "validate d p s"),
         (
@@ -108,6 +119,10 @@ fn other_words_are_faults(rt: HostRuntime) -> Result<(), Fail> {
         (
             ["resume", "d", "p", "--journal", "j", "--workers", "65"].as_slice(),
             "fault: error: invalid value '65' for '--workers <N>': 65 is not in 1..=64",
+        ),
+        (
+            ["certify", "d", "p"].as_slice(),
+            "fault: error: the following required arguments were not provided:\n  --journal <FILE>",
         ),
         (
             ["ground", "d", "p", "--journal", "j"].as_slice(),
@@ -173,6 +188,15 @@ fn help_and_version_are_shown(rt: HostRuntime) -> Result<(), Fail> {
                 "--journal <FILE>",
                 "--workers <N>",
                 "Exit status: 0, 10 and 11",
+            ],
+        ),
+        (
+            ["certify", "--help"].as_slice(),
+            "shown: Tells what the journal of a search shows",
+            [
+                "--journal <FILE>",
+                "`certified no plan`",
+                "Exit status: 0 the verdict is certified",
             ],
         ),
         (

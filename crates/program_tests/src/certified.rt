@@ -1,0 +1,113 @@
+//! What `certify` tells of the journals of searches, and what it leaves of their files.
+use crate::kept::{Kept, WHOLE, is, joined, kept};
+use crate::running::{run_over, shelf_of};
+use std::alloc::{AllocError, Global};
+use std::test::Fail;
+use text_tests::samples::{L, L_PROBLEM, N, N_PROBLEM};
+
+/// What a run prints of a journal that shows nothing.
+const NOTHING: &[u8] = b"1|not certified\n|";
+
+/// The groups of the search of two actions in the first version, each behind its gate, and the gate behind them.
+const GROUPS_OF_ONE: [u8; 40] = [
+    0x01, 0x01, 0x00, 0x00, 0x00, 0xff, 0xff, 0xff, 0xff, 0xff, 0xff, 0xff, 0xff, 0x01, 0x01, 0x00,
+    0x00, 0x00, 0x00, 0x00, 0x00, 0x00, 0x00, 0x00, 0x00, 0x00, 0x01, 0x01, 0x00, 0x00, 0x00, 0x01,
+    0x00, 0x00, 0x00, 0x01, 0x00, 0x00, 0x00, 0x00,
+];
+
+/// The run of `certify` on the task of two actions.
+fn certified(alloc: Global, journal: &[u8]) -> Result<Kept, AllocError> {
+    kept(alloc, "certify", L, L_PROBLEM, Some(journal))
+}
+
+/// The journal of two actions in the first version, up to so many bytes of its groups, and a closed gate.
+fn in_version_one(alloc: Global, bytes: &[u8]) -> Result<Vec<u8>, AllocError> {
+    joined(alloc, &[&WHOLE[..5], &[1], &WHOLE[6..38], bytes, &[0]])
+}
+
+/// What `certify` prints of the journal that `solve` has made of two texts.
+fn certified_behind(
+    alloc: Global,
+    domain: &str,
+    problem: &str,
+) -> Result<Vec<u8>, AllocError> {
+    let files = [("d", domain.as_bytes()), ("p", problem.as_bytes())];
+    let mut shelf = shelf_of(alloc, &files)?;
+    run_over(alloc, &["solve", "d", "p", "--journal", "j"], &mut shelf)?;
+    run_over(alloc, &["certify", "d", "p", "--journal", "j"], &mut shelf)
+}
+
+#[test]
+fn a_journal_shows_what_its_entries_show(rt: HostRuntime) -> Result<(), Fail> {
+    let alloc = rt.alloc();
+    let two = joined(alloc, &[&WHOLE[..66], &[0]])?;
+    let none = joined(alloc, &[&WHOLE[..38], &[0]])?;
+    let first = in_version_one(alloc, &GROUPS_OF_ONE[..39])?;
+    let part = in_version_one(alloc, &GROUPS_OF_ONE[..26])?;
+    let optimal = b"0|certified optimal; cost = 2\n|".as_slice();
+    for (journal, want) in [
+        (WHOLE.as_slice(), optimal),
+        (first.as_slice(), optimal),
+        (two.as_slice(), NOTHING),
+        (part.as_slice(), NOTHING),
+        (none.as_slice(), NOTHING),
+        (b"".as_slice(), NOTHING),
+    ] {
+        assert!(rt; is(&certified(alloc, journal)?, want, journal));
+    }
+    Ok(())
+}
+
+#[test]
+fn what_a_search_has_ended_with_is_certified(rt: HostRuntime) -> Result<(), Fail> {
+    let alloc = rt.alloc();
+    let no_way = "(define (domain l) (:predicates (a) (b))
+  (:action set-b :parameters () :precondition (a) :effect (b)))";
+    let held = "(define (problem l1) (:domain l) (:init) (:goal (and)))";
+    let up = "(define (domain u) (:predicates (b)) (:functions (x))
+  (:action up :parameters () :precondition (and) :effect (increase (x) 1)))";
+    let end = "(define (problem u1) (:domain u) (:init (= (x) 1000000000000000)) (:goal (b)))";
+    for (domain, problem, want) in [
+        (N, N_PROBLEM, b"0|certified optimal; cost = 3\n|".as_slice()),
+        (L, held, b"0|certified optimal; cost = 0\n|"),
+        (no_way, L_PROBLEM, b"0|certified no plan\n|"),
+        (up, end, NOTHING),
+    ] {
+        let run = certified_behind(alloc, domain, problem)?;
+        assert_eq!(rt; run.as_slice(), want);
+    }
+    Ok(())
+}
+
+#[test]
+fn what_is_no_journal_of_the_task_is_told(rt: HostRuntime) -> Result<(), Fail> {
+    let alloc = rt.alloc();
+    let again = joined(alloc, &[&WHOLE[..53], &WHOLE[39..52], &[0]])?;
+    let other = format!(in alloc; "; one\n{L_PROBLEM}")?;
+    for (problem, journal, want) in [
+        (L_PROBLEM, &WHOLE[..60], "1||hplan: 34 Damaged(52)\n"),
+        (L_PROBLEM, again.as_slice(), "1||hplan: 34 Damaged(57)\n"),
+        (L_PROBLEM, &WHOLE[..38], "1||hplan: 32 NotAJournal\n"),
+        (other.as_str(), &WHOLE[..], "1||hplan: 33 OtherTask\n"),
+        (")", &WHOLE[..], "1||hplan: problem: 4 Unbalanced(0)\n"),
+    ] {
+        let found = kept(alloc, "certify", L, problem, Some(journal))?;
+        assert!(rt; is(&found, want.as_bytes(), journal), "at {want}");
+    }
+    let (run, bytes) = kept(alloc, "certify", L, L_PROBLEM, None)?;
+    assert_eq!(rt; run.as_slice(), b"1||hplan: 35 Device\n".as_slice());
+    assert!(rt; bytes.is_none());
+    Ok(())
+}
+
+/// A journal of the first version stays one.
+#[test]
+fn a_search_goes_on_in_its_version(rt: HostRuntime) -> Result<(), Fail> {
+    let alloc = rt.alloc();
+    let part = in_version_one(alloc, &GROUPS_OF_ONE[..26])?;
+    let whole = in_version_one(alloc, &GROUPS_OF_ONE[..39])?;
+    let found = kept(alloc, "resume", L, L_PROBLEM, Some(&part))?;
+    assert!(rt; is(&found, b"0|(set-a)\n(set-b)\n; cost = 2\n|", &whole));
+    assert_eq!(rt; whole.len(), 78);
+    Ok(())
+}
