@@ -3,7 +3,7 @@ use crate::kept::{Kept, WHOLE, is, joined, kept};
 use crate::running::{run_over, shelf_of};
 use std::alloc::{AllocError, Global};
 use std::test::Fail;
-use text_tests::samples::{L, L_PROBLEM, N, N_PROBLEM};
+use text_tests::samples::{L, L_PROBLEM, N, N_PROBLEM, U};
 
 /// What a run prints of a journal that shows nothing.
 const NOTHING: &[u8] = b"1|not certified\n|";
@@ -64,14 +64,12 @@ fn what_a_search_has_ended_with_is_certified(rt: HostRuntime) -> Result<(), Fail
     let no_way = "(define (domain l) (:predicates (a) (b))
   (:action set-b :parameters () :precondition (a) :effect (b)))";
     let held = "(define (problem l1) (:domain l) (:init) (:goal (and)))";
-    let up = "(define (domain u) (:predicates (b)) (:functions (x))
-  (:action up :parameters () :precondition (and) :effect (increase (x) 1)))";
     let end = "(define (problem u1) (:domain u) (:init (= (x) 1000000000000000)) (:goal (b)))";
     for (domain, problem, want) in [
         (N, N_PROBLEM, b"0|certified optimal; cost = 3\n|".as_slice()),
         (L, held, b"0|certified optimal; cost = 0\n|"),
         (no_way, L_PROBLEM, b"0|certified no plan\n|"),
-        (up, end, NOTHING),
+        (U, end, NOTHING),
     ] {
         let run = certified_behind(alloc, domain, problem)?;
         assert_eq!(rt; run.as_slice(), want);
