@@ -1,3 +1,3 @@
-pub mod Covering
+pub mod Justified
 pub mod Refusing
 pub mod Showing

@@ -5,13 +5,13 @@
 #![tactic(auto)]
 
 mod certified;
-mod certify;
+mod certifying;
 mod covering;
 mod error;
 pub mod laws;
 mod resuming;
 
 pub use certified::Certified;
-pub use certify::certify;
+pub use certifying::certify;
 pub use error::CertifyError;
 pub use hd_journal::Entry;
