@@ -1,20 +1,23 @@
 -- Entries cover what they generate exactly where no kid that is no entry need be expanded.
-use Rattle.std.proofs.Common.{◌≡◌, ℕ, ◌+◌, ◌<◌, ◌≤◌, Bool, true, false, not, ◌⊎◌, inl, inr, ⊎_elim, List, [], ◌∷◌, ◌++◌, map, take, filter, length, get_or, slice_get, Contains, Option, Some, None, IfSome, IfNone, refl, sym, ap, ap₂, ◌∙◌, subst, arith, true≢false, length-append, take_all, nat_le}
-use Rattle.std.specs.Prelude.{option_and_then}
+use Rattle.std.proofs.Common.{◌≡◌, ℕ, ◌+◌, ◌<◌, ◌≤◌, Bool, true, false, not, ◌⊎◌, inl, inr, ⊎_elim, List, [], ◌∷◌, ◌++◌, map, take, filter, length, get_or, slice_get, Contains, Option, Some, None, IfSome, IfNone, refl, sym, ap, ap₂, ◌∙◌, subst, arith, true≢false, take_all, is_some, ◌↔◌, ◌&&◌}
+use Rattle.std.specs.Prelude.{option_and_then, flat_map}
 use Rattle.std.specs.List.{AllByRecursion}
-use Rattle.std.proofs.lemmas.Bool.{leb-true, le-leb, not-true}
-use Rattle.std.proofs.lemmas.List.{length-map, get_or-map, map-append, get_or_default, take_more}
+use Rattle.std.proofs.lemmas.Bool.{leb-true, le-leb, not-true, and_parts}
+use Rattle.std.proofs.lemmas.List.{get_or-map, map-append, get_or_default, take_more}
 use Rattle.std.proofs.lemmas.List.Elements.{Contains-get_or}
-use Rattle.std.proofs.lemmas.Option.{none-some, same_Some, slice_get_within, get_or_from_slice_get}
-use Rattle.hd_base.proofs.Members.{Contains-map, IsFrom-from_map, Contains-filter, Contains-from_filter, passes-from_filter, Contains-nil, Contains-cons_cases, AllByRecursion-from_contains}
+use Rattle.std.proofs.lemmas.Option.{none-some, same_Some, slice_get_within, slice_get-get_or, get_or_from_slice_get}
+use Rattle.hd_base.proofs.Members.{Contains-map, IsFrom-from_map, Contains-filter, Contains-from_filter, Contains-from_flat_map, passes-from_filter, Contains-nil, Contains-cons_cases, AllByRecursion-from_contains}
 use Rattle.hd_task.specs.declared.state.State.{State}
 use Rattle.hd_task.specs.declared.task.Task.{Task}
 use Rattle.hd_task.specs.declared.plan.Kid.{Kid}
 use Rattle.hd_task.specs.declared.plan.TheConstants.{ROOT_PARENT}
-use Rattle.hd_task.specs.Plans.{Node, node, exec}
-use Rattle.hd_task.specs.Expansions.{generated, bound_of}
+use Rattle.hd_task.specs.Effects.{numbers_below}
+use Rattle.hd_task.specs.Plans.{Node, node, exec, start, step_by, IsStateOf}
+use Rattle.hd_task.specs.Departures.{action_departs}
+use Rattle.hd_task.specs.Expansions.{is_applicable, applicable_at, followed_by, children, generated, bound_of}
 use Rattle.hd_task.specs.Entries.{plan_of}
 use Rattle.hd_task.specs.Covers.{IsDominated, IsBounded, Dead, Reaches, IsJustified, IsCovered}
+use Rattle.hd_task.proofs.Runs.{exec-push, exec-state}
 use Rattle.hd_hmax.specs.Rounds.{hmax}
 use Rattle.hd_kids.specs.Kids.{root}
 use Rattle.hd_node.specs.Parcel.{ParcelView}
@@ -25,7 +28,7 @@ use Rattle.hd_entries.specs.Marks.{IsSettled}
 use Rattle.hd_entries.specs.Settling.{BookState, expansions, IsKept, entry_node, reaches}
 use Rattle.hd_entries.specs.Resuming.{has, open_kids, resumed_state, LeadsThere}
 use Rattle.hd_entries.proofs.Naming as naming
-use Rattle.hd_certify.specs.Covering.{IsSpared, node_in, AreClosed}
+use Rattle.hd_certify.specs.Covering.{IsSpared, node_in, AreClosed, AreAllClosed}
 
 -- ---- lists
 
@@ -52,7 +55,7 @@ bounded_reaches (Some limit) s cost (Some v) (Reaches b w is estimated reached) 
 
 -- ---- a closed list that has the expansions of all entries
 
-module _ (b : BookState) (closed : List Closed) (have : map node_in closed ≡ map (exec b.task) (expansions b)) where
+module _ (b : BookState) (closed : List Closed) (have : AreAllClosed b closed) where
   abbrev E : List (List ℕ)
   E = expansions b
 
@@ -79,6 +82,77 @@ module _ (b : BookState) (closed : List Closed) (have : map node_in closed ≡ m
       let costs : c.cost ≡ d.end.cost = ap (λ (r : Node). r.cost) same in
       let le = d.no_dearer in
       dearer c (record { among = from.among; same_state = ap (λ (r : Node). r.state) same ∙ d.same_state; no_dearer = omega (arith, costs, le) })
+
+  -- an expansion that is found
+  pub found_spares :
+      (states : List State) (place : ℕ) (p : ParcelView) (cost : ℕ) (o : Option By) → is_some o ≡ true → IfSome o (λ by. IfSome (slice_get states place) (λ s. IsNamedBy closed s cost by))
+      → slice_get states place ≡ Some p.state → cost ≡ p.cost → IsSpared b p
+  found_spares states place p cost None some named at is = absurd (true≢false (sym some))
+  found_spares states place p cost (Some by) some named at is =
+      let this : IsNamedBy closed p.state cost by = subst (λ (o : Option State). IfSome o (λ s. IsNamedBy closed s cost by)) at named in
+      inl (named_dominates p.state p.cost by (subst (λ (c : ℕ). IsNamedBy closed p.state c by) is this))
+
+  -- where none is found, the bound and the estimate tell
+  pub estimate_spares :
+      (states : List State) (place : ℕ) (p : ParcelView) (cost : ℕ) (o : Option By) (bound v : Option ℕ) (yes : Bool) → is_some o ≡ false
+      → IfNone o (IfSome (slice_get states place) (λ s. IsDearer closed s cost)) → slice_get states place ≡ Some p.state → cost ≡ p.cost → bound ≡ bound_of b.task E → v ≡ hmax b.task p.state
+      → yes ≡ reaches bound (Some (node p.state p.cost)) v → (yes ≡ true) ↔ IsSpared b p
+  estimate_spares states place p cost (Some by) bound v yes none dearer at is bound_is v_is test = absurd (true≢false none)
+  estimate_spares states place p cost None bound v yes none dearer at is bound_is v_is test =
+      let these : IsDearer closed p.state cost = subst (λ (o : Option State). IfSome o (λ s. IsDearer closed s cost)) at dearer in
+      let all_dearer : IsDearer closed p.state p.cost = subst (λ (c : ℕ). IsDearer closed p.state c) is these in
+      let now : yes ≡ reaches (bound_of b.task E) (Some (node p.state p.cost)) (hmax b.task p.state) = test ∙ ap₂ (λ (x w : Option ℕ). reaches x (Some (node p.state p.cost)) w) bound_is v_is in (
+        λ e. inr (reaches_bounded (bound_of b.task E) p.state p.cost (hmax b.task p.state) (sym now ∙ e)),
+        λ spared.
+            elim spared [
+              | inl d ↦ absurd (dearer_spares_not p.state p.cost all_dearer d)
+              | inr why ↦ now ∙ bounded_reaches (bound_of b.task E) p.state p.cost (hmax b.task p.state) why
+            ],
+      )
+
+-- ---- the expansions of entries
+
+-- a generated plan leads somewhere
+generated_leads : (t : Task) (expanded : List (List ℕ)) (p : List ℕ) → Contains (generated t expanded) p → exec t p ≡ None → ⊥
+unfolding applicable_at
+generated_leads t expanded p c none =
+    elim (Contains-cons_cases [] (flat_map (children t) expanded) p c) [
+      | inl e ↦ none-some (start t) (sym (ap (exec t) e ∙ none))
+      | inr c ↦
+          let from = Contains-from_flat_map (children t) expanded p c in
+          let q = from.0 in
+          let its = IsFrom-from_map (followed_by q) (applicable_at t (exec t q)) p from.2 in
+          let a = its.source in
+          let applies = passes-from_filter (is_applicable t (exec t q)) (numbers_below (length t.actions)) a its.among in
+          elim (exec t q) as (λ o. exec t q ≡ o → is_applicable t o a ≡ true → ⊥) [
+            | None ↦ λ _ yes. true≢false (sym yes)
+            | Some r ↦ λ is yes.
+                let there = (and_parts (is_some (step_by t r a)) (not (action_departs t r a)) yes).0 in
+                let nowhere : step_by t r a ≡ None = sym (exec-push t q r a is) ∙ (ap (exec t) its.is ∙ none) in
+                true≢false (sym there ∙ ap is_some nowhere)
+          ] refl applies
+    ]
+
+-- an entry leads somewhere
+pub entry_leads : (b : BookState) → IsKept b → (n : ℕ) → n < length b.entries → entry_node b n ≡ None → ⊥
+entry_leads b kept n lt none =
+    let E = expansions b in
+    let within : n < length E = omega (arith, lt, naming.length-plans_of b.entries E kept.named) in
+    let at : slice_get E n ≡ Some (get_or E n []) = slice_get-get_or E n [] within in
+    generated_leads b.task (take n E) (get_or E n []) (kept.marked.legal n [] within).generated_before (sym (ap (option_and_then (exec b.task)) at) ∙ none)
+
+-- its state is one of the task
+pub node_state : (b : BookState) (n : ℕ) (r : Node) → entry_node b n ≡ Some r → IsStateOf b.task r.state
+node_state b n r e =
+    elim (slice_get (expansions b) n) as (λ o. option_and_then (exec b.task) o ≡ Some r → IsStateOf b.task r.state) [
+      | None ↦ λ e. absurd (none-some r e)
+      | Some p ↦ λ e. exec-state b.task p r e
+    ] e
+
+pub all_closed : (b : BookState) → IsKept b → (n : ℕ) → n ≡ length b.entries → (closed : List Closed) → AreClosed b n closed → AreAllClosed b closed
+all_closed b kept n e closed are =
+    let E = expansions b in
+    are ∙ ap (map (exec b.task)) (take_all n E (omega (arith, e, naming.length-plans_of b.entries E kept.named)))
 
 -- an expansion more
 pub closed_more :

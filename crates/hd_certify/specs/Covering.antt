@@ -20,3 +20,7 @@ node_in c = Some (node c.state c.cost)
 -- a closed list has the expansions of the first entries, so many of them, in order
 abbrev pub AreClosed : BookState → ℕ → List Closed → Type 0
 AreClosed b number closed = map node_in closed ≡ map (exec b.task) (take number (expansions b))
+
+-- it has those of all entries
+abbrev pub AreAllClosed : BookState → List Closed → Type 0
+AreAllClosed b closed = map node_in closed ≡ map (exec b.task) (expansions b)

@@ -4,9 +4,9 @@ ghost use Rattle.std.specs.List.{AllByRecursion};
 ghost use Rattle.hd_task.specs.declared.state.State.{State};
 ghost use Rattle.hd_task.specs.Plans.{node};
 ghost use Rattle.hd_hmax.specs.Value.{estimated};
-ghost use Rattle.hd_entries.specs.Settling.{reaches};
+ghost use Rattle.hd_entries.specs.Settling.{reaches, IsKept};
 ghost use Rattle.hd_entries.specs.Resuming.{LeadsThere};
-ghost use Rattle.hd_certify.specs.Covering.{AreClosed, IsSpared};
+ghost use Rattle.hd_certify.specs.Covering.{AreAllClosed, AreClosed, IsSpared};
 
 use hd_base::NoMemory;
 use hd_closed::ClosedList;
@@ -43,7 +43,7 @@ fn is_spared<'t>(
     requires closed_task { closed.old.task ≡ entries.now.state.task }
     requires estimates_task { estimates.old.task ≡ entries.now.state.task }
     requires parcel_task { parcel.now.task ≡ entries.now.state.task }
-    requires closed { AreClosed entries.now.state (length entries.now.state.entries) closed.old.closed }
+    requires closed { AreAllClosed entries.now.state closed.old.closed }
     ensures closed_task { closed.new.task ≡ closed.old.task }
     ensures closed { closed.new.closed ≡ closed.old.closed }
     ensures estimates_task { estimates.new.task ≡ estimates.old.task }
@@ -67,6 +67,7 @@ fn close_one<'t>(
     closed: &mut ClosedList<'t>,
     number: u64,
 ) -> Result<(), NoMemory>
+    requires kept { IsKept entries.now.state }
     requires task { closed.old.task ≡ entries.now.state.task }
     requires before { AreClosed entries.now.state number closed.old.closed }
     requires among { number < length entries.now.state.entries }
@@ -90,8 +91,7 @@ fn close_one<'t>(
 /// `NoMemory` where there is no room for one.
 fn closed_of<'t>(alloc: Global, entries: &Entries<'t>) -> Result<ClosedList<'t>, NoMemory>
     ensures task { IfOk result (λ closed. closed.task ≡ entries.now.state.task) }
-    ensures closed { IfOk result (λ closed. AreClosed entries.now.state
-        (length entries.now.state.entries) closed.closed) }
+    ensures closed { IfOk result (λ closed. AreAllClosed entries.now.state closed.closed) }
 {
     let mut closed = ClosedList::empty(alloc, entries.task());
     for number in 0..entries.len() {
