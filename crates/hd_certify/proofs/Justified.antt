@@ -32,7 +32,7 @@ use Rattle.hd_certify.specs.Covering.{IsSpared, node_in, AreClosed, AreAllClosed
 
 -- ---- lists
 
-contains_all : {X : Type 0} (P : X → Type 0) (xs : List X) (x : X) → AllByRecursion P xs → Contains xs x → P x
+pub contains_all : {X : Type 0} (P : X → Type 0) (xs : List X) (x : X) → AllByRecursion P xs → Contains xs x → P x
 contains_all P [] x all k = absurd (Contains-nil x k)
 contains_all P (y ∷ xs) x all k =
     ⊎_elim (λ same. subst P same all.0) (λ later. contains_all P xs x all.1 later) (Contains-cons_cases y xs x k)
