@@ -9,12 +9,15 @@ use Rattle.hd_image.specs.declared.entry.Entry.{Entry}
 use Rattle.hd_image.specs.declared.header.TheConstants.{FIRST_GATE}
 use Rattle.hd_image.specs.Image.{entry_width, IsGroup, opened, entries_of, entries_in}
 use Rattle.hd_image.specs.declared.contents.Contents.{Contents}
+use Rattle.hd_image.specs.declared.error.ImageError.{ImageError}
+use Rattle.hd_image.specs.declared.error.ImageError.TheVariants.{NotAJournal, OtherTask, Damaged, NoMemory}
 use Rattle.hd_image.specs.Reading.{IsOtherTask, IsJournal}
+use Rattle.hd_image.specs.Reading as image
 use Rattle.hd_image.proofs.Heads.{head_bytes}
 use Rattle.hd_image.proofs.Joining.{length-counted}
 use Rattle.hd_inspect.specs.Groups.{follows, groups_by}
 use Rattle.hd_inspect.specs.declared.inspected.Summary.{Summary}
-use Rattle.hd_inspect.specs.Inspecting.{IsSummary}
+use Rattle.hd_inspect.specs.Inspecting.{IsSummary, IsRefused}
 
 -- the entries of a group behind its first one, and what comes behind them
 in_group : (v : Version) (kids : List Kid) (last : ℕ) (rest : List Entry) (n : ℕ)
@@ -73,3 +76,11 @@ summed content digest found s journal version digest_is entries groups behind =
       groups_are = groups ∙ (ap₂ (λ (v : Version) (es : List Entry). groups_by (entry_width v) None es) v es ∙ groups_counted journal.v journal.groups FIRST_GATE None journal.sound tt);
       behind_is = behind ∙ ap (λ (x : Contents). x.behind) told;
     }
+
+-- why bytes are refused for the digest that stands in them
+pub refused_any :
+    (content digest : List ℕ) → (FIRST_GATE < length content → digest ≡ slice_range content 6 FIRST_GATE) → (e : ImageError) → image.IsRefused digest content e → IsRefused content e
+refused_any content digest reads NotAJournal why = why
+refused_any content digest reads OtherTask why = no_other content digest reads why
+refused_any content digest reads (Damaged at) why = (digest, why)
+refused_any content digest reads NoMemory why = tt

@@ -1,5 +1,5 @@
 //! The call that inspects.
-ghost use Rattle.std.specs.Prelude.{◌≡◌, ◌<◌, None, IfOk, IfErr, length, slice_range};
+ghost use Rattle.std.specs.Prelude.{◌≡◌, ◌<◌, None, IfOk, IfErr, length, slice_range, string_bytes};
 ghost use Rattle.hex.specs.Hex.{encode_lower};
 ghost use Rattle.hd_image.specs.declared.header.TheConstants.{FIRST_GATE};
 ghost use Rattle.hd_image.specs.Image.{entry_width};
@@ -65,7 +65,7 @@ pub fn inspect(alloc: Global, content: &[u8]) -> Result<Inspected, ImageError>
 /// # Errors
 /// `NoMemory` where there is no room for the text.
 pub fn digest_text(alloc: Global, digest: &[u8; DIGEST_LEN]) -> Result<String, NoMemory>
-    ensures { IfOk result (λ text. text ≡ encode_lower digest.now) }
+    ensures { IfOk result (λ text. string_bytes text ≡ encode_lower digest.now) }
 {
     hex::encode(alloc, digest.as_slice())
 }
