@@ -94,14 +94,14 @@ module _ (b : BookState) (closed : List Closed) (have : AreAllClosed b closed) w
 
   -- where none is found, the bound and the estimate tell
   pub estimate_spares :
-      (states : List State) (place : ℕ) (p : ParcelView) (cost : ℕ) (o : Option By) (bound v : Option ℕ) (yes : Bool) → is_some o ≡ false
+      (states : List State) (place : ℕ) (p : ParcelView) (cost : ℕ) (o : Option By) (bound v : Option ℕ) (answer : Bool) → is_some o ≡ false
       → IfNone o (IfSome (slice_get states place) (λ s. IsDearer closed s cost)) → slice_get states place ≡ Some p.state → cost ≡ p.cost → bound ≡ bound_of b.task E → v ≡ hmax b.task p.state
-      → yes ≡ reaches bound (Some (node p.state p.cost)) v → (yes ≡ true) ↔ IsSpared b p
-  estimate_spares states place p cost (Some by) bound v yes none dearer at is bound_is v_is test = absurd (true≢false none)
-  estimate_spares states place p cost None bound v yes none dearer at is bound_is v_is test =
+      → answer ≡ reaches bound (Some (node p.state p.cost)) v → (answer ≡ true) ↔ IsSpared b p
+  estimate_spares states place p cost (Some by) bound v answer none dearer at is bound_is v_is test = absurd (true≢false none)
+  estimate_spares states place p cost None bound v answer none dearer at is bound_is v_is test =
       let these : IsDearer closed p.state cost = subst (λ (o : Option State). IfSome o (λ s. IsDearer closed s cost)) at dearer in
       let all_dearer : IsDearer closed p.state p.cost = subst (λ (c : ℕ). IsDearer closed p.state c) is these in
-      let now : yes ≡ reaches (bound_of b.task E) (Some (node p.state p.cost)) (hmax b.task p.state) = test ∙ ap₂ (λ (x w : Option ℕ). reaches x (Some (node p.state p.cost)) w) bound_is v_is in (
+      let now : answer ≡ reaches (bound_of b.task E) (Some (node p.state p.cost)) (hmax b.task p.state) = test ∙ ap₂ (λ (x w : Option ℕ). reaches x (Some (node p.state p.cost)) w) bound_is v_is in (
         λ e. inr (reaches_bounded (bound_of b.task E) p.state p.cost (hmax b.task p.state) (sym now ∙ e)),
         λ spared.
             elim spared [
@@ -125,9 +125,9 @@ generated_leads t expanded p c none =
           let a = its.source in
           let applies = passes-from_filter (is_applicable t (exec t q)) (numbers_below (length t.actions)) a its.among in
           elim (exec t q) as (λ o. exec t q ≡ o → is_applicable t o a ≡ true → ⊥) [
-            | None ↦ λ _ yes. true≢false (sym yes)
-            | Some r ↦ λ is yes.
-                let there = (and_parts (is_some (step_by t r a)) (not (action_departs t r a)) yes).0 in
+            | None ↦ λ _ e. true≢false (sym e)
+            | Some r ↦ λ is e.
+                let there = (and_parts (is_some (step_by t r a)) (not (action_departs t r a)) e).0 in
                 let nowhere : step_by t r a ≡ None = sym (exec-push t q r a is) ∙ (ap (exec t) its.is ∙ none) in
                 true≢false (sym there ∙ ap is_some nowhere)
           ] refl applies

@@ -1,5 +1,5 @@
 -- The first fault of entries, and the first faulty one.
-use Rattle.std.proofs.Common.{◌≡◌, ℕ, ◌+◌, ◌-◌, ◌<◌, ◌≤◌, not, nat_lt, ◌||◌, Bool, true, false, cond, ◌⊎◌, inl, inr, Option, Some, None, List, [], ◌∷◌, ◌++◌, map, take, length, slice_get, refl, sym, ap, ◌∙◌, subst, arith, true≢false, length-append}
+use Rattle.std.proofs.Common.{◌≡◌, ℕ, suc, ◌+◌, ◌<◌, ◌≤◌, not, nat_lt, ◌||◌, Bool, true, false, cond, ◌⊎◌, inl, inr, Option, Some, None, List, [], ◌∷◌, ◌++◌, map, take, length, slice_get, refl, sym, ap, ◌∙◌, subst, arith, true≢false, length-append}
 use Rattle.std.specs.Prelude.{option_map}
 use Rattle.std.specs.Option.{option_or}
 use Rattle.std.proofs.lemmas.Option.{none-some, same_Some}
@@ -54,7 +54,7 @@ record IsFirst (t : Task) (before entries : List Kid) (n : ℕ) (r : Refusal) : 
   within : place < length entries
   of_entry : is_of_entry r ≡ true
   free_before : first_fault t before (take place entries) ≡ None
-  fault_with : first_fault t before (take (place + 1) entries) ≡ Some (n, r)
+  fault_with : first_fault t before (take (suc place) entries) ≡ Some (n, r)
 
 faulty : (t : Task) (before entries : List Kid) (n : ℕ) (r : Refusal) → first_fault t before entries ≡ Some (n, r) → IsFirst t before entries n r
 faulty t before [] n r e = absurd (none-some (n, r) e)
@@ -65,12 +65,12 @@ faulty t before (k ∷ entries) n r e =
       | None ↦ λ is e.
           let later = faulty t next entries n r e in
           record {
-            place = later.place + 1;
+            place = suc later.place;
             number = omega (arith, later.number, length-append before (k ∷ []));
             within = omega (arith, later.within);
             of_entry = later.of_entry;
             free_before = ap (λ (o : Option Refusal). option_or (told o) (first_fault t next (take later.place entries))) is ∙ later.free_before;
-            fault_with = ap (λ (o : Option Refusal). option_or (told o) (first_fault t next (take (later.place + 1) entries))) is ∙ later.fault_with;
+            fault_with = ap (λ (o : Option Refusal). option_or (told o) (first_fault t next (take (suc later.place) entries))) is ∙ later.fault_with;
           }
       | Some x ↦ λ is e.
           let same = same_Some (length before, x) (n, r) e in
@@ -147,14 +147,15 @@ module _ (t : Task) (most : ℕ) (few : most < ROOT_PARENT) (entries : List Entr
       let long = length-map entries kid_of in
       let within = first.within in
       let before : first_fault t [] (take n kids) ≡ None = subst (λ (m : ℕ). first_fault t [] (take m kids) ≡ None) number first.free_before in
-      let with : first_fault t [] (take (n + 1) kids) ≡ Some (n, r) = subst (λ (m : ℕ). first_fault t [] (take (m + 1) kids) ≡ Some (n, r)) number first.fault_with in
+      let more : suc first.place ≡ n + 1 = omega (arith, number) in
+      let faulted : first_fault t [] (take (n + 1) kids) ≡ Some (n, r) = subst (λ (m : ℕ). first_fault t [] (take m kids) ≡ Some (n, r)) more first.fault_with in
       let short : length (take n kids) < ROOT_PARENT = omega (arith, few, le, long, length-take n kids) in (
         le,
         record {
           number = n;
           place = place;
           legal_before = subst (AreLegal t) (take-map kid_of n entries) (legal_kids t (take n kids) short before);
-          faulty = λ legal. faulty_kids t (take (n + 1) kids) n r with (subst (AreLegal t) (sym (take-map kid_of (n + 1) entries)) legal);
+          faulty = λ legal. faulty_kids t (take (n + 1) kids) n r faulted (subst (AreLegal t) (sym (take-map kid_of (n + 1) entries)) legal);
           illegal = faulty_kids t kids n r told.first;
         },
       )

@@ -20,7 +20,7 @@ close-requires-clause-place c =
     slice_get_within c.place_of.new.self.states c.in_ok-place-in-Some.place c.in-Some.state.now c.in_ok-place-in-Some.ensures.place
 
 pub unreachable-requires : goal.unreachable-requires
-unreachable-requires c = entry_leads c.args.entries.now.state c.requires.kept c.args.number c.requires.among (sym (c.in-None.ensures tt))
+unreachable-requires c = entry_leads c.args.entries.now.state c.requires.kept c.args.number c.requires.among (sym c.in-None.ensures)
 
 pub returns-clause-closed : goal.returns-clause-closed
 returns-clause-closed c =
