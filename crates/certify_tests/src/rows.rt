@@ -40,7 +40,12 @@ const V_TASK: Texts = (V, V_PROBLEM);
 
 const ROWS: [Row; 24] = [
     // One way, whole and cut off.
-    (L_TASK, MOST, &[ROOT, (0, 0), (1, 1)], Told::Optimal(&[0, 1], 2)),
+    (
+        L_TASK,
+        MOST,
+        &[ROOT, (0, 0), (1, 1)],
+        Told::Optimal(&[0, 1], 2),
+    ),
     (L_TASK, MOST, &[ROOT, (0, 0)], Told::Nothing),
     (L_TASK, MOST, &[ROOT], Told::Nothing),
     (L_TASK, MOST, &[], Told::Nothing),
@@ -53,23 +58,78 @@ const ROWS: [Row; 24] = [
     (FAR_GOAL, MOST, &[ROOT, (0, 0)], Told::Nothing),
     (NEAR_GOAL, MOST, &[ROOT, (0, 0)], Told::Optimal(&[0], 1)),
     // A state is reached at cost 5, and again at cost 2.
-    (N_TASK, MOST, &[ROOT, (0, 0), (0, 1), (2, 2), (3, 3)], Told::Optimal(&[1, 2, 3], 3)),
-    (N_TASK, MOST, &[ROOT, (0, 1), (1, 2), (2, 3)], Told::Optimal(&[1, 2, 3], 3)),
+    (
+        N_TASK,
+        MOST,
+        &[ROOT, (0, 0), (0, 1), (2, 2), (3, 3)],
+        Told::Optimal(&[1, 2, 3], 3),
+    ),
+    (
+        N_TASK,
+        MOST,
+        &[ROOT, (0, 1), (1, 2), (2, 3)],
+        Told::Optimal(&[1, 2, 3], 3),
+    ),
     (N_TASK, MOST, &[ROOT, (0, 0), (0, 1), (1, 3)], Told::Nothing),
     (N_TASK, MOST, &[ROOT, (0, 0), (0, 1)], Told::Nothing),
     (N_TASK, MOST, &[ROOT, (0, 0), (1, 3)], Told::Nothing),
     // Two plans of the same cost: that of the first entry is told.
-    (G_TASK, MOST, &[ROOT, (0, 0), (0, 1), (2, 0), (1, 1)], Told::Optimal(&[1, 0], 2)),
-    (G_TASK, MOST, &[ROOT, (0, 0), (1, 1)], Told::Optimal(&[0, 1], 2)),
-    (V_TASK, MOST, &[ROOT, (0, 0), (1, 1)], Told::Optimal(&[0, 1], 9)),
+    (
+        G_TASK,
+        MOST,
+        &[ROOT, (0, 0), (0, 1), (2, 0), (1, 1)],
+        Told::Optimal(&[1, 0], 2),
+    ),
+    (
+        G_TASK,
+        MOST,
+        &[ROOT, (0, 0), (1, 1)],
+        Told::Optimal(&[0, 1], 2),
+    ),
+    (
+        V_TASK,
+        MOST,
+        &[ROOT, (0, 0), (1, 1)],
+        Told::Optimal(&[0, 1], 9),
+    ),
     // The root's pair again; a parent that is no entry yet; an action that does not apply; no root.
-    (L_TASK, MOST, &[ROOT, ROOT], Told::Refused(CertifyError::Damaged(56), "34 Damaged(56)")),
-    (L_TASK, MOST, &[ROOT, (1, 0), ROOT], Told::Refused(CertifyError::Damaged(56), "34 Damaged(56)")),
-    (L_TASK, MOST, &[ROOT, (0, 0), (1, 0)], Told::Refused(CertifyError::Damaged(69), "34 Damaged(69)")),
-    (L_TASK, MOST, &[(0, 0)], Told::Refused(CertifyError::Damaged(43), "34 Damaged(43)")),
+    (
+        L_TASK,
+        MOST,
+        &[ROOT, ROOT],
+        Told::Refused(CertifyError::Damaged(56), "34 Damaged(56)"),
+    ),
+    (
+        L_TASK,
+        MOST,
+        &[ROOT, (1, 0), ROOT],
+        Told::Refused(CertifyError::Damaged(56), "34 Damaged(56)"),
+    ),
+    (
+        L_TASK,
+        MOST,
+        &[ROOT, (0, 0), (1, 0)],
+        Told::Refused(CertifyError::Damaged(69), "34 Damaged(69)"),
+    ),
+    (
+        L_TASK,
+        MOST,
+        &[(0, 0)],
+        Told::Refused(CertifyError::Damaged(43), "34 Damaged(43)"),
+    ),
     // The limit is asked first.
-    (L_TASK, 2, &[ROOT, ROOT, (1, 1)], Told::Refused(CertifyError::Full, "31 Full")),
-    (L_TASK, 3, &[ROOT, (0, 0), (1, 1)], Told::Optimal(&[0, 1], 2)),
+    (
+        L_TASK,
+        2,
+        &[ROOT, ROOT, (1, 1)],
+        Told::Refused(CertifyError::Full, "31 Full"),
+    ),
+    (
+        L_TASK,
+        3,
+        &[ROOT, (0, 0), (1, 1)],
+        Told::Optimal(&[0, 1], 2),
+    ),
 ];
 
 /// The entries of these pairs: the first one's place is 43, and each takes 13 bytes with its group's gate and count.

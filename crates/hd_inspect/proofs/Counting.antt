@@ -49,7 +49,7 @@ groups_counted v ((k ∷ kids) ∷ groups) gate last all e =
     let next = gate + length (opened v (k ∷ kids)) in
     let long = length-counted v (k ∷ kids) in
     let rest = in_group v kids (gate + 5) (entries_in v next groups) (length groups)
-        (λ end at. groups_counted v groups next (Some end) all.1 (let le : end + w ≤ next = omega (arith, at, long) in le)) in
+    (λ end at. groups_counted v groups next (Some end) all.1 (let le : end + w ≤ next = omega (arith, at, long) in le)) in
     let first : cond (follows w last (gate + 5)) 0 1 ≡ 1 = ap (λ (b : Bool). let n : ℕ = cond b 0 1 in n) (begins w last gate e) in
     omega (arith, rest, first)
 

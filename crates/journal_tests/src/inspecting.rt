@@ -59,6 +59,9 @@ fn digests_are_told_in_hexadecimal(rt: HostRuntime) -> Result<(), Fail> {
     let mut digest = DIGEST;
     digest[0] = 0xA9;
     let text = digest_text(rt.alloc(), &digest)?;
-    assert_eq!(rt; text.as_str(), "a907070707070707070707070707070707070707070707070707070707070707");
+    assert_eq!(rt;
+        text.as_str(),
+        "a907070707070707070707070707070707070707070707070707070707070707"
+    );
     Ok(())
 }
