@@ -56,12 +56,15 @@ record IsFirst (t : Task) (before entries : List Kid) (n : ℕ) (r : Refusal) : 
   free_before : first_fault t before (take place entries) ≡ None
   fault_with : first_fault t before (take (suc place) entries) ≡ Some (n, r)
 
+-- a refusal with the number of its entry
+abbrev told_by : ℕ → Option Refusal → Option (ℕ × Refusal)
+told_by n o = option_map (λ (r : Refusal). (n, r)) o
+
 faulty : (t : Task) (before entries : List Kid) (n : ℕ) (r : Refusal) → first_fault t before entries ≡ Some (n, r) → IsFirst t before entries n r
 faulty t before [] n r e = absurd (none-some (n, r) e)
 faulty t before (k ∷ entries) n r e =
     let next = before ++ k ∷ [] in
-    let told = λ (o : Option Refusal). option_map (λ (x : Refusal). (length before, x)) o in
-    elim (fault_at t before k) as (λ o. fault_at t before k ≡ o → option_or (told o) (first_fault t next entries) ≡ Some (n, r) → IsFirst t before (k ∷ entries) n r) [
+    elim (fault_at t before k) as (λ o. fault_at t before k ≡ o → option_or (told_by (length before) o) (first_fault t next entries) ≡ Some (n, r) → IsFirst t before (k ∷ entries) n r) [
       | None ↦ λ is e.
           let later = faulty t next entries n r e in
           record {
@@ -69,8 +72,8 @@ faulty t before (k ∷ entries) n r e =
             number = omega (arith, later.number, length-append before (k ∷ []));
             within = omega (arith, later.within);
             of_entry = later.of_entry;
-            free_before = ap (λ (o : Option Refusal). option_or (told o) (first_fault t next (take later.place entries))) is ∙ later.free_before;
-            fault_with = ap (λ (o : Option Refusal). option_or (told o) (first_fault t next (take (suc later.place) entries))) is ∙ later.fault_with;
+            free_before = ap (λ (o : Option Refusal). option_or (told_by (length before) o) (first_fault t next (take later.place entries))) is ∙ later.free_before;
+            fault_with = ap (λ (o : Option Refusal). option_or (told_by (length before) o) (first_fault t next (take (suc later.place) entries))) is ∙ later.fault_with;
           }
       | Some x ↦ λ is e.
           let same = same_Some (length before, x) (n, r) e in
@@ -81,7 +84,7 @@ faulty t before (k ∷ entries) n r e =
             within = omega arith;
             of_entry = kind (same_kid k root || nat_lt k.parent (length before)) (has (posted_by t (plans_at before)) k) (has before k) r (is ∙ ap Some why);
             free_before = refl;
-            fault_with = ap (λ (o : Option Refusal). option_or (told o) (first_fault t next [])) is ∙ e;
+            fault_with = ap (λ (o : Option Refusal). option_or (told_by (length before) o) (first_fault t next [])) is ∙ e;
           }
     ] refl e
 
