@@ -1,10 +1,12 @@
-//! Tests of the journal: its bytes, written and read.
+//! Tests of the journal: its bytes, written, read and inspected.
 #![tactic(auto)]
 
 #[cfg(test)]
 mod files;
 #[cfg(test)]
 mod hostile;
+#[cfg(test)]
+mod inspecting;
 #[cfg(test)]
 mod telling;
 #[cfg(test)]

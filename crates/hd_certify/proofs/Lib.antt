@@ -1,0 +1,3 @@
+pub mod Justified
+pub mod Refusing
+pub mod Showing

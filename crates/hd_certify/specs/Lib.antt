@@ -1,0 +1,3 @@
+pub mod Certificate
+pub mod Covering
+pub mod Error

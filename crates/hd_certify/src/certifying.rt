@@ -1,0 +1,56 @@
+//! The call that certifies.
+ghost use Rattle.std.specs.Prelude.{◌≡◌, ◌<◌, ◌≤◌, length, IfOk, IfErr, IfSome, OnOk};
+ghost use Rattle.hd_task.specs.declared.plan.TheConstants.{ROOT_PARENT};
+ghost use Rattle.hd_entries.specs.Settling.{expansions};
+ghost use Rattle.hd_certify.specs.Certificate.{IsDecisive, IsShown, IsCertificateOf, IsTrueOf};
+ghost use Rattle.hd_certify.specs.Error.{IsRefusal};
+
+use crate::covering::are_spared;
+use crate::resuming::resume;
+use crate::{Certified, CertifyError, Entry};
+use hd_base::NoMemory;
+use hd_entries::Entries;
+use hd_task::Task;
+use std::alloc::Global;
+
+/// What entries show that decide their task.
+///
+/// # Errors
+/// `NoMemory` where there is no room for the plan.
+fn shown_by(entries: &Entries<'_>) -> Result<Certified, NoMemory>
+    requires { IsDecisive entries.now.state.task (expansions entries.now.state) }
+    ensures { IfOk result (λ c. IsShown entries.now.state.task (expansions entries.now.state) (Some c)) }
+{
+    match entries.extract()? {
+        Some(plan) => Ok(Certified::Optimal(plan)),
+        None => Ok(Certified::NoPlan),
+    }
+}
+
+/// What these entries, of which there may be `most`, show of a task: that a plan is optimal, or that there is none; or nothing. What they
+/// show is true, whoever made them.
+///
+/// # Errors
+/// `Full` where there are more entries than `most`; `Damaged` with the place of the first that makes no legal list with those before it;
+/// `NoMemory`.
+pub fn certify(
+    alloc: Global,
+    task: &Task,
+    most: u64,
+    entries: &[Entry],
+) -> Result<Option<Certified>, CertifyError>
+    requires { most < ROOT_PARENT }
+    ensures within { OnOk result (length entries.now ≤ most) }
+    ensures shows { IfOk result (IsCertificateOf task.now entries.now) }
+    ensures is_true { IfOk result (λ c. IfSome c (IsTrueOf task.now)) }
+    ensures refused { IfErr result (IsRefusal task.now most entries.now) }
+{
+    let (held, parcels) = resume(alloc, task, most, entries)?;
+    if held.departure().is_some() {
+        return Ok(None);
+    }
+    if !are_spared(alloc, &held, parcels.as_slice())? {
+        return Ok(None);
+    }
+    Ok(Some(shown_by(&held)?))
+}

@@ -1,0 +1,17 @@
+//! What a journal's entries show by themselves: that a plan is optimal, that there is none, or nothing.
+//!
+//! `specs/Certificate.antt` says what entries show. No worker and no book takes part, and nobody has to be trusted who made the entries: they
+//! are made again, and each kid that is no entry is looked at once.
+#![tactic(auto)]
+
+mod certified;
+mod certifying;
+mod covering;
+mod error;
+pub mod laws;
+mod resuming;
+
+pub use certified::Certified;
+pub use certifying::certify;
+pub use error::CertifyError;
+pub use hd_journal::Entry;

@@ -1,0 +1,100 @@
+//! How the entries of a journal are made again.
+ghost use Rattle.std.specs.Prelude.{◌≡◌, ◌<◌, ◌≤◌, ℕ, [], None, map, length, slice_get, option_map, Some, IfOk, IfErr, OnOk};
+ghost use Rattle.std.specs.List.{AllByRecursion};
+ghost use Rattle.hd_task.specs.declared.task.Task.{Task};
+ghost use Rattle.hd_task.specs.declared.plan.TheConstants.{ROOT_PARENT};
+ghost use Rattle.hd_image.specs.declared.entry.Entry.{Entry as EntryRecord};
+ghost use Rattle.hd_journal.specs.Journal.{kid_of};
+ghost use Rattle.hd_entries.specs.Resuming.{first_fault, open_kids, resumed, IsFaultOf, LeadsThere};
+ghost use Rattle.hd_certify.specs.declared.error.CertifyError.TheVariants.{Damaged};
+ghost use Rattle.hd_certify.specs.Error.{IsRefusal};
+
+use crate::CertifyError;
+use hd_base::NoMemory;
+use hd_entries::{Entries, Refusal};
+use hd_journal::{Entry, Kid};
+use hd_node::Parcel;
+use hd_task::Task;
+use std::alloc::Global;
+
+/// The pair of an entry.
+fn kid_of(entry: &Entry) -> Kid
+    ensures { result ≡ kid_of entry.now }
+{
+    Kid {
+        parent: entry.parent,
+        action: entry.action,
+    }
+}
+
+/// The pairs of entries, in order.
+///
+/// # Errors
+/// `NoMemory` where there is no room for them.
+fn kids_of(alloc: Global, entries: &[Entry]) -> Result<Vec<Kid>, NoMemory>
+    ensures { IfOk result (λ kids. kids.items ≡ map kid_of entries.now) }
+{
+    let mut kids = Vec::with_capacity(alloc, entries.len())?;
+    for entry in entries {
+        kids.push(kid_of(entry))?;
+    }
+    Ok(kids)
+}
+
+/// The entry of this number is faulty, which is told with its place.
+fn damaged_at(entries: &[Entry], number: u64) -> CertifyError
+    requires { number < length entries.now }
+    ensures { (at : ℕ) × (result ≡ Damaged at)
+        × (option_map (λ (e : EntryRecord). e.at) (slice_get entries.now number) ≡ Some at) }
+{
+    CertifyError::Damaged(entries[number as usize].at)
+}
+
+/// Why nothing is certified, where that of this number can't be the next entry.
+fn fault_at(entries: &[Entry], number: u64, refusal: Refusal) -> CertifyError
+    requires { (t : Task) × (most : ℕ) × (most < ROOT_PARENT)
+        × IsFaultOf t most (map kid_of entries.now) number refusal }
+    ensures { (t : Task) (most : ℕ) → most < ROOT_PARENT
+        → IsFaultOf t most (map kid_of entries.now) number refusal
+        → IsRefusal t most entries.now result }
+{
+    match refusal {
+        Refusal::Full => CertifyError::Full,
+        Refusal::NoMemory => CertifyError::NoMemory,
+        Refusal::UnknownParent
+        | Refusal::NotAKid
+        | Refusal::SettledBefore
+        | Refusal::StateDiffers
+        | Refusal::NotDominated
+        | Refusal::BelowBound => damaged_at(entries, number),
+    }
+}
+
+/// The entries made again, and the parcels of all posted kids that are no entries.
+///
+/// # Errors
+/// `Full` where there are more entries than `most`; `Damaged` of the first that makes no legal list with those before it; `NoMemory`.
+pub(crate) fn resume<'t>(
+    alloc: Global,
+    task: &'t Task,
+    most: u64,
+    entries: &[Entry],
+) -> Result<(Entries<'t>, Vec<Parcel<'t>>), CertifyError>
+    requires { most < ROOT_PARENT }
+    ensures within { OnOk result (length entries.now ≤ most) }
+    ensures entries { IfOk result (λ r. r.0 ≡ resumed task.now most (map kid_of entries.now)) }
+    ensures faultless { OnOk result (first_fault task.now [] (map kid_of entries.now) ≡ None) }
+    ensures parcels { IfOk result (λ r. map (λ p. p.kid) r.1.items
+        ≡ open_kids task.now (map kid_of entries.now)) }
+    ensures lead { IfOk result (λ r. AllByRecursion (LeadsThere r.0.state) r.1.items) }
+    ensures refused { IfErr result (IsRefusal task.now most entries.now) }
+{
+    if entries.len() as u64 > most {
+        return Err(CertifyError::Full);
+    }
+    let kids = kids_of(alloc, entries)?;
+    match Entries::resume(alloc, task, most, kids.as_slice()) {
+        Ok(held) => Ok(held),
+        Err((number, refusal)) => Err(fault_at(entries, number, refusal)),
+    }
+}
