@@ -1,5 +1,5 @@
 pub mod Blaming
-pub mod Certifying
+pub mod Certificates
 pub mod Costs
 pub mod Explaining
 pub mod Files

@@ -58,18 +58,18 @@ pub record IsToldOf (t : Task) (digest content : List ℕ) (shown : Option Certi
   pub told : text ≡ certified_text t shown
 
 -- this is told of a task, where a content shows something of it, and where it does not; and what is shown is true of all plans of the task
-pub record IsToldBy (t : Task) (digest content : List ℕ) (yes : Bool) (text : List ℕ) : Type 0 where
+pub record IsToldBy (t : Task) (digest content : List ℕ) (answer : Bool) (text : List ℕ) : Type 0 where
   pub shown : Option Certified
-  pub answer : yes ≡ is_some shown
+  pub answers : answer ≡ is_some shown
   pub told : IsToldOf t digest content shown text
   pub is_true : IfSome shown (IsTrueOf t)
 
 -- two texts say a task, and this is told of what a content shows of it; it is true of all plans of the domain
-pub record IsCertified (domain problem content : List ℕ) (yes : Bool) (text : List ℕ) : Type 0 where
+pub record IsCertified (domain problem content : List ℕ) (answer : Bool) (text : List ℕ) : Type 0 where
   pub task : Task
   pub is_task : IsTaskOf domain problem task
   pub shown : Option Certified
-  pub answer : yes ≡ is_some shown
+  pub answers : answer ≡ is_some shown
   pub told : IsToldOf task (digest_of domain problem) content shown text
   pub is_true : IfSome shown (IsTrueThere is_task.lifted task)
 
@@ -81,11 +81,11 @@ pub record OnContent (file : Option (List ℕ)) (P : List ℕ → Type 0) : Type
 
 -- this is told of what the file of a journal shows of the task of two texts, where that is something, and where it is not
 abbrev pub IsCertificate : List ℕ → List ℕ → Option (List ℕ) → Bool → List ℕ → Type 0
-IsCertificate domain problem file yes text = OnContent file (λ content. IsCertified domain problem content yes text)
+IsCertificate domain problem file answer text = OnContent file (λ content. IsCertified domain problem content answer text)
 
 -- a text is all that is to be told of that
 abbrev pub IsCertificateText : List ℕ → List ℕ → Option (List ℕ) → List ℕ → Type 0
-IsCertificateText domain problem file text = (yes : Bool) × IsCertificate domain problem file yes text
+IsCertificateText domain problem file text = (answer : Bool) × IsCertificate domain problem file answer text
 
 -- a plan that is shown can be told: each of its steps is applicable
 abbrev pub CanBeTold : Task → Option Certified → Type 0

@@ -153,8 +153,8 @@ pub fn certify<P: Places, W: Write>(
     out: &mut Watched<'_, W>,
 ) -> Result<bool, Fault>
     // What is told is shown by the file's bytes, and true of all plans of the domain.
-    ensures whole { IfOk result (λ yes. WritesA
-        (IsCertificate domain.now problem.now (P.file_of places.old name.now) yes)
+    ensures whole { IfOk result (λ answer. WritesA
+        (IsCertificate domain.now problem.now (P.file_of places.old name.now) answer)
         (W.contents out.old.writer.now) (W.contents out.new.writer.now)) }
     ensures front { OnErr result
         ((W.contents out.new.writer.now ≡ W.contents out.old.writer.now)

@@ -192,6 +192,7 @@ impl Places for Shelf {
 
     fn read(&mut self, alloc: Global, name: &str) -> io::Result<Vec<u8>>
         ensures found { IfOk result (λ v. file_in self.old name.now ≡ Some v.items) }
+        ensures alone { self.new ≡ self.old }
     {
         let Some(bytes) = find(self.files.as_slice(), name) else {
             return Err(io::Error::from(io::ErrorKind::NotFound));

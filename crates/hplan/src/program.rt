@@ -148,7 +148,7 @@ fn certify_files<P: Places, O: Write>(
 
 /// The exit status of what a journal shows; a fault is told.
 fn status_of_certificate<E: Write>(err: &mut E, certified: Result<bool, Fault>) -> u8
-    ensures { MatchResult certified (λ yes. result ≡ status_of_certificate yes) (λ _. result ≡ REFUSED) }
+    ensures { MatchResult certified (λ answer. result ≡ status_of_certificate answer) (λ _. result ≡ REFUSED) }
 {
     match certified {
         Ok(true) => DONE,

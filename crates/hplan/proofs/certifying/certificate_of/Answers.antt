@@ -1,4 +1,4 @@
-use Rattle.hplan.proofs.Certifying.{certificate_by, file_untold, texts_untold}
+use Rattle.hplan.proofs.Certificates.{certificate_by, file_untold, texts_untold}
 use Rattle.hplan.proofs.certifying.certificate_of.Goals as goal
 
 pub returns-in-Ok-clause-found : goal.returns-in-Ok-clause-found
