@@ -25,14 +25,13 @@ use Rattle.hd_texts.specs.Tasks.{IsTaskOf, Explains}
 use Rattle.hplan.specs.declared.fault.Fault.{Fault}
 use Rattle.hplan.specs.declared.certifying.Certificate.{Certificate}
 use Rattle.hplan.specs.Fault.{task_in, certify_in, AnswersFault}
-use Rattle.hplan.specs.Certifying.{CanBeTold, IsTrueThere, IsToldBy, IsCertified, OnContent, IsCertificate, IsCertificateText, FailsOnFile, HasNoCertificate, HasNoCertificateYet, ShowsNothing, OfEntries, OfTexts, OfFile, OfOutput, certified_text, optimal_text}
+use Rattle.hplan.specs.Certifying.{CanBeTold, IsTrueThere, IsToldBy, IsCertified, OnContent, IsCertificate, IsCertificateText, FailsOnFile, HasNoCertificate, HasNoCertificateYet, ShowsNothing, OfEntries, OfTexts, OfFile, OfOutput, verdict_text, optimal_text}
 use Rattle.hplan.specs.PlanText.{goes_through}
-use Rattle.hplan.specs.Written.{WritesFrontOfA}
 use Rattle.hplan.proofs.Going.{bound_plan_goes}
 use Rattle.hplan.proofs.Writing.{untouched, failed}
 
 -- a plan that is shown goes through
-pub shown_goes : (t : Task) (entries : List Entry) (shown : Option Certified) → IsCertificateOf t entries shown → CanBeTold t shown
+pub shown_goes : (t : Task) (entries : List Entry) (shown : Option Certified) → IsCertificateOf t entries shown → IfSome shown (CanBeTold t)
 shown_goes t entries None s = tt
 shown_goes t entries (Some (Optimal p)) s = bound_plan_goes t s.expanded p s.legal s.shown.1
 shown_goes t entries (Some NoPlan) s = tt
@@ -80,14 +79,14 @@ cost_found t p None cost is k = absurd (none-some cost is)
 cost_found t p (Some c) cost is k =
     subst (λ (x : ℕ). (r : Node) × (exec t p ≡ Some r) × (r.cost ≡ x)) (same_Some c cost is) k
 
-pub optimal_told : {A E : Type 0} (items : A → List ℕ) (t : Task) (p : List ℕ) (found : Option ℕ) (cost : ℕ) (shown : Option Certified)
-    (r : Result A E) → shown ≡ Some (Optimal p) → found ≡ Some cost
+pub optimal_told : {A E : Type 0} (items : A → List ℕ) (t : Task) (p : List ℕ) (found : Option ℕ) (cost : ℕ) (verdict : Certified)
+    (r : Result A E) → verdict ≡ Optimal p → found ≡ Some cost
     → MatchOption found (goes_through t p ≡ false) (λ c. (r : Node) × (exec t p ≡ Some r) × (r.cost ≡ c))
     → ((n : Node) → n.cost ≡ cost → IfOk r (λ v. items v ≡ optimal_text (Some n)))
-    → IfOk r (λ v. items v ≡ certified_text t shown)
-optimal_told items t p found cost shown r is at costs told =
+    → IfOk r (λ v. items v ≡ verdict_text t verdict)
+optimal_told items t p found cost verdict r is at costs told =
     let k = cost_found t p found cost at costs in
-    subst (λ (s : Option Certified). IfOk r (λ v. items v ≡ certified_text t s)) (sym is)
+    subst (λ (c : Certified). IfOk r (λ v. items v ≡ verdict_text t c)) (sym is)
     (subst (λ (o : Option Node). IfOk r (λ v. items v ≡ optimal_text o)) (sym k.1) (told k.0 k.2))
 
 -- ---- no certificate
@@ -120,9 +119,3 @@ pub certificate_fails : (domain problem : List ℕ) (file : Option (List ℕ)) (
     → HasNoCertificate domain problem file old new before noted f
 certificate_fails domain problem file answer text old new before noted f s short told =
     OfOutput f (failed (IsCertificateText domain problem file) text old new noted f (answer, s) short told)
-
-pub certificate_cut : (domain problem : List ℕ) (file : Option (List ℕ)) (answer : Bool) (text : List ℕ) (old new : Option (List ℕ))
-    → IsCertificate domain problem file answer text → AppendsShort old new text
-    → WritesFrontOfA (IsCertificateText domain problem file) old new
-certificate_cut domain problem file answer text old new s short =
-    record { text = text; count = short.0; within = short.1; is = (answer, s); bytes = short.2 }

@@ -40,11 +40,15 @@ abbrev pub optimal_text : Option Node → List ℕ
 optimal_text None = []
 optimal_text (Some r) = codes "certified optimal; cost = " ++ decimal r.cost ++ line_end
 
+-- how it is told which verdict is shown
+abbrev pub verdict_text : Task → Certified → List ℕ
+verdict_text t (Optimal p) = optimal_text (exec t p)
+verdict_text t NoPlan = codes "certified no plan" ++ line_end
+
 -- how it is told what is shown of a task
 abbrev pub certified_text : Task → Option Certified → List ℕ
 certified_text t None = codes "not certified" ++ line_end
-certified_text t (Some (Optimal p)) = optimal_text (exec t p)
-certified_text t (Some NoPlan) = codes "certified no plan" ++ line_end
+certified_text t (Some verdict) = verdict_text t verdict
 
 -- a content is a journal of the task of this digest, or one that is being made, and its entries show this of the task
 pub record IsShownIn (t : Task) (digest content : List ℕ) (shown : Option Certified) : Type 0 where
@@ -88,10 +92,9 @@ abbrev pub IsCertificateText : List ℕ → List ℕ → Option (List ℕ) → L
 IsCertificateText domain problem file text = (answer : Bool) × IsCertificate domain problem file answer text
 
 -- a plan that is shown can be told: each of its steps is applicable
-abbrev pub CanBeTold : Task → Option Certified → Type 0
-CanBeTold t None = Unit {0}
-CanBeTold t (Some (Optimal p)) = goes_through t p ≡ true
-CanBeTold t (Some NoPlan) = Unit {0}
+abbrev pub CanBeTold : Task → Certified → Type 0
+CanBeTold t (Optimal p) = goes_through t p ≡ true
+CanBeTold t NoPlan = Unit {0}
 
 -- ---- why nothing is told
 

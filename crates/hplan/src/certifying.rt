@@ -52,7 +52,7 @@ fn shown_in(
 ) -> Result<Option<Certified>, Fault>
     ensures shown { IfOk result (IsShownIn task.now digest.now content.now) }
     ensures is_true { IfOk result (λ shown. IfSome shown (IsTrueOf task.now)) }
-    ensures can_be_told { IfOk result (CanBeTold task.now) }
+    ensures can_be_told { IfOk result (λ shown. IfSome shown (CanBeTold task.now)) }
     ensures refusal { IfErr result (ShowsNothing task.now digest.now content.now) }
 {
     let found = match read(alloc, content, digest) {
@@ -168,9 +168,10 @@ pub fn certify<P: Places, W: Write>(
     ensures no_fault { OnOk result (out.new.fault ≡ out.old.fault) }
     ensures alone { places.new ≡ places.old }
 {
-    let Certificate { is_certified, text } = certificate_of(alloc, places, name, domain, problem)?;
-    let written = write_out(out, &text);
-    drop(text);
+    let told = certificate_of(alloc, places, name, domain, problem)?;
+    let is_certified = told.is_certified;
+    let written = write_out(out, &told.text);
+    drop(told);
     match written {
         Ok(()) => Ok(is_certified),
         Err(fault) => Err(fault),

@@ -1,8 +1,8 @@
 //! The texts of departures, of tasks, of verdicts on plans and of what journals show.
-ghost use Rattle.std.specs.Prelude.{◌≡◌, ◌++◌, Some, IfOk, OnOk, string_bytes};
+ghost use Rattle.std.specs.Prelude.{◌≡◌, ◌++◌, Some, IfOk, IfSome, OnOk, string_bytes};
 ghost use Rattle.hd_plan.specs.PlanText.{line_end};
 ghost use Rattle.hd_task.specs.Plans.{Node};
-ghost use Rattle.hplan.specs.Certifying.{certified_text, optimal_text, CanBeTold};
+ghost use Rattle.hplan.specs.Certifying.{certified_text, verdict_text, optimal_text, CanBeTold};
 ghost use Rattle.hplan.specs.TaskText.{action_text, departure_text, count_line, numbered_line, numbered_lines, task_text};
 ghost use Rattle.hplan.specs.Verdict.{valid_text};
 
@@ -119,21 +119,31 @@ fn optimal_text(alloc: Global, cost: u64) -> Result<Vec<u8>, NoMemory>
     Ok(text.into_bytes())
 }
 
+/// How it is told which verdict is shown.
+fn verdict_text(alloc: Global, task: &Task, verdict: &Certified) -> Result<Vec<u8>, NoMemory>
+    requires { CanBeTold task.now verdict.now }
+    ensures { IfOk result (λ v. v.items ≡ verdict_text task.now verdict.now) }
+{
+    match verdict {
+        Certified::Optimal(plan) => match cost_of(alloc, task, plan)? {
+            Some(cost) => optimal_text(alloc, cost),
+            None => unreachable!(),
+        },
+        Certified::NoPlan => line_of(alloc, "certified no plan"),
+    }
+}
+
 /// How it is told what is shown of a task.
 pub fn certified_text(
     alloc: Global,
     task: &Task,
     shown: &Option<Certified>,
 ) -> Result<Vec<u8>, NoMemory>
-    requires { CanBeTold task.now shown.now }
+    requires { IfSome shown.now (CanBeTold task.now) }
     ensures { IfOk result (λ v. v.items ≡ certified_text task.now shown.now) }
 {
     match shown {
-        Some(Certified::Optimal(plan)) => match cost_of(alloc, task, plan)? {
-            Some(cost) => optimal_text(alloc, cost),
-            None => unreachable!(),
-        },
-        Some(Certified::NoPlan) => line_of(alloc, "certified no plan"),
+        Some(verdict) => verdict_text(alloc, task, verdict),
         None => line_of(alloc, "not certified"),
     }
 }

@@ -5,5 +5,5 @@ use Rattle.hplan.proofs.certifying.certify.Goals as goal
 
 pub returns-in-Err-clause-refusal : goal.returns-in-Err-clause-refusal
 returns-in-Err-clause-refusal g c =
-    certificate_fails c.args.domain.now c.args.problem.now (g.P.Places.file_of c.args.places.now c.args.name.now) c.in_ok-is_certified.is_certified _ _ _ _ _ _
-    c.in_ok-is_certified.ensures.found (subst (AppendsShort _ _) c.deref.ensures.value c.in-Err.ensures.short) c.in-Err.ensures.fault
+    certificate_fails c.args.domain.now c.args.problem.now (g.P.Places.file_of c.args.places.now c.args.name.now) c.in_ok-told.told.is_certified _ _ _ _ _ _
+    c.in_ok-told.ensures.found (subst (AppendsShort _ _) c.deref.ensures.value c.in-Err.ensures.short) c.in-Err.ensures.fault
