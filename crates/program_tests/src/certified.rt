@@ -26,11 +26,7 @@ fn in_version_one(alloc: Global, bytes: &[u8]) -> Result<Vec<u8>, AllocError> {
 }
 
 /// What `certify` prints of the journal that `solve` has made of two texts.
-fn certified_behind(
-    alloc: Global,
-    domain: &str,
-    problem: &str,
-) -> Result<Vec<u8>, AllocError> {
+fn certified_behind(alloc: Global, domain: &str, problem: &str) -> Result<Vec<u8>, AllocError> {
     let files = [("d", domain.as_bytes()), ("p", problem.as_bytes())];
     let mut shelf = shelf_of(alloc, &files)?;
     run_over(alloc, &["solve", "d", "p", "--journal", "j"], &mut shelf)?;
