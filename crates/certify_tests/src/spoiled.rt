@@ -37,13 +37,21 @@ const TASKS: [(Texts, Truth); 8] = [
 /// How many lists of each task are spoiled.
 const TIMES: u32 = 125;
 
+/// The entries of a journal once its task was searched.
+fn searched_over(
+    rt: &impl Abort,
+    alloc: Global,
+    task: &Task,
+    journal: &mut Journal<MemoryDisk>,
+) -> Result<Vec<Entry>, Fail> {
+    assert!(rt; run(alloc, task, journal, ALONE).is_ok());
+    Ok(Vec::from_slice(alloc, journal.entries())?)
+}
+
 /// The entries of a search's journal.
 fn searched(rt: &impl Abort, alloc: Global, task: &Task) -> Result<Vec<Entry>, Fail> {
     match Journal::create(alloc, MemoryDisk::new(alloc), &[0; DIGEST_LEN]) {
-        Ok(mut journal) => {
-            assert!(rt; run(alloc, task, &mut journal, ALONE).is_ok());
-            Ok(Vec::from_slice(alloc, journal.entries())?)
-        }
+        Ok(mut journal) => searched_over(rt, alloc, task, &mut journal),
         Err(_) => panic!(rt; "a journal in memory is made"),
     }
 }
@@ -94,22 +102,31 @@ struct Came {
     refused: u32,
 }
 
-/// Counts what came of a list. What it shows is so.
-fn count(
+/// What is shown, as a truth; none where the plan is not valid.
+fn truth_in(
+    rt: &impl Abort,
+    alloc: Global,
+    task: &Task,
+    certified: &Certified,
+) -> Result<Option<Truth>, Fail> {
+    match certified {
+        Certified::Optimal(plan) => Ok(cost_of(rt, alloc, task, plan)?.map(Truth::Cost)),
+        Certified::NoPlan => Ok(Some(Truth::NoPlan)),
+    }
+}
+
+/// Counts an answer. What it shows is so.
+fn count_answer(
     rt: &impl Abort,
     alloc: Global,
     task: &Task,
     truth: Truth,
-    entries: &[Entry],
+    answer: &Result<Option<Certified>, CertifyError>,
     came: Came,
 ) -> Result<Came, Fail> {
-    match certify(alloc, task, ROOT_PARENT - 1, entries) {
+    match answer {
         Ok(Some(certified)) => {
-            let told = match &certified {
-                Certified::Optimal(plan) => cost_of(rt, alloc, task, plan)?.map(Truth::Cost),
-                Certified::NoPlan => Some(Truth::NoPlan),
-            };
-            assert!(rt; told == Some(truth));
+            assert!(rt; truth_in(rt, alloc, task, certified)? == Some(truth));
             Ok(Came {
                 shown: came.shown.saturating_add(1),
                 ..came
@@ -120,13 +137,26 @@ fn count(
             ..came
         }),
         Err(error) => {
-            assert!(rt; error != CertifyError::Full && error != CertifyError::NoMemory);
+            assert!(rt; *error != CertifyError::Full && *error != CertifyError::NoMemory);
             Ok(Came {
                 refused: came.refused.saturating_add(1),
                 ..came
             })
         }
     }
+}
+
+/// Counts what comes of a list.
+fn count(
+    rt: &impl Abort,
+    alloc: Global,
+    task: &Task,
+    truth: Truth,
+    entries: &[Entry],
+    came: Came,
+) -> Result<Came, Fail> {
+    let answer = certify(alloc, task, ROOT_PARENT - 1, entries);
+    count_answer(rt, alloc, task, truth, &answer, came)
 }
 
 const NONE: Came = Came {
@@ -152,20 +182,72 @@ fn assert_whole(
     Ok(())
 }
 
+/// Counts what comes of a list that is spoiled by chance.
+fn count_spoiled(
+    rt: &impl Abort,
+    alloc: Global,
+    chance: &mut Chance,
+    task: &Task,
+    truth: Truth,
+    entries: &[Entry],
+    came: Came,
+) -> Result<Came, Fail> {
+    let place = chance.below(entries.len().min(1_000) as u32) as usize;
+    let list = spoiled(alloc, chance, entries, place)?;
+    count(rt, alloc, task, truth, list.as_slice(), came)
+}
+
+/// Counts what comes of many spoiled lists of a search's entries, and asserts what the whole list shows.
+fn count_entries(
+    rt: &impl Abort,
+    alloc: Global,
+    chance: &mut Chance,
+    task: &Task,
+    truth: Truth,
+    entries: &[Entry],
+    came: Came,
+) -> Result<Came, Fail> {
+    assert_whole(rt, alloc, task, truth, entries)?;
+    let mut came = came;
+    for _ in 0..TIMES {
+        came = count_spoiled(rt, alloc, chance, task, truth, entries, came)?;
+    }
+    Ok(came)
+}
+
+/// The same of the entries of a task's search.
+fn count_search(
+    rt: &impl Abort,
+    alloc: Global,
+    chance: &mut Chance,
+    task: &Task,
+    truth: Truth,
+    came: Came,
+) -> Result<Came, Fail> {
+    let entries = searched(rt, alloc, task)?;
+    count_entries(rt, alloc, chance, task, truth, entries.as_slice(), came)
+}
+
+/// The same of the task of two texts.
+fn count_task(
+    rt: &impl Abort,
+    alloc: Global,
+    chance: &mut Chance,
+    texts: Texts,
+    truth: Truth,
+    came: Came,
+) -> Result<Came, Fail> {
+    let task = task(rt, alloc, texts);
+    count_search(rt, alloc, chance, &task, truth, came)
+}
+
 #[test]
 fn spoiled_entries_show_nothing_false(rt: HostRuntime) -> Result<(), Fail> {
     let alloc = rt.alloc();
     let mut chance = Chance::of(25);
     let mut came = NONE;
     for (texts, truth) in TASKS {
-        let task = task(&rt, alloc, texts);
-        let entries = searched(&rt, alloc, &task)?;
-        assert_whole(&rt, alloc, &task, truth, entries.as_slice())?;
-        for _ in 0..TIMES {
-            let place = chance.below(entries.len().min(1_000) as u32) as usize;
-            let list = spoiled(alloc, &mut chance, entries.as_slice(), place)?;
-            came = count(&rt, alloc, &task, truth, list.as_slice(), came)?;
-        }
+        came = count_task(&rt, alloc, &mut chance, texts, truth, came)?;
     }
     assert!(rt; came.shown > 0 && came.nothing > 0 && came.refused > 0);
     Ok(())
