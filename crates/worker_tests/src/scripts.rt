@@ -151,11 +151,7 @@ fn close(
     Ok(())
 }
 
-fn expand_best<'t>(
-    worker: &mut Worker<'t>,
-    lookup: &mut Lookup<'t>,
-    count: u32,
-) -> Result<(), Fail>
+fn expand_best<'t>(worker: &mut Worker<'t>, lookup: &mut Lookup<'t>, count: u32) -> Result<(), Fail>
     requires { IsLookupOf worker.old.task lookup.old }
     ensures task { worker.new.task ≡ worker.old.task }
     ensures given { worker.new.given ≡ worker.old.given }

@@ -43,10 +43,7 @@ const TWO_WAYS: Outline = (
 const TRAP: Outline = (
     &[true, false],
     &[(1, true)],
-    &[
-        (&[(0, true)], &[0], &[], 1),
-        (&[(0, true)], &[], &[1], 1),
-    ],
+    &[(&[(0, true)], &[0], &[], 1), (&[(0, true)], &[], &[1], 1)],
 );
 
 // ---- parts
@@ -183,22 +180,22 @@ fn any_literal(dice: &mut Dice) -> Wants {
     (dice.below(4) as u32, dice.below(3) > 0)
 }
 
-/// Six actions over four atoms: each asks for a literal, makes one atom true and maybe another one false, and costs at most 3.
+/// Six actions over four atoms, each of which is added by one action or by two: each asks for a literal, makes one atom true and maybe
+/// another one false, and costs at most 3.
 fn any_actions(alloc: Global, dice: &mut Dice) -> Result<Sequence<Action>, Fail> {
     let mut actions = Vec::new(alloc);
-    for _ in 0..6 {
+    for atom in [0, 1, 2, 3, 2, 3] {
         let needs = [any_literal(dice)];
         let deletes = [dice.below(4) as u32];
-        let adds = [dice.below(4) as u32];
         let cost = dice.below(4) as i64;
-        actions.push(action(alloc, &needs, &deletes, &adds, cost)?)?;
+        actions.push(action(alloc, &needs, &deletes, &[atom], cost)?)?;
     }
     Ok(Sequence::from_vec(actions))
 }
 
-/// A task of four atoms, of which one is true at first, and six actions; the goal is two literals.
+/// A task of four atoms, of which the first is true at first, and six actions; the goal is the last one and a literal.
 pub fn any_task(rt: &impl Abort, alloc: Global, dice: &mut Dice) -> Result<Task, Fail> {
     let actions = any_actions(alloc, dice)?;
-    let goal = [any_literal(dice), any_literal(dice)];
+    let goal = [(3, true), any_literal(dice)];
     task_from(rt, alloc, &[true, false, false, false], &goal, actions)
 }

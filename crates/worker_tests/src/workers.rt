@@ -314,10 +314,7 @@ const OUTBOX: &[Step] = &[Step {
         Call::Out(None),
         Call::Release(&[((0, 0), A, 1), ((0, 1), B, 1), ((1, 1), AB, 2)]),
         Call::Best(Some(0)),
-        Call::OutAndBack(
-            ((0, 0), A, 1),
-            &[((2, 0), AB, 7), ((2, 1), AT_NOTHING, 2)],
-        ),
+        Call::OutAndBack(((0, 0), A, 1), &[((2, 0), AB, 7), ((2, 1), AT_NOTHING, 2)]),
         Call::Out(Some(((0, 0), A, 1))),
         Call::OutAndBack(((1, 1), AB, 2), &[]),
         Call::Out(Some(((1, 1), AB, 2))),
