@@ -11,11 +11,11 @@ use Rattle.hd_worker.specs.Lookup.{IsLookupOf}
 -- what the workers share is of a task
 pub record IsWorld (t : Task) (b : EntriesView) (x : Lookup) (mail : List ParcelView) : Type 0 where
   pub entries : b.state.task ≡ t
-  pub lookup : IsLookupOf t x
-  pub mail : AllByRecursion (IsParcelOf t) mail
+  pub known : IsLookupOf t x
+  pub parcels : AllByRecursion (IsParcelOf t) mail
 
 -- a worker and the parcels that are to come to it are of a task, and its last batch is numbered
 pub record IsSeat (t : Task) (w : WorkerView) (coming : List ParcelView) : Type 0 where
   pub of_task : w.task ≡ t
   pub numbered : w.given ≡ []
-  pub coming : AllByRecursion (IsParcelOf t) coming
+  pub parcels : AllByRecursion (IsParcelOf t) coming

@@ -18,7 +18,9 @@ impl Dice {
     }
 
     /// A number below another, or 0 where there is none.
-    pub fn below(&mut self, end: u64) -> u64 {
+    pub fn below(&mut self, end: u64) -> u64
+        ensures { 0 < end → result < end }
+    {
         if end == 0 {
             0
         } else {

@@ -151,14 +151,35 @@ fn close(
     Ok(())
 }
 
-fn expand_best<'t>(worker: &mut Worker<'t>, lookup: &mut Lookup<'t>, count: u32) -> Result<(), Fail>
+pub fn expand<'t>(worker: &mut Worker<'t>, lookup: &mut Lookup<'t>, pick: usize) -> Result<(), Fail>
+    requires { IsLookupOf worker.old.task lookup.old }
+    ensures task { worker.new.task ≡ worker.old.task }
+    ensures given { worker.new.given ≡ worker.old.given }
+    ensures lookup { IsLookupOf worker.old.task lookup.new }
+{
+    worker.expand(lookup, pick)?;
+    Ok(())
+}
+
+pub fn expand_best<'t>(worker: &mut Worker<'t>, lookup: &mut Lookup<'t>) -> Result<(), Fail>
+    requires { IsLookupOf worker.old.task lookup.old }
+    ensures task { worker.new.task ≡ worker.old.task }
+    ensures given { worker.new.given ≡ worker.old.given }
+    ensures lookup { IsLookupOf worker.old.task lookup.new }
+{
+    worker.expand_best(lookup)?;
+    Ok(())
+}
+
+/// So many times the best one.
+fn expand_many<'t>(worker: &mut Worker<'t>, lookup: &mut Lookup<'t>, count: u32) -> Result<(), Fail>
     requires { IsLookupOf worker.old.task lookup.old }
     ensures task { worker.new.task ≡ worker.old.task }
     ensures given { worker.new.given ≡ worker.old.given }
     ensures lookup { IsLookupOf worker.old.task lookup.new }
 {
     for _ in 0..count {
-        worker.expand_best(lookup)?;
+        expand_best(worker, lookup)?;
     }
     Ok(())
 }
@@ -241,8 +262,8 @@ fn make_call<'t>(
         }
         Call::See(bound) => worker.see(bound),
         Call::Best(place) => assert!(rt; worker.best(lookup)? == place),
-        Call::Expand(pick) => worker.expand(lookup, pick)?,
-        Call::ExpandBest(count) => expand_best(worker, lookup, count)?,
+        Call::Expand(pick) => expand(worker, lookup, pick)?,
+        Call::ExpandBest(count) => expand_many(worker, lookup, count)?,
         Call::Release(rows) => release(rt, alloc, task, worker, lookup, rows)?,
         Call::Out(row) => assert_out(rt, worker, row),
         Call::OutAndBack(row, between) => {

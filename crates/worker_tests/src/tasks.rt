@@ -9,14 +9,11 @@ use std::alloc::Global;
 use std::process::Abort;
 use std::test::Fail;
 
-/// A literal, as a table has it: an atom, and whether it is to be true.
-type Wants = (u32, bool);
-
 /// An action: what it asks for, the atoms that it makes false and those that it makes true, and what it costs.
-type Row = (&'static [Wants], &'static [u32], &'static [u32], i64);
+type Row = (&'static [Literal], &'static [u32], &'static [u32], i64);
 
 /// The atoms at first, the goal, and the actions.
-type Outline = (&'static [bool], &'static [Wants], &'static [Row]);
+type Outline = (&'static [bool], &'static [Literal], &'static [Row]);
 
 /// A task of the tests.
 #[derive(Clone, Copy)]
@@ -29,21 +26,46 @@ pub enum Which {
     Trap,
 }
 
+const A: Literal = Literal {
+    atom: 0,
+    positive: true,
+};
+
+const NOT_A: Literal = Literal {
+    positive: false,
+    ..A
+};
+
+const B: Literal = Literal {
+    atom: 1,
+    positive: true,
+};
+
+const C: Literal = Literal {
+    atom: 2,
+    positive: true,
+};
+
+const D: Literal = Literal {
+    atom: 3,
+    positive: true,
+};
+
 const TWO_WAYS: Outline = (
     &[false, false, false],
-    &[(2, true)],
+    &[C],
     &[
-        (&[(0, false)], &[], &[0], 5),
+        (&[NOT_A], &[], &[0], 5),
         (&[], &[], &[1], 1),
-        (&[(1, true)], &[1], &[0], 1),
-        (&[(0, true)], &[], &[2], 1),
+        (&[B], &[1], &[0], 1),
+        (&[A], &[], &[2], 1),
     ],
 );
 
 const TRAP: Outline = (
     &[true, false],
-    &[(1, true)],
-    &[(&[(0, true)], &[0], &[], 1), (&[(0, true)], &[], &[1], 1)],
+    &[B],
+    &[(&[A], &[0], &[], 1), (&[A], &[], &[1], 1)],
 );
 
 // ---- parts
@@ -89,16 +111,9 @@ fn names(alloc: Global) -> Result<Names, Fail> {
 }
 
 /// The condition that literals hold.
-fn when(alloc: Global, wants: &[Wants]) -> Result<Condition, Fail> {
-    let mut literals = Vec::new(alloc);
-    for (atom, positive) in wants {
-        literals.push(Literal {
-            atom: *atom,
-            positive: *positive,
-        })?;
-    }
+fn when(alloc: Global, literals: &[Literal]) -> Result<Condition, Fail> {
     Ok(Condition {
-        literals: Sequence::from_vec(literals),
+        literals: list(alloc, literals)?,
         comparisons: Sequence::empty(alloc),
         never: false,
     })
@@ -121,7 +136,7 @@ fn costing(alloc: Global, cost: i64) -> Result<Sequence<Expr>, Fail> {
 
 fn action(
     alloc: Global,
-    needs: &[Wants],
+    needs: &[Literal],
     deletes: &[u32],
     adds: &[u32],
     cost: i64,
@@ -152,7 +167,7 @@ fn task_from(
     rt: &impl Abort,
     alloc: Global,
     atoms: &[bool],
-    goal: &[Wants],
+    goal: &[Literal],
     actions: Sequence<Action>,
 ) -> Result<Task, Fail> {
     let initial = state(alloc, atoms)?;
@@ -176,15 +191,18 @@ pub fn task_of(rt: &impl Abort, alloc: Global, which: Which) -> Result<Task, Fai
 // ---- tasks at random
 
 /// A literal of one of four atoms.
-fn any_literal(dice: &mut Dice) -> Wants {
-    (dice.below(4) as u32, dice.below(3) > 0)
+fn any_literal(dice: &mut Dice) -> Literal {
+    Literal {
+        atom: dice.below(4) as u32,
+        positive: dice.below(3) > 0,
+    }
 }
 
-/// Six actions over four atoms, each of which is added by one action or by two: each asks for a literal, makes one atom true and maybe
+/// Eight actions over four atoms, each of which is added by two: each asks for a literal, makes one atom true and maybe
 /// another one false, and costs at most 3.
 fn any_actions(alloc: Global, dice: &mut Dice) -> Result<Sequence<Action>, Fail> {
     let mut actions = Vec::new(alloc);
-    for atom in [0, 1, 2, 3, 2, 3] {
+    for atom in [0, 1, 2, 3, 0, 1, 2, 3] {
         let needs = [any_literal(dice)];
         let deletes = [dice.below(4) as u32];
         let cost = dice.below(4) as i64;
@@ -193,9 +211,9 @@ fn any_actions(alloc: Global, dice: &mut Dice) -> Result<Sequence<Action>, Fail>
     Ok(Sequence::from_vec(actions))
 }
 
-/// A task of four atoms, of which the first is true at first, and six actions; the goal is the last one and a literal.
+/// A task of four atoms, of which the first is true at first, and eight actions; the goal is the last atom and a literal.
 pub fn any_task(rt: &impl Abort, alloc: Global, dice: &mut Dice) -> Result<Task, Fail> {
+    let goal = [D, any_literal(dice)];
     let actions = any_actions(alloc, dice)?;
-    let goal = [(3, true), any_literal(dice)];
     task_from(rt, alloc, &[true, false, false, false], &goal, actions)
 }

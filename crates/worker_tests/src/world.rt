@@ -5,7 +5,7 @@ ghost use Rattle.worker_tests.specs.World.{IsWorld, IsSeat};
 use crate::dice::Dice;
 use crate::parcels::{ROOT, parcel_at};
 use crate::reference::least_cost;
-use crate::scripts::take;
+use crate::scripts::{expand, expand_best, take};
 use crate::tasks::any_task;
 use hd_entries::{Entries, Verdict};
 use hd_node::Parcel;
@@ -119,6 +119,36 @@ fn send<'t>(task: &'t Task, world: &mut World<'t>, seat: &mut Seat<'t>) -> Resul
     Ok(())
 }
 
+/// An open node is settled: the best one, or any.
+fn settle_one<'t>(task: &'t Task, world: &mut World<'t>, seat: &mut Seat<'t>) -> Result<(), Fail>
+    requires world { IsWorld task.now world.old.entries world.old.lookup world.old.mail.items }
+    requires seat { IsSeat task.now seat.old.worker seat.old.coming.items }
+    ensures world { OnOk result
+        (IsWorld task.now world.new.entries world.new.lookup world.new.mail.items) }
+    ensures seat { OnOk result (IsSeat task.now seat.new.worker seat.new.coming.items) }
+{
+    let pick = world.dice.below(9) as usize;
+    if pick < 6 {
+        expand(&mut seat.worker, &mut world.lookup, pick)
+    } else {
+        expand_best(&mut seat.worker, &mut world.lookup)
+    }
+}
+
+/// The worker offers the bound that the entries have, or sees the one that was offered last.
+fn look<'t>(task: &'t Task, world: &mut World<'t>, seat: &mut Seat<'t>)
+    requires world { IsWorld task.now world.old.entries world.old.lookup world.old.mail.items }
+    requires seat { IsSeat task.now seat.old.worker seat.old.coming.items }
+    ensures world { IsWorld task.now world.new.entries world.new.lookup world.new.mail.items }
+    ensures seat { IsSeat task.now seat.new.worker seat.new.coming.items }
+{
+    if world.dice.below(2) == 0 {
+        world.offered = world.entries.bound();
+    } else {
+        seat.worker.see(world.offered);
+    }
+}
+
 /// One move of a worker.
 fn step<'t>(
     rt: &impl Abort,
@@ -132,20 +162,17 @@ fn step<'t>(
         (IsWorld task.now world.new.entries world.new.lookup world.new.mail.items) }
     ensures seat { OnOk result (IsSeat task.now seat.new.worker seat.new.coming.items) }
 {
-    match world.dice.below(12) {
-        0..2 => open_mail(task, world, seat)?,
-        2..4 => commit(rt, task, world, seat)?,
-        4 => release(task, world, seat)?,
-        5..7 => send(task, world, seat)?,
-        7 => world.offered = world.entries.bound(),
-        8 => seat.worker.see(world.offered),
-        9 => seat.worker.expand_best(&mut world.lookup)?,
+    match world.dice.below(6) {
+        0 => open_mail(task, world, seat),
+        1 => commit(rt, task, world, seat),
+        2 => release(task, world, seat),
+        3 => send(task, world, seat),
+        4 => settle_one(task, world, seat),
         _ => {
-            let pick = world.dice.below(6) as usize;
-            seat.worker.expand(&mut world.lookup, pick)?
+            look(task, world, seat);
+            Ok(())
         }
     }
-    Ok(())
 }
 
 /// Up to four moves of a worker.

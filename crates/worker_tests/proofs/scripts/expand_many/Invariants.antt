@@ -1,6 +1,6 @@
 use Rattle.std.proofs.Common.{◌≡◌}
 use Rattle.hd_worker.specs.Lookup.{IsLookupOf}
-use Rattle.worker_tests.proofs.scripts.expand_best.Given as goal
+use Rattle.worker_tests.proofs.scripts.expand_many.Given as goal
 
 -- the worker stays one of the task, as what is looked up does, and its batch is as it was
 abbrev pub invariant-loop : goal.invariant-loop
