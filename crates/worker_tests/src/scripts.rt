@@ -1,6 +1,5 @@
 //! Scripts: the calls of a worker, and the batches that should come of them.
-ghost use Rattle.std.specs.Prelude.{◌≡◌, ◌<◌, ◌≤◌, [], OnOk};
-ghost use Rattle.hd_zobrist.specs.declared.owners.TheConstants.{MAX_WORKERS};
+ghost use Rattle.std.specs.Prelude.{◌≡◌, [], OnOk};
 ghost use Rattle.hd_entries.specs.Holding.{IsParcelOf};
 ghost use Rattle.hd_worker.specs.Lookup.{IsLookupOf};
 

@@ -1,5 +1,5 @@
 //! Three workers and the entries of a book, in an order that is left to chance.
-ghost use Rattle.std.specs.Prelude.{◌≡◌, ◌<◌, IfOk, OnOk};
+ghost use Rattle.std.specs.Prelude.{◌<◌, IfOk, OnOk};
 ghost use Rattle.worker_tests.specs.World.{IsWorld, IsSeat};
 
 use crate::dice::Dice;
