@@ -1,5 +1,6 @@
 //! Three workers and the entries of a book, in an order that is left to chance.
 ghost use Rattle.std.specs.Prelude.{◌<◌, IfOk, OnOk};
+ghost use Rattle.hd_entries.specs.Holding.{IsParcelOf};
 ghost use Rattle.worker_tests.specs.World.{IsWorld, IsSeat};
 
 use crate::dice::Dice;
@@ -206,21 +207,51 @@ fn seat_of<'t>(alloc: Global, task: &'t Task, id: usize) -> Seat<'t>
 }
 
 /// The workers take turns until all is settled.
+fn take_turns<'t>(
+    rt: &impl Abort,
+    task: &'t Task,
+    world: &mut World<'t>,
+    first: &mut Seat<'t>,
+    second: &mut Seat<'t>,
+    third: &mut Seat<'t>,
+) -> Result<(), Fail>
+    requires world { IsWorld task.now world.old.entries world.old.lookup world.old.mail.items }
+    requires first { IsSeat task.now first.old.worker first.old.coming.items }
+    requires second { IsSeat task.now second.old.worker second.old.coming.items }
+    requires third { IsSeat task.now third.old.worker third.old.coming.items }
+{
+    for _ in 0..100_000 {
+        if world.entries.settled() == world.entries.posted() {
+            return Ok(());
+        }
+        steps(rt, task, world, first)?;
+        steps(rt, task, world, second)?;
+        steps(rt, task, world, third)?;
+    }
+    panic!(rt; "not all is settled")
+}
+
+/// Three workers settle all. They only lend their seats: each `?` has to drop what is owned there, which is dear to prove.
 fn settle<'t>(rt: &impl Abort, task: &'t Task, world: &mut World<'t>) -> Result<(), Fail>
     requires { IsWorld task.now world.old.entries world.old.lookup world.old.mail.items }
 {
     let mut first = seat_of(world.alloc, task, 0);
     let mut second = seat_of(world.alloc, task, 1);
     let mut third = seat_of(world.alloc, task, 2);
-    for _ in 0..100_000 {
-        if world.entries.settled() == world.entries.posted() {
-            return Ok(());
-        }
-        steps(rt, task, world, &mut first)?;
-        steps(rt, task, world, &mut second)?;
-        steps(rt, task, world, &mut third)?;
-    }
-    panic!(rt; "not all is settled")
+    take_turns(rt, task, world, &mut first, &mut second, &mut third)
+}
+
+/// The parcel of the root.
+fn root<'t>(
+    rt: &impl Abort,
+    alloc: Global,
+    task: &'t Task,
+    lookup: &Lookup<'t>,
+) -> Result<Parcel<'t>, Fail>
+    ensures { IfOk result (IsParcelOf task.now) }
+{
+    let start = task.initial.copied(alloc)?;
+    parcel_at(rt, alloc, task, &lookup.words, ROOT, start, 0)
 }
 
 /// A world in which the root is in the mail.
@@ -233,8 +264,7 @@ fn world_of<'t>(
     ensures { IfOk result (λ w. IsWorld task.now w.entries w.lookup w.mail.items) }
 {
     let lookup = Lookup::of(alloc, task)?;
-    let start = task.initial.copied(alloc)?;
-    let root = parcel_at(rt, alloc, task, &lookup.words, ROOT, start, 0)?;
+    let root = root(rt, alloc, task, &lookup)?;
     let mail = vec![in alloc; root]?;
     Ok(World {
         alloc,
@@ -247,9 +277,15 @@ fn world_of<'t>(
 }
 
 /// Whether there is a plan, where the workers find what a plain search finds.
-fn play(rt: &impl Abort, alloc: Global, task: &Task, dice: Dice) -> Result<bool, Fail> {
-    let mut world = world_of(rt, alloc, task, dice)?;
-    settle(rt, task, &mut world)?;
+fn assert_found<'t>(
+    rt: &impl Abort,
+    alloc: Global,
+    task: &'t Task,
+    world: &mut World<'t>,
+) -> Result<bool, Fail>
+    requires { IsWorld task.now world.old.entries world.old.lookup world.old.mail.items }
+{
+    settle(rt, task, world)?;
     let least = least_cost(rt, alloc, task)?;
     match world.entries.verdict()? {
         Some(Verdict::Optimal(_)) => {
@@ -259,6 +295,11 @@ fn play(rt: &impl Abort, alloc: Global, task: &Task, dice: Dice) -> Result<bool,
         _ => panic!(rt; "another verdict"),
     }
     Ok(least.is_some())
+}
+
+fn play(rt: &impl Abort, alloc: Global, task: &Task, dice: Dice) -> Result<bool, Fail> {
+    let mut world = world_of(rt, alloc, task, dice)?;
+    assert_found(rt, alloc, task, &mut world)
 }
 
 fn run(rt: &impl Abort, alloc: Global, seed: u64) -> Result<bool, Fail> {

@@ -1,5 +1,5 @@
 use Rattle.worker_tests.specs.World.{IsWorld, IsSeat}
-use Rattle.worker_tests.proofs.world.settle.Given as goal
+use Rattle.worker_tests.proofs.world.take_turns.Given as goal
 
 -- all stays of the task
 abbrev pub invariant-loop : goal.invariant-loop
