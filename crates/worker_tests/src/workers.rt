@@ -205,7 +205,7 @@ fn the_best_node_is_the_earliest_of_the_least_total(rt: HostRuntime) -> Result<(
     assert_script(&rt, rt.alloc(), script)
 }
 
-/// 1,028 outcomes, of which the first 1,024 make a batch.
+/// 1,027 outcomes, of which the first 1,024 make a batch.
 const MANY: &[Step] = &[
     Step {
         calls: &[
