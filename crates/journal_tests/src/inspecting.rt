@@ -41,7 +41,8 @@ fn files_of_any_task_are_inspected(rt: HostRuntime) -> Result<(), Fail> {
     // The second group is being written: its gate is closed.
     let begun = changed(alloc, &ONE, 51, 0)?;
     assert_inspected(&rt, alloc, &begun, journal(Version::One, 1, 1, 26));
-    assert_inspected(&rt, alloc, &begun[..60], journal(Version::One, 1, 1, 8));
+    let cut = changed(alloc, &ONE[..60], 51, 0)?;
+    assert_inspected(&rt, alloc, &cut, journal(Version::One, 1, 1, 8));
     let mut pair = Vec::from_slice(alloc, &ONE[..38])?;
     pair.extend_from_slice(&PAIR)?;
     assert_inspected(&rt, alloc, &pair, journal(Version::One, 2, 1, 0));
