@@ -186,12 +186,7 @@ fn best_of(rt: &impl Abort, task: &Task, places: &[Place]) -> Option<u128> {
 }
 
 /// What a place costs at least up to the goal, if there may be a way.
-fn total_of<'t>(
-    rt: &impl Abort,
-    task: &'t Task,
-    hmax: &mut Hmax<'t>,
-    place: &Place,
-) -> Option<u128>
+fn total_of<'t>(rt: &impl Abort, task: &'t Task, hmax: &mut Hmax<'t>, place: &Place) -> Option<u128>
     requires { hmax.old.task ≡ task.now }
     ensures { hmax.new.task ≡ task.now }
 {

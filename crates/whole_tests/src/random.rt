@@ -117,7 +117,7 @@ fn compare_next(
     let metric = chance.below(4) > 0;
     let domain = domain_of(alloc, chance, metric)?;
     let problem = problem_of(alloc, chance, metric)?;
-    compare_texts(rt, alloc, &domain, &problem, chance.below(40), seen)
+    compare_texts(rt, alloc, &domain, &problem, chance.below(20), seen)
 }
 
 const NONE: Seen = Seen {
@@ -131,11 +131,16 @@ const NONE: Seen = Seen {
 fn random_tasks_are_searched_as_plainly(rt: HostRuntime) -> Result<(), Fail> {
     let mut chance = Chance::of(1);
     let mut seen = NONE;
-    for _ in 0..1_000 {
+    for _ in 0..300 {
         seen = compare_next(&rt, rt.alloc(), &mut chance, seen)?;
     }
-    assert!(rt; seen.solved > 300 && seen.unsolved > 100);
-    assert!(rt; seen.dear > 50 && seen.stopped > 300);
+    assert!(rt; seen.solved > 100 && seen.unsolved > 40);
+    assert!(rt;
+        seen.dear > 10 && seen.stopped > 80,
+        "{} {}",
+        seen.dear,
+        seen.stopped
+    );
     Ok(())
 }
 

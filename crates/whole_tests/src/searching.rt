@@ -109,7 +109,11 @@ fn journal_of(alloc: Global, groups: Groups) -> Result<Journal<MemoryDisk>, Fail
     let made = if groups.is_empty() {
         Journal::create(alloc, MemoryDisk::new(alloc), &DIGEST)
     } else {
-        Journal::open(alloc, MemoryDisk::of(alloc, image_of(alloc, groups)?)?, &DIGEST)
+        Journal::open(
+            alloc,
+            MemoryDisk::of(alloc, image_of(alloc, groups)?)?,
+            &DIGEST,
+        )
     };
     match made {
         Ok(journal) => Ok(journal),

@@ -33,12 +33,7 @@ fn run_on(
 }
 
 /// Opens the journal on a disk, which is made where there is none, and searches on.
-pub fn go_on(
-    alloc: Global,
-    task: &Task,
-    disk: MemoryDisk,
-    together: usize,
-) -> Result<Left, Fail> {
+pub fn go_on(alloc: Global, task: &Task, disk: MemoryDisk, together: usize) -> Result<Left, Fail> {
     match Journal::open(alloc, disk, &DIGEST) {
         Ok(journal) => run_on(alloc, task, journal, together),
         Err((disk, JournalError::Device)) => Ok((disk, None)),
@@ -144,7 +139,11 @@ fn assert_all_go_on(
 #[test]
 fn a_search_goes_on_behind_each_call_of_its_device(rt: HostRuntime) -> Result<(), Fail> {
     for (search, calls) in [(AGAIN, 22), (CHEAP, 22), (BOTH, 22)] {
-        let task = task_of(rt.alloc(), search.domain.as_bytes(), search.problem.as_bytes())?;
+        let task = task_of(
+            rt.alloc(),
+            search.domain.as_bytes(),
+            search.problem.as_bytes(),
+        )?;
         assert_all_go_on(&rt, rt.alloc(), &task, &search, calls)?;
     }
     Ok(())
@@ -184,7 +183,11 @@ fn assert_ends_in_spite(rt: &impl Abort, alloc: Global, task: &Task) -> Result<(
 
 #[test]
 fn a_search_that_is_stopped_again_and_again_comes_to_its_end(rt: HostRuntime) -> Result<(), Fail> {
-    let task = task_of(rt.alloc(), AGAIN.domain.as_bytes(), AGAIN.problem.as_bytes())?;
+    let task = task_of(
+        rt.alloc(),
+        AGAIN.domain.as_bytes(),
+        AGAIN.problem.as_bytes(),
+    )?;
     assert_ends_in_spite(&rt, rt.alloc(), &task)
 }
 
@@ -208,6 +211,10 @@ fn assert_stays_failed(rt: &impl Abort, alloc: Global, task: &Task) -> Result<()
 
 #[test]
 fn a_journal_that_has_failed_is_not_searched_on(rt: HostRuntime) -> Result<(), Fail> {
-    let task = task_of(rt.alloc(), CHEAP.domain.as_bytes(), CHEAP.problem.as_bytes())?;
+    let task = task_of(
+        rt.alloc(),
+        CHEAP.domain.as_bytes(),
+        CHEAP.problem.as_bytes(),
+    )?;
     assert_stays_failed(&rt, rt.alloc(), &task)
 }

@@ -50,7 +50,8 @@ pub const FUEL: &str = "(define (domain fuel) (:predicates (b) (c)) (:functions 
   (:action bike :parameters () :effect (and (c) (increase (total-cost) 20))))";
 
 /// A cost less than 0 leaves the range, and another action reaches the goal: the domain.
-pub const BELOW: &str = "(define (domain fuel) (:predicates (b) (c)) (:functions (fuel) (total-cost))
+pub const BELOW: &str =
+    "(define (domain fuel) (:predicates (b) (c)) (:functions (fuel) (total-cost))
   (:action one :parameters () :precondition (not (b))
     :effect (and (b) (increase (total-cost) (- (fuel) 10))))
   (:action bike :parameters () :effect (and (c) (increase (total-cost) 20))))";

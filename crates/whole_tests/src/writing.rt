@@ -4,7 +4,14 @@ use std::alloc::{AllocError, Global};
 
 /// The literals of conditions and goals, and what effects make true and false.
 const LITERALS: [&str; 8] = [
-    "(a)", "(b)", "(c)", "(d)", "(not (a))", "(not (b))", "(not (c))", "(not (d))",
+    "(a)",
+    "(b)",
+    "(c)",
+    "(d)",
+    "(not (a))",
+    "(not (b))",
+    "(not (c))",
+    "(not (d))",
 ];
 
 /// A comparison, and an effect by which the number stays from 0 to 3 where that holds.
