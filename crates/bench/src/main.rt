@@ -249,12 +249,13 @@ fn hold_over(
 ) -> anyhow::Result<()> {
     let task = task_of(rt.alloc(), domain, problem)?;
     let held = if open {
-        states::open_walk(rt.alloc(), &task, turns).map(|_| turns)
+        states::open_walk(rt.alloc(), &task, turns)
     } else {
         states::close_walk(rt.alloc(), &task, turns)
     };
     drop(task);
-    println!(rt; "{} states", held?)?;
+    held?;
+    println!(rt; "{turns} states")?;
     Ok(())
 }
 

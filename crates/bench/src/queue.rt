@@ -1,4 +1,6 @@
 //! An open list at a size that stays: nodes are pushed, the best is found, and taken out.
+ghost use Rattle.std.specs.Prelude.{Some};
+
 use hd_base::NoMemory;
 use hd_open::{OpenList, Waits};
 use std::alloc::Global;
