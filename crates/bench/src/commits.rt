@@ -37,24 +37,10 @@ fn journal_of(alloc: Global) -> anyhow::Result<Journal<MemoryDisk>> {
     }
 }
 
-/// Commits the batch of an expansion: a call that is counted by itself. It is never inlined, so that the program has it under its name.
+/// Commits a batch: a call that is counted by itself, from each place by itself. It is never inlined, so that the program has it under its
+/// name.
 #[inline(never)]
-fn commit_expansion<'t, L: Ledger>(
-    book: &mut Book<'t, L>,
-    share: &mut Share<L>,
-    batch: Batch<'t>,
-) -> Result<Ticket, (Batch<'t>, CommitRefusal)>
-    requires part { 0 < share.old.parts }
-    requires of_task { AllByRecursion (IsOf book.old.state.task) batch.outcomes }
-    ensures task { book.new.state.task ≡ book.old.state.task }
-    ensures part { 0 < share.new.parts }
-{
-    book.commit(share, batch)
-}
-
-/// Commits the batch of a duplicate: a call that is counted by itself.
-#[inline(never)]
-fn commit_duplicate<'t, L: Ledger>(
+fn commit<'t, L: Ledger>(
     book: &mut Book<'t, L>,
     share: &mut Share<L>,
     batch: Batch<'t>,
@@ -169,7 +155,7 @@ fn settle<'t, L: Ledger>(
         Err((_, error)) => return Err(error.into()),
     };
     let batch = Batch::of(vec![in alloc; outcome]?);
-    match commit_expansion(book, share, batch) {
+    match commit(book, share, batch) {
         Ok(ticket) => finish(book, journal, ticket),
         Err((_, refusal)) => Err(refusal.into()),
     }
@@ -190,7 +176,7 @@ fn settle_again<L: Ledger>(
 {
     let outcome = Outcome::Duplicate(kid, By::Entry(entry));
     let batch = Batch::of(vec![in alloc; outcome]?);
-    match commit_duplicate(book, share, batch) {
+    match commit(book, share, batch) {
         Ok(ticket) => {
             finish(book, journal, ticket)?;
             Ok(())
