@@ -21,8 +21,9 @@ const FRONT: [u8; 6] = [1, 0x48, 0x44, 0x50, 0x4A, 2];
 
 /// A group, behind its gate.
 fn push_group(bytes: &mut Vec<u8>, group: &[Pair]) -> Result<(), AllocError> {
+    let count = u32::try_from(group.len()).unwrap_or(u32::MAX);
     bytes.push(1)?;
-    bytes.extend_from_slice(&(group.len() as u32).to_le_bytes())?;
+    bytes.extend_from_slice(&count.to_le_bytes())?;
     for pair in group {
         bytes.extend_from_slice(&pair.0.to_le_bytes()[..5])?;
         bytes.extend_from_slice(&pair.1.to_le_bytes())?;
