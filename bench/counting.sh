@@ -33,6 +33,14 @@ count_calls() {
     echo "$(awk '/Collected *:/ { print $4 }' "$folder/told") $(awk -v counted="$counted" -f "$here/bench/calls.awk" "$folder/counts")"
 }
 
+# For each place that calls a function in a run, how often it does, and the instructions of these calls with all that they call, the most frequent
+# place first: count_sites FUNCTION FOLDER WORD NUMBER
+count_sites() {
+    valgrind --tool=callgrind --dump-instr=yes --compress-strings=no --compress-pos=no --callgrind-out-file="$folder/counts" \
+        "$program" "$2/domain.pddl" "$2/problem.pddl" "$3" "$4" 2>"$folder/told" >"$folder/said"
+    awk -v counted="$1" -f "$here/bench/sites.awk" "$folder/counts" | sort -rn
+}
+
 # The greatest number of bytes of the heap in a run: count_heap FOLDER WORD NUMBER
 count_heap() {
     valgrind --tool=massif --peak-inaccuracy=0.0 --massif-out-file="$folder/heap" \
