@@ -35,7 +35,8 @@ const NAMES: [&str; 7] = ["one", "two", "three", "four", "five", "six", "seven"]
 
 /// One of these, if there are any.
 fn one_of<T: Copy + Drop>(chance: &mut Chance, items: &[T], other: T) -> T {
-    let place = chance.below(items.len() as u32) as usize;
+    let count = u32::try_from(items.len()).unwrap_or(0);
+    let place = chance.below(count) as usize;
     items.get(place).copied().unwrap_or(other)
 }
 
