@@ -21,7 +21,7 @@ for task in "$@"; do
     children=$(met_children)
     heap="$(count_heap "$task" commits 65536) $(count_heap "$task" commits 131072)"
     heap="$heap $(count_heap "$task" groups 65536) $(count_heap "$task" groups 131072)"
-    # There is one duplicate less than there are expansions, where each child leads back.
+    # Where a state has no child but the one that leads back, the walk ends, and nothing is told of the task.
     echo "$(basename "$task") $children $sites $heap" | awk '{
         if (NF != 10 || $2 <= 0 || $3 != 11000 || $5 <= 0 || $8 <= $7) { print "nothing was measured"; exit 1 }
         printf "| %s | %.2f | %.0f | %.0f | %.1f |\n", $1, $2 / $3, $4 / $3, $6 / $5, (($8 - $7) - ($10 - $9)) / 65536
