@@ -1,5 +1,5 @@
 -- What is not told of texts: why a search has no answer, and why a text is not written.
-use Rattle.std.proofs.Common.{◌≡◌, ◌⊎◌, inl, inr, ℕ, List, Option, Ok, Err, subst}
+use Rattle.std.proofs.Common.{inl, inr, ℕ, List, Option, Ok, Err, subst}
 use Rattle.std.specs.Prelude.{Result, IfErr}
 use Rattle.std.specs.declared.io.ErrorKind.{ErrorKind}
 use Rattle.hd_task.specs.declared.task.Task.{Task}
@@ -7,7 +7,6 @@ use Rattle.hd_store.specs.declared.error.StoreError.{StoreError}
 use Rattle.hd_store.specs.declared.error.StoreError.TheVariants as store
 use Rattle.hd_plan.specs.declared.output.WriteError.{WriteError}
 use Rattle.hd_plan.specs.declared.output.WriteError.TheVariants as unwritten
-use Rattle.hd_search.specs.declared.fault.RunFault.TheVariants as searching
 use Rattle.hplan.specs.declared.fault.Fault.{Fault}
 use Rattle.hplan.specs.declared.fault.Fault.TheVariants.{Device, NoMemory}
 use Rattle.hplan.specs.declared.kept.Start.{Start}

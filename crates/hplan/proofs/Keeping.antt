@@ -1,6 +1,6 @@
 -- From what is told of a journal to what is told of the file that holds it.
-use Rattle.std.proofs.Common.{◌≡◌, ◌≢◌, ◌⊎◌, inl, inr, ℕ, ◌+◌, true, false, Ok, Err, Option, Some, None, List, [], ◌∷◌, ◌++◌, map, length, refl, sym, ap, ◌∙◌, subst, IfSome, arith, ◌<◌}
-use Rattle.std.specs.Prelude.{flat_map, Result, IfOk, IfErr, OnOk}
+use Rattle.std.proofs.Common.{◌≡◌, inl, inr, ℕ, ◌+◌, true, false, Ok, Err, Option, List, [], ◌∷◌, ◌++◌, map, length, refl, sym, ap, ◌∙◌, subst, IfSome, arith, ◌<◌}
+use Rattle.std.specs.Prelude.{Result, IfOk, IfErr, OnOk}
 use Rattle.std.proofs.lemmas.List.{map-append, length-map}
 use Rattle.std.proofs.lemmas.Option.{none-some}
 use Rattle.hd_task.specs.declared.task.Task.{Task}
@@ -28,7 +28,7 @@ use Rattle.hplan.specs.Fault.{journal_in, search_in}
 use Rattle.hplan.specs.declared.told.Told.{Told}
 use Rattle.hplan.specs.Answer.{IsSolution, IsKeptSolution}
 use Rattle.hplan.specs.PlanText.{printed}
-use Rattle.hplan.specs.Kept.{kids_in, FailsIn, InMemory, InFile, IsJournalOf, BeganWith, IsKept, TellsOfFile, StandThere, HasFaultyEntry, TellsOfSearch, HasNoSolution, OfMemory, OfFile, OfEntry, OfSearch, IsBegun, IsRefusedRun}
+use Rattle.hplan.specs.Kept.{kids_in, FailsIn, InMemory, InFile, IsJournalOf, IsKept, TellsOfFile, StandThere, HasFaultyEntry, TellsOfSearch, HasNoSolution, OfMemory, OfFile, OfEntry, OfSearch, IsBegun, IsRefusedRun}
 
 -- ---- a journal that is not begun
 
@@ -102,16 +102,17 @@ module _ {S : Type 0} {G : Ghosts S} where
   runs_on New digest before old begun = begun.1.running
   runs_on Kept digest before old begun = begun.0.1.running
 
-  faulty_entry : (start : Start) (t : Task) (digest before : List ℕ) (old : of.Journal S G) (at : ℕ) → IsBegun start digest before old
-      → IsDamagedAt t old.entries.items at → HasFaultyEntry start t digest before at
-  faulty_entry New t digest before old at begun faulty = none_faulty t old.entries.items at begun.1.entries faulty
-  faulty_entry Kept t digest before old at begun faulty =
+  faulty_entry : (start : Start) (t : Task) (digest before after : List ℕ) (old new : of.Journal S G) (at : ℕ) → IsBegun start digest before old
+      → new ≡ old → content_of (device_of new) ≡ after → IsDamagedAt t old.entries.items at → HasFaultyEntry start t digest before after at
+  faulty_entry New t digest before after old new at begun same left faulty = none_faulty t old.entries.items at begun.1.entries faulty
+  faulty_entry Kept t digest before after old new at begun same left faulty =
       let there : StandThere digest before old.entries.items =
       λ v groups stands.
       let k = begun.1 v groups stands in
       subst (λ (w : Version). old.entries.items ≡ entries_in w FIRST_GATE groups) k.0 k.1.entries
       in
-      (old.entries.items, there, faulty)
+      let stays : content_of (device_of old) ≡ after = subst (λ (j : of.Journal S G). content_of (device_of j) ≡ after) same left in
+      (old.entries.items, there, faulty, subst (IsJournalOf digest (kids_of old)) stays (journal_by digest begun.0.0 old begun.0.1))
 
   -- a journal that has too many entries has no room for a batch more
   too_many : (old : of.Journal S G) → most_of old.version < length old.entries.items → TellsOfSearch searching.Full
@@ -119,16 +120,16 @@ module _ {S : Type 0} {G : Ghosts S} where
       let same : length (kids_of old) ≡ length old.entries.items = length-map old.entries.items kid_of in
       (old.version, kids_of old, omega (arith, many, same))
 
-  refused_first : (start : Start) (t : Task) (digest before after : List ℕ) (old : of.Journal S G) (why : RunFault)
-      → IsBegun start digest before old → IsFaulty t (most_of old.version) old.entries.items why
+  refused_first : (start : Start) (t : Task) (digest before after : List ℕ) (old new : of.Journal S G) (why : RunFault)
+      → IsBegun start digest before old → new ≡ old → content_of (device_of new) ≡ after → IsFaulty t (most_of old.version) old.entries.items why
       → HasNoSolution start t digest before after (search_in why)
-  refused_first start t digest before after old searching.Full begun k = OfSearch searching.Full (too_many old k)
-  refused_first start t digest before after old (searching.Damaged at) begun k =
-      OfEntry at (faulty_entry start t digest before old at begun k)
-  refused_first start t digest before after old searching.Device begun k = absurd (k)
-  refused_first start t digest before after old searching.Failed begun k = absurd (k)
-  refused_first start t digest before after old searching.NotOut begun k = absurd (k)
-  refused_first start t digest before after old searching.NoMemory begun k = OfMemory
+  refused_first start t digest before after old new searching.Full begun same left k = OfSearch searching.Full (too_many old k)
+  refused_first start t digest before after old new (searching.Damaged at) begun same left k =
+      OfEntry at (faulty_entry start t digest before after old new at begun same left k)
+  refused_first start t digest before after old new searching.Device begun same left k = absurd (k)
+  refused_first start t digest before after old new searching.Failed begun same left k = absurd (k)
+  refused_first start t digest before after old new searching.NotOut begun same left k = absurd (k)
+  refused_first start t digest before after old new searching.NoMemory begun same left k = OfMemory
 
   stopped : (start : Start) (t : Task) (digest before after : List ℕ) (old new : of.Journal S G) (why : RunFault) → old.failed ≡ false
       → Stops old new why → HasNoSolution start t digest before after (search_in why)
@@ -140,16 +141,19 @@ module _ {S : Type 0} {G : Ghosts S} where
   stopped start t digest before after old new searching.NoMemory running k = OfMemory
 
   told_by : (start : Start) (t : Task) (digest before after : List ℕ) (old new : of.Journal S G) (why : RunFault)
-      → IsBegun start digest before old → Tells t old new why → HasNoSolution start t digest before after (search_in why)
-  told_by start t digest before after old new why begun (inl k) = refused_first start t digest before after old why begun k.1
-  told_by start t digest before after old new why begun (inr k) =
+      → IsBegun start digest before old → content_of (device_of new) ≡ after → Tells t old new why
+      → HasNoSolution start t digest before after (search_in why)
+  told_by start t digest before after old new why begun left (inl k) =
+      refused_first start t digest before after old new why begun k.0 left k.1
+  told_by start t digest before after old new why begun left (inr k) =
       stopped start t digest before after old new why (runs_on start digest before old begun) k
 
   pub refused_run : (start : Start) (t : Task) (digest before after : List ℕ) (old new : of.Journal S G) (f : Fault)
-      → IsBegun start digest before old → IsRefusedRun t old new f → HasNoSolution start t digest before after f
-  refused_run start t digest before after old new f begun (inl is) = subst (HasNoSolution start t digest before after) (sym is) OfMemory
-  refused_run start t digest before after old new f begun (inr k) =
-      subst (HasNoSolution start t digest before after) (sym k.1) (told_by start t digest before after old new k.0 begun k.2)
+      → IsBegun start digest before old → content_of (device_of new) ≡ after → IsRefusedRun t old new f
+      → HasNoSolution start t digest before after f
+  refused_run start t digest before after old new f begun left (inl is) = subst (HasNoSolution start t digest before after) (sym is) OfMemory
+  refused_run start t digest before after old new f begun left (inr k) =
+      subst (HasNoSolution start t digest before after) (sym k.1) (told_by start t digest before after old new k.0 begun left k.2)
 
 -- ---- a journal that is begun, by what is answered
 
@@ -173,9 +177,11 @@ module _ {S : Type 0} {G : Ghosts S} where
   solved_on start t digest before after old new (Err f) begun left solution grows = tt
 
   pub unsolved_on : (start : Start) (t : Task) (digest before after : List ℕ) (old new : of.Journal S G) (r : Result Told Fault)
-      → IsBegun start digest before old → IfErr r (IsRefusedRun t old new) → IfErr r (HasNoSolution start t digest before after)
-  unsolved_on start t digest before after old new (Ok told) begun refused = tt
-  unsolved_on start t digest before after old new (Err f) begun refused = refused_run start t digest before after old new f begun refused
+      → IsBegun start digest before old → content_of (device_of new) ≡ after → IfErr r (IsRefusedRun t old new)
+      → IfErr r (HasNoSolution start t digest before after)
+  unsolved_on start t digest before after old new (Ok told) begun left refused = tt
+  unsolved_on start t digest before after old new (Err f) begun left refused =
+      refused_run start t digest before after old new f begun left refused
 
 -- ---- in memory
 

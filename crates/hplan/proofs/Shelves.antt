@@ -1,5 +1,5 @@
 -- Files in memory: the place of a name's first file, and what stands there.
-use Rattle.std.proofs.Common.{◌≡◌, inl, inr, ◌≤◌, get_or, ℕ, zero, suc, ◌+◌, Bool, true, false, Option, Some, None, List, [], ◌∷◌, length, map, refl, sym, ap, ◌∙◌, subst, arith, ◌<◌}
+use Rattle.std.proofs.Common.{◌≡◌, inl, inr, ◌≤◌, get_or, ℕ, zero, suc, ◌+◌, Bool, true, false, Option, Some, None, List, [], ◌∷◌, length, refl, sym, ap, ◌∙◌, subst, arith, ◌<◌}
 use Rattle.std.specs.Prelude.{option_map, if◌then◌else◌, IfSome, String, string_bytes}
 use Rattle.std.specs.List.{slice_get, slice_set}
 use Rattle.std.specs.Str.{bytes_eq}

@@ -1,5 +1,5 @@
 -- Where a search is kept, and what a file holds of it before and afterwards. (Our own.)
-use Rattle.std.specs.Prelude.{◌≡◌, ◌≢◌, ◌⊎◌, ℕ, ◌+◌, ◌<◌, List, [], length, flat_map, Option, IfSome}
+use Rattle.std.specs.Prelude.{◌≡◌, ◌≢◌, ◌⊎◌, ℕ, ◌+◌, ◌<◌, List, [], map, length, flat_map, Option, IfSome}
 use Rattle.std.specs.List.{AllByRecursion}
 use Rattle.hd_task.specs.declared.task.Task.{Task}
 use Rattle.hd_task.specs.declared.plan.Kid.{Kid}
@@ -16,7 +16,7 @@ use Rattle.hd_journal.specs.declared.error.JournalError.{JournalError}
 use Rattle.hd_journal.specs.declared.error.JournalError.TheVariants as journal
 use Rattle.hd_journal.specs.declared.journal.Journal as of
 use Rattle.hd_journal.specs.Answers.{StandsIn}
-use Rattle.hd_journal.specs.Journal.{IsOf}
+use Rattle.hd_journal.specs.Journal.{IsOf, kid_of}
 use Rattle.hd_entries.specs.Holding.{BeginsWith}
 use Rattle.hd_search.specs.declared.fault.RunFault.{RunFault}
 use Rattle.hd_search.specs.declared.fault.RunFault.TheVariants as searching
@@ -78,10 +78,11 @@ abbrev pub StandThere : List ℕ → List ℕ → List Entry → Type 0
 StandThere digest content entries =
     (v : Version) (groups : List (List Kid)) → StandsIn v digest groups content → entries ≡ entries_in v FIRST_GATE groups
 
--- the entry that stands at this place of a file is the first that is faulty; a new file has none
-abbrev pub HasFaultyEntry : Start → Task → List ℕ → List ℕ → ℕ → Type 0
-HasFaultyEntry New t digest content at = ⊥
-HasFaultyEntry Kept t digest content at = (entries : List Entry) × StandThere digest content entries × IsDamagedAt t entries at
+-- the entry that stands at this place of a file is the first that is faulty, and the file has all of its entries still; a new file has none
+abbrev pub HasFaultyEntry : Start → Task → List ℕ → List ℕ → List ℕ → ℕ → Type 0
+HasFaultyEntry New t digest before after at = ⊥
+HasFaultyEntry Kept t digest before after at =
+    (entries : List Entry) × StandThere digest before entries × IsDamagedAt t entries at × IsJournalOf digest (map kid_of entries) after
 
 -- what a fault of the search itself tells: that a journal has no room for the entries of one batch more, or that the device failed. No
 -- other is told
@@ -97,7 +98,7 @@ TellsOfSearch searching.NoMemory = ⊥
 pub data HasNoSolution (start : Start) (t : Task) (digest before after : List ℕ) : Fault → Type 0 where
   OfMemory : HasNoSolution start t digest before after NoMemory
   OfFile : (error : JournalError) → TellsOfFile start digest before after error → HasNoSolution start t digest before after (Journal error)
-  OfEntry : (at : ℕ) → HasFaultyEntry start t digest before at → HasNoSolution start t digest before after (Search (searching.Damaged at))
+  OfEntry : (at : ℕ) → HasFaultyEntry start t digest before after at → HasNoSolution start t digest before after (Search (searching.Damaged at))
   OfSearch : (fault : RunFault) → TellsOfSearch fault → HasNoSolution start t digest before after (Search fault)
 
 -- ---- where a search is kept
