@@ -4,10 +4,16 @@
 //! and of checking them are then printed, in microseconds. With a third argument, `ground`, only the grounding of the checked task is
 //! timed, with `search` all that it takes to search the task to its end, and with `stages` reading, checking, grounding and searching one
 //! after the other, each by itself. With `walk` and a number so many parcels are expanded, one after the other, and with `estimate` and a number
-//! the state of each is estimated too; then no time is printed, only what is met: that is to count instructions. Without arguments the texts
-//! are small, and no times are printed, only counts.
+//! the state of each is estimated too; with `commits` and a number so many expansions are committed to a book along a walk, with `groups` and a
+//! number so many groups of an entry are appended to a journal without one. With `closed` and `opened` and a number so many states of a walk are
+//! held by a worker, and with `queue` and two numbers an open list of so many nodes goes so many turns, whatever the texts. Then no time is
+//! printed, only what is met: that is to count instructions and memory. Without arguments the texts are small, and no times are printed,
+//! only counts.
 #![tactic(auto)]
 
+mod commits;
+mod queue;
+mod states;
 mod walk;
 
 use hd_base::Seed;
@@ -220,6 +226,61 @@ fn estimate_over(
     Ok(())
 }
 
+/// Commits along a walk of so many expansions, and prints what is committed.
+fn commit_over(rt: &HostRuntime, domain: &[u8], problem: &[u8], turns: u64) -> anyhow::Result<()> {
+    let task = task_of(rt.alloc(), domain, problem)?;
+    let done = commits::commit_walk(rt.alloc(), &task, turns);
+    drop(task);
+    let done = done?;
+    println!(rt;
+        "{} expansions, {} children, {} duplicates",
+        done.expansions, done.children, done.duplicates
+    )?;
+    Ok(())
+}
+
+/// Holds so many states of a walk in a worker, closed or open.
+fn hold_over(
+    rt: &HostRuntime,
+    domain: &[u8],
+    problem: &[u8],
+    turns: u64,
+    open: bool,
+) -> anyhow::Result<()> {
+    let task = task_of(rt.alloc(), domain, problem)?;
+    let held = if open {
+        states::open_walk(rt.alloc(), &task, turns)
+    } else {
+        states::close_walk(rt.alloc(), &task, turns)
+    };
+    drop(task);
+    held?;
+    println!(rt; "{turns} states")?;
+    Ok(())
+}
+
+/// Does what a word says that is not timed, with a number and maybe a second one. False where it says none of this.
+fn counted(
+    rt: &HostRuntime,
+    domain: &[u8],
+    problem: &[u8],
+    word: &str,
+    number: u64,
+    second: u64,
+) -> anyhow::Result<bool> {
+    match word {
+        "walk" => walk_over(rt, domain, problem, number)?,
+        "estimate" => estimate_over(rt, domain, problem, number)?,
+        "commits" => commit_over(rt, domain, problem, number)?,
+        "closed" => hold_over(rt, domain, problem, number, false)?,
+        "opened" => hold_over(rt, domain, problem, number, true)?,
+        "groups" => println!(rt; "{} groups", commits::append_groups(rt.alloc(), number)?)?,
+        "queue" => println!(rt; "sum {}", queue::turn_over(rt.alloc(), number, second)?)?,
+        _ => return Ok(false),
+    }
+    Ok(true)
+}
+
 /// The number that a word is, or 0.
 fn number_of(word: Option<String>) -> u64 {
     match word {
@@ -235,19 +296,17 @@ fn main(rt: HostRuntime) -> anyhow::Result<()> {
     };
     let domain = fs::read(&rt, domain)?;
     let problem = fs::read(&rt, problem)?;
-    match words.next() {
-        Some(word) if word.as_str() == "ground" => time_grounding(&rt, &domain, &problem),
-        Some(word) if word.as_str() == "stages" => time_stages(&rt, &domain, &problem),
-        Some(word) if word.as_str() == "walk" => {
-            walk_over(&rt, &domain, &problem, number_of(words.next()))
-        }
-        Some(word) if word.as_str() == "estimate" => {
-            estimate_over(&rt, &domain, &problem, number_of(words.next()))
-        }
-        Some(_) => time_search(&rt, &domain, &problem),
-        None => {
-            time_words(&rt, &problem)?;
-            time_reading(&rt, &domain, &problem)
-        }
+    let Some(word) = words.next() else {
+        time_words(&rt, &problem)?;
+        return time_reading(&rt, &domain, &problem);
+    };
+    let (number, second) = (number_of(words.next()), number_of(words.next()));
+    if counted(&rt, &domain, &problem, word.as_str(), number, second)? {
+        return Ok(());
+    }
+    match word.as_str() {
+        "ground" => time_grounding(&rt, &domain, &problem),
+        "stages" => time_stages(&rt, &domain, &problem),
+        _ => time_search(&rt, &domain, &problem),
     }
 }

@@ -28,13 +28,13 @@ pub struct Estimates {
 
 /// What a walk looks up.
 #[derive(Drop)]
-struct Tables<'t> {
-    words: Words,
-    successors: Successors<'t>,
+pub struct Tables<'t> {
+    pub words: Words,
+    pub successors: Successors<'t>,
 }
 
 /// The tables of a task.
-fn tables_of<'t>(alloc: Global, task: &'t Task) -> Result<Tables<'t>, NoMemory>
+pub fn tables_of<'t>(alloc: Global, task: &'t Task) -> Result<Tables<'t>, NoMemory>
     ensures { IfOk result (λ x. x.successors.task ≡ task.now) }
 {
     let words = Words::new(alloc, task)?;
@@ -43,7 +43,7 @@ fn tables_of<'t>(alloc: Global, task: &'t Task) -> Result<Tables<'t>, NoMemory>
 }
 
 /// The parcel of the root.
-fn root<'t>(alloc: Global, task: &'t Task, words: &Words) -> Result<Parcel<'t>, NoMemory>
+pub fn root<'t>(alloc: Global, task: &'t Task, words: &Words) -> Result<Parcel<'t>, NoMemory>
     ensures { IfOk result (λ p. p.task ≡ task.now) }
 {
     let kid = Kid {
@@ -83,7 +83,7 @@ fn met_with(met: Met, children: &[Child]) -> Met {
 
 /// The expansion of a parcel: the one call that is counted by itself. It is never inlined, so that the program has it under its name.
 #[inline(never)]
-fn expand<'t>(
+pub fn expand<'t>(
     alloc: Global,
     task: &'t Task,
     tables: &mut Tables<'t>,
@@ -128,7 +128,7 @@ fn step<'t>(
 }
 
 /// Expands a parcel: what has been met, and the parcel that the walk goes on with, which is the root's where there are no children.
-fn turn<'t>(
+pub fn turn<'t>(
     alloc: Global,
     task: &'t Task,
     tables: &mut Tables<'t>,
@@ -146,7 +146,7 @@ fn turn<'t>(
     }
 }
 
-const NOTHING_MET: Met = Met {
+pub const NOTHING_MET: Met = Met {
     children: 0,
     sum: 0,
 };

@@ -1,0 +1,1 @@
+(define (problem numbers-1) (:domain numbers) (:init (= (x) 0)) (:goal (< 1 0)))
