@@ -1,5 +1,4 @@
 pub mod Committing
 pub mod Posting
 pub mod Shared
-pub mod Turning
 pub mod Working

@@ -71,11 +71,11 @@ pub fn take_next<'t>(
     ensures taken { IfOk result (HasTaken from hands.old worker.old hands.new worker.new) }
     ensures err { OnErr result (worker.new ≡ worker.old) }
 {
-    match boxes.pop(hands, from) {
-        Some(letter) => match worker.take(letter.into_parcel()) {
-            Ok(()) => Ok(true),
-            Err((_, error)) => Err(error),
-        },
-        None => Ok(false),
+    let Some(letter) = boxes.pop(hands, from) else {
+        return Ok(false);
+    };
+    if let Err((_, error)) = worker.take(letter.into_parcel()) {
+        return Err(error);
     }
+    Ok(true)
 }

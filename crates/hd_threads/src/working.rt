@@ -9,7 +9,7 @@ ghost use Rattle.hd_entries.specs.Settling.{IsOf};
 ghost use Rattle.hd_entries.specs.Growing.{kids_in};
 ghost use Rattle.hd_turns.specs.Calls.{ExpandsBest, after_seeing};
 ghost use Rattle.hd_worker.specs.Lookup.{IsLookupOf};
-ghost use Rattle.hd_threads.specs.Working.{fault_of, IsIn, HasCommitted, HasRedeemed};
+ghost use Rattle.hd_threads.specs.Working.{fault_of, with_offer, IsIn, HasCommitted, HasRedeemed};
 ghost use Rattle.hd_threads.specs.Shared.{IsGivenOf};
 
 use crate::halting::halt;
@@ -121,6 +121,20 @@ pub fn settle_best<'t>(
     worker.expand_best(lookup)
 }
 
+/// Offers a bound, if there is one.
+fn offer(word: &BoundWord, seat: &mut BoundSeat, bound: Option<u64>)
+    requires { seat.old.of ≡ word.now.of }
+    ensures of { seat.new.of ≡ seat.old.of }
+    ensures parts { seat.new.parts ≡ seat.old.parts }
+    ensures seen { seat.new.seen ≤ seat.old.seen }
+    ensures offers { seat.new.offers ≡ with_offer bound seat.old.offers }
+{
+    match bound {
+        Some(cost) => word.offer(seat, cost),
+        None => {}
+    }
+}
+
 /// Commits a batch under the lock. A book that refuses it is halted.
 ///
 /// # Errors
@@ -211,9 +225,7 @@ pub fn commit_next<'t, L: Ledger, A: Ledger, R: Wait>(
                 bound: cost,
             } = taken;
             worker.committed(first);
-            if let Some(cost) = cost {
-                bound.offer(seat, cost);
-            }
+            offer(bound, seat, cost);
             Ok(Committed::Taken(Held { ticket, kids }))
         }
         Err(CommitRefusal::Halted) => Ok(Committed::Halted),
