@@ -27,3 +27,12 @@ StopsRound old new acknowledged Device = (old.failed ≡ false) × (new.failed �
 StopsRound old new acknowledged Failed = (old.failed ≡ true) × IsUnmoved old new acknowledged
 StopsRound old new acknowledged NotOut = Unit {0}
 StopsRound old new acknowledged NoMemory = IsUnmoved old new acknowledged
+
+-- what a fault tells by which the rounds end, of the journal before the first and behind the last
+abbrev pub StopsLater : {S : Type 0} {G : Ghosts S} → Journal S G → Journal S G → RunFault → Type 0
+StopsLater old new Full = ⊥
+StopsLater old new (Damaged at) = ⊥
+StopsLater old new Device = (old.failed ≡ false) × (new.failed ≡ true)
+StopsLater old new Failed = (old.failed ≡ true) × (kids_of new ≡ kids_of old)
+StopsLater old new NotOut = Unit {0}
+StopsLater old new NoMemory = Unit {0}

@@ -1,4 +1,5 @@
 pub mod Committing
 pub mod Posting
 pub mod Shared
+pub mod Turning
 pub mod Working

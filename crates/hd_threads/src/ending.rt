@@ -1,19 +1,23 @@
 //! When a search is over, and what its book says then.
-ghost use Rattle.std.specs.Prelude.{◌≡◌, IfOk, IfSome};
+ghost use Rattle.std.specs.Prelude.{◌≡◌, ◌<◌, length, IfOk, IfErr, IfSome, OnOk};
 ghost use Rattle.crossbeam_queue.specs.Passes.{view};
 ghost use Rattle.hd_entries.specs.Answers.{IsTrueAnswer};
 ghost use Rattle.hd_desk.specs.Passes.{IsOutside};
 ghost use Rattle.hd_desk.specs.Views.{BeginsWith};
 ghost use Rattle.hd_journal.specs.Journal.{kids_of};
 ghost use Rattle.hd_search.specs.Answer.{IsAnswerOf, IsCounted};
+ghost use Rattle.hd_search.specs.Searching.{Grows};
+ghost use Rattle.hd_threads.specs.Committing.{StopsLater};
 
+use crate::committing::{Round, committer_round};
 use crate::SharedBook;
 use hd_desk::{Lock, Pass};
 use hd_journal::Journal;
 use hd_search::{Ended, RunFault};
 use hd_store::Store;
 use std::sync::Wait;
-use std::sync::ledger::Ledger;
+use std::sync::ledger::{Ledger, Share};
+use std::thread;
 
 /// Whether a search is over: its book is halted, or all is settled and each entry is acknowledged.
 pub fn is_over<'t, L: Ledger, A: Ledger, R: Wait>(
@@ -33,6 +37,46 @@ pub fn is_over<'t, L: Ledger, A: Ledger, R: Wait>(
     let over = settled || book.is_halted();
     lock.leave(rt, pass, book);
     over
+}
+
+/// Takes rounds of the committer until the search is over.
+///
+/// # Errors
+/// Those of a round.
+pub fn commit_all<'t, L: Ledger, A: Ledger, S: Store, R: Wait>(
+    rt: &R,
+    lock: &Lock<SharedBook<'t, L, A>>,
+    pass: &mut Pass<SharedBook<'t, L, A>>,
+    share: &mut Share<A>,
+    journal: &mut Journal<S>,
+) -> Result<(), RunFault>
+    requires pass { IsOutside lock.now.place pass.old }
+    requires whole { share.old.parts ≡ A.parts }
+    requires some { 0 < A.parts }
+    requires begins { BeginsWith (view pass.old).seen.log (kids_of journal.old) }
+    requires counted { share.old.amount ≡ length (kids_of journal.old) }
+    ensures pass { IsOutside lock.now.place pass.new }
+    ensures task { (view pass.new).seen.task ≡ (view pass.old).seen.task }
+    ensures grows { BeginsWith (view pass.new).seen.log (view pass.old).seen.log }
+    ensures begins { BeginsWith (view pass.new).seen.log (kids_of journal.new) }
+    ensures share { share.new.parts ≡ share.old.parts }
+    ensures counted { OnOk result (share.new.amount ≡ length (kids_of journal.new)) }
+    ensures journal { OnOk result (Grows journal.old journal.new) }
+    ensures kids { BeginsWith (kids_of journal.new) (kids_of journal.old) }
+    ensures told { IfErr result (StopsLater journal.old journal.new) }
+{
+    for _round in rt.forever() {
+        match committer_round(rt, lock, pass, share, journal)? {
+            Round::Flushed(_) => {}
+            Round::Idle => {
+                if is_over(rt, lock, pass) {
+                    return Ok(());
+                }
+                thread::yield_now();
+            }
+        }
+    }
+    unreachable!()
 }
 
 /// What a book says that is at its end, where the journal has its entries.

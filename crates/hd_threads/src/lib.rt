@@ -7,13 +7,17 @@ mod ending;
 mod halting;
 mod letter;
 mod posting;
+mod running;
 mod shared;
+mod turning;
 mod working;
 
 pub use committing::{Round, committer_round};
-pub use ending::{answer, is_over};
+pub use ending::{answer, commit_all, is_over};
 pub use halting::{give_up, halt};
 pub use letter::Letter;
 pub use posting::{Sending, send_next, take_next};
+pub use running::{ThreadsFault, run_at};
 pub use shared::{Given, SharedBook};
+pub use turning::{Desk, Turn, Workplace, worker_turn};
 pub use working::{Committed, Held, Redemption, commit_next, redeem_next, settle_best};
