@@ -1,14 +1,13 @@
 -- A batch that came into the book.
-use Rattle.std.proofs.Common.{◌≡◌, ℕ, ◌+◌, ◌≤◌, Option, Some, None, List, [], ◌++◌, length, sym, ap, subst, ◌∙◌, arith}
-use Rattle.std.specs.Prelude.{flat_map, unwrap_or}
+use Rattle.std.proofs.Common.{◌≡◌, ℕ, ◌+◌, Option, Some, List, [], length, sym, ap, subst, ◌∙◌}
+use Rattle.std.specs.Prelude.{unwrap_or}
 use Rattle.hd_task.specs.declared.task.Task.{Task}
 use Rattle.hd_task.specs.declared.plan.Kid.{Kid}
 use Rattle.hd_task.specs.Entries.{plans_of}
 use Rattle.hd_task.specs.Expansions.{bound_of}
 use Rattle.hd_node.specs.declared.batch.Outcome.{Outcome}
 use Rattle.hd_desk.specs.Views.{BeginsWith}
-use Rattle.hd_entries.specs.Settling.{entry_of, expansions}
-use Rattle.hd_entries.specs.Growing.{kids_in}
+use Rattle.hd_entries.specs.Settling.{expansions}
 use Rattle.hd_entries.proofs.Accepting.{all_entries}
 use Rattle.hd_book.specs.View.{BookView}
 use Rattle.hd_book.specs.Steps.{after_commit}
@@ -46,16 +45,3 @@ batch_in before count seat w after count' seat' w' task outcomes first bound of 
   counted = counted;
   offered = offered;
 }
-
--- a batch that is in the book is numbered, and there is room for what it releases
-pub batch_numbered :
-    (before : List Kid) (count : ℕ) (seat : SeatView) (w : WorkerView) (after : List Kid) (count' : ℕ) (seat' : SeatView) (w' : WorkerView)
-    → IsBatchIn before count seat w after count' seat' w' → w'.given ≡ []
-batch_numbered before count seat w after count' seat' w' x = ap (λ (v : WorkerView). v.given) x.numbered
-
-pub batch_room :
-    (before : List Kid) (count : ℕ) (seat : SeatView) (w : WorkerView) (after : List Kid) (count' : ℕ) (seat' : SeatView) (w' : WorkerView) (kids : ℕ)
-    → IsBatchIn before count seat w after count' seat' w' → kids ≡ kids_in (batch_of w) → kids ≤ w'.room
-batch_room before count seat w after count' seat' w' kids x e =
-    let room : w'.room ≡ w.room + kids_in (batch_of w) = ap (λ (v : WorkerView). v.room) x.numbered in
-    omega (arith, room, e)

@@ -1,5 +1,4 @@
 pub mod Batches
 pub mod Begins
 pub mod Parcels
-pub mod Rounds
 pub mod Steps

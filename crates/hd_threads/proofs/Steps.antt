@@ -1,5 +1,5 @@
 -- A group that goes out, and the log that it is of.
-use Rattle.std.proofs.Common.{◌≡◌, ℕ, ◌-◌, Option, Some, None, List, ◌++◌, length, take, drop, refl, sym, ap, subst, ◌∙◌, append_assoc}
+use Rattle.std.proofs.Common.{◌≡◌, ℕ, ◌-◌, Option, Some, None, List, ◌++◌, length, drop, refl, sym, ap, subst, ◌∙◌, append_assoc}
 use Rattle.std.specs.Prelude.{option_map, IfSome}
 use Rattle.std.specs.declared.ops.Range.{Range}
 use Rattle.std.proofs.lemmas.List.{take-append-drop}

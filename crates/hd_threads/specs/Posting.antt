@@ -1,5 +1,5 @@
 -- What a worker sends and takes. (The messages of HDA*, Kishimoto, Fukunaga and Botea 2013.)
-use Rattle.std.specs.Prelude.{◌≡◌, ℕ, ◌%◌, Bool, true, false, [], ◌∷◌, slice_get, Some}
+use Rattle.std.specs.Prelude.{◌≡◌, ℕ, ◌%◌, Bool, true, false, [], slice_get, Some}
 use Rattle.hd_task.specs.declared.task.Task.{Task}
 use Rattle.hd_zobrist.specs.Hash.{state_hash}
 use Rattle.hd_node.specs.Parcel.{ParcelView}

@@ -1,5 +1,5 @@
 //! How a worker sends parcels to others, and takes those that were sent to it.
-ghost use Rattle.std.specs.Prelude.{◌≡◌, ◌<◌, ◌≤◌, ◌%◌, length, IfOk, OnOk, OnErr};
+ghost use Rattle.std.specs.Prelude.{◌≡◌, ◌<◌, ◌≤◌, length, IfOk, OnErr};
 ghost use Rattle.hd_zobrist.specs.declared.owners.TheConstants.{MAX_WORKERS};
 ghost use Rattle.hd_desk.specs.Hands.{IsFor, parts_of};
 ghost use Rattle.hd_threads.specs.Posting.{HasSent, HasTaken};

@@ -13,8 +13,7 @@ ghost use Rattle.hd_book.specs.Steps.{after_commit, ticket_after, after_take, af
 ghost use Rattle.hd_threads.specs.Shared.{IsGroupAt, IsGivenOf};
 
 use hd_book::{
-    Book, CommitRefusal, Counts, Flushed, Group, NotOut, Parcels, Redeemed, Ticket,
-    Verdict,
+    Book, CommitRefusal, Counts, Flushed, Group, NotOut, Parcels, Redeemed, Ticket, Verdict,
 };
 use hd_desk::Locked;
 use hd_node::Batch;

@@ -1,4 +1,4 @@
-use Rattle.std.proofs.Common.{◌≡◌, ℕ, ◌%◌, sym, ap, ◌∙◌}
+use Rattle.std.proofs.Common.{◌≡◌, ℕ, ◌%◌, ap, ◌∙◌}
 use Rattle.hd_zobrist.specs.Hash.{state_hash}
 use Rattle.hd_node.specs.Parcel.{ParcelView}
 use Rattle.hd_desk.specs.Hands.{put_into}
@@ -9,8 +9,7 @@ use Rattle.hd_threads.proofs.posting.send_next.Goals as goal
 pub returns-in-Ok-clause-sent : goal.returns-in-Ok-clause-sent
 returns-in-Ok-clause-sent c =
     let p = c.in-Some.parcel in
-    let to : c.owner-to.result ≡ state_hash p.state % c.args.workers = c.owner-to.ensures.owner ∙ ap (λ (h : ℕ). h % c.args.workers) c.hash.ensures in
-    (
+    let to : c.owner-to.result ≡ state_hash p.state % c.args.workers = c.owner-to.ensures.owner ∙ ap (λ (h : ℕ). h % c.args.workers) c.hash.ensures in (
       p,
       c.in-Some.ensures.sent,
       c.in-Ok.ensures.put ∙ (ap (λ (n : ℕ). put_into n c.of.result c.args.hands.now) to ∙ ap (λ (x : ParcelView). put_into (state_hash p.state % c.args.workers) x c.args.hands.now) c.of.ensures),
@@ -20,8 +19,7 @@ returns-in-Ok-clause-sent c =
 pub returns-in-Err-clause-sent : goal.returns-in-Err-clause-sent
 returns-in-Err-clause-sent c =
     let p = c.in-Some.parcel in
-    let same : c.into_parcel.result ≡ p = c.into_parcel.ensures ∙ (c.in-Err.ensures.back ∙ c.of.ensures) in
-    (
+    let same : c.into_parcel.result ≡ p = c.into_parcel.ensures ∙ (c.in-Err.ensures.back ∙ c.of.ensures) in (
       p,
       c.in-Some.ensures.sent,
       c.in-Err.ensures.err,
