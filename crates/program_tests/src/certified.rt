@@ -1,4 +1,4 @@
-//! What `certify` tells of the journals of searches, and what it leaves of their files.
+//! What `certify` and `inspect` tell of the journals of searches, and what they leave of their files.
 use crate::kept::{Kept, WHOLE, is, joined, kept};
 use crate::running::{run_over, shelf_of};
 use std::alloc::{AllocError, Global};
@@ -103,5 +103,53 @@ fn a_search_goes_on_in_its_version(rt: HostRuntime) -> Result<(), Fail> {
     let found = kept(alloc, "resume", L, L_PROBLEM, Some(&part))?;
     assert!(rt; is(&found, b"0|(set-a)\n(set-b)\n; cost = 2\n|", &whole));
     assert_eq!(rt; whole.len(), 78);
+    Ok(())
+}
+
+/// What `inspect` prints of a journal of two actions.
+fn inspected(
+    alloc: Global,
+    version: u64,
+    entries: u64,
+    behind: u64,
+) -> Result<Vec<u8>, AllocError> {
+    let digest = "22ae9a8672dd7539c657f4b82019be004135c67817c0a93187f758ec88ddacc4";
+    let told = format!(in alloc;
+        "0|version {version}\ndigest {digest}\nentries {entries}\ngroups {entries}\nbytes behind {behind}\n|"
+    )?;
+    Ok(told.into_bytes())
+}
+
+#[test]
+fn a_journal_is_told_of_without_its_texts(rt: HostRuntime) -> Result<(), Fail> {
+    let alloc = rt.alloc();
+    let first = in_version_one(alloc, &GROUPS_OF_ONE[..26])?;
+    let part = joined(alloc, &[&WHOLE[..52], &[0], &WHOLE[53..60]])?;
+    let header = b"0|a header that is being made\n|".as_slice();
+    for (journal, want) in [
+        (&WHOLE[..], inspected(alloc, 2, 3, 0)?),
+        (&first, inspected(alloc, 1, 2, 0)?),
+        (&part, inspected(alloc, 2, 1, 7)?),
+        (b"", Vec::from_slice(alloc, b"0|no header yet\n|")?),
+        (&[0, 9, 9], Vec::from_slice(alloc, header)?),
+        (
+            &WHOLE[..60],
+            Vec::from_slice(alloc, b"1||hplan: 34 Damaged(52)\n")?,
+        ),
+        (
+            b"mine",
+            Vec::from_slice(alloc, b"1||hplan: 32 NotAJournal\n")?,
+        ),
+    ] {
+        let mut shelf = shelf_of(alloc, &[("j", journal)])?;
+        let run = run_over(alloc, &["inspect", "--journal", "j"], &mut shelf)?;
+        assert!(rt; run.as_slice() == want.as_slice());
+    }
+    let run = run_over(
+        alloc,
+        &["inspect", "--journal", "j"],
+        &mut shelf_of(alloc, &[])?,
+    )?;
+    assert_eq!(rt; run.as_slice(), b"1||hplan: 35 Device\n".as_slice());
     Ok(())
 }
