@@ -36,6 +36,15 @@ Exit status: 0 the verdict is certified: it is true of all plans;
   1 it is not; or a refusal, told on one line: the journal is not there, or is one of other files, or damaged;
   2 the command line is at fault.";
 
+/// What the help of `inspect` ends with.
+const INSPECT_HELP: &str = "\
+Tells of the journal of a search, whatever its task: its version, the digest of the task's two texts, how many entries and groups
+it has, and how many bytes stand behind the last whole group, which are no part of it. The file is read, and left as it is: a
+search may be writing it.
+Exit status: 0 what the file is has been told;
+  1 a refusal, told on one line: the file is not there, or is no journal, or damaged;
+  2 the command line is at fault.";
+
 /// What the help of `ground` ends with.
 const GROUND_HELP: &str = "\
 Reads both files, and writes to standard output how many actions, atoms and fluents the task has, and then each action behind
@@ -117,6 +126,14 @@ fn certify<'a>(alloc: Global) -> Result<Command<'a>, AllocError> {
         .arg(journal(alloc, "The file that the search is kept in", true))
 }
 
+/// `inspect --journal FILE`.
+fn inspect<'a>(alloc: Global) -> Result<Command<'a>, AllocError> {
+    Command::new(alloc, "inspect")
+        .about("Tells of the journal of a search")
+        .after_help(INSPECT_HELP)
+        .arg(journal(alloc, "The file that the search is kept in", true))
+}
+
 /// `ground DOMAIN PROBLEM`.
 fn ground<'a>(alloc: Global) -> Result<Command<'a>, AllocError> {
     Ok(
@@ -154,6 +171,7 @@ pub fn command_line<'a>(alloc: Global) -> Result<Command<'a>, AllocError> {
         .subcommand(solve(alloc)?)?
         .subcommand(resume(alloc)?)?
         .subcommand(certify(alloc)?)?
+        .subcommand(inspect(alloc)?)?
         .subcommand(ground(alloc)?)?
         .subcommand(validate(alloc)?)
 }

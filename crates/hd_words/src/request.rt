@@ -45,6 +45,11 @@ pub enum Request {
         /// The name of the journal's file.
         journal: String,
     },
+    /// To tell of a journal, whatever its task.
+    Inspect {
+        /// The name of the journal's file.
+        journal: String,
+    },
     /// To print the actions that a task has.
     Ground {
         /// The name of the file with the domain.
@@ -176,6 +181,16 @@ fn validate_request(
     }))
 }
 
+/// The request to inspect, if its journal is named.
+fn inspect_request(alloc: Global, found: &ArgMatches<'_>) -> Result<Option<Request>, AllocError>
+    ensures { IfOk result (λ found. IfSome found HasWorkers) }
+{
+    match owned(alloc, found.get_str("journal"))? {
+        Some(journal) => Ok(Some(Request::Inspect { journal })),
+        None => Ok(None),
+    }
+}
+
 /// The request of the command of this name, if its files are named.
 fn named_request(
     alloc: Global,
@@ -184,6 +199,9 @@ fn named_request(
 ) -> Result<Option<Request>, AllocError>
     ensures { IfOk result (λ found. IfSome found HasWorkers) }
 {
+    if name == "inspect" {
+        return inspect_request(alloc, found);
+    }
     let (Some(domain), Some(problem)) = (found.get_str("domain"), found.get_str("problem")) else {
         return Ok(None);
     };

@@ -4,6 +4,7 @@ pub mod Costs
 pub mod Explaining
 pub mod Files
 pub mod Going
+pub mod Inspections
 pub mod Keeping
 pub mod Legal
 pub mod Shelves

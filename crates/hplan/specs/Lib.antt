@@ -1,6 +1,7 @@
 pub mod Answer
 pub mod Certifying
 pub mod Fault
+pub mod Inspection
 pub mod Kept
 pub mod Places
 pub mod PlanFiles

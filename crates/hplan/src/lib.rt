@@ -1,5 +1,5 @@
 //! The planner hplan: from a command line to a plan (`solve`, `resume`), what a journal shows by itself
-//! (`certify`), the actions of a task (`ground`), or the verdict on a plan (`validate`).
+//! (`certify`) or is (`inspect`), the actions of a task (`ground`), or the verdict on a plan (`validate`).
 #![tactic(auto)]
 
 mod certifying;
@@ -7,6 +7,7 @@ mod cost;
 mod engine;
 mod fault;
 mod grounding;
+mod inspecting;
 mod kept;
 pub mod laws;
 mod naming;
@@ -23,6 +24,7 @@ pub use engine::{solve, solve_kept};
 pub use fault::Fault;
 pub use grounding::ground;
 pub use hd_texts::{Source, TaskFault};
+pub use inspecting::inspect;
 pub use kept::Start;
 pub use places::{Places, Shelf, SystemFiles};
 pub use program::{command, start};

@@ -7,6 +7,7 @@ use crate::certifying::certify;
 use crate::engine::{solve, solve_kept};
 use crate::fault::{Fault, device_fault};
 use crate::grounding::ground;
+use crate::inspecting::inspect;
 use crate::kept::Start;
 use crate::output::write_out;
 use crate::places::{Places, SystemFiles};
@@ -157,6 +158,17 @@ fn status_of_certificate<E: Write>(err: &mut E, certified: Result<bool, Fault>) 
     }
 }
 
+/// Tells of the journal in a file.
+fn inspect_file<P: Places, O: Write>(
+    alloc: Global,
+    places: &mut P,
+    journal: &str,
+    out: &mut O,
+) -> Result<(), Fault> {
+    inspect(alloc, places, journal, &mut Watched::of(&mut *out))?;
+    flush(out)
+}
+
 /// The bytes of a domain's file, a problem's and a plan's.
 #[derive(Drop)]
 struct PlanFiles {
@@ -264,6 +276,10 @@ fn answer<P: Places, O: Write, E: Write>(
             let names = (domain.as_str(), problem.as_str(), journal.as_str());
             let certified = certify_files(alloc, places, names.0, names.1, names.2, out);
             status_of_certificate(err, certified)
+        }
+        Request::Inspect { journal } => {
+            let done = inspect_file(alloc, places, journal.as_str(), out);
+            status_of(err, done)
         }
         Request::Ground { domain, problem } => {
             let done = ground_files(alloc, places, domain.as_str(), problem.as_str(), out);

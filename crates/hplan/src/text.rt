@@ -2,6 +2,7 @@
 ghost use Rattle.std.specs.Prelude.{◌≡◌, ◌++◌, Some, IfOk, IfSome, OnOk, string_bytes};
 ghost use Rattle.hd_plan.specs.PlanText.{line_end};
 ghost use Rattle.hd_task.specs.Plans.{Node};
+ghost use Rattle.hplan.specs.Inspection.{digest_line, inspected_text, summary_text, version_number};
 ghost use Rattle.hplan.specs.Certifying.{certified_text, verdict_text, optimal_text, CanBeTold};
 ghost use Rattle.hplan.specs.TaskText.{action_text, departure_text, count_line, numbered_line, numbered_lines, task_text};
 ghost use Rattle.hplan.specs.Verdict.{valid_text};
@@ -9,6 +10,7 @@ ghost use Rattle.hplan.specs.Verdict.{valid_text};
 use crate::cost::cost_of;
 use hd_base::NoMemory;
 use hd_certify::Certified;
+use hd_inspect::{DIGEST_LEN, Inspected, Summary, Version, digest_text};
 use hd_task::{DepartsBy, Departure, Task, push_form};
 use std::alloc::Global;
 
@@ -43,7 +45,7 @@ pub fn departure_text(alloc: Global, task: &Task, departure: Departure) -> Resul
 }
 
 /// The line that counts something, behind a text.
-fn push_count(alloc: Global, text: &mut String, what: &str, count: usize) -> Result<(), NoMemory>
+fn push_count(alloc: Global, text: &mut String, what: &str, count: u64) -> Result<(), NoMemory>
     ensures { OnOk result (string_bytes text.new
         ≡ string_bytes text.old ++ count_line what.now count) }
 {
@@ -84,9 +86,9 @@ pub fn task_text(alloc: Global, task: &Task) -> Result<Vec<u8>, NoMemory>
     ensures { IfOk result (λ v. v.items ≡ task_text task.now) }
 {
     let mut text = String::new(alloc);
-    push_count(alloc, &mut text, "actions", task.actions.len())?;
-    push_count(alloc, &mut text, "atoms", task.atoms.len())?;
-    push_count(alloc, &mut text, "fluents", task.fluents.len())?;
+    push_count(alloc, &mut text, "actions", task.actions.len() as u64)?;
+    push_count(alloc, &mut text, "atoms", task.atoms.len() as u64)?;
+    push_count(alloc, &mut text, "fluents", task.fluents.len() as u64)?;
     push_actions(alloc, &mut text, task)?;
     Ok(text.into_bytes())
 }
@@ -145,5 +147,50 @@ pub fn certified_text(
     match shown {
         Some(verdict) => verdict_text(alloc, task, verdict),
         None => line_of(alloc, "not certified"),
+    }
+}
+
+/// The line of a digest, behind a text.
+fn push_digest(alloc: Global, text: &mut String, digest: &[u8; DIGEST_LEN]) -> Result<(), NoMemory>
+    ensures { OnOk result (string_bytes text.new
+        ≡ string_bytes text.old ++ digest_line digest.now) }
+{
+    let digits = digest_text(alloc, digest)?;
+    text.push_str("digest ")?;
+    text.push_str(digits.as_str())?;
+    text.push_str("\n")
+}
+
+/// The number of a version.
+fn version_number(version: Version) -> u64
+    ensures { result ≡ version_number version }
+{
+    match version {
+        Version::One => 1,
+        Version::Two => 2,
+    }
+}
+
+/// The lines that tell of a journal.
+fn summary_text(alloc: Global, summary: &Summary) -> Result<Vec<u8>, NoMemory>
+    ensures { IfOk result (λ v. v.items ≡ summary_text summary.now) }
+{
+    let mut text = String::new(alloc);
+    push_count(alloc, &mut text, "version", version_number(summary.version))?;
+    push_digest(alloc, &mut text, &summary.digest)?;
+    push_count(alloc, &mut text, "entries", summary.entries)?;
+    push_count(alloc, &mut text, "groups", summary.groups)?;
+    push_count(alloc, &mut text, "bytes behind", summary.behind)?;
+    Ok(text.into_bytes())
+}
+
+/// What is told of a file's bytes.
+pub fn inspected_text(alloc: Global, inspected: &Inspected) -> Result<Vec<u8>, NoMemory>
+    ensures { IfOk result (λ v. v.items ≡ inspected_text inspected.now) }
+{
+    match inspected {
+        Inspected::Unmade => line_of(alloc, "no header yet"),
+        Inspected::HalfMade => line_of(alloc, "a header that is being made"),
+        Inspected::Journal(summary) => summary_text(alloc, summary),
     }
 }

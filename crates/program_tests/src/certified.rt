@@ -1,6 +1,6 @@
-//! What `certify` tells of the journals of searches, and what it leaves of their files.
+//! What `certify` and `inspect` tell of the journals of searches, and what they leave of their files.
 use crate::kept::{Kept, WHOLE, is, joined, kept};
-use crate::running::{run_over, shelf_of};
+use crate::running::{run, run_over, shelf_of};
 use std::alloc::{AllocError, Global};
 use std::test::Fail;
 use text_tests::samples::{L, L_PROBLEM, N, N_PROBLEM, U};
@@ -103,5 +103,55 @@ fn a_search_goes_on_in_its_version(rt: HostRuntime) -> Result<(), Fail> {
     let found = kept(alloc, "resume", L, L_PROBLEM, Some(&part))?;
     assert!(rt; is(&found, b"0|(set-a)\n(set-b)\n; cost = 2\n|", &whole));
     assert_eq!(rt; whole.len(), 78);
+    Ok(())
+}
+
+/// What is told of a file.
+#[derive(Clone, Copy)]
+enum Told {
+    /// A journal of two actions of this version, with so many groups of an entry each, and so many bytes behind them.
+    Journal(u64, u64, u64),
+    /// What the run prints.
+    Run(&'static str),
+}
+
+/// What `inspect` prints of a file of which this is told.
+fn inspected(alloc: Global, told: &Told) -> Result<String, AllocError> {
+    match told {
+        Told::Journal(version, entries, behind) => {
+            let digest = "22ae9a8672dd7539c657f4b82019be004135c67817c0a93187f758ec88ddacc4";
+            format!(in alloc;
+                "0|version {version}\ndigest {digest}\nentries {entries}\ngroups {entries}\nbytes behind {behind}\n|"
+            )
+        }
+        Told::Run(text) => String::from_str(alloc, text),
+    }
+}
+
+/// Whether this is told of a file.
+fn is_inspected(alloc: Global, journal: &[u8], told: &Told) -> Result<bool, AllocError> {
+    let want = inspected(alloc, told)?;
+    let found = run(alloc, &["inspect", "--journal", "j"], &[("j", journal)])?;
+    Ok(found.as_slice() == want.as_bytes())
+}
+
+#[test]
+fn a_journal_is_told_of_without_its_texts(rt: HostRuntime) -> Result<(), Fail> {
+    let alloc = rt.alloc();
+    let first = in_version_one(alloc, &GROUPS_OF_ONE[..26])?;
+    let part = joined(alloc, &[&WHOLE[..52], &[0], &WHOLE[53..60]])?;
+    for (journal, told) in [
+        (&WHOLE[..], Told::Journal(2, 3, 0)),
+        (&first, Told::Journal(1, 2, 0)),
+        (&part, Told::Journal(2, 1, 7)),
+        (b"", Told::Run("0|no header yet\n|")),
+        (&[0, 9, 9], Told::Run("0|a header that is being made\n|")),
+        (&WHOLE[..60], Told::Run("1||hplan: 34 Damaged(52)\n")),
+        (b"mine", Told::Run("1||hplan: 32 NotAJournal\n")),
+    ] {
+        assert!(rt; is_inspected(alloc, journal, &told)?);
+    }
+    let run = run(alloc, &["inspect", "--journal", "j"], &[])?;
+    assert_eq!(rt; run.as_slice(), b"1||hplan: 35 Device\n".as_slice());
     Ok(())
 }

@@ -33,6 +33,7 @@ fn read_line(alloc: Global, line: &[String]) -> Result<String, AllocError> {
                 journal,
             },
         ) => format!(in alloc; "certify {domain} {problem} in {journal}"),
+        Ok(Request::Inspect { journal }) => format!(in alloc; "inspect {journal}"),
         Ok(Request::Ground { domain, problem }) => {
             format!(in alloc; "ground {domain} {problem}")
         }
@@ -84,6 +85,7 @@ fn commands_take_files_and_a_number_of_workers(rt: HostRuntime) -> Result<(), Fa
             ["certify", "d", "p", "--journal", "j"].as_slice(),
             "certify d p in j",
         ),
+        (["inspect", "--journal", "j"].as_slice(), "inspect j"),
         (["ground", "d", "p"].as_slice(), "ground d p"),
         (["validate", "d", "p", "s"].as_slice(), "validate d p s"),
         (
@@ -197,6 +199,15 @@ fn help_and_version_are_shown(rt: HostRuntime) -> Result<(), Fail> {
                 "--journal <FILE>",
                 "`certified no plan`",
                 "Exit status: 0 the verdict is certified",
+            ],
+        ),
+        (
+            ["inspect", "--help"].as_slice(),
+            "shown: Tells of the journal of a search",
+            [
+                "--journal <FILE>",
+                "the digest of the task's two texts",
+                "Exit status: 0 what the file is",
             ],
         ),
         (
