@@ -19,7 +19,8 @@ use std::alloc::Global;
 /// `NoMemory` where there is no room for the plan.
 fn shown_by(entries: &Entries<'_>) -> Result<Certified, NoMemory>
     requires { IsDecisive entries.now.state.task (expansions entries.now.state) }
-    ensures { IfOk result (λ c. IsShown entries.now.state.task (expansions entries.now.state) (Some c)) }
+    ensures { IfOk result (λ c.
+        IsShown entries.now.state.task (expansions entries.now.state) (Some c)) }
 {
     match entries.extract()? {
         Some(plan) => Ok(Certified::Optimal(plan)),

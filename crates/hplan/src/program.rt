@@ -108,7 +108,8 @@ fn solve_files<P: Places, O: Write>(
 
 /// The exit status of a search; how it ends is told, or its fault.
 fn status_of_search<E: Write>(err: &mut E, ended: Result<Ending, Fault>) -> u8
-    ensures { MatchResult ended (λ ending. result ≡ status_of_ending ending) (λ _. result ≡ REFUSED) }
+    ensures { MatchResult ended
+        (λ ending. result ≡ status_of_ending ending) (λ _. result ≡ REFUSED) }
 {
     match ended {
         Ok(ending) => tell(err, &ending),
@@ -149,7 +150,8 @@ fn certify_files<P: Places, O: Write>(
 
 /// The exit status of what a journal shows; a fault is told.
 fn status_of_certificate<E: Write>(err: &mut E, certified: Result<bool, Fault>) -> u8
-    ensures { MatchResult certified (λ answer. result ≡ status_of_certificate answer) (λ _. result ≡ REFUSED) }
+    ensures { MatchResult certified
+        (λ answer. result ≡ status_of_certificate answer) (λ _. result ≡ REFUSED) }
 {
     match certified {
         Ok(true) => DONE,
