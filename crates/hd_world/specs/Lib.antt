@@ -1,0 +1,9 @@
+pub mod Headline
+pub mod Moves
+pub mod Once
+pub mod Recovered
+pub mod Search
+pub mod Seats
+pub mod Starting
+pub mod Stops
+pub mod World
