@@ -1,0 +1,4 @@
+mod Leading
+mod Parts
+mod Teams
+mod Truth
