@@ -24,7 +24,7 @@ use Rattle.hd_entries.proofs.Again.{mark_is, nothing_kept}
 use Rattle.hd_entries.proofs.Faultless.{kept_from}
 use Rattle.hd_closed.specs.Closed.{Closed}
 use Rattle.hd_turns.specs.Worker.{is_own}
-use Rattle.hd_world.specs.Recovered.{open_as, open_at, open_in, closed_as, closed_at, closed_in, is_own_closed}
+use Rattle.hd_recovery.specs.Recovered.{open_as, open_at, open_in, closed_as, closed_at, closed_in, is_own_closed}
 use Rattle.hd_world.specs.Starting.{seat_after, run_after}
 use Rattle.hd_world.specs.Once.{in_seat, in_run, only, room_of}
 use Rattle.hd_running.proofs.Sums.{total_at, total_some}

@@ -10,7 +10,7 @@ use Rattle.hd_entries.specs.Settling.{node_of, entry_node}
 use Rattle.hd_entries.specs.Holding.{Released}
 use Rattle.hd_entries.specs.Resuming.{resumed_state}
 use Rattle.hd_closed.specs.Closed.{Closed}
-use Rattle.hd_world.specs.Recovered.{recovered_worker}
+use Rattle.hd_recovery.specs.Recovered.{recovered_worker}
 
 -- a kid is open at the worker that owns its state, with the state and the cost that its plan leads to
 pub record IsOpenAtOwner (t : Task) (entries : List Kid) (workers : ℕ) (k : Kid) : Type 0 where

@@ -25,7 +25,7 @@ use Rattle.hd_entries.proofs.Naming as naming
 use Rattle.hd_turns.specs.Worker.{is_own}
 use Rattle.hd_turns.specs.Truth.{IsTrueOf, IsClosedBy, IsTrueWorker}
 use Rattle.hd_turns.proofs.Lists.{AllByRecursion-filter}
-use Rattle.hd_world.specs.Recovered.{closed_as, closed_at, closed_in, open_as, open_at, open_in, is_own_closed, recovered_worker}
+use Rattle.hd_recovery.specs.Recovered.{closed_as, closed_at, closed_in, open_as, open_at, open_in, is_own_closed, recovered_worker}
 use Rattle.hd_world.specs.Starting.{seat_after, run_after}
 use Rattle.hd_world.specs.Moves.{bound_in}
 use Rattle.hd_world.specs.Stops.{File, entries_of}

@@ -1,7 +1,6 @@
 pub mod Headline
 pub mod Moves
 pub mod Once
-pub mod Recovered
 pub mod Search
 pub mod Seats
 pub mod Starting

@@ -7,7 +7,7 @@ use Rattle.hd_entries.specs.Resuming.{resumed_state}
 use Rattle.hd_book.specs.Steps.{resumed_book}
 use Rattle.hd_world.specs.Seats.{Seat, Run}
 use Rattle.hd_world.specs.Moves.{bound_in}
-use Rattle.hd_world.specs.Recovered.{recovered_worker}
+use Rattle.hd_recovery.specs.Recovered.{recovered_worker}
 
 -- the seat of a worker after these entries, of so many workers: the hand is empty, it has no tickets, and it was told of no bound
 abbrev pub seat_after : Task → List Kid → ℕ → ℕ → Seat
