@@ -1,0 +1,7 @@
+pub mod Committing
+pub mod Ending
+pub mod Placing
+pub mod Posting
+pub mod Shared
+pub mod Turning
+pub mod Working
