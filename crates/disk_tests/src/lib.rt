@@ -4,6 +4,8 @@
 #[cfg(test)]
 mod appended;
 #[cfg(test)]
+mod copied;
+#[cfg(test)]
 mod failing;
 #[cfg(test)]
 mod files;

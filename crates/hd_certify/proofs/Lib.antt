@@ -1,3 +1,6 @@
 pub mod Justified
+pub mod Numbered
 pub mod Refusing
 pub mod Showing
+pub mod Rows
+pub mod Surveys

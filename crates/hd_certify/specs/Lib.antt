@@ -1,3 +1,4 @@
 pub mod Certificate
 pub mod Covering
 pub mod Error
+pub mod Survey

@@ -33,7 +33,7 @@ fn is_bounded(bound: Option<u64>, cost: u64, value: EstimateValue) -> bool
 ///
 /// # Errors
 /// `NoMemory` where there is no room for its state.
-fn is_spared<'t>(
+pub(crate) fn is_spared<'t>(
     alloc: Global,
     entries: &Entries<'t>,
     closed: &mut ClosedList<'t>,
@@ -89,7 +89,10 @@ fn close_one<'t>(
 ///
 /// # Errors
 /// `NoMemory` where there is no room for one.
-fn closed_of<'t>(alloc: Global, entries: &Entries<'t>) -> Result<ClosedList<'t>, NoMemory>
+pub(crate) fn closed_of<'t>(
+    alloc: Global,
+    entries: &Entries<'t>,
+) -> Result<ClosedList<'t>, NoMemory>
     ensures task { IfOk result (λ closed. closed.task ≡ entries.now.state.task) }
     ensures closed { IfOk result (λ closed. AreAllClosed entries.now.state closed.closed) }
 {

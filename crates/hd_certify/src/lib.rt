@@ -9,9 +9,16 @@ mod certifying;
 mod covering;
 mod error;
 pub mod laws;
+mod naming;
 mod resuming;
+mod surveyed;
+mod surveying;
+mod tables;
 
 pub use certified::Certified;
 pub use certifying::certify;
 pub use error::CertifyError;
-pub use hd_journal::Entry;
+pub use hd_journal::{Entry, Kid};
+pub use naming::legal_kids;
+pub use surveyed::{Row, Survey};
+pub use surveying::survey;

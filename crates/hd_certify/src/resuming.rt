@@ -31,7 +31,7 @@ fn kid_of(entry: &Entry) -> Kid
 ///
 /// # Errors
 /// `NoMemory` where there is no room for them.
-fn kids_of(alloc: Global, entries: &[Entry]) -> Result<Vec<Kid>, NoMemory>
+pub(crate) fn kids_of(alloc: Global, entries: &[Entry]) -> Result<Vec<Kid>, NoMemory>
     ensures { IfOk result (λ kids. kids.items ≡ map kid_of entries.now) }
 {
     let mut kids = Vec::with_capacity(alloc, entries.len())?;

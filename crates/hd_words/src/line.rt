@@ -36,11 +36,21 @@ Exit status: 0 the verdict is certified: it is true of all plans;
   1 it is not; or a refusal, told on one line: the journal is not there, or is one of other files, or damaged;
   2 the command line is at fault.";
 
+/// What the help of `migrate` ends with.
+const MIGRATE_HELP: &str = "\
+Writes all entries of a journal of the same two files to another file, as a journal of the second version, which may have more
+entries; and `migrated N` to standard output. The journal is read, and left as it is.
+Exit status: 0 all N entries are there, and a search can go on from them;
+  1 a refusal, told on one line: the journal is not there, or is one of other files, or damaged, or the other file is not empty;
+    or writing failed, and the other file holds a journal of the first entries, or none;
+  2 the command line is at fault.";
+
 /// What the help of `inspect` ends with.
 const INSPECT_HELP: &str = "\
 Tells of the journal of a search, whatever its task: its version, the digest of the task's two texts, how many entries and groups
-it has, and how many bytes stand behind the last whole group, which are no part of it. The file is read, and left as it is: a
-search may be writing it.
+it has, and how many bytes stand behind the last whole group, which are no part of it. With both files of the task also how far
+the search has come by the entries: posted and settled plans, the bound with its plan, the first departure, and how many entries
+there are of each depth and each cost. The journal is read, and left as it is: a search may be writing it.
 Exit status: 0 what the file is has been told;
   1 a refusal, told on one line: the file is not there, or is no journal, or damaged;
   2 the command line is at fault.";
@@ -126,9 +136,31 @@ fn certify<'a>(alloc: Global) -> Result<Command<'a>, AllocError> {
         .arg(journal(alloc, "The file that the search is kept in", true))
 }
 
-/// `inspect --journal FILE`.
+/// `migrate DOMAIN PROBLEM --journal OLD --to NEW`.
+fn migrate<'a>(alloc: Global) -> Result<Command<'a>, AllocError> {
+    of_task(alloc, "migrate")?
+        .about("Writes the entries of a journal to a new one, of the second version")
+        .after_help(MIGRATE_HELP)
+        .arg(journal(alloc, "The file that the search is kept in", true))?
+        .arg(
+            Arg::new(alloc, "to")
+                .long("to")
+                .value_name("NEW")
+                .help("The file to write to, which is made, or empty")
+                .required(true),
+        )
+}
+
+/// An argument that may be given, by its place.
+fn file_if<'a>(alloc: Global, id: &'a str, name: &'a str, help: &'a str) -> Arg<'a> {
+    Arg::new(alloc, id).value_name(name).help(help)
+}
+
+/// `inspect [DOMAIN PROBLEM] --journal FILE`.
 fn inspect<'a>(alloc: Global) -> Result<Command<'a>, AllocError> {
     Command::new(alloc, "inspect")
+        .arg(file_if(alloc, "domain", "DOMAIN", "The file with the domain"))?
+        .arg(file_if(alloc, "problem", "PROBLEM", "The file with the problem"))?
         .about("Tells of the journal of a search")
         .after_help(INSPECT_HELP)
         .arg(journal(alloc, "The file that the search is kept in", true))
@@ -171,6 +203,7 @@ pub fn command_line<'a>(alloc: Global) -> Result<Command<'a>, AllocError> {
         .subcommand(solve(alloc)?)?
         .subcommand(resume(alloc)?)?
         .subcommand(certify(alloc)?)?
+        .subcommand(migrate(alloc)?)?
         .subcommand(inspect(alloc)?)?
         .subcommand(ground(alloc)?)?
         .subcommand(validate(alloc)?)

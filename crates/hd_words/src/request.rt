@@ -45,8 +45,28 @@ pub enum Request {
         /// The name of the journal's file.
         journal: String,
     },
+    /// To write a journal's entries to another file.
+    Migrate {
+        /// The name of the file with the domain.
+        domain: String,
+        /// The name of the file with the problem.
+        problem: String,
+        /// The name of the journal's file.
+        journal: String,
+        /// The name of the file that they are written to.
+        to: String,
+    },
     /// To tell of a journal, whatever its task.
     Inspect {
+        /// The name of the journal's file.
+        journal: String,
+    },
+    /// To tell of a journal, and of the search of a task in it.
+    Survey {
+        /// The name of the file with the domain.
+        domain: String,
+        /// The name of the file with the problem.
+        problem: String,
         /// The name of the journal's file.
         journal: String,
     },
@@ -160,6 +180,26 @@ fn certify_request(
     }))
 }
 
+/// The request to migrate, if both files are named.
+fn migrate_request(
+    alloc: Global,
+    domain: &str,
+    problem: &str,
+    found: &ArgMatches<'_>,
+) -> Result<Option<Request>, AllocError>
+    ensures { IfOk result (λ found. IfSome found HasWorkers) }
+{
+    let (Some(journal), Some(to)) = (found.get_str("journal"), found.get_str("to")) else {
+        return Ok(None);
+    };
+    Ok(Some(Request::Migrate {
+        domain: String::from_str(alloc, domain)?,
+        problem: String::from_str(alloc, problem)?,
+        journal: String::from_str(alloc, journal)?,
+        to: String::from_str(alloc, to)?,
+    }))
+}
+
 /// The request to validate, if its plan is named.
 fn validate_request(
     alloc: Global,
@@ -181,13 +221,21 @@ fn validate_request(
     }))
 }
 
-/// The request to inspect, if its journal is named.
+/// The request to inspect, if its journal is named, and both files of a task or neither.
 fn inspect_request(alloc: Global, found: &ArgMatches<'_>) -> Result<Option<Request>, AllocError>
     ensures { IfOk result (λ found. IfSome found HasWorkers) }
 {
-    match owned(alloc, found.get_str("journal"))? {
-        Some(journal) => Ok(Some(Request::Inspect { journal })),
-        None => Ok(None),
+    let Some(journal) = owned(alloc, found.get_str("journal"))? else {
+        return Ok(None);
+    };
+    match (found.get_str("domain"), found.get_str("problem")) {
+        (Some(domain), Some(problem)) => Ok(Some(Request::Survey {
+            domain: String::from_str(alloc, domain)?,
+            problem: String::from_str(alloc, problem)?,
+            journal,
+        })),
+        (None, None) => Ok(Some(Request::Inspect { journal })),
+        _ => Ok(None),
     }
 }
 
@@ -209,6 +257,7 @@ fn named_request(
         "solve" => solve_request(alloc, domain, problem, found),
         "resume" => resume_request(alloc, domain, problem, found),
         "certify" => certify_request(alloc, domain, problem, found.get_str("journal")),
+        "migrate" => migrate_request(alloc, domain, problem, found),
         "ground" => Ok(Some(Request::Ground {
             domain: String::from_str(alloc, domain)?,
             problem: String::from_str(alloc, problem)?,

@@ -54,7 +54,7 @@ certified_there domain problem t task content answer text s = record {
   is_true = shown_there task.lifted t s.shown task.made s.is_true;
 }
 
-on_content : (file : Option (List ℕ)) (P Q : List ℕ → Type 0) → ((content : List ℕ) → P content → Q content) → OnContent file P → OnContent file Q
+pub on_content : (file : Option (List ℕ)) (P Q : List ℕ → Type 0) → ((content : List ℕ) → P content → Q content) → OnContent file P → OnContent file Q
 on_content file P Q f s = record { content = s.content; known = s.known; holds = f s.content s.holds }
 
 -- the same of what is answered of a file

@@ -16,6 +16,7 @@ use Rattle.hd_journal.specs.declared.error.JournalError.TheVariants as journal
 use Rattle.hd_journal.specs.declared.journal.Journal as of
 use Rattle.hd_journal.specs.Answers.{StandsIn}
 use Rattle.hd_journal.specs.Journal.{IsOf, device_of, kid_of, kids_of}
+use Rattle.hd_migrate.specs.Copy.{kids_in}
 use Rattle.hd_entries.specs.Holding.{BeginsWith}
 use Rattle.hd_search.specs.declared.fault.RunFault.{RunFault}
 use Rattle.hd_search.specs.declared.fault.RunFault.TheVariants as searching
@@ -28,7 +29,7 @@ use Rattle.hplan.specs.Fault.{journal_in, search_in}
 use Rattle.hplan.specs.declared.told.Told.{Told}
 use Rattle.hplan.specs.Answer.{IsSolution, IsKeptSolution}
 use Rattle.hplan.specs.PlanText.{printed}
-use Rattle.hplan.specs.Kept.{kids_in, FailsIn, InMemory, InFile, IsJournalOf, IsKept, TellsOfFile, StandThere, HasFaultyEntry, TellsOfSearch, HasNoSolution, OfMemory, OfFile, OfEntry, OfSearch, IsBegun, IsRefusedRun}
+use Rattle.hplan.specs.Kept.{FailsIn, InMemory, InFile, IsJournalOf, IsKept, TellsOfFile, StandThere, HasFaultyEntry, TellsOfSearch, HasNoSolution, OfMemory, OfFile, OfEntry, OfSearch, IsBegun, IsRefusedRun}
 
 -- ---- a journal that is not begun
 

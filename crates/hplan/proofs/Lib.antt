@@ -7,9 +7,11 @@ pub mod Going
 pub mod Inspections
 pub mod Keeping
 pub mod Legal
+pub mod Moving
 pub mod Shelves
 pub mod Solving
 pub mod StepTexts
+pub mod Surveys
 pub mod TaskLines
 pub mod TextReasons
 pub mod Writing

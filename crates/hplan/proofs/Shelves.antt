@@ -1,14 +1,26 @@
 -- Files in memory: the place of a name's first file, and what stands there.
-use Rattle.std.proofs.Common.{◌≡◌, inl, inr, ◌≤◌, get_or, ℕ, zero, suc, ◌+◌, Bool, true, false, Option, Some, None, List, [], ◌∷◌, length, refl, sym, ap, ◌∙◌, subst, arith, ◌<◌}
+use Rattle.std.proofs.Common.{◌≡◌, ◌≢◌, inl, inr, ◌≤◌, get_or, ℕ, zero, suc, ◌+◌, Bool, true, false, true≢false, Option, Some, None, List, [], ◌∷◌, ◌++◌, length, refl, sym, ap, ◌∙◌, subst, arith, ◌<◌}
 use Rattle.std.specs.Prelude.{option_map, if◌then◌else◌, IfSome, String, string_bytes}
 use Rattle.std.specs.List.{slice_get, slice_set}
 use Rattle.std.specs.Str.{bytes_eq}
 use Rattle.std.proofs.lemmas.List.{map-set}
+use Rattle.std.proofs.lemmas.Slice.Eq.{bytes_eq-Decides}
 use Rattle.std.proofs.lemmas.Option.{none-some, same_Some, slice_get-map, slice_get_cases, slice_get-get_or}
 use Rattle.hd_store.specs.declared.memory.MemoryDisk.{MemoryDisk}
 use Rattle.hd_store.specs.MemoryDisk.{device_of}
 use Rattle.hd_store.specs.Device.{content_of}
 use Rattle.hplan.specs.Places.{file_in, place_in, shown}
+
+-- ---- names
+
+pub same_bytes : (xs ys : List ℕ) → bytes_eq xs ys ≡ true → xs ≡ ys
+same_bytes xs ys e = (bytes_eq-Decides xs ys).0 e
+
+pub other_bytes : (xs ys : List ℕ) → bytes_eq xs ys ≡ false → xs ≢ ys
+other_bytes xs ys e same = true≢false (sym ((bytes_eq-Decides xs ys).1 same) ∙ e)
+
+bytes_eq-same : (xs : List ℕ) → bytes_eq xs xs ≡ true
+bytes_eq-same xs = (bytes_eq-Decides xs xs).1 refl
 
 -- ---- places that are counted on
 
@@ -79,6 +91,56 @@ module _ (name : List ℕ) where
         | false ↦ λ e. file_then fs place (one_less (place_in fs name) place e) f at bytes
       ] e
 
+-- ---- the files of other names
+
+-- a file of a name has no other one
+not_other : (first name other : List ℕ) → other ≢ name → bytes_eq first name ≡ true → bytes_eq first other ≡ false
+not_other first name other differ is =
+    elim (bytes_eq first other) as (λ b. bytes_eq first other ≡ b → b ≡ false) [
+      | true ↦ λ e. absurd (differ (sym (same_bytes first other e) ∙ same_bytes first name is))
+      | false ↦ λ e. refl
+    ] refl
+
+-- the first file has the name where its place is the first
+first_has : (name first : List ℕ) (later : Option ℕ) → first_by name (bytes_eq first name) later ≡ Some zero → bytes_eq first name ≡ true
+first_has name first later e =
+    elim (bytes_eq first name) as (λ b. first_by name b later ≡ Some zero → b ≡ true) [
+      | true ↦ λ e. refl
+      | false ↦ λ e. absurd (not_first later e)
+    ] e
+
+first_has_not : (name first : List ℕ) (later : Option ℕ) (place : ℕ) → first_by name (bytes_eq first name) later ≡ Some (suc place)
+    → later ≡ Some place
+first_has_not name first later place e =
+    elim (bytes_eq first name) as (λ b. first_by name b later ≡ Some (suc place) → later ≡ Some place) [
+      | true ↦ λ e. let no : 0 ≡ suc place = same_Some 0 (suc place) e in absurd (omega (arith, no))
+      | false ↦ λ e. one_less later place e
+    ] e
+
+module _ (name other : List ℕ) (differ : other ≢ name) where
+  others_then : (fs : List (List ℕ × List ℕ)) (place : ℕ) → place_in fs name ≡ Some place
+      → (f : List ℕ × List ℕ) → slice_get fs place ≡ Some f → (bytes : List ℕ) → file_in (slice_set fs place (f.0, bytes)) other ≡ file_in fs other
+  others_then [] place e f at bytes = absurd (none-some place e)
+  others_then (x ∷ fs) zero e f at bytes =
+      let is : bytes_eq x.0 name ≡ true = first_has name x.0 (place_in fs name) e in
+      let not : bytes_eq x.0 other ≡ false = not_other x.0 name other differ is in
+      subst (λ (y : List ℕ × List ℕ). file_in ((y.0, bytes) ∷ fs) other ≡ file_in (x ∷ fs) other) (same_Some x f at)
+      (ap (λ (b : Bool). file_by other b bytes (file_in fs other)) not ∙ sym (ap (λ (b : Bool). file_by other b x.1 (file_in fs other)) not))
+  others_then (x ∷ fs) (suc place) e f at bytes =
+      ap (λ (later : Option (List ℕ)). file_by other (bytes_eq x.0 other) x.1 later)
+      (others_then fs place (first_has_not name x.0 (place_in fs name) place e) f at bytes)
+
+  others_pushed : (fs : List (List ℕ × List ℕ)) (bytes : List ℕ) → file_in (fs ++ (name, bytes) ∷ []) other ≡ file_in fs other
+  others_pushed [] bytes = ap (λ (b : Bool). file_by other b bytes None) (not_other name name other differ (bytes_eq-same name))
+  others_pushed (x ∷ fs) bytes =
+      ap (λ (later : Option (List ℕ)). file_by other (bytes_eq x.0 other) x.1 later) (others_pushed fs bytes)
+
+-- one file more, of another name
+pub other_pushed : (name bytes : List ℕ) (old new : List (List ℕ × List ℕ)) → new ≡ old ++ (name, bytes) ∷ [] → (other : List ℕ) → other ≢ name
+    → file_in new other ≡ file_in old other
+other_pushed name bytes old new is other differ =
+    ap (λ (fs : List (List ℕ × List ℕ)). file_in fs other) is ∙ others_pushed name other differ old bytes
+
 -- ---- the same of disks
 
 abbrev shown_one : {A : Type 0} → String A × MemoryDisk → List ℕ × List ℕ
@@ -107,6 +169,22 @@ module _ {A : Type 0} (name : List ℕ) (fs : List (String A × MemoryDisk)) (pl
   disk_then f disk at =
       ap (λ (xs : List (List ℕ × List ℕ)). file_in xs name) (map-set shown_one fs place (f.0, disk))
       ∙ file_then name (shown fs) place (sym is) (shown_one f) (shown_at f at) (content_of (device_of disk))
+
+  -- the files of other names are as they were
+  others_kept : (other : List ℕ) → other ≢ name → (f : String A × MemoryDisk) (disk : MemoryDisk) → slice_get fs place ≡ Some f
+      → file_in (shown (slice_set fs place (f.0, disk))) other ≡ file_in (shown fs) other
+  others_kept other differ f disk at =
+      ap (λ (xs : List (List ℕ × List ℕ)). file_in xs other) (map-set shown_one fs place (f.0, disk))
+      ∙ others_then name other differ (shown fs) place (sym is) (shown_one f) (shown_at f at) (content_of (device_of disk))
+
+  pub others_now : (new : List (String A × MemoryDisk)) (disk : MemoryDisk) → place < length fs
+      → IfSome (slice_get fs place) (λ f. new ≡ slice_set fs place (f.0, disk)) → (other : List ℕ) → other ≢ name
+      → file_in (shown new) other ≡ file_in (shown fs) other
+  others_now new disk within holds other differ =
+      let x = there_at fs place within in
+      ap (λ (xs : List (String A × MemoryDisk)). file_in (shown xs) other)
+      (of_some (slice_get fs place) x.0 (λ f. new ≡ slice_set fs place (f.0, disk)) x.1 holds)
+      ∙ others_kept other differ x.0 disk x.1
 
   -- the bytes that are read there
   pub disk_read : (f : String A × MemoryDisk) (bytes : List ℕ) → place < length fs → bytes ≡ content_of (device_of (get_or fs place f).1)

@@ -1,5 +1,5 @@
 -- Where a search is kept, and what a file holds of it before and afterwards. (Our own.)
-use Rattle.std.specs.Prelude.{◌≡◌, ◌≢◌, ◌⊎◌, ℕ, ◌+◌, ◌<◌, List, [], map, length, flat_map, Option, IfSome}
+use Rattle.std.specs.Prelude.{◌≡◌, ◌≢◌, ◌⊎◌, ℕ, ◌+◌, ◌<◌, List, [], map, length, Option, IfSome}
 use Rattle.std.specs.List.{AllByRecursion}
 use Rattle.hd_task.specs.declared.task.Task.{Task}
 use Rattle.hd_task.specs.declared.plan.Kid.{Kid}
@@ -17,6 +17,7 @@ use Rattle.hd_journal.specs.declared.error.JournalError.TheVariants as journal
 use Rattle.hd_journal.specs.declared.journal.Journal as of
 use Rattle.hd_journal.specs.Answers.{StandsIn}
 use Rattle.hd_journal.specs.Journal.{IsOf, kid_of}
+use Rattle.hd_migrate.specs.Copy.{kids_in}
 use Rattle.hd_entries.specs.Holding.{BeginsWith}
 use Rattle.hd_search.specs.declared.fault.RunFault.{RunFault}
 use Rattle.hd_search.specs.declared.fault.RunFault.TheVariants as searching
@@ -28,10 +29,6 @@ use Rattle.hplan.specs.declared.kept.Start.TheVariants.{New, Kept}
 use Rattle.hplan.specs.Fault.{search_in, store_in}
 
 -- ---- what a file holds
-
--- the entries of groups, in order
-abbrev pub kids_in : List (List Kid) → List Kid
-kids_in groups = flat_map (λ (group : List Kid). group) groups
 
 -- a content is the whole journal of these entries, for the task of this digest: their groups, each behind its open gate, and then a closed
 -- gate, which is the last byte

@@ -3,11 +3,13 @@ pub mod Certifying
 pub mod Fault
 pub mod Inspection
 pub mod Kept
+pub mod Migrating
 pub mod Places
 pub mod PlanFiles
 pub mod PlanText
 pub mod Printing
 pub mod Reasons
+pub mod Surveying
 pub mod TaskText
 pub mod Verdict
 pub mod Written

@@ -30,7 +30,7 @@ struct Certificate {
 }
 
 /// The entries of what was found, and how many a journal of its version may have.
-fn entries_of(alloc: Global, found: Found) -> (Sequence<Entry>, u64)
+pub fn entries_of(alloc: Global, found: Found) -> (Sequence<Entry>, u64)
     ensures entries { result.0 ≡ found_in found }
     ensures most { result.1 ≡ most_of (version_in found) }
 {

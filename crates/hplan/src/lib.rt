@@ -1,5 +1,5 @@
 //! The planner hplan: from a command line to a plan (`solve`, `resume`), what a journal shows by itself
-//! (`certify`) or is (`inspect`), the actions of a task (`ground`), or the verdict on a plan (`validate`).
+//! (`certify`) or is (`inspect`), its entries in a journal of the second version (`migrate`), the actions of a task (`ground`), or the verdict on a plan (`validate`).
 #![tactic(auto)]
 
 mod certifying;
@@ -10,11 +10,14 @@ mod grounding;
 mod inspecting;
 mod kept;
 pub mod laws;
+mod migrating;
 mod naming;
 mod output;
 mod places;
 mod program;
 mod reasons;
+mod survey_text;
+mod surveying;
 mod text;
 mod told;
 mod validating;
@@ -26,8 +29,10 @@ pub use grounding::ground;
 pub use hd_texts::{Source, TaskFault};
 pub use inspecting::inspect;
 pub use kept::Start;
+pub use migrating::migrate;
 pub use places::{Places, Shelf, SystemFiles};
 pub use program::{command, start};
 pub use reasons::explain;
+pub use surveying::survey;
 pub use told::Ending;
 pub use validating::validate;

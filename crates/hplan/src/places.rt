@@ -1,5 +1,5 @@
 //! Where the program's files are.
-ghost use Rattle.std.specs.Prelude.{◌≡◌, ◌++◌, ◌<◌, [], ◌∷◌, None, Some, IfOk, IfSome, OnOk, OnErr, MatchResult, length, option_map, slice_get, slice_set};
+ghost use Rattle.std.specs.Prelude.{◌≡◌, ◌≢◌, List, ℕ, ◌++◌, ◌<◌, [], ◌∷◌, None, Some, IfOk, IfSome, OnOk, OnErr, MatchResult, length, option_map, slice_get, slice_set};
 ghost use Rattle.hd_store.specs.Device.{content_of};
 ghost use Rattle.hd_store.specs.MemoryDisk.{device_of};
 ghost use Rattle.hplan.specs.Places.{file_in, place_in, shown};
@@ -27,18 +27,22 @@ pub trait Places {
             IfSome (file_of self.old name.now) (λ bytes. v.items ≡ bytes)) }
         ensures alone { self.new ≡ self.old };
 
-    /// Lends a file, and makes it, empty, if it is to be made and is not there. It is to be given back.
+    /// Lends a file, and makes it, empty, if it is to be made and is not there. It is to be given back. All others are as they were.
     ///
     /// # Errors
     /// A failure where it can't be had. Want of memory.
     fn store(&mut self, alloc: Global, name: &str, make: bool) -> Result<Self::Disk, StoreError>
-        ensures { IfOk result (λ disk. IfSome (file_of self.old name.now)
-            (λ bytes. content_of (Self.Disk.device disk) ≡ bytes)) };
+        ensures lent { IfOk result (λ disk. IfSome (file_of self.old name.now)
+            (λ bytes. content_of (Self.Disk.device disk) ≡ bytes)) }
+        ensures others { (other : List ℕ) → other ≢ name.now
+            → file_of self.new other ≡ file_of self.old other };
 
-    /// Takes a file back, as it is now.
+    /// Takes a file back, as it is now. All others are as they were.
     fn give_back(&mut self, name: &str, disk: Self::Disk)
-        ensures { IfSome (file_of self.new name.now)
-            (λ bytes. content_of (Self.Disk.device disk) ≡ bytes) };
+        ensures given { IfSome (file_of self.new name.now)
+            (λ bytes. content_of (Self.Disk.device disk) ≡ bytes) }
+        ensures others { (other : List ℕ) → other ≢ name.now
+            → file_of self.new other ≡ file_of self.old other };
 }
 
 /// The system's files, of whose bytes nothing is known.
@@ -127,6 +131,20 @@ impl Shelf {
         let disk = MemoryDisk::of(alloc, bytes)?;
         self.put_disk(alloc, name, disk)
     }
+
+    /// Puts a disk in the place of the first file of this name, whose disk is answered; or else it is answered itself.
+    fn swap(&mut self, name: &str, disk: MemoryDisk) -> Result<MemoryDisk, MemoryDisk>
+        ensures before { MatchResult result
+            (λ was. file_in self.old name.now ≡ Some (content_of (device_of was)))
+            (λ _. file_in self.old name.now ≡ None) }
+        ensures after { OnOk result
+            (file_in self.new name.now ≡ Some (content_of (device_of disk))) }
+        ensures none { OnErr result (self.new ≡ self.old) }
+        ensures others { (other : List ℕ) → other ≢ name.now
+            → file_in self.new other ≡ file_in self.old other }
+    {
+        exchange(&mut self.files, name, disk)
+    }
 }
 
 /// The place of the first file of this name.
@@ -178,6 +196,8 @@ fn exchange(
     ensures after { OnOk result
         (file_in (shown files.new) name.now ≡ Some (content_of (device_of disk))) }
     ensures none { OnErr result (files.new ≡ files.old) }
+    ensures others { (other : List ℕ) → other ≢ name.now
+        → file_in (shown files.new) other ≡ file_in (shown files.old) other }
 {
     match place_of(files, name) {
         Some(place) => Ok(put_at(files, place, disk)),
@@ -201,7 +221,7 @@ impl Places for Shelf {
     }
 
     fn store(&mut self, alloc: Global, name: &str, make: bool) -> Result<MemoryDisk, StoreError> {
-        match exchange(&mut self.files, name, MemoryDisk::new(alloc)) {
+        match self.swap(name, MemoryDisk::new(alloc)) {
             Ok(disk) => Ok(disk),
             Err(disk) if make => {
                 self.put_disk(alloc, name, MemoryDisk::new(alloc))?;
@@ -212,6 +232,6 @@ impl Places for Shelf {
     }
 
     fn give_back(&mut self, name: &str, disk: MemoryDisk) {
-        let _ = exchange(&mut self.files, name, disk);
+        let _ = self.swap(name, disk);
     }
 }

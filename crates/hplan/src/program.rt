@@ -9,9 +9,11 @@ use crate::fault::{Fault, device_fault};
 use crate::grounding::ground;
 use crate::inspecting::inspect;
 use crate::kept::Start;
+use crate::migrating::migrate;
 use crate::output::write_out;
 use crate::places::{Places, SystemFiles};
 use crate::reasons::explain;
+use crate::surveying::survey;
 use crate::told::Ending;
 use crate::validating::validate;
 use hd_plan::{Watched, put};
@@ -160,6 +162,22 @@ fn status_of_certificate<E: Write>(err: &mut E, certified: Result<bool, Fault>) 
     }
 }
 
+/// Reads two files, and writes the entries of their journal in a third to a fourth.
+fn migrate_files<P: Places, O: Write>(
+    alloc: Global,
+    places: &mut P,
+    texts: (&str, &str),
+    from: &str,
+    to: &str,
+    out: &mut O,
+) -> Result<(), Fault> {
+    let domain = read(alloc, places, texts.0)?;
+    let problem = read(alloc, places, texts.1)?;
+    let watched = &mut Watched::of(&mut *out);
+    migrate(alloc, places, from, to, &domain, &problem, watched)?;
+    flush(out)
+}
+
 /// Tells of the journal in a file.
 fn inspect_file<P: Places, O: Write>(
     alloc: Global,
@@ -168,6 +186,22 @@ fn inspect_file<P: Places, O: Write>(
     out: &mut O,
 ) -> Result<(), Fault> {
     inspect(alloc, places, journal, &mut Watched::of(&mut *out))?;
+    flush(out)
+}
+
+/// Reads two files, and tells of the journal in a third, and of the search in it.
+fn survey_files<P: Places, O: Write>(
+    alloc: Global,
+    places: &mut P,
+    domain: &str,
+    problem: &str,
+    journal: &str,
+    out: &mut O,
+) -> Result<(), Fault> {
+    let domain = read(alloc, places, domain)?;
+    let problem = read(alloc, places, problem)?;
+    let watched = &mut Watched::of(&mut *out);
+    survey(alloc, places, journal, &domain, &problem, watched)?;
     flush(out)
 }
 
@@ -279,8 +313,27 @@ fn answer<P: Places, O: Write, E: Write>(
             let certified = certify_files(alloc, places, names.0, names.1, names.2, out);
             status_of_certificate(err, certified)
         }
+        Request::Migrate {
+            domain,
+            problem,
+            journal,
+            to,
+        } => {
+            let texts = (domain.as_str(), problem.as_str());
+            let done = migrate_files(alloc, places, texts, journal.as_str(), to.as_str(), out);
+            status_of(err, done)
+        }
         Request::Inspect { journal } => {
             let done = inspect_file(alloc, places, journal.as_str(), out);
+            status_of(err, done)
+        }
+        Request::Survey {
+            domain,
+            problem,
+            journal,
+        } => {
+            let names = (domain.as_str(), problem.as_str(), journal.as_str());
+            let done = survey_files(alloc, places, names.0, names.1, names.2, out);
             status_of(err, done)
         }
         Request::Ground { domain, problem } => {
@@ -304,7 +357,7 @@ fn answer<P: Places, O: Write, E: Write>(
 
 /// Runs the words of a command line, of which the first is the program's name, and answers the exit status.
 ///
-/// The status is 0 for a plan, the actions of a task, a valid plan, a journal that shows a verdict, the help and the version, 1 for a fault and
+/// The status is 0 for a plan, the actions of a task, a valid plan, a journal that shows a verdict or was migrated, the help and the version, 1 for a fault and
 /// a journal that shows no verdict, 2 for a faulty command line, 10 where there is no plan and 11 where a number left the range.
 ///
 /// What was asked for goes to `out`, and everything else to `err`. Faults are looked for in this order: the command line;

@@ -4,7 +4,8 @@ ghost use Rattle.hd_plan.specs.PlanText.{line_end};
 ghost use Rattle.hd_task.specs.Plans.{Node};
 ghost use Rattle.hplan.specs.Inspection.{digest_line, inspected_text, summary_text, version_number};
 ghost use Rattle.hplan.specs.Certifying.{certified_text, verdict_text, optimal_text, CanBeTold};
-ghost use Rattle.hplan.specs.TaskText.{action_text, departure_text, count_line, numbered_line, numbered_lines, task_text};
+ghost use Rattle.hplan.specs.Migrating.{migrated_text};
+ghost use Rattle.hplan.specs.TaskText.{action_text, departing_text, departure_text, count_line, numbered_line, numbered_lines, task_text};
 ghost use Rattle.hplan.specs.Verdict.{valid_text};
 
 use crate::cost::cost_of;
@@ -15,7 +16,7 @@ use hd_task::{DepartsBy, Departure, Task, push_form};
 use std::alloc::Global;
 
 /// The ground form of an action behind a text.
-fn push_action(text: &mut String, task: &Task, action: usize) -> Result<(), NoMemory>
+pub fn push_action(text: &mut String, task: &Task, action: usize) -> Result<(), NoMemory>
     ensures { OnOk result (string_bytes text.new
         ≡ string_bytes text.old ++ action_text task.now action) }
 {
@@ -31,21 +32,45 @@ fn push_action(text: &mut String, task: &Task, action: usize) -> Result<(), NoMe
     }
 }
 
+/// What leaves the range, behind a text.
+fn push_departing(text: &mut String, task: &Task, by: DepartsBy) -> Result<(), NoMemory>
+    ensures { OnOk result (string_bytes text.new
+        ≡ string_bytes text.old ++ departing_text task.now by) }
+{
+    match by {
+        DepartsBy::Goal => text.push_str("goal"),
+        DepartsBy::Action(action) => push_action(text, task, action as usize),
+    }
+}
+
+/// A departure, as it is told, behind a text.
+pub fn push_departed(
+    alloc: Global,
+    text: &mut String,
+    task: &Task,
+    departure: Departure,
+) -> Result<(), NoMemory>
+    ensures { OnOk result (string_bytes text.new
+        ≡ string_bytes text.old ++ departure_text task.now departure) }
+{
+    let entry = departure.entry;
+    let lead = format!(in alloc; "range left: entry {entry}, ")?;
+    text.push_str(lead.as_str())?;
+    push_departing(text, task, departure.by)?;
+    Ok(())
+}
+
 /// A departure, as it is told.
 pub fn departure_text(alloc: Global, task: &Task, departure: Departure) -> Result<Vec<u8>, NoMemory>
     ensures { IfOk result (λ v. v.items ≡ departure_text task.now departure) }
 {
-    let entry = departure.entry;
-    let mut text = format!(in alloc; "range left: entry {entry}, ")?;
-    match departure.by {
-        DepartsBy::Goal => text.push_str("goal")?,
-        DepartsBy::Action(action) => push_action(&mut text, task, action as usize)?,
-    }
+    let mut text = String::new(alloc);
+    push_departed(alloc, &mut text, task, departure)?;
     Ok(text.into_bytes())
 }
 
 /// The line that counts something, behind a text.
-fn push_count(alloc: Global, text: &mut String, what: &str, count: u64) -> Result<(), NoMemory>
+pub fn push_count(alloc: Global, text: &mut String, what: &str, count: u64) -> Result<(), NoMemory>
     ensures { OnOk result (string_bytes text.new
         ≡ string_bytes text.old ++ count_line what.now count) }
 {
@@ -90,6 +115,15 @@ pub fn task_text(alloc: Global, task: &Task) -> Result<Vec<u8>, NoMemory>
     push_count(alloc, &mut text, "atoms", task.atoms.len() as u64)?;
     push_count(alloc, &mut text, "fluents", task.fluents.len() as u64)?;
     push_actions(alloc, &mut text, task)?;
+    Ok(text.into_bytes())
+}
+
+/// How it is told how many entries were written to another file.
+pub fn migrated_text(alloc: Global, entries: u64) -> Result<Vec<u8>, NoMemory>
+    ensures { IfOk result (λ v. v.items ≡ migrated_text entries) }
+{
+    let mut text = String::new(alloc);
+    push_count(alloc, &mut text, "migrated", entries)?;
     Ok(text.into_bytes())
 }
 

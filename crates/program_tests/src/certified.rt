@@ -9,7 +9,7 @@ use text_tests::samples::{L, L_PROBLEM, N, N_PROBLEM, U};
 const NOTHING: &[u8] = b"1|not certified\n|";
 
 /// The groups of the search of two actions in the first version, each behind its gate, and the gate behind them.
-const GROUPS_OF_ONE: [u8; 40] = [
+pub const GROUPS_OF_ONE: [u8; 40] = [
     0x01, 0x01, 0x00, 0x00, 0x00, 0xff, 0xff, 0xff, 0xff, 0xff, 0xff, 0xff, 0xff, 0x01, 0x01, 0x00,
     0x00, 0x00, 0x00, 0x00, 0x00, 0x00, 0x00, 0x00, 0x00, 0x00, 0x01, 0x01, 0x00, 0x00, 0x00, 0x01,
     0x00, 0x00, 0x00, 0x01, 0x00, 0x00, 0x00, 0x00,
@@ -21,7 +21,7 @@ fn certified(alloc: Global, journal: &[u8]) -> Result<Kept, AllocError> {
 }
 
 /// The journal of two actions in the first version, up to so many bytes of its groups, and a closed gate.
-fn in_version_one(alloc: Global, bytes: &[u8]) -> Result<Vec<u8>, AllocError> {
+pub fn in_version_one(alloc: Global, bytes: &[u8]) -> Result<Vec<u8>, AllocError> {
     joined(alloc, &[&WHOLE[..5], &[1], &WHOLE[6..38], bytes, &[0]])
 }
 

@@ -19,8 +19,12 @@ mod grounded;
 mod kept;
 mod line;
 #[cfg(test)]
+mod migrated;
+#[cfg(test)]
 mod numeric;
 pub mod running;
+#[cfg(test)]
+mod surveyed;
 #[cfg(test)]
 mod validated;
 #[cfg(test)]

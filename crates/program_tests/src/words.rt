@@ -33,7 +33,22 @@ fn read_line(alloc: Global, line: &[String]) -> Result<String, AllocError> {
                 journal,
             },
         ) => format!(in alloc; "certify {domain} {problem} in {journal}"),
+        Ok(
+            Request::Migrate {
+                domain,
+                problem,
+                journal,
+                to,
+            },
+        ) => format!(in alloc; "migrate {domain} {problem} from {journal} to {to}"),
         Ok(Request::Inspect { journal }) => format!(in alloc; "inspect {journal}"),
+        Ok(
+            Request::Survey {
+                domain,
+                problem,
+                journal,
+            },
+        ) => format!(in alloc; "inspect {domain} {problem} in {journal}"),
         Ok(Request::Ground { domain, problem }) => {
             format!(in alloc; "ground {domain} {problem}")
         }
@@ -85,7 +100,15 @@ fn commands_take_files_and_a_number_of_workers(rt: HostRuntime) -> Result<(), Fa
             ["certify", "d", "p", "--journal", "j"].as_slice(),
             "certify d p in j",
         ),
+        (
+            ["migrate", "d", "p", "--journal", "j", "--to", "n"].as_slice(),
+            "migrate d p from j to n",
+        ),
         (["inspect", "--journal", "j"].as_slice(), "inspect j"),
+        (
+            ["inspect", "d", "p", "--journal", "j"].as_slice(),
+            "inspect d p in j",
+        ),
         (["ground", "d", "p"].as_slice(), "ground d p"),
         (["validate", "d", "p", "s"].as_slice(), "validate d p s"),
         (
@@ -121,6 +144,14 @@ fn other_words_are_faults(rt: HostRuntime) -> Result<(), Fail> {
         (
             ["resume", "d", "p", "--journal", "j", "--workers", "65"].as_slice(),
             "fault: error: invalid value '65' for '--workers <N>': 65 is not in 1..=64",
+        ),
+        (
+            ["migrate", "d", "p", "--journal", "j"].as_slice(),
+            "fault: error: the following required arguments were not provided:\n  --to <NEW>",
+        ),
+        (
+            ["inspect", "d", "--journal", "j"].as_slice(),
+            "fault: error: the files of the command",
         ),
         (
             ["certify", "d", "p"].as_slice(),
@@ -199,6 +230,15 @@ fn help_and_version_are_shown(rt: HostRuntime) -> Result<(), Fail> {
                 "--journal <FILE>",
                 "`certified no plan`",
                 "Exit status: 0 the verdict is certified",
+            ],
+        ),
+        (
+            ["migrate", "--help"].as_slice(),
+            "shown: Writes the entries of a journal to a new one",
+            [
+                "--journal <FILE>",
+                "--to <NEW>",
+                "Exit status: 0 all N entries are there",
             ],
         ),
         (

@@ -1,6 +1,6 @@
 use Rattle.std.proofs.Common.{sym}
 use Rattle.hplan.specs.Places.{shown}
-use Rattle.hplan.proofs.Shelves.{none_there, disk_was, disk_now}
+use Rattle.hplan.proofs.Shelves.{none_there, disk_was, disk_now, others_now}
 use Rattle.hplan.proofs.places.exchange.Goals as goal
 
 pub returns-in-Some-clause-before : goal.returns-in-Some-clause-before
@@ -13,3 +13,7 @@ returns-in-Some-clause-after c =
 
 pub returns-in-None-clause-before : goal.returns-in-None-clause-before
 returns-in-None-clause-before c = none_there c.args.name.now (shown c.args.files.now) (sym c.in-None.ensures.place)
+
+pub returns-in-Some-clause-others : goal.returns-in-Some-clause-others
+returns-in-Some-clause-others c =
+    others_now c.args.name.now c.args.files.now c.in-Some.place c.in-Some.ensures.place _ c.args.disk c.in-Some.ensures.within c.put_at.ensures.now

@@ -1,0 +1,85 @@
+-- What entries tell of a search that goes on, or has ended. (Our own; when a plan need not be expanded is said by HDA*, Kishimoto, Fukunaga and
+-- Botea 2013.)
+use Rattle.std.specs.Prelude.{◌≡◌, ◌≢◌, ◌⊎◌, ℕ, ◌+◌, ◌<◌, ◌≤◌, List, [], ◌∷◌, ◌++◌, map, length, replicate, flat_map, slice_get, Option, Some, None}
+use Rattle.std.specs.List.{AllByRecursion}
+use Rattle.std.specs.List.Sorted.{IsPermutation}
+use Rattle.hd_task.specs.declared.task.Task.{Task}
+use Rattle.hd_task.specs.Entries.{plans_of}
+use Rattle.hd_task.specs.Plans.{Node, exec}
+use Rattle.hd_task.specs.Expansions.{IsLegal, generated, bound_of, departures_of}
+use Rattle.hd_image.specs.declared.entry.Entry.{Entry}
+use Rattle.hd_journal.specs.Journal.{kid_of}
+use Rattle.hd_node.specs.Parcel.{ParcelView}
+use Rattle.hd_entries.specs.Answers.{IsBoundPlanOf}
+use Rattle.hd_entries.specs.Resuming.{open_kids, resumed_state, LeadsThere}
+use Rattle.hd_entries.specs.Settling.{BookState}
+use Rattle.hd_certify.specs.declared.surveyed.Row.{Row}
+use Rattle.hd_certify.specs.declared.surveyed.Survey.{Survey}
+use Rattle.hd_certify.specs.Covering.{IsSpared}
+
+-- ---- how many are so
+
+-- counting on from a number, those of the elements that are so bring it to another one
+abbrev pub Tallies : {X : Type 0} → (X → Type 0) → List X → ℕ → ℕ → Type 0
+Tallies P [] from to = to ≡ from
+Tallies P (x ∷ xs) from to = (P x × Tallies P xs (from + 1) to) ⊎ ((P x → ⊥) × Tallies P xs from to)
+
+-- so many of the posted kids need not be expanded any more: they are entries, or the entries spare them
+pub record IsSettledBy (b : BookState) (n : ℕ) : Type 0 where
+  pub parcels : List ParcelView
+  pub kids : map (λ (p : ParcelView). p.kid) parcels ≡ open_kids b.task b.entries
+  pub lead : AllByRecursion (LeadsThere b) parcels
+  pub tally : Tallies (IsSpared b) parcels (length b.entries) n
+
+-- ---- tables
+
+-- the values of rows, each as often as it is counted
+abbrev pub spread : List Row → List ℕ
+spread rows = flat_map (λ (r : Row). replicate r.count r.value) rows
+
+-- each row's value is less than those of all that follow
+abbrev pub AreAscending : List Row → Type 0
+AreAscending [] = Unit {0}
+AreAscending (r ∷ rows) = AllByRecursion (λ (q : Row). r.value < q.value) rows × AreAscending rows
+
+-- rows count values: each that there is, as often as it is there, and no other; the least comes first
+pub record IsTableOf (values : List ℕ) (rows : List Row) : Type 0 where
+  pub counted : IsPermutation values (spread rows)
+  pub ascending : AreAscending rows
+  pub some : AllByRecursion (λ (r : Row). 1 ≤ r.count) rows
+
+-- a row
+abbrev pub row : ℕ → ℕ → Row
+row value count = record { value = value; count = count }
+
+-- one value more is counted behind rows, of which the last is still being counted: it has this value, and counts one more; or it has another
+-- one, and stands with the rows, and this value's row is being counted
+abbrev pub CountsOn : List Row → Row → ℕ → List Row → Row → Type 0
+CountsOn rows last value after next =
+    ((value ≡ last.value) × (after ≡ rows) × (next ≡ row last.value (last.count + 1)))
+    ⊎ ((value ≢ last.value) × (after ≡ rows ++ last ∷ []) × (next ≡ row value 1))
+
+-- the cost of a node that may be there
+abbrev pub cost_in : Option Node → ℕ
+cost_in None = 0
+cost_in (Some r) = r.cost
+
+-- what plans cost
+abbrev pub costs_of : Task → List (List ℕ) → List ℕ
+costs_of t expanded = map (λ (p : List ℕ). cost_in (exec t p)) expanded
+
+-- ---- all of it
+
+-- this is told of entries, which name a legal list of their task: the bound, its plan, how many plans are generated, and how many of them need
+-- not be expanded any more, the first departure, and how many of the expanded plans have each length, and each cost
+pub record IsSurveyOf (t : Task) (entries : List Entry) (s : Survey) : Type 0 where
+  pub expanded : List (List ℕ)
+  pub named : plans_of (map kid_of entries) ≡ Some expanded
+  pub legal : IsLegal t expanded
+  pub bound : s.bound ≡ bound_of t expanded
+  pub plan : IsBoundPlanOf t expanded s.plan
+  pub posted : s.posted ≡ length (generated t expanded)
+  pub settled : IsSettledBy (resumed_state t (map kid_of entries)) s.settled
+  pub departure : s.departure ≡ slice_get (departures_of t expanded) 0
+  pub depths : IsTableOf (map length expanded) s.depths
+  pub costs : IsTableOf (costs_of t expanded) s.costs

@@ -1,0 +1,159 @@
+-- From entries that are read and written to what is told of the two files.
+use Rattle.std.proofs.Common.{◌≡◌, ◌≢◌, inl, inr, ℕ, ◌≤◌, ◌==◌, ◌||◌, nat_lt, true, List, [], map, length, arith, Option, IfSome, Ok, Err, refl, sym, ap, ◌∙◌, subst}
+use Rattle.std.specs.Prelude.{Result, IfOk, IfErr, OnOk}
+use Rattle.std.specs.List.{list_all}
+use Rattle.std.specs.declared.io.ErrorKind.{ErrorKind}
+use Rattle.hd_plan.specs.Output.{AppendsShort}
+use Rattle.hd_task.specs.declared.task.Task.{Task}
+use Rattle.hd_task.specs.declared.plan.Kid.{Kid}
+use Rattle.hd_store.specs.Device.{Device, content_of}
+use Rattle.hd_image.specs.declared.entry.Entry.{Entry}
+use Rattle.hd_image.specs.declared.contents.Found.{Found}
+use Rattle.hd_image.specs.declared.version.Version.{Version}
+use Rattle.hd_image.specs.declared.version.Version.TheVariants.{One, Two}
+use Rattle.hd_image.specs.Image.{fits_parent, most_of}
+use Rattle.hd_image.specs.Reading.{IsFound}
+use Rattle.hd_journal.specs.declared.error.JournalError.{JournalError}
+use Rattle.hd_journal.specs.declared.error.JournalError.TheVariants as journal
+use Rattle.hd_journal.specs.Journal.{found_in, kid_of}
+use Rattle.hd_entries.specs.Resuming.{AreLegal}
+use Rattle.hd_migrate.specs.Copy.{IsCopyOf, IsNotCopied as NotCopied, IsUnderWay}
+use Rattle.hd_texts.specs.Digest.{digest_of}
+use Rattle.hd_texts.specs.declared.fault.TaskFault.{TaskFault}
+use Rattle.hd_texts.specs.Tasks.{IsTaskOf, Explains}
+use Rattle.hplan.specs.declared.fault.Fault.{Fault}
+use Rattle.hplan.specs.declared.fault.Fault.TheVariants.{Journal}
+use Rattle.hplan.specs.Fault.{task_in, journal_in, AnswersFault}
+use Rattle.hplan.specs.Certifying.{OnContent, FailsOnFile}
+use Rattle.hplan.specs.Kept.{OnFile}
+use Rattle.hplan.specs.Migrating.{IsNamedIn, AreRead, HasNoKids, OfTexts, OfFile, IsCopied, IsLeft, TellsOfCopy, IsNotCopied, FailsToCopy, Moving, moving, AreMoved, IsMigration, AreNotMoved, Unread, Unwritten, HasNoMigration, HasNoMigrationYet, NotMoved, OfOutput, migrated_text}
+use Rattle.hplan.proofs.Writing.{untouched, failed}
+
+-- ---- what is read
+
+pub most_fits : (v : Version) → most_of v ≤ most_of Two
+most_fits One = omega arith
+most_fits Two = omega arith
+
+-- the pairs of what was found
+pub named_by : (t : Task) (digest content : List ℕ) (found : Found) (entries lent : List Entry) (kids : List Kid)
+    → IsFound digest content found → lent ≡ entries → entries ≡ found_in found → kids ≡ map kid_of lent → AreLegal t (map kid_of lent)
+    → IsNamedIn t digest content kids
+named_by t digest content found entries lent kids is same those are legal = record {
+  found = found;
+  is_found = is;
+  are = are ∙ ap (map kid_of) (same ∙ those);
+  legal = subst (AreLegal t) (sym are) legal;
+}
+
+on_digest : (t : Task) (file : Option (List ℕ)) (kids : List Kid) (digest other : List ℕ) → digest ≡ other
+    → OnContent file (λ content. IsNamedIn t digest content kids) → OnContent file (λ content. IsNamedIn t other content kids)
+on_digest t file kids digest other is read = record {
+  content = read.content;
+  known = read.known;
+  holds = subst (λ (d : List ℕ). IsNamedIn t d read.content kids) is read.holds;
+}
+
+pub read_by : {A : Type 0} (items : A → List Kid) (domain problem : List ℕ) (t : Task) → IsTaskOf domain problem t → (digest : List ℕ)
+    (file : Option (List ℕ)) (r : Result A Fault) → digest ≡ digest_of domain problem
+    → IfOk r (λ v. OnContent file (λ content. IsNamedIn t digest content (items v)))
+    → IfOk r (λ v. AreRead domain problem file (items v))
+read_by items domain problem t task digest file (Ok v) is read =
+    record { task = t; is_task = task; named = on_digest t file (items v) digest (digest_of domain problem) is read }
+read_by items domain problem t task digest file (Err f) is read = tt
+
+pub unread_by : {A : Type 0} (domain problem : List ℕ) (t : Task) → IsTaskOf domain problem t → (digest : List ℕ) (file : Option (List ℕ))
+    (r : Result A Fault) → digest ≡ digest_of domain problem → IfErr r (FailsOnFile t digest file) → IfErr r (HasNoKids domain problem file)
+unread_by domain problem t task digest file (Ok v) is fails = tt
+unread_by domain problem t task digest file (Err f) is fails =
+    OfFile t f task (subst (λ (d : List ℕ). FailsOnFile t d file f) is fails)
+
+pub no_texts : (domain problem : List ℕ) (file : Option (List ℕ)) (f : TaskFault) (fault : Fault) → fault ≡ task_in f
+    → Explains domain problem f → HasNoKids domain problem file fault
+no_texts domain problem file f fault is told = subst (HasNoKids domain problem file) (sym is) (OfTexts f told)
+
+-- ---- what is written
+
+left_by : (digest : List ℕ) (kids : List Kid) (before after : List ℕ) → (before ≢ [] → after ≡ before)
+    → (before ≡ [] → IsUnderWay digest kids after) → IsLeft digest kids before after
+left_by digest kids before after kept under_way = record { kept = kept; under_way = under_way }
+
+tells_by : (digest : List ℕ) (kids : List Kid) (old new : Device) (error : JournalError) → NotCopied old error new
+    → IsLeft digest kids (content_of old) (content_of new) → TellsOfCopy digest kids (content_of old) (content_of new) error
+tells_by digest kids old new journal.NotAJournal not left = not
+tells_by digest kids old new journal.OtherTask not left = not
+tells_by digest kids old new (journal.Damaged at) not left = not
+tells_by digest kids old new journal.Device not left = left
+tells_by digest kids old new journal.Failed not left = not
+tells_by digest kids old new journal.JournalExists not left = (not.0, ap content_of not.1)
+tells_by digest kids old new journal.NotOut not left = not
+tells_by digest kids old new journal.NoMemory not left = left
+
+pub copied_in : (digest : List ℕ) (kids : List Kid) (old new : Option (List ℕ)) (before after : Device)
+    → IfSome old (λ bytes. content_of before ≡ bytes) → IfSome new (λ bytes. content_of after ≡ bytes)
+    → content_of before ≡ [] → IsCopyOf digest kids (content_of after) → OnFile old new (IsCopied digest kids)
+copied_in digest kids old new before after was is empty copy = record {
+  before = content_of before;
+  after = content_of after;
+  known_before = was;
+  known_after = is;
+  holds = record { empty = empty; copy = copy };
+}
+
+pub not_copied_in : (digest : List ℕ) (kids : List Kid) (old new : Option (List ℕ)) (before after : Device) (error : JournalError) (fault : Fault)
+    → IfSome old (λ bytes. content_of before ≡ bytes) → IfSome new (λ bytes. content_of after ≡ bytes) → fault ≡ journal_in error
+    → NotCopied before error after → (content_of before ≢ [] → content_of after ≡ content_of before)
+    → (content_of before ≡ [] → IsUnderWay digest kids (content_of after)) → FailsToCopy digest kids old new fault
+not_copied_in digest kids old new before after error fault was is told not kept under_way = inr (record {
+  before = content_of before;
+  after = content_of after;
+  known_before = was;
+  known_after = is;
+  holds = record {
+    error = error;
+    is = told;
+    tells = tells_by digest kids before after error not (left_by digest kids (content_of before) (content_of after) kept under_way);
+  };
+})
+
+-- ---- both
+
+pub migration_by : (domain problem from to : List ℕ) (held before after : Option (List ℕ)) (kids : List Kid) (count : ℕ) (text digest : List ℕ)
+    → AreRead domain problem held kids → digest ≡ digest_of domain problem → OnFile before after (IsCopied digest kids)
+    → count ≡ length kids → text ≡ migrated_text count → IsMigration domain problem (moving from to held before after) text
+migration_by domain problem from to held before after kids count text digest read is copied counted told = record {
+  count = count;
+  moved = record {
+    kids = kids;
+    read = read;
+    copied = subst (λ (d : List ℕ). OnFile before after (IsCopied d kids)) is copied;
+    counted = counted;
+  };
+  told = told;
+}
+
+pub unwritten_by : (domain problem from to : List ℕ) (held before after : Option (List ℕ)) (kids : List Kid) (digest : List ℕ) (f : Fault)
+    → AreRead domain problem held kids → digest ≡ digest_of domain problem → FailsToCopy digest kids before after f
+    → AreNotMoved domain problem (moving from to held before after) f
+unwritten_by domain problem from to held before after kids digest f read is fails =
+    Unwritten kids f read (subst (λ (d : List ℕ). FailsToCopy d kids before after f) is fails)
+
+not_yet : (domain problem : List ℕ) (m : Moving) (f : Fault) → AreNotMoved domain problem m f → HasNoMigrationYet domain problem m f
+not_yet domain problem m f not = λ bytes noted. NotMoved (untouched bytes noted) f not
+
+pub not_moved : {A : Type 0} (domain problem : List ℕ) (m : Moving) (r : Result A Fault) → IfErr r (AreNotMoved domain problem m)
+    → IfErr r (HasNoMigrationYet domain problem m)
+not_moved domain problem m (Ok text) not = tt
+not_moved domain problem m (Err f) not = not_yet domain problem m f not
+
+pub not_read : (domain problem from to : List ℕ) (held before after : Option (List ℕ)) (f : Fault) → HasNoKids domain problem held f
+    → after ≡ before → HasNoMigrationYet domain problem (moving from to held before after) f
+not_read domain problem from to held before after f not same =
+    not_yet domain problem (moving from to held before after) f (Unread f not same)
+
+-- a fault of the output
+pub migration_fails : (domain problem : List ℕ) (m : Moving) (text : List ℕ) (old new : Option (List ℕ)) (before noted : Option ErrorKind)
+    (f : Fault) → IsMigration domain problem m text → AppendsShort old new text → AnswersFault noted f
+    → HasNoMigration domain problem m old new before noted f
+migration_fails domain problem m text old new before noted f s short told =
+    OfOutput f (failed (IsMigration domain problem m) text old new noted f s short told)

@@ -1,0 +1,127 @@
+-- What is told of the entries of one file that were written anew to another, and why they were not, or not all. (Our own.)
+use Rattle.std.specs.Prelude.{◌≡◌, ◌≢◌, ◌⊎◌, ℕ, List, [], map, length, Option, codes}
+use Rattle.std.specs.declared.io.ErrorKind.{ErrorKind}
+use Rattle.hd_task.specs.declared.task.Task.{Task}
+use Rattle.hd_task.specs.declared.plan.Kid.{Kid}
+use Rattle.hd_image.specs.declared.contents.Found.{Found}
+use Rattle.hd_image.specs.Reading.{IsFound}
+use Rattle.hd_journal.specs.declared.error.JournalError.{JournalError}
+use Rattle.hd_journal.specs.declared.error.JournalError.TheVariants as journal
+use Rattle.hd_journal.specs.Journal.{found_in, kid_of}
+use Rattle.hd_entries.specs.Resuming.{AreLegal}
+use Rattle.hd_migrate.specs.Copy.{IsCopyOf, IsUnderWay}
+use Rattle.hd_texts.specs.Digest.{digest_of}
+use Rattle.hd_texts.specs.declared.fault.TaskFault.{TaskFault}
+use Rattle.hd_texts.specs.Tasks.{IsTaskOf, Explains}
+use Rattle.hplan.specs.declared.fault.Fault.{Fault}
+use Rattle.hplan.specs.declared.fault.Fault.TheVariants.{Journal, NoMemory}
+use Rattle.hplan.specs.Certifying.{OnContent, FailsOnFile}
+use Rattle.hplan.specs.Fault.{task_in, journal_in}
+use Rattle.hplan.specs.Kept.{OnFile, IsNotLent}
+use Rattle.hplan.specs.TaskText.{count_line}
+use Rattle.hplan.specs.Written.{IsUntouched, FailsToWrite}
+
+-- ---- what is read
+
+-- a content is a journal of the task of this digest, or one that is being made, and its entries are these pairs, which name a legal list
+pub record IsNamedIn (t : Task) (digest content : List ℕ) (kids : List Kid) : Type 0 where
+  pub found : Found
+  pub is_found : IsFound digest content found
+  pub are : kids ≡ map kid_of (found_in found)
+  pub legal : AreLegal t kids
+
+-- two texts say a task, and these are the pairs of its journal in a file
+pub record AreRead (domain problem : List ℕ) (file : Option (List ℕ)) (kids : List Kid) : Type 0 where
+  pub task : Task
+  pub is_task : IsTaskOf domain problem task
+  pub named : OnContent file (λ content. IsNamedIn task (digest_of domain problem) content kids)
+
+-- why no pairs are read: what is told of the texts; or they say a task, and its journal in a file can't be had
+pub data HasNoKids (domain problem : List ℕ) (file : Option (List ℕ)) : Fault → Type 0 where
+  OfTexts : (f : TaskFault) → Explains domain problem f → HasNoKids domain problem file (task_in f)
+  OfFile : (t : Task) (f : Fault) → IsTaskOf domain problem t → FailsOnFile t (digest_of domain problem) file f → HasNoKids domain problem file f
+
+-- ---- what is written
+
+-- a file that was empty has these entries, whole, as a journal of version two, in groups as large as may be
+pub record IsCopied (digest : List ℕ) (kids : List Kid) (before after : List ℕ) : Type 0 where
+  pub empty : before ≡ []
+  pub copy : IsCopyOf digest kids after
+
+-- how it is told how many entries were written
+abbrev pub migrated_text : ℕ → List ℕ
+migrated_text count = count_line (codes "migrated") count
+
+-- what a file holds to which not all entries were written: it is as it was, where it was not empty; else it holds a header that is still to be
+-- made, or a journal of the first of them
+pub record IsLeft (digest : List ℕ) (kids : List Kid) (before after : List ℕ) : Type 0 where
+  pub kept : before ≢ [] → after ≡ before
+  pub under_way : before ≡ [] → IsUnderWay digest kids after
+
+-- what is told of a file to which not all entries were written: it is not empty, and is as it was; or it failed; or memory ran out
+abbrev pub TellsOfCopy : List ℕ → List Kid → List ℕ → List ℕ → JournalError → Type 0
+TellsOfCopy digest kids before after journal.NotAJournal = ⊥
+TellsOfCopy digest kids before after journal.OtherTask = ⊥
+TellsOfCopy digest kids before after (journal.Damaged at) = ⊥
+TellsOfCopy digest kids before after journal.Device = IsLeft digest kids before after
+TellsOfCopy digest kids before after journal.Failed = ⊥
+TellsOfCopy digest kids before after journal.JournalExists = (before ≢ []) × (after ≡ before)
+TellsOfCopy digest kids before after journal.NotOut = ⊥
+TellsOfCopy digest kids before after journal.NoMemory = IsLeft digest kids before after
+
+-- why entries are not written to a file, or not all
+pub record IsNotCopied (digest : List ℕ) (kids : List Kid) (fault : Fault) (before after : List ℕ) : Type 0 where
+  pub error : JournalError
+  pub is : fault ≡ journal_in error
+  pub tells : TellsOfCopy digest kids before after error
+
+-- the same of a file that had to be lent first
+abbrev pub FailsToCopy : List ℕ → List Kid → Option (List ℕ) → Option (List ℕ) → Fault → Type 0
+FailsToCopy digest kids old new fault = IsNotLent fault ⊎ OnFile old new (IsNotCopied digest kids fault)
+
+-- ---- both
+
+-- the two files: their names, what the first holds, and what the other holds before and afterwards, where that is known
+pub record Moving : Type 0 where
+  pub from : List ℕ
+  pub to : List ℕ
+  pub held : Option (List ℕ)
+  pub before : Option (List ℕ)
+  pub after : Option (List ℕ)
+
+abbrev pub moving : List ℕ → List ℕ → Option (List ℕ) → Option (List ℕ) → Option (List ℕ) → Moving
+moving from to held before after = record { from = from; to = to; held = held; before = before; after = after }
+
+-- the entries of the first file, so many of them, are in the other
+pub record AreMoved (domain problem : List ℕ) (m : Moving) (count : ℕ) : Type 0 where
+  pub kids : List Kid
+  pub read : AreRead domain problem m.held kids
+  pub copied : OnFile m.before m.after (IsCopied (digest_of domain problem) kids)
+  pub counted : count ≡ length kids
+
+-- a text tells how many
+pub record IsMigration (domain problem : List ℕ) (m : Moving) (text : List ℕ) : Type 0 where
+  pub count : ℕ
+  pub moved : AreMoved domain problem m count
+  pub told : text ≡ migrated_text count
+
+-- why entries are not written to the other file, or not all: nothing is read, and the other file is as it was; or the files have one name; or
+-- there is no memory to tell how many they are; or they are read, and not written
+pub data AreNotMoved (domain problem : List ℕ) (m : Moving) : Fault → Type 0 where
+  Unread : (f : Fault) → HasNoKids domain problem m.held f → m.after ≡ m.before → AreNotMoved domain problem m f
+  OneName : m.from ≡ m.to → m.after ≡ m.before → AreNotMoved domain problem m (Journal journal.JournalExists)
+  OfMemory : m.after ≡ m.before → AreNotMoved domain problem m NoMemory
+  Unwritten : (kids : List Kid) (f : Fault) → AreRead domain problem m.held kids → FailsToCopy (digest_of domain problem) kids m.before m.after f
+      → AreNotMoved domain problem m f
+
+-- why nothing is told, or not all: the entries are not all written; or they are, a beginning of what is to be told is written, and what is told
+-- of the error that the writer has answered. The writer is untouched where it is not to blame
+pub data HasNoMigration (domain problem : List ℕ) (m : Moving) (old new : Option (List ℕ)) (before noted : Option ErrorKind) : Fault → Type 0 where
+  NotMoved : IsUntouched old new before noted → (f : Fault) → AreNotMoved domain problem m f
+      → HasNoMigration domain problem m old new before noted f
+  OfOutput : (f : Fault) → FailsToWrite (IsMigration domain problem m) old new noted f → HasNoMigration domain problem m old new before noted f
+
+-- the same, where nothing was to be written yet: whatever a writer holds, and is noted of it
+abbrev pub HasNoMigrationYet : List ℕ → List ℕ → Moving → Fault → Type 0
+HasNoMigrationYet domain problem m f =
+    (bytes : Option (List ℕ)) (noted : Option ErrorKind) → HasNoMigration domain problem m bytes bytes noted noted f

@@ -1,0 +1,243 @@
+//! From the entries of a journal in one file to a journal of them in another.
+ghost use Rattle.std.specs.Prelude.{◌≡◌, ◌≢◌, ◌⊎◌, ℕ, List, true, IfOk, IfErr, OnOk, OnErr};
+ghost use Rattle.std.specs.List.{list_all};
+ghost use Rattle.hd_image.specs.declared.version.Version.TheVariants.{Two};
+ghost use Rattle.hd_image.specs.Image.{fits_parent};
+ghost use Rattle.hplan.specs.Certifying.{FailsOnFile, OnContent, ShowsNothing};
+ghost use Rattle.hplan.specs.Kept.{OnFile};
+ghost use Rattle.hplan.specs.Migrating.{AreNotMoved, AreRead, FailsToCopy, HasNoKids, HasNoMigration, HasNoMigrationYet, IsCopied, IsMigration, IsNamedIn, migrated_text, moving};
+ghost use Rattle.hplan.specs.Written.{WritesA, WritesFrontOfA};
+
+use crate::certifying::entries_of;
+use crate::fault::{Fault, certify_in, device_fault, journal_in, store_in};
+use crate::output::write_out;
+use crate::places::Places;
+use crate::text::migrated_text;
+use hd_certify::legal_kids;
+use hd_image::read;
+use hd_journal::{DIGEST_LEN, JournalError};
+use hd_migrate::{Kid, copy};
+use hd_plan::Watched;
+use hd_task::Task;
+use hd_texts::{digest_of, task_of};
+use std::alloc::Global;
+use std::io::Write;
+
+/// The pairs of the entries of a content, which name a legal list of a task.
+fn named_in(
+    alloc: Global,
+    task: &Task,
+    digest: &[u8; DIGEST_LEN],
+    content: &[u8],
+) -> Result<Vec<Kid>, Fault>
+    ensures named { IfOk result (λ v. IsNamedIn task.now digest.now content.now v.items) }
+    ensures fit { IfOk result (λ v. list_all (λ kid. fits_parent Two kid.parent) v.items ≡ true) }
+    ensures refusal { IfErr result (ShowsNothing task.now digest.now content.now) }
+{
+    let found = match read(alloc, content, digest) {
+        Ok(found) => found,
+        Err(error) => return Err(journal_in(JournalError::from(error))),
+    };
+    let (entries, most) = entries_of(alloc, found);
+    let kids = legal_kids(alloc, task, most, entries.as_slice());
+    drop(entries);
+    match kids {
+        Ok(kids) => Ok(kids),
+        Err(error) => Err(certify_in(error)),
+    }
+}
+
+/// The same of a file. It is read, and left alone.
+fn named_in_file<P: Places>(
+    alloc: Global,
+    places: &mut P,
+    name: &str,
+    task: &Task,
+    digest: &[u8; DIGEST_LEN],
+) -> Result<Vec<Kid>, Fault>
+    ensures named { IfOk result (λ v. OnContent (P.file_of places.old name.now)
+        (λ content. IsNamedIn task.now digest.now content v.items)) }
+    ensures fit { IfOk result (λ v. list_all (λ kid. fits_parent Two kid.parent) v.items ≡ true) }
+    ensures refusal { IfErr result
+        (FailsOnFile task.now digest.now (P.file_of places.old name.now)) }
+    ensures alone { places.new ≡ places.old }
+{
+    let content = match places.read(alloc, name) {
+        Ok(content) => content,
+        Err(error) => return Err(device_fault(error)),
+    };
+    let named = named_in(alloc, task, digest, &content);
+    drop(content);
+    named
+}
+
+/// The pairs of the entries of the journal of two texts, in a file.
+fn kids_of<P: Places>(
+    alloc: Global,
+    places: &mut P,
+    name: &str,
+    domain: &[u8],
+    problem: &[u8],
+) -> Result<Vec<Kid>, Fault>
+    ensures read { IfOk result (λ v.
+        AreRead domain.now problem.now (P.file_of places.old name.now) v.items) }
+    ensures fit { IfOk result (λ v. list_all (λ kid. fits_parent Two kid.parent) v.items ≡ true) }
+    ensures refusal { IfErr result
+        (HasNoKids domain.now problem.now (P.file_of places.old name.now)) }
+    ensures alone { places.new ≡ places.old }
+{
+    match task_of(alloc, domain, problem) {
+        Ok(task) => {
+            let digest = digest_of(domain, problem);
+            let named = named_in_file(alloc, places, name, &task, &digest);
+            drop(task);
+            named
+        }
+        Err(fault) => Err(Fault::from(fault)),
+    }
+}
+
+/// Writes entries to a file that is not there or empty, as a journal of version two.
+fn copy_to<P: Places>(
+    alloc: Global,
+    places: &mut P,
+    name: &str,
+    digest: &[u8; DIGEST_LEN],
+    kids: &[Kid],
+) -> Result<(), Fault>
+    requires { list_all (λ kid. fits_parent Two kid.parent) kids.now ≡ true }
+    ensures copied { OnOk result (OnFile (P.file_of places.old name.now)
+        (P.file_of places.new name.now) (IsCopied digest.now kids.now)) }
+    ensures refusal { IfErr result (FailsToCopy digest.now kids.now
+        (P.file_of places.old name.now) (P.file_of places.new name.now)) }
+    ensures others { (other : List ℕ) → other ≢ name.now
+        → P.file_of places.new other ≡ P.file_of places.old other }
+{
+    let disk = match places.store(alloc, name, true) {
+        Ok(disk) => disk,
+        Err(error) => return Err(store_in(error)),
+    };
+    let (disk, copied) = copy(alloc, kids, digest, disk);
+    places.give_back(name, disk);
+    match copied {
+        Ok(()) => Ok(()),
+        Err(error) => Err(journal_in(error)),
+    }
+}
+
+/// Writes entries to a file of another name, which is not there or empty, and answers what is told of that.
+fn moved<P: Places>(
+    alloc: Global,
+    places: &mut P,
+    from: &str,
+    to: &str,
+    domain: &[u8],
+    problem: &[u8],
+    kids: &[Kid],
+) -> Result<Vec<u8>, Fault>
+    requires fit { list_all (λ kid. fits_parent Two kid.parent) kids.now ≡ true }
+    requires read { AreRead domain.now problem.now (P.file_of places.old from.now)
+        kids.now }
+    ensures told { IfOk result (λ text. IsMigration domain.now problem.now
+        (moving from.now to.now (P.file_of places.old from.now)
+        (P.file_of places.old to.now) (P.file_of places.new to.now))
+        text.items) }
+    ensures refusal { IfErr result (AreNotMoved domain.now problem.now
+        (moving from.now to.now (P.file_of places.old from.now)
+        (P.file_of places.old to.now) (P.file_of places.new to.now))) }
+    ensures alone { P.file_of places.new from.now ≡ P.file_of places.old from.now }
+    ensures others { (other : List ℕ) → other ≢ to.now
+        → P.file_of places.new other ≡ P.file_of places.old other }
+{
+    if from == to {
+        return Err(Fault::Journal(JournalError::JournalExists));
+    }
+    let Ok(text) = migrated_text(alloc, kids.len() as u64) else {
+        return Err(Fault::NoMemory);
+    };
+    match copy_to(alloc, places, to, &digest_of(domain, problem), kids) {
+        Ok(()) => Ok(text),
+        Err(fault) => {
+            drop(text);
+            Err(fault)
+        }
+    }
+}
+
+/// Reads the entries of a journal of two texts in one file, writes them to another, and answers what is told of that.
+fn migration<P: Places>(
+    alloc: Global,
+    places: &mut P,
+    from: &str,
+    to: &str,
+    domain: &[u8],
+    problem: &[u8],
+) -> Result<Vec<u8>, Fault>
+    ensures told { IfOk result (λ text. IsMigration domain.now problem.now
+        (moving from.now to.now (P.file_of places.old from.now)
+        (P.file_of places.old to.now) (P.file_of places.new to.now))
+        text.items) }
+    ensures refusal { IfErr result (HasNoMigrationYet domain.now problem.now
+        (moving from.now to.now (P.file_of places.old from.now)
+        (P.file_of places.old to.now) (P.file_of places.new to.now))) }
+    ensures alone { P.file_of places.new from.now ≡ P.file_of places.old from.now }
+    ensures others { (other : List ℕ) → other ≢ to.now
+        → P.file_of places.new other ≡ P.file_of places.old other }
+{
+    match kids_of(alloc, places, from, domain, problem) {
+        Ok(kids) => {
+            let told = moved(alloc, places, from, to, domain, problem, &kids);
+            drop(kids);
+            told
+        }
+        Err(fault) => Err(fault),
+    }
+}
+
+/// Writes all entries of the journal in one file, which is one of the task that two texts say, to another file, as a journal of version two
+/// in groups as large as may be; and tells how many they are. The first file is read, and left alone; the other has to be empty, or is
+/// made.
+///
+/// # Errors
+/// The first fault of the texts; that the first file can't be read; why its bytes are no journal of theirs; the first entry that is no step
+/// of a search of the task; that the other file is not empty, or is the same by its name, and then it is as it was; that it can't be had or
+/// written, and then it has a header that is still to be made, or a journal of the first of the entries; or what is told of the error that
+/// the writer has answered. A beginning of the text has then been written, and not all of it, and else nothing.
+pub fn migrate<P: Places, W: Write>(
+    alloc: Global,
+    places: &mut P,
+    from: &str,
+    to: &str,
+    domain: &[u8],
+    problem: &[u8],
+    out: &mut Watched<'_, W>,
+) -> Result<(), Fault>
+    ensures whole { OnOk result (WritesA (IsMigration domain.now problem.now
+        (moving from.now to.now (P.file_of places.old from.now)
+        (P.file_of places.old to.now) (P.file_of places.new to.now)))
+        (W.contents out.old.writer.now) (W.contents out.new.writer.now)) }
+    ensures front { OnErr result
+        ((W.contents out.new.writer.now ≡ W.contents out.old.writer.now)
+        ⊎ WritesFrontOfA (IsMigration domain.now problem.now
+        (moving from.now to.now (P.file_of places.old from.now)
+        (P.file_of places.old to.now) (P.file_of places.new to.now)))
+        (W.contents out.old.writer.now) (W.contents out.new.writer.now)) }
+    ensures refusal { IfErr result (HasNoMigration domain.now problem.now
+        (moving from.now to.now (P.file_of places.old from.now)
+        (P.file_of places.old to.now) (P.file_of places.new to.now))
+        (W.contents out.old.writer.now) (W.contents out.new.writer.now)
+        out.old.fault out.new.fault) }
+    ensures no_fault { OnOk result (out.new.fault ≡ out.old.fault) }
+    // The file that is read is as it was, and so is each file but the other.
+    ensures alone { P.file_of places.new from.now ≡ P.file_of places.old from.now }
+    ensures others { (other : List ℕ) → other ≢ to.now
+        → P.file_of places.new other ≡ P.file_of places.old other }
+{
+    let text = migration(alloc, places, from, to, domain, problem)?;
+    let written = write_out(out, &text);
+    drop(text);
+    match written {
+        Ok(()) => Ok(()),
+        Err(fault) => Err(fault),
+    }
+}

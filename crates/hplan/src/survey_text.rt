@@ -1,0 +1,127 @@
+//! The text of what entries tell of a search.
+ghost use Rattle.std.specs.Prelude.{◌≡◌, ◌∷◌, ◌++◌, [], IfOk, OnOk, string_bytes};
+ghost use Rattle.hplan.specs.Inspection.{inspected_text};
+ghost use Rattle.hplan.specs.Surveying.{bound_line, bound_plan, departure_line, plan_lines, row_line, row_lines, survey_text};
+
+use crate::text::{inspected_text, push_action, push_count, push_departed};
+use hd_base::NoMemory;
+use hd_certify::{Row, Survey};
+use hd_inspect::Inspected;
+use hd_task::{Departure, Plan, Task};
+use std::alloc::Global;
+
+/// The line of a row, behind a text.
+fn push_row(alloc: Global, text: &mut String, what: &str, row: Row) -> Result<(), NoMemory>
+    ensures { OnOk result (string_bytes text.new
+        ≡ string_bytes text.old ++ row_line what.now row) }
+{
+    let value = row.value;
+    let count = row.count;
+    let counted = format!(in alloc; "{what} {value}: {count}")?;
+    text.push_str(counted.as_str())?;
+    text.push_str("\n")
+}
+
+/// The lines of rows, behind a text.
+fn push_rows(alloc: Global, text: &mut String, what: &str, rows: &[Row]) -> Result<(), NoMemory>
+    ensures { OnOk result (string_bytes text.new
+        ≡ string_bytes text.old ++ row_lines what.now rows.now) }
+{
+    let mut rest = rows;
+    while let [first, after @ ..] = rest {
+        push_row(alloc, text, what, *first)?;
+        rest = after;
+    }
+    Ok(())
+}
+
+/// The line of an action, behind a text.
+fn push_step(text: &mut String, task: &Task, action: usize) -> Result<(), NoMemory>
+    ensures { OnOk result (string_bytes text.new
+        ≡ string_bytes text.old ++ plan_lines task.now (action ∷ [])) }
+{
+    push_action(text, task, action)?;
+    text.push_str("\n")
+}
+
+/// The lines of a plan's actions, behind a text.
+fn push_plan(text: &mut String, task: &Task, plan: &Plan) -> Result<(), NoMemory>
+    ensures { OnOk result (string_bytes text.new
+        ≡ string_bytes text.old ++ plan_lines task.now plan.now) }
+{
+    let mut rest = plan.as_slice();
+    while let [first, after @ ..] = rest {
+        push_step(text, task, first.0 as usize)?;
+        rest = after;
+    }
+    Ok(())
+}
+
+/// The bound, and the actions of its plan, behind a text.
+fn push_bound(
+    alloc: Global,
+    text: &mut String,
+    task: &Task,
+    survey: &Survey,
+) -> Result<(), NoMemory>
+    ensures { OnOk result (string_bytes text.new ≡ string_bytes text.old
+        ++ bound_line survey.now.bound ++ bound_plan task.now survey.now.plan) }
+{
+    match survey.bound {
+        Some(bound) => push_count(alloc, text, "bound", bound)?,
+        None => text.push_str("no bound\n")?,
+    }
+    match &survey.plan {
+        Some(plan) => push_plan(text, task, plan),
+        None => Ok(()),
+    }
+}
+
+/// The first departure, behind a text.
+fn push_departure(
+    alloc: Global,
+    text: &mut String,
+    task: &Task,
+    departure: Option<Departure>,
+) -> Result<(), NoMemory>
+    ensures { OnOk result (string_bytes text.new
+        ≡ string_bytes text.old ++ departure_line task.now departure) }
+{
+    match departure {
+        Some(departure) => {
+            push_departed(alloc, text, task, departure)?;
+            text.push_str("\n")
+        }
+        None => text.push_str("nothing left the range\n"),
+    }
+}
+
+/// What entries tell of a search.
+fn survey_part(alloc: Global, task: &Task, survey: &Survey) -> Result<String, NoMemory>
+    ensures { IfOk result (λ s. string_bytes s ≡ survey_text task.now survey.now) }
+{
+    let mut text = String::new(alloc);
+    push_count(alloc, &mut text, "posted", survey.posted)?;
+    push_count(alloc, &mut text, "settled", survey.settled)?;
+    push_bound(alloc, &mut text, task, survey)?;
+    push_departure(alloc, &mut text, task, survey.departure)?;
+    push_rows(alloc, &mut text, "depth", survey.depths.as_slice())?;
+    push_rows(alloc, &mut text, "cost", survey.costs.as_slice())?;
+    Ok(text)
+}
+
+/// What is told of a file's bytes, and of what its entries tell of a search.
+pub fn survey_text(
+    alloc: Global,
+    task: &Task,
+    inspected: &Inspected,
+    survey: &Survey,
+) -> Result<Vec<u8>, NoMemory>
+    ensures { IfOk result (λ v. v.items
+        ≡ inspected_text inspected.now ++ survey_text task.now survey.now) }
+{
+    let mut text = inspected_text(alloc, inspected)?;
+    let told = survey_part(alloc, task, survey)?;
+    text.extend_from_slice(told.as_bytes())?;
+    Ok(text)
+}
