@@ -9,9 +9,8 @@ use Rattle.std.proofs.lemmas.Bool.{cases_lt, eq-eqb, eqb-true, cases_Bool}
 use Rattle.std.proofs.lemmas.List.{map-append, length-map}
 use Rattle.std.proofs.lemmas.Option.{none-some, same_Some, slice_get_within, slice_get-map}
 use Rattle.hd_task.specs.declared.state.State.{State}
-use Rattle.hd_zobrist.specs.Hash.{state_hash}
 use Rattle.hd_closed.specs.declared.notes.Note.{Note}
-use Rattle.hd_closed.specs.Notes.{state_of, note_of, HasHash, IsLast, AreChained}
+use Rattle.hd_closed.specs.Notes.{short_hash, state_of, note_of, HasHash, IsLast, AreChained}
 
 abbrev pub Heads : Type 0
 Heads = HashMap ℕ ℕ (BuildHasherDefault FoldHasher)
@@ -54,21 +53,21 @@ last_longer states more hash upto (Some q) le last =
 
 -- one state more, of another hash
 last_more :
-    (states : List State) (s : State) (hash : ℕ) (o : Option ℕ) → state_hash s ≢ hash → IsLast states hash (length states) o
+    (states : List State) (s : State) (hash : ℕ) (o : Option ℕ) → short_hash s ≢ hash → IsLast states hash (length states) o
     → IsLast (states ++ s ∷ []) hash (length states + 1) o
 last_more states s hash None other last = λ k lt h.
     ⊎_elim (λ there. last k (slice_get_within states k h.0 there) (h.0, there, h.2))
-    (λ here. other (ap state_hash here.1 ∙ h.2)) (get_push states s k h.0 h.1)
+    (λ here. other (ap short_hash here.1 ∙ h.2)) (get_push states s k h.0 h.1)
 last_more states s hash (Some q) other last = (
   let lt = last.0 in omega arith,
   has_longer states (s ∷ []) hash q last.1,
   λ k above lt h.
       ⊎_elim (λ there. last.2 k above (slice_get_within states k h.0 there) (h.0, there, h.2))
-      (λ here. other (ap state_hash here.1 ∙ h.2)) (get_push states s k h.0 h.1),
+      (λ here. other (ap short_hash here.1 ∙ h.2)) (get_push states s k h.0 h.1),
 )
 
 -- one of this hash
-last_this : (states : List State) (s : State) → IsLast (states ++ s ∷ []) (state_hash s) (length states + 1) (Some (length states))
+last_this : (states : List State) (s : State) → IsLast (states ++ s ∷ []) (short_hash s) (length states + 1) (Some (length states))
 last_this states s = (omega arith, (s, get_last states s, refl), λ k above lt h. absurd (omega arith))
 
 -- ---- one note more
@@ -82,40 +81,40 @@ module _ (notes : List Note) (heads : Heads) (k : AreChained notes heads) where
 
   pub chained_push :
       (heads' : Heads) (s : State)
-      → ((q : ℕ) → get nat_eq heads' q ≡ cond (nat_eq (state_hash s) q) (Some (length notes)) (get nat_eq heads q))
-      → AreChained (notes ++ note_of s (get nat_eq heads (state_hash s)) ∷ []) heads'
+      → ((q : ℕ) → get nat_eq heads' q ≡ cond (nat_eq (short_hash s) q) (Some (length notes)) (get nat_eq heads q))
+      → AreChained (notes ++ note_of s (get nat_eq heads (short_hash s)) ∷ []) heads'
   chained_push heads' s puts = record {
     before = λ j n at.
-        subst (λ (xs : List State). IsLast xs (state_hash n.state) j n.before) (sym longer)
+        subst (λ (xs : List State). IsLast xs (short_hash n.state) j n.before) (sym longer)
         (⊎_elim (λ there.
         let lt = slice_get_within notes j n there in
-        last_longer states (s ∷ []) (state_hash n.state) j n.before (omega (arith, length_states)) (k.before j n there))
-        (λ here. subst (λ (m : Note). IsLast (states ++ s ∷ []) (state_hash m.state) j m.before) here.1
-        (last_longer states (s ∷ []) (state_hash s) j (get nat_eq heads (state_hash s)) (omega (arith, length_states, here.0))
-        (subst (λ (i : ℕ). IsLast states (state_hash s) i (get nat_eq heads (state_hash s))) (sym here.0) (k.last (state_hash s)))))
-        (get_push notes (note_of s (get nat_eq heads (state_hash s))) j n at));
+        last_longer states (s ∷ []) (short_hash n.state) j n.before (omega (arith, length_states)) (k.before j n there))
+        (λ here. subst (λ (m : Note). IsLast (states ++ s ∷ []) (short_hash m.state) j m.before) here.1
+        (last_longer states (s ∷ []) (short_hash s) j (get nat_eq heads (short_hash s)) (omega (arith, length_states, here.0))
+        (subst (λ (i : ℕ). IsLast states (short_hash s) i (get nat_eq heads (short_hash s))) (sym here.0) (k.last (short_hash s)))))
+        (get_push notes (note_of s (get nat_eq heads (short_hash s))) j n at));
     last = λ hash.
-        let count : length (notes ++ note_of s (get nat_eq heads (state_hash s)) ∷ []) ≡ length states + 1 =
-        omega (arith, length_states, length-append notes (note_of s (get nat_eq heads (state_hash s)) ∷ []))
+        let count : length (notes ++ note_of s (get nat_eq heads (short_hash s)) ∷ []) ≡ length states + 1 =
+        omega (arith, length_states, length-append notes (note_of s (get nat_eq heads (short_hash s)) ∷ []))
         in
-        subst (λ (xs : List State). IsLast xs hash (length (notes ++ note_of s (get nat_eq heads (state_hash s)) ∷ [])) (get nat_eq heads' hash)) (sym longer)
+        subst (λ (xs : List State). IsLast xs hash (length (notes ++ note_of s (get nat_eq heads (short_hash s)) ∷ [])) (get nat_eq heads' hash)) (sym longer)
         (subst (λ (i : ℕ). IsLast (states ++ s ∷ []) hash i (get nat_eq heads' hash)) (sym count)
-        (subst (λ (o : Option ℕ). IsLast (states ++ s ∷ []) hash (length states + 1) o) (sym (puts hash)) (by hash (cases_Bool (nat_eq (state_hash s) hash)))));
+        (subst (λ (o : Option ℕ). IsLast (states ++ s ∷ []) hash (length states + 1) o) (sym (puts hash)) (by hash (cases_Bool (nat_eq (short_hash s) hash)))));
   }
     where
-      longer : map state_of (notes ++ note_of s (get nat_eq heads (state_hash s)) ∷ []) ≡ states ++ s ∷ []
-      longer = map-append state_of notes (note_of s (get nat_eq heads (state_hash s)) ∷ [])
+      longer : map state_of (notes ++ note_of s (get nat_eq heads (short_hash s)) ∷ []) ≡ states ++ s ∷ []
+      longer = map-append state_of notes (note_of s (get nat_eq heads (short_hash s)) ∷ [])
 
       by :
-          (hash : ℕ) → (nat_eq (state_hash s) hash ≡ true) ⊎ (nat_eq (state_hash s) hash ≡ false)
-          → IsLast (states ++ s ∷ []) hash (length states + 1) (cond (nat_eq (state_hash s) hash) (Some (length notes)) (get nat_eq heads hash))
+          (hash : ℕ) → (nat_eq (short_hash s) hash ≡ true) ⊎ (nat_eq (short_hash s) hash ≡ false)
+          → IsLast (states ++ s ∷ []) hash (length states + 1) (cond (nat_eq (short_hash s) hash) (Some (length notes)) (get nat_eq heads hash))
       by hash (inl same) =
           subst (λ (b : Bool). IsLast (states ++ s ∷ []) hash (length states + 1) (cond b (Some (length notes)) (get nat_eq heads hash))) (sym same)
           (subst (λ (i : ℕ). IsLast (states ++ s ∷ []) hash (length states + 1) (Some i)) length_states
-          (subst (λ (x : ℕ). IsLast (states ++ s ∷ []) x (length states + 1) (Some (length states))) (eqb-true (state_hash s) hash same) (last_this states s)))
+          (subst (λ (x : ℕ). IsLast (states ++ s ∷ []) x (length states + 1) (Some (length states))) (eqb-true (short_hash s) hash same) (last_this states s)))
       by hash (inr other) =
           subst (λ (b : Bool). IsLast (states ++ s ∷ []) hash (length states + 1) (cond b (Some (length notes)) (get nat_eq heads hash))) (sym other)
-          (last_more states s hash (get nat_eq heads hash) (λ e. let t = eq-eqb (state_hash s) hash e in absurd (cc))
+          (last_more states s hash (get nat_eq heads hash) (λ e. let t = eq-eqb (short_hash s) hash e in absurd (cc))
           (subst (λ (i : ℕ). IsLast states hash i (get nat_eq heads hash)) (sym length_states) (k.last hash)))
 
   -- the same heads
@@ -135,7 +134,7 @@ IsUpTo k (Some q) = k ≤ q
 -- a search that goes on at a place: the state is not behind it, and a state of the same hash stands there
 pub record IsSearch (notes : List Note) (s : State) (next : Option ℕ) : Type 0 where
   pub up_to : (k : ℕ) → slice_get (map state_of notes) k ≡ Some s → IsUpTo k next
-  pub there : (q : ℕ) → next ≡ Some q → HasHash (map state_of notes) (state_hash s) q
+  pub there : (q : ℕ) → next ≡ Some q → HasHash (map state_of notes) (short_hash s) q
 
 -- how far it may still go
 abbrev pub left : Option ℕ → ℕ
@@ -159,12 +158,12 @@ left_last states hash upto None last = omega arith
 left_last states hash upto (Some q) last = let lt = last.0 in omega arith
 
 module _ (notes : List Note) (heads : Heads) (k : AreChained notes heads) (s : State) where
-  pub search_starts : IsSearch notes s (get nat_eq heads (state_hash s))
+  pub search_starts : IsSearch notes s (get nat_eq heads (short_hash s))
   search_starts = record {
     up_to = λ j at.
         let lt = slice_get_within (map state_of notes) j s at in
-        up_to_last (map state_of notes) (state_hash s) (length notes) (get nat_eq heads (state_hash s)) (k.last (state_hash s)) j (omega (arith, length-map notes state_of)) (s, at, refl);
-    there = λ q e. there_last (map state_of notes) (state_hash s) (length notes) (get nat_eq heads (state_hash s)) (k.last (state_hash s)) q e;
+        up_to_last (map state_of notes) (short_hash s) (length notes) (get nat_eq heads (short_hash s)) (k.last (short_hash s)) j (omega (arith, length-map notes state_of)) (s, at, refl);
+    there = λ q e. there_last (map state_of notes) (short_hash s) (length notes) (get nat_eq heads (short_hash s)) (k.last (short_hash s)) q e;
   }
 
   -- where the search goes on is a note
@@ -174,11 +173,11 @@ module _ (notes : List Note) (heads : Heads) (k : AreChained notes heads) (s : S
       let lt = slice_get_within (map state_of notes) place h.0 h.1 in
       omega (arith, length-map notes state_of)
 
-  same_hash : (place : ℕ) (n : Note) → IsSearch notes s (Some place) → slice_get notes place ≡ Some n → state_hash n.state ≡ state_hash s
+  same_hash : (place : ℕ) (n : Note) → IsSearch notes s (Some place) → slice_get notes place ≡ Some n → short_hash n.state ≡ short_hash s
   same_hash place n x at =
       let h = x.there place refl in
       let its : h.0 ≡ n.state = same_Some h.0 n.state (sym h.1 ∙ (slice_get-map state_of notes place ∙ ap (option_map state_of) at)) in
-      ap state_hash (sym its) ∙ h.2
+      ap short_hash (sym its) ∙ h.2
 
   pub search_goes_on : (place : ℕ) (n : Note) → IsSearch notes s (Some place) → slice_get notes place ≡ Some n → n.state ≢ s → IsSearch notes s n.before
   search_goes_on place n x at other =
@@ -190,12 +189,12 @@ module _ (notes : List Note) (heads : Heads) (k : AreChained notes heads) (s : S
             let apart : j ≢ place = λ e.
             other (same_Some n.state s (sym (slice_get-map state_of notes place ∙ ap (option_map state_of) at) ∙ (ap (slice_get (map state_of notes)) (sym e) ∙ there)))
             in
-            up_to_last (map state_of notes) (state_hash s) place n.before last j (omega arith) (s, there, refl);
-        there = λ q e. there_last (map state_of notes) (state_hash s) place n.before last q e;
+            up_to_last (map state_of notes) (short_hash s) place n.before last j (omega arith) (s, there, refl);
+        there = λ q e. there_last (map state_of notes) (short_hash s) place n.before last q e;
       }
 
   pub search_shortens : (place : ℕ) (n : Note) → slice_get notes place ≡ Some n → left n.before < place + 1
-  search_shortens place n at = left_last (map state_of notes) (state_hash n.state) place n.before (k.before place n at)
+  search_shortens place n at = left_last (map state_of notes) (short_hash n.state) place n.before (k.before place n at)
 
   pub search_ends : IsSearch notes s None → (j : ℕ) → slice_get (map state_of notes) j ≡ Some s → ⊥
   search_ends x j at = x.up_to j at

@@ -12,7 +12,6 @@ use Rattle.hd_base.proofs.Places.{place_of}
 use Rattle.hd_task.specs.declared.state.State.{State}
 use Rattle.hd_task.specs.declared.task.Task.{Task}
 use Rattle.hd_task.specs.Plans.{IsStateOf}
-use Rattle.hd_zobrist.specs.Hash.{state_hash}
 use Rattle.hd_hmax.specs.declared.estimate.EstimateValue.{EstimateValue}
 use Rattle.hd_hmax.specs.Rounds.{hmax}
 use Rattle.hd_hmax.specs.Value.{estimated}
@@ -21,7 +20,7 @@ use Rattle.hd_node.specs.declared.batch.By.TheVariants.{Entry, Here}
 use Rattle.hd_closed.specs.declared.notes.Note.{Note}
 use Rattle.hd_closed.specs.declared.closed.Shut.{Shut}
 use Rattle.hd_closed.specs.Closed.{Closed, state_at, nothing, IsClosedAt, IsNamedBy, IsDearer}
-use Rattle.hd_closed.specs.Notes.{state_of, note_of, IsLast, AreChained}
+use Rattle.hd_closed.specs.Notes.{short_hash, state_of, note_of, IsLast, AreChained}
 use Rattle.hd_closed.specs.Numbering.{numbered, closed_numbered}
 use Rattle.hd_closed.specs.Shut.{closed_of, IsEntered, HasNumbered, shut_numbered, is_cheaper_than, is_cheaper, no_dearer_than, no_dearer, IsNoted, IsLeast, IsLeastOf, IsKept}
 use Rattle.hd_closed.proofs.Chains.{Heads, get_front, get_last, get_push}
@@ -131,10 +130,10 @@ module _ (t : Task) (notes : List Note) (heads : Heads) (shuts : List Shut) (ent
       let states_same : map state_of (set notes place n') ≡ map state_of notes = map-set_same state_of notes place n n' at same in
       record {
         before = λ i m there.
-            subst (λ (xs : List State). IsLast xs (state_hash m.state) i m.before) (sym states_same)
-            (⊎_elim (λ here. subst (λ (x : Note). IsLast (map state_of notes) (state_hash x.state) i x.before) here.1
-            (subst (λ (u : State). IsLast (map state_of notes) (state_hash u) i n'.before) (sym same)
-            (subst (λ (o : Option ℕ). IsLast (map state_of notes) (state_hash n.state) i o) (sym chain)
+            subst (λ (xs : List State). IsLast xs (short_hash m.state) i m.before) (sym states_same)
+            (⊎_elim (λ here. subst (λ (x : Note). IsLast (map state_of notes) (short_hash x.state) i x.before) here.1
+            (subst (λ (u : State). IsLast (map state_of notes) (short_hash u) i n'.before) (sym same)
+            (subst (λ (o : Option ℕ). IsLast (map state_of notes) (short_hash n.state) i o) (sym chain)
             (k.chained.before i n (ap (slice_get notes) here.0 ∙ at)))))
             (λ other. k.chained.before i m other) (get_set notes place n' i m there));
         last = λ hash.
@@ -159,15 +158,19 @@ module _ (t : Task) (notes : List Note) (heads : Heads) (shuts : List Shut) (ent
       }
 
   -- a note has its estimate from now on
+  valued : (x : Option ℕ) (o : Option EstimateValue) (v : EstimateValue) → IfSome o (λ w. w ≡ v) → estimated v ≡ x → IfSome o (λ w. estimated w ≡ x)
+  valued x None v value is = tt
+  valued x (Some w) v value is = ap estimated value ∙ is
+
   pub kept_valued :
       (place : ℕ) (n n' : Note) (v : EstimateValue) → slice_get notes place ≡ Some n → n'.state ≡ n.state → n'.before ≡ n.before → n'.least ≡ n.least
-      → n'.value ≡ Some v → estimated v ≡ hmax t n.state → IsKept t (set notes place n') heads shuts entered
+      → IfSome n'.value (λ w. w ≡ v) → estimated v ≡ hmax t n.state → IsKept t (set notes place n') heads shuts entered
   kept_valued place n n' v at same chain leasts value is =
       let old = AllByRecursion-slice_get (IsNoted t) notes place n k.noted at in
       kept_set shuts place n n' at same chain
       (record {
         of_task = subst (IsStateOf t) (sym same) old.of_task;
-        value = subst (λ (o : Option EstimateValue). IfSome o (λ w. estimated w ≡ hmax t n'.state)) (sym value) (is ∙ ap (hmax t) (sym same));
+        value = valued (hmax t n'.state) n'.value v value (is ∙ ap (hmax t) (sym same));
       }) k.within
       (λ i m there.
       ⊎_elim (λ here. subst (λ (x : Note). IsLeastOf shuts i x.least) here.1

@@ -1,4 +1,5 @@
 pub mod Closed
 pub mod Notes
 pub mod Numbering
+pub mod Short
 pub mod Shut

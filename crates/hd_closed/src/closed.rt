@@ -10,11 +10,12 @@ ghost use Rattle.hd_closed.specs.Shut.{HasNumbered, AreNumbered, is_cheaper, no_
 
 use crate::notes::{Heads, Note, add, find};
 use crate::numbering::numbered;
+use crate::short::{Known, MAX_PLACES, Place};
 use hd_base::NoMemory;
 use hd_hmax::{EstimateValue, Hmax};
 use hd_node::{By, Hashed};
 use hd_task::Task;
-use std::alloc::Global;
+use std::alloc::{AllocError, Global};
 use std::collections::HashMap;
 use std::marker::Model;
 
@@ -51,6 +52,7 @@ impl<'t> Model for ClosedList<'t> {
 
     ghost use Rattle.hd_closed.specs.Notes.{state_of};
     ghost use Rattle.hd_closed.specs.Shut.{closed_of, IsKept};
+    ghost use Rattle.hd_closed.specs.declared.short.TheConstants.{MAX_PLACES};
 
     ghost view = { λ c. record {
       task = c.task.now;
@@ -60,7 +62,8 @@ impl<'t> Model for ClosedList<'t> {
     } };
 
     ghost invariant = { λ c. IsKept c.task.now c.notes.items c.heads c.shuts.items c.entered
-        × (c.ready ≡ true → vec_len c.shuts < vec_capacity c.shuts) };
+        × (c.ready ≡ true → vec_len c.shuts < vec_capacity c.shuts)
+        × (c.ready ≡ true → vec_len c.shuts < MAX_PLACES) };
 }
 
 /// Names the expansions from a place on anew, once the batch that was given last is numbered from `first` on. Those before it are entries,
@@ -195,12 +198,12 @@ impl<'t> ClosedList<'t> {
         ensures same { self.new ≡ self.old }
         ensures task { estimates.new.task ≡ estimates.old.task }
     {
-        let known = self.notes[place].value;
+        let known = self.notes[place].value.get();
         if let Some(value) = known {
             return value;
         }
         let value = estimates.value(self.notes[place].state.state());
-        self.notes[place].value = Some(value);
+        self.notes[place].value = Known::of(value);
         value
     }
 
@@ -212,7 +215,7 @@ impl<'t> ClosedList<'t> {
         ensures none { IfNone result (IfSome (slice_get self.now.states place)
             (λ s. IsDearer self.now.closed s cost)) }
     {
-        no_dearer(self.shuts.as_slice(), self.notes[place].least, cost)
+        no_dearer(self.shuts.as_slice(), self.notes[place].least.get(), cost)
     }
 
     /// Makes room for one expansion more.
@@ -226,6 +229,9 @@ impl<'t> ClosedList<'t> {
         ensures ready { OnOk result (self.new.ready ≡ true) }
         ensures err { OnErr result (self.new ≡ self.old) }
     {
+        if self.shuts.len() >= MAX_PLACES {
+            return Err(AllocError);
+        }
         self.shuts.reserve(1)?;
         self.ready = true;
         Ok(())
@@ -241,7 +247,7 @@ impl<'t> ClosedList<'t> {
             ≡ self.old.closed ++ closed_at self.old.states place by cost ∷ [] }
     {
         let added = self.shuts.len();
-        let cheaper = is_cheaper(self.shuts.as_slice(), self.notes[place].least, cost);
+        let cheaper = is_cheaper(self.shuts.as_slice(), self.notes[place].least.get(), cost);
         self.ready = false;
         push_shut(
             &mut self.shuts,
@@ -252,7 +258,7 @@ impl<'t> ClosedList<'t> {
             },
         );
         if cheaper {
-            self.notes[place].least = Some(added);
+            self.notes[place].least = Place::of(added);
         }
     }
 

@@ -7,6 +7,7 @@
 mod closed;
 mod notes;
 mod numbering;
+mod short;
 
 pub use closed::ClosedList;
 pub use numbering::numbered;

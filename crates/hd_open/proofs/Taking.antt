@@ -1,17 +1,18 @@
 -- What an open list keeps, and what contracts see, where nodes come and go.
-use Rattle.std.proofs.Common.{◌≡◌, ◌≤◌, ℕ, List, ◌∷◌, ◌++◌, [], Option, Some, None, Result, Ok, Err, OnOk, true, length, set, slice_get, refl, ap, ◌∙◌, subst, arith}
+use Rattle.std.proofs.Common.{◌≡◌, ◌≤◌, ℕ, List, ◌∷◌, ◌++◌, [], Option, Some, None, Result, Ok, Err, OnOk, length, set, slice_get, refl, ap, sym, ◌∙◌, subst, arith, length-set}
 use Rattle.std.specs.List.{remove}
 use Rattle.std.proofs.lemmas.List.{take-set-le}
 use Rattle.std.proofs.lemmas.Option.{same_Some}
 use Rattle.hd_open.specs.declared.slots.Gap.{Gap}
+use Rattle.hd_open.specs.declared.slots.Hint.{Hint}
 use Rattle.hd_open.specs.declared.counts.Counts.{Counts}
 use Rattle.hd_open.specs.declared.queue.Queue.{Queue}
 use Rattle.hd_open.specs.Totals.{IsBest}
 use Rattle.hd_open.specs.Live.{live, place_at, IsBestArrival}
 use Rattle.hd_open.specs.Counts.{AreCounts}
-use Rattle.hd_open.specs.Queue.{has, IsQueued}
+use Rattle.hd_open.specs.Queue.{Has, IsQueued, IsOrderly, IsUpTo}
 use Rattle.hd_open.specs.Open.{Open, TakesAt, TakesBest}
-use Rattle.hd_open.specs.Kept.{open_view, IsKept}
+use Rattle.hd_open.specs.Kept.{open_view, IsKept, IsHintOf}
 use Rattle.hd_open.proofs.Places.{live-append, live_get, live-set-none, emptied, best_place}
 use Rattle.hd_open.proofs.Queueing.{queued_left, queued_back}
 
@@ -37,17 +38,20 @@ module _ {A : Type 0} where
   module _ (total : A → Option ℕ) where
     -- a node goes
     pub kept_left :
-        (slots : List (Option A)) (q : Queue) (d : Counts) (i : ℕ) (x : A) → IsQueued total slots q
-        → slice_get slots i ≡ Some (Some x) → AreCounts (set slots i None) d → IsKept total (set slots i None) (Some (gap_at total i x)) q d
-    kept_left slots q d i x queued at counted = record {
+        (slots : List (Option A)) (q : Queue) (d : Counts) (i : ℕ) (x : A) → IsQueued total slots q → IsOrderly q → IsUpTo q (length slots)
+        → slice_get slots i ≡ Some (Some x) → AreCounts (set slots i None) d → IsKept total (set slots i None) (Some (gap_at total i x)) None q d
+    kept_left slots q d i x queued orderly latest at counted = record {
       queued = queued_left total slots q i queued;
+      orderly = orderly;
+      latest = subst (λ (n : ℕ). IsUpTo q n) (sym (length-set slots i None)) latest;
       counted = counted;
       empty = λ g is.
           let same = same_Some (gap_at total i x) g is in
           subst (λ (h : Gap). slice_get (set slots i None) h.arrival ≡ Some None) same (emptied slots i x at);
       waiting = λ g is.
           let same = same_Some (gap_at total i x) g is in
-          subst (λ (h : Gap). has q h.total h.arrival ≡ true) same (queued i x at);
+          subst (λ (h : Gap). Has q h.total h.arrival) same (queued i x at);
+      hinted = _;
     }
 
     pub taken_at :
@@ -70,11 +74,14 @@ module _ {A : Type 0} where
 
     -- a node comes back
     pub kept_back :
-        (slots : List (Option A)) (g : Gap) (q : Queue) (c d : Counts) (x : A) → IsKept total slots (Some g) q c → g.total ≡ total x
-        → AreCounts (set slots g.arrival (Some x)) d → IsKept total (set slots g.arrival (Some x)) None q d
-    kept_back slots g q c d x k same counted = record {
+        (slots : List (Option A)) (g : Gap) (hint : Option Hint) (q : Queue) (c d : Counts) (x : A) → IsKept total slots (Some g) hint q c → g.total ≡ total x
+        → AreCounts (set slots g.arrival (Some x)) d → IsKept total (set slots g.arrival (Some x)) None None q d
+    kept_back slots g hint q c d x k same counted = record {
       queued = queued_back total slots q g.arrival x g.total k.queued (k.waiting g refl) same;
+      orderly = k.orderly;
+      latest = subst (λ (n : ℕ). IsUpTo q n) (sym (length-set slots g.arrival (Some x))) k.latest;
       counted = counted;
       empty = λ h is. absurd (cc);
       waiting = λ h is. absurd (cc);
+      hinted = _;
     }

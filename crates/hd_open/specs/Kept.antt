@@ -1,20 +1,29 @@
 -- What an open list keeps. (Our own.)
-use Rattle.std.specs.Prelude.{◌≡◌, ℕ, true, List, Option, Some, None, slice_get, option_map}
+use Rattle.std.specs.Prelude.{◌≡◌, ℕ, List, Option, Some, None, length, slice_get, option_map, IfSome}
 use Rattle.hd_open.specs.declared.slots.Gap.{Gap}
+use Rattle.hd_open.specs.declared.slots.Hint.{Hint}
 use Rattle.hd_open.specs.declared.counts.Counts.{Counts}
 use Rattle.hd_open.specs.declared.queue.Queue.{Queue}
-use Rattle.hd_open.specs.Live.{live, place_at}
+use Rattle.hd_open.specs.Live.{live, place_at, IsFilled}
 use Rattle.hd_open.specs.Counts.{AreCounts}
-use Rattle.hd_open.specs.Queue.{has, IsQueued}
+use Rattle.hd_open.specs.Queue.{Has, IsQueued, IsOrderly, IsUpTo}
 use Rattle.hd_open.specs.Open.{Open}
 
 -- the nodes in order, and where the gap stands among them
 abbrev pub open_view : {A : Type 0} → List (Option A) → Option Gap → Open A
 open_view slots gap = record { nodes = live slots; gap = option_map (λ g. (place_at slots g.arrival, g.total)) gap }
 
+-- a node is at an arrival, and stands at a place
+pub record IsHintOf {A : Type 0} (slots : List (Option A)) (h : Hint) : Type 0 where
+  pub filled : IsFilled slots h.arrival
+  pub place : place_at slots h.arrival ≡ h.place
+
 -- nodes are counted and queued, and the slot of the gap is empty, with its entry still in the queue
-pub record IsKept {A : Type 0} (total : A → Option ℕ) (slots : List (Option A)) (gap : Option Gap) (q : Queue) (c : Counts) : Type 0 where
+pub record IsKept {A : Type 0} (total : A → Option ℕ) (slots : List (Option A)) (gap : Option Gap) (hint : Option Hint) (q : Queue) (c : Counts) : Type 0 where
   pub queued : IsQueued total slots q
+  pub orderly : IsOrderly q
+  pub latest : IsUpTo q (length slots)
   pub counted : AreCounts slots c
   pub empty : (g : Gap) → gap ≡ Some g → slice_get slots g.arrival ≡ Some None
-  pub waiting : (g : Gap) → gap ≡ Some g → has q g.total g.arrival ≡ true
+  pub waiting : (g : Gap) → gap ≡ Some g → Has q g.total g.arrival
+  pub hinted : IfSome hint (IsHintOf slots)

@@ -5,6 +5,7 @@
 //! counts of groups of slots find places.
 #![tactic(auto)]
 
+mod arrivals;
 mod counts;
 mod open;
 mod queue;

@@ -6,7 +6,9 @@ ghost use Rattle.hd_open.specs.Open.{TakesBest, TakesAt, IsGapOf};
 
 use crate::counts::Counts;
 use crate::queue::Queue;
-use crate::slots::{Gap, append, arrival_of, best_arrival, place_of, put_into, take_from};
+use crate::slots::{
+    Gap, Hint, append, arrival_by, best_arrival, cover, place_of, put_into, take_from,
+};
 use crate::waits::Waits;
 use hd_base::NoMemory;
 use std::alloc::Global;
@@ -19,6 +21,8 @@ pub struct OpenList<T: Waits> {
     counts: Counts,
     queue: Queue,
     gap: Option<Gap>,
+    /// The place that was told last, with its arrival, if nothing has happened since.
+    hint: Option<Hint>,
 }
 
 impl<T: Waits> Model for OpenList<T> {
@@ -32,7 +36,7 @@ impl<T: Waits> Model for OpenList<T> {
 
     ghost view = { λ o. open_view o.slots.items o.gap };
 
-    ghost invariant = { λ o. IsKept T.total o.slots.items o.gap o.queue o.counts };
+    ghost invariant = { λ o. IsKept T.total o.slots.items o.gap o.hint o.queue o.counts };
 }
 
 impl<T: Waits> OpenList<T> {
@@ -46,6 +50,7 @@ impl<T: Waits> OpenList<T> {
             counts: Counts::empty(alloc),
             queue: Queue::empty(alloc),
             gap: None,
+            hint: None,
         }
     }
 
@@ -69,7 +74,8 @@ impl<T: Waits> OpenList<T> {
         let arrival = self.slots.len();
         let total = node.total();
         self.gap = None;
-        if let Err(error) = self.counts.cover(arrival) {
+        self.hint = None;
+        if let Err(error) = cover(self.slots.as_slice(), &mut self.counts) {
             return Err((node, error));
         }
         if let Err(error) = self.queue.add(total, arrival) {
@@ -87,7 +93,9 @@ impl<T: Waits> OpenList<T> {
     {
         self.gap = None;
         let arrival = best_arrival(self.slots.as_slice(), &mut self.queue)?;
-        Some(place_of(self.slots.as_slice(), &self.counts, arrival))
+        let place = place_of(self.slots.as_slice(), &self.counts, arrival);
+        self.hint = Some(Hint { place, arrival });
+        Some(place)
     }
 
     /// Takes the best node out.
@@ -97,6 +105,7 @@ impl<T: Waits> OpenList<T> {
         ensures rest { IfNone result (self.new.nodes ≡ []) }
     {
         self.gap = None;
+        self.hint = None;
         let arrival = best_arrival(self.slots.as_slice(), &mut self.queue)?;
         let (node, gap) = take_from(&mut self.slots, &mut self.counts, arrival);
         self.gap = Some(gap);
@@ -110,7 +119,7 @@ impl<T: Waits> OpenList<T> {
         if place >= self.counts.all {
             return None;
         }
-        let arrival = arrival_of(self.slots.as_slice(), &self.counts, place);
+        let arrival = arrival_by(self.slots.as_slice(), &self.counts, self.hint, place);
         self.slots[arrival].as_ref()
     }
 
@@ -123,7 +132,8 @@ impl<T: Waits> OpenList<T> {
         if place >= self.counts.all {
             return None;
         }
-        let arrival = arrival_of(self.slots.as_slice(), &self.counts, place);
+        let arrival = arrival_by(self.slots.as_slice(), &self.counts, self.hint, place);
+        self.hint = None;
         let (node, gap) = take_from(&mut self.slots, &mut self.counts, arrival);
         self.gap = Some(gap);
         Some(node)
@@ -142,6 +152,7 @@ impl<T: Waits + Drop> OpenList<T> {
             unreachable!();
         };
         self.gap = None;
+        self.hint = None;
         put_into(&mut self.slots, &mut self.counts, gap.arrival, node);
     }
 }

@@ -1,14 +1,23 @@
 //! Nodes by their arrivals: where they stand among each other, and which is the best one.
-ghost use Rattle.std.specs.Prelude.{◌≡◌, ◌+◌, ◌<◌, ◌≤◌, ◌++◌, ◌↔◌, ℕ, [], ◌∷◌, Some, None, length, slice_get, slice_set, IfSome, IfNone, IfErr, OnOk, OnErr, IsTrue};
+ghost use Rattle.std.specs.Prelude.{◌≡◌, ◌+◌, ◌*◌, ◌<◌, ◌≤◌, ◌++◌, ◌↔◌, ℕ, [], ◌∷◌, Some, None, length, slice_get, slice_set, IfSome, IfNone, IfErr, OnOk, OnErr, IsTrue};
 ghost use Rattle.hd_open.specs.Live.{live, place_at, IsFilled, IsAt, IsBestArrival};
-ghost use Rattle.hd_open.specs.Counts.{AreCounts, HasRoom};
-ghost use Rattle.hd_open.specs.Queue.{IsQueued};
+ghost use Rattle.hd_open.specs.Counts.{AreCounts};
+ghost use Rattle.hd_open.specs.Kept.{IsHintOf};
+ghost use Rattle.hd_open.specs.declared.counts.TheConstants.{GROUP};
+ghost use Rattle.hd_open.specs.Queue.{IsOrderly, IsUpTo, IsQueued};
 
-use crate::counts::{Counts, GROUP, skip, sum_between};
+use crate::counts::{Counts, GROUP, lower_parts, raise_parts, start_of};
 use crate::queue::Queue;
 use crate::waits::Waits;
 use hd_base::NoMemory;
 use std::alloc::AllocError;
+
+/// The arrival of the node at a place.
+#[derive(Clone, Copy, Debug, PartialEq, Eq)]
+pub(crate) struct Hint {
+    pub(crate) place: usize,
+    pub(crate) arrival: usize,
+}
 
 /// The slot that a node has left last, and the node's total.
 #[derive(Clone, Copy, Debug, PartialEq, Eq)]
@@ -60,14 +69,44 @@ pub(crate) fn place_of<T>(slots: &[Option<T>], counts: &Counts, arrival: usize) 
 {
     // So that it is known that the sums fit.
     let _count = slots.len();
-    let group = arrival / GROUP;
-    let greater = group / GROUP;
-    let greatest = greater / GROUP;
-    let coarse = sum_between(counts.coarse.as_slice(), 0, greatest);
-    let middle = sum_between(counts.middle.as_slice(), GROUP * greatest, greater);
-    let fine = sum_between(counts.fine.as_slice(), GROUP * greater, group);
-    let rest = filled_between(slots, GROUP * group, arrival);
-    coarse + middle + fine + rest
+    let mut end = arrival / GROUP;
+    let mut place = filled_between(slots, GROUP * end, arrival);
+    while end > 0 {
+        place += counts.parts[end - 1];
+        end = start_of(end);
+    }
+    place
+}
+
+/// A power of two, with which the search for a place among so many groups begins.
+fn greatest_step(groups: usize) -> usize {
+    let mut step = 1usize;
+    while step <= groups / 2 {
+        step *= 2;
+    }
+    step
+}
+
+/// A group before which there are no more than so many nodes, and how many more are left behind it.
+fn group_of<T>(slots: &[Option<T>], counts: &Counts, place: usize) -> (usize, usize)
+    requires counted { AreCounts slots.now counts.now }
+    ensures { place_at slots.now (GROUP * result.0) + result.1 ≡ place }
+{
+    let mut step = greatest_step(counts.parts.len());
+    let mut group = 0;
+    let mut left = place;
+    while step > 0 {
+        if step <= counts.parts.len() - group {
+            let end = group + step;
+            let count = counts.parts[end - 1];
+            if start_of(end) == group && count <= left {
+                left -= count;
+                group = end;
+            }
+        }
+        step /= 2;
+    }
+    (group, left)
 }
 
 /// The arrival of the node at a place.
@@ -77,12 +116,46 @@ pub(crate) fn arrival_of<T>(slots: &[Option<T>], counts: &Counts, place: usize) 
     ensures filled { IsFilled slots.now result }
     ensures place { place_at slots.now result ≡ place }
 {
-    // So that it is known that the places fit.
-    let _count = slots.len();
-    let (greatest, left) = skip(counts.coarse.as_slice(), 0, place);
-    let (greater, left) = skip(counts.middle.as_slice(), GROUP * greatest, left);
-    let (group, left) = skip(counts.fine.as_slice(), GROUP * greater, left);
+    let (group, left) = group_of(slots, counts, place);
     filled_after(slots, GROUP * group, left)
+}
+
+/// The same, where the arrival of the node at one place may be known.
+pub(crate) fn arrival_by<T>(
+    slots: &[Option<T>],
+    counts: &Counts,
+    hint: Option<Hint>,
+    place: usize,
+) -> usize
+    requires counted { AreCounts slots.now counts.now }
+    requires within { place < length (live slots.now) }
+    requires hinted { IfSome hint (IsHintOf slots.now) }
+    ensures filled { IsFilled slots.now result }
+    ensures place { place_at slots.now result ≡ place }
+{
+    if let Some(known) = hint
+        && known.place == place
+    {
+        return known.arrival;
+    }
+    arrival_of(slots, counts, place)
+}
+
+/// Counts a group more, which has no node, if the next slot is the first of one.
+///
+/// # Errors
+/// `NoMemory` where there is no room for its count.
+pub(crate) fn cover<T>(slots: &[Option<T>], counts: &mut Counts) -> Result<(), NoMemory>
+    requires counted { AreCounts slots.now counts.old }
+    ensures counted { AreCounts slots.now counts.new }
+    ensures room { OnOk result (length slots.now < GROUP * length counts.new.parts.items) }
+{
+    let group = slots.len() / GROUP;
+    if group >= counts.parts.len() {
+        let before = place_of(slots, counts, GROUP * start_of(group + 1));
+        counts.parts.push(counts.all - before)?;
+    }
+    Ok(())
 }
 
 /// Whether two totals are the same.
@@ -109,10 +182,13 @@ fn is_at<T: Waits>(slots: &[Option<T>], arrival: usize, total: Option<u128>) -> 
 }
 
 /// The arrival of the best node. Entries of the queue whose nodes have left are dropped on the way.
-#[tactic(auto, using(crate::proofs::Queueing::queued_dropped, crate::proofs::Queueing::queued_best, crate::proofs::Queueing::queued_none))]
 pub(crate) fn best_arrival<T: Waits>(slots: &[Option<T>], queue: &mut Queue) -> Option<usize>
-    requires { IsQueued T.total slots.now queue.old }
+    requires queued { IsQueued T.total slots.now queue.old }
+    requires orderly { IsOrderly queue.old }
+    requires latest { IsUpTo queue.old (length slots.now) }
     ensures kept { IsQueued T.total slots.now queue.new }
+    ensures orderly { IsOrderly queue.new }
+    ensures latest { IsUpTo queue.new (length slots.now) }
     ensures best { IfSome result (λ k. IsBestArrival T.total slots.now k) }
     ensures none { IfNone result (live slots.now ≡ []) }
 {
@@ -135,7 +211,7 @@ pub(crate) fn append<T>(
     node: T,
 ) -> Result<(), (T, NoMemory)>
     requires counted { AreCounts slots.old.items counts.old }
-    requires room { HasRoom counts.old (length slots.old.items) }
+    requires room { length slots.old.items < GROUP * length counts.old.parts.items }
     ensures slots { OnOk result (slots.new.items ≡ slots.old.items ++ Some node ∷ []) }
     ensures back { IfErr result (λ r. r.0 ≡ node) }
     ensures err { OnErr result (slots.new.items ≡ slots.old.items) }
@@ -146,7 +222,8 @@ pub(crate) fn append<T>(
         Ok(()) => {
             // So that it is known how many there are at most.
             let _count = slots.len();
-            counts.raise(arrival);
+            raise_parts(&mut counts.parts, arrival / GROUP);
+            counts.all += 1;
             Ok(())
         }
         Err(failed) => match failed.value {
@@ -170,7 +247,8 @@ pub(crate) fn take_from<T: Waits>(
     ensures slots { slots.new.items ≡ slice_set slots.old.items arrival None }
     ensures counted { AreCounts slots.new.items counts.new }
 {
-    counts.lower(arrival);
+    lower_parts(&mut counts.parts, arrival / GROUP);
+    counts.all -= 1;
     match slots[arrival].take() {
         Some(node) => {
             let total = node.total();
@@ -195,6 +273,7 @@ pub(crate) fn put_into<T: Drop>(
 {
     // So that it is known how many there are at most.
     let _count = slots.len();
-    counts.raise(arrival);
+    raise_parts(&mut counts.parts, arrival / GROUP);
+    counts.all += 1;
     slots[arrival] = Some(node);
 }

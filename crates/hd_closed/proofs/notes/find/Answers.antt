@@ -8,7 +8,7 @@ use Rattle.hd_closed.proofs.notes.find.Goals as goal
 
 pub loop-next-init : goal.loop-next-init
 loop-next-init c =
-    subst (λ o. IsSearch c.args.notes.now c.args.state.now o) (sym (c.copied-next.ensures ∙ (c.get.ensures.value ∙ ap (get nat_eq c.args.heads.now) c.hash.ensures)))
+    subst (λ o. IsSearch c.args.notes.now c.args.state.now o) (sym c.head_of-next.ensures)
     (search_starts c.args.notes.now c.args.heads.now c.requires c.args.state.now)
 
 pub bounds-notes-place : goal.bounds-notes-place
@@ -30,8 +30,9 @@ loop-next-smaller c =
     let s = c.args.state.now in
     let n = c.index-notes-place.result in
     let within = search_within notes c.args.heads.now c.requires s c.in-Some.place (subst (λ o. IsSearch notes s o) c.in-Some.is c.loop-next.invariant) in
-    subst (λ o. left n.before < left o) (sym c.in-Some.is)
-    (search_shortens notes c.args.heads.now c.requires s c.in-Some.place n (slice_get_read notes (length notes) c.in-Some.place n refl within c.index-notes-place.is))
+    subst (λ o. left o < left c.loop-next.next) (sym c.get-next.ensures)
+    (subst (λ o. left n.before < left o) (sym c.in-Some.is)
+    (search_shortens notes c.args.heads.now c.requires s c.in-Some.place n (slice_get_read notes (length notes) c.in-Some.place n refl within c.index-notes-place.is)))
 
 pub loop-next-preserved : goal.loop-next-preserved
 loop-next-preserved c =
@@ -40,8 +41,9 @@ loop-next-preserved c =
     let n = c.index-notes-place.result in
     let search_now = subst (λ o. IsSearch notes s o) c.in-Some.is c.loop-next.invariant in
     let within = search_within notes c.args.heads.now c.requires s c.in-Some.place search_now in
-    search_goes_on notes c.args.heads.now c.requires s c.in-Some.place n search_now (slice_get_read notes (length notes) c.in-Some.place n refl within c.index-notes-place.is)
+    subst (λ o. IsSearch notes s o) (sym c.get-next.ensures)
+    (search_goes_on notes c.args.heads.now c.requires s c.in-Some.place n search_now (slice_get_read notes (length notes) c.in-Some.place n refl within c.index-notes-place.is)
     (λ e.
     let same : c.eq.result ≡ true = c.eq.ensures.same ∙ (ap₂ same_packing (c.state.ensures ∙ e) c.state-in-Some.ensures ∙ same_equiv.refl s) in
     let differ = c.if-eq.false in
-    absurd (cc))
+    absurd (cc)))

@@ -1,11 +1,15 @@
-use Rattle.std.proofs.Common.{arith}
-use Rattle.hd_open.proofs.Counting.{counted_push, fits_more}
+use Rattle.std.proofs.Common.{◌+◌, ◌/◌, refl, arith}
+use Rattle.hd_open.proofs.Counting.{fits_more, all_fits, counted_push}
 use Rattle.hd_open.proofs.slots.append.Goals as goal
 
-pub raise-requires-clause-fits : goal.raise-requires-clause-fits
-raise-requires-clause-fits g c = fits_more c.args.slots.now.items c.args.counts.now c.requires.counted (omega arith)
+pub raise_parts-requires-clause-fits : goal.raise_parts-requires-clause-fits
+raise_parts-requires-clause-fits g c = fits_more c.args.slots.now.items c.args.counts.now (c.len-arrival.result / 8) c.requires.counted (omega arith)
+
+pub overflow_add-counts : goal.overflow_add-counts
+overflow_add-counts g c = let few = all_fits c.args.slots.now.items c.args.counts.now c.requires.counted in omega arith
 
 pub returns-in-Ok-clause-counted : goal.returns-in-Ok-clause-counted
 returns-in-Ok-clause-counted g c =
-    counted_push c.args.slots.now.items c.push.new.self.items c.args.node c.args.counts.now c.raise.new.self c.len-arrival.result c.in-Ok.ensures.items
-    (omega arith) c.requires.counted c.requires.room c.raise.ensures
+    counted_push c.args.slots.now.items c.push.new.self.items c.args.node c.args.counts.now
+    (record { parts = c.raise_parts.new.parts; all = c.args.counts.now.all + 1 }) c.len-arrival.result c.in-Ok.ensures.items (omega arith)
+    c.requires.counted c.requires.room c.raise_parts.ensures refl

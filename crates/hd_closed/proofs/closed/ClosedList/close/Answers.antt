@@ -21,13 +21,14 @@ invariant_of-self c =
     let at_read = note_there i.notes.items c.args.self.now.states place read states c.requires.place c.index.ensures in
     let same : read ≡ n = same_Some read n (sym at_read ∙ at) in
     let x : Shut = record { by = c.args.by; state = place; cost = c.args.cost } in
-    let n' : Note = record n { least = Some c.len-added.result } in
+    let n' : Note = record n { least = c.of.result } in
     let added : c.len-added.result ≡ length i.shuts.items = omega arith in
     let test =
-    ap₂ (λ (xs : List Shut) (m : Note). is_cheaper xs m.least c.args.cost) (sym c.as_slice.ensures.value) (sym same) ∙ (sym c.is_cheaper-cheaper.ensures ∙ c.if-cheaper.true)
+    ap₂ (λ (xs : List Shut) (m : Note). is_cheaper xs m.least c.args.cost) (sym c.as_slice.ensures.value) (sym same) ∙ (ap (λ o. is_cheaper c.as_slice.result.now o c.args.cost) (sym c.get.ensures) ∙ (sym c.is_cheaper-cheaper.ensures ∙ c.if-cheaper.true))
     in (
       subst (λ (xs : List Shut). IsKept i.task.now (slice_set i.notes.items place n') i.heads xs i.entered) (sym c.push_shut.ensures)
-          (closed_cheaper i.task.now i.notes.items i.heads i.shuts.items i.entered c.self.invariant.0 place x n n' refl at refl refl refl (ap Some added) test),
+          (closed_cheaper i.task.now i.notes.items i.heads i.shuts.items i.entered c.self.invariant.0 place x n n' refl at refl refl refl (c.of.ensures ∙ ap Some added) test),
+      λ e. absurd (cc),
       λ e. absurd (cc),
     )
 
@@ -40,10 +41,11 @@ invariant_of-self-else-cheaper c =
     let at_read = note_there i.notes.items c.args.self.now.states place read states c.requires.place c.index.ensures in
     let x : Shut = record { by = c.args.by; state = place; cost = c.args.cost } in
     let test =
-    ap (λ (xs : List Shut). is_cheaper xs read.least c.args.cost) (sym c.as_slice.ensures.value) ∙ (sym c.is_cheaper-cheaper.ensures ∙ c.if-cheaper.false)
+    ap (λ (xs : List Shut). is_cheaper xs read.least c.args.cost) (sym c.as_slice.ensures.value) ∙ (ap (λ o. is_cheaper c.as_slice.result.now o c.args.cost) (sym c.get.ensures) ∙ (sym c.is_cheaper-cheaper.ensures ∙ c.if-cheaper.false))
     in (
       subst (λ (xs : List Shut). IsKept i.task.now i.notes.items i.heads xs i.entered) (sym c.push_shut.ensures)
           (closed_dearer i.task.now i.notes.items i.heads i.shuts.items i.entered c.self.invariant.0 place x read refl at_read test),
+      λ e. absurd (cc),
       λ e. absurd (cc),
     )
 
@@ -53,7 +55,7 @@ returns-then-cheaper-clause-states c =
     let n = c.index_mut.result.now in
     let states = ap (λ (x : ClosedView). x.states) c.self.view_is in
     let at = note_there i.notes.items c.args.self.now.states c.args.place n states c.requires.place c.index_mut.ensures.value in
-    map-set_same state_of i.notes.items c.args.place n (record n { least = Some c.len-added.result }) at refl ∙ states
+    map-set_same state_of i.notes.items c.args.place n (record n { least = c.of.result }) at refl ∙ states
 
 pub returns-then-cheaper-clause-closed : goal.returns-then-cheaper-clause-closed
 returns-then-cheaper-clause-closed c =
@@ -63,7 +65,7 @@ returns-then-cheaper-clause-closed c =
     let states = ap (λ (x : ClosedView). x.states) c.self.view_is in
     let at = note_there i.notes.items c.args.self.now.states place n states c.requires.place c.index_mut.ensures.value in
     let x : Shut = record { by = c.args.by; state = place; cost = c.args.cost } in
-    let kept = map-set_same state_of i.notes.items place n (record n { least = Some c.len-added.result }) at refl in
+    let kept = map-set_same state_of i.notes.items place n (record n { least = c.of.result }) at refl in
     ap (λ (xs : List State). map (closed_of xs) c.push_shut.new.shuts.items) kept
     ∙ (ap (map (closed_of (map state_of i.notes.items))) c.push_shut.ensures
     ∙ (map-append (closed_of (map state_of i.notes.items)) i.shuts.items (x ∷ [])

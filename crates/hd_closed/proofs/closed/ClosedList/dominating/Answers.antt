@@ -13,7 +13,7 @@ returns-clause-named c =
     let v = c.args.self.now in
     let at = note_there i.notes.items v.states place n (ap (λ (x : ClosedView). x.states) c.self.view_is) c.requires c.index.ensures in
     subst (λ o. IfSome o (λ by. IfSome (slice_get v.states place) (λ s. IsNamedBy v.closed s cost by)))
-    (sym (c.no_dearer.ensures ∙ ap (λ xs. no_dearer xs n.least cost) c.as_slice.ensures.value))
+    (sym (c.no_dearer.ensures ∙ (ap (λ o. no_dearer c.as_slice.result.now o cost) c.get.ensures ∙ ap (λ xs. no_dearer xs n.least cost) c.as_slice.ensures.value)))
     (subst (λ (x : ClosedView). IfSome (no_dearer i.shuts.items n.least cost) (λ by. IfSome (slice_get x.states place) (λ s. IsNamedBy x.closed s cost by))) c.self.view_is
     (told_by i.task.now i.notes.items i.heads i.shuts.items i.entered c.self.invariant.0 place n cost at))
 
@@ -26,6 +26,6 @@ returns-clause-none c =
     let v = c.args.self.now in
     let at = note_there i.notes.items v.states place n (ap (λ (x : ClosedView). x.states) c.self.view_is) c.requires c.index.ensures in
     subst (λ o. IfNone o (IfSome (slice_get v.states place) (λ s. IsDearer v.closed s cost)))
-    (sym (c.no_dearer.ensures ∙ ap (λ xs. no_dearer xs n.least cost) c.as_slice.ensures.value))
+    (sym (c.no_dearer.ensures ∙ (ap (λ o. no_dearer c.as_slice.result.now o cost) c.get.ensures ∙ ap (λ xs. no_dearer xs n.least cost) c.as_slice.ensures.value)))
     (subst (λ (x : ClosedView). IfNone (no_dearer i.shuts.items n.least cost) (IfSome (slice_get x.states place) (λ s. IsDearer x.closed s cost))) c.self.view_is
     (told_of_none i.task.now i.notes.items i.heads i.shuts.items i.entered c.self.invariant.0 place n cost at))

@@ -24,7 +24,7 @@ invariant_of-self c =
     let task = c.requires.of_task ∙ sym (ap (λ (x : ClosedView). x.task) c.self.view_is) in
     let state = c.state.ensures ∙ ap (λ (m : Note). m.state) same in
     let is = c.value-value.ensures.value ∙ ap₂ hmax task state in
-    (kept_valued i.task.now i.notes.items i.heads i.shuts.items i.entered c.self.invariant.0 place n (record n { value = Some c.value-value.result }) c.value-value.result at refl refl refl refl is, c.self.invariant.1)
+    (kept_valued i.task.now i.notes.items i.heads i.shuts.items i.entered c.self.invariant.0 place n (record n { value = c.of.result }) c.value-value.result at refl refl refl c.of.ensures is, c.self.invariant.1, c.self.invariant.2)
 
 pub returns-clause-value : goal.returns-clause-value
 returns-clause-value c =
@@ -46,6 +46,6 @@ returns-clause-same c =
     let place = c.args.place in
     let states = ap (λ (x : ClosedView). x.states) c.self.view_is in
     let at = note_there i.notes.items c.args.self.now.states place n states c.requires.place c.index_mut.ensures.value in
-    let kept = map-set_same state_of i.notes.items place n (record n { value = Some c.value-value.result }) at refl in
+    let kept = map-set_same state_of i.notes.items place n (record n { value = c.of.result }) at refl in
     ap (λ (xs : List State). let x : ClosedView = record { task = i.task.now; states = xs; closed = map (closed_of xs) i.shuts.items; ready = i.ready } in x) kept
     ∙ c.self.view_is

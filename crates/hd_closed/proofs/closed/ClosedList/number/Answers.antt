@@ -31,6 +31,7 @@ invariant_of-self c =
           (subst (λ (xs : List Shut). HasNumbered xs entered) c.as_slice.ensures.value c.entered_from-self-inside.ensures.entered)
           (let bounded = c.entered_from-self-inside.ensures.bounded in let same = ap length c.as_slice.ensures.value in omega arith),
       c.self.invariant.1,
+      c.self.invariant.2,
     )
 
 pub returns-clause-closed : goal.returns-clause-closed

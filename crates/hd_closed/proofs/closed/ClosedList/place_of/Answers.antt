@@ -23,6 +23,7 @@ invariant_of-self-2 c =
           (kept_push i.task.now i.notes.items i.heads i.shuts.items i.entered c.self.invariant.0 c.add.new.heads s _ of
           (λ j at. c.in_default.ensures.none j (ap (λ (xs : List Note). slice_get (map state_of xs) j) c.as_slice.ensures.value ∙ (at ∙ ap Some c.in_ok-copy.ensures))) chained),
       c.self.invariant.1,
+      c.self.invariant.2,
     )
 
 pub returns-clause-begins : goal.returns-clause-begins

@@ -7,9 +7,9 @@ use Rattle.hd_open.proofs.open.OpenList.get.Goals as goal
 pub returns : goal.returns
 returns g c =
     let slots = c.self.inside.slots.items in
-    let i = c.arrival_of-arrival.result in
-    let filled = subst (λ xs. IsFilled xs i) c.as_slice.ensures.value c.arrival_of-arrival.ensures.filled in
-    let stands = subst (λ xs. place_at xs i ≡ c.args.place) c.as_slice.ensures.value c.arrival_of-arrival.ensures.place in
+    let i = c.arrival_by-arrival.result in
+    let filled = subst (λ xs. IsFilled xs i) c.as_slice.ensures.value c.arrival_by-arrival.ensures.filled in
+    let stands = subst (λ xs. place_at xs i ≡ c.args.place) c.as_slice.ensures.value c.arrival_by-arrival.ensures.place in
     c.as_ref.ensures.value
     ∙ (c.index.ensures
     ∙ (get_or_from_slice_get slots i (Some filled.0) c.index.result.now filled.1

@@ -22,9 +22,9 @@ invariant_of-self g c =
     sym (ap (λ o. o.gap) c.self.view_is) ∙ ap (option_map (λ h. (place_at slots h.arrival, h.total))) c.in-Some.is
     in
     let total = g.T.Waits.total in
-    subst (λ xs. IsKept total xs None c.self.inside.queue c.put_into.new.counts) (sym c.put_into.ensures.slots)
-    (kept_back total slots gap c.self.inside.queue c.self.inside.counts c.put_into.new.counts c.args.node
-    (subst (λ o. IsKept total slots o c.self.inside.queue c.self.inside.counts) c.in-Some.is c.self.invariant)
+    subst (λ xs. IsKept total xs None None c.self.inside.queue c.put_into.new.counts) (sym c.put_into.ensures.slots)
+    (kept_back total slots gap c.self.inside.hint c.self.inside.queue c.self.inside.counts c.put_into.new.counts c.args.node
+    (subst (λ o. IsKept total slots o c.self.inside.hint c.self.inside.queue c.self.inside.counts) c.in-Some.is c.self.invariant)
     (subst (IsGapOf (total c.args.node)) seen c.requires)
     (subst (λ xs. AreCounts xs c.put_into.new.counts) c.put_into.ensures.slots c.put_into.ensures.counted))
 

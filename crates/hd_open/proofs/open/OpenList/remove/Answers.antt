@@ -12,10 +12,10 @@ invariant_of-self g c =
     let total = g.T.Waits.total in
     let d = c.take_from-node.new.counts in
     let node = c.take_from-node.result.0 in
-    let i = c.arrival_of-arrival.result in
-    subst (λ xs. IsKept total xs (Some c.take_from-node.result.1) c.self.inside.queue d) (sym c.take_from-node.ensures.slots)
-    (subst (λ h. IsKept total (slice_set slots i None) (Some h) c.self.inside.queue d) (sym c.take_from-node.ensures.gap)
-    (kept_left total slots c.self.inside.queue d i node c.self.invariant.queued c.take_from-node.ensures.node
+    let i = c.arrival_by-arrival.result in
+    subst (λ xs. IsKept total xs (Some c.take_from-node.result.1) None c.self.inside.queue d) (sym c.take_from-node.ensures.slots)
+    (subst (λ h. IsKept total (slice_set slots i None) (Some h) None c.self.inside.queue d) (sym c.take_from-node.ensures.gap)
+    (kept_left total slots c.self.inside.queue d i node c.self.invariant.queued c.self.invariant.orderly c.self.invariant.latest c.take_from-node.ensures.node
     (subst (λ xs. AreCounts xs d) c.take_from-node.ensures.slots c.take_from-node.ensures.counted)))
 
 pub returns-clause-taken : goal.returns-clause-taken
@@ -23,8 +23,8 @@ returns-clause-taken g c =
     let slots = c.self.inside.slots.items in
     let total = g.T.Waits.total in
     let node = c.take_from-node.result.0 in
-    let i = c.arrival_of-arrival.result in
-    let stands : place_at slots i ≡ c.args.place = subst (λ xs. place_at xs i ≡ c.args.place) c.as_slice.ensures.value c.arrival_of-arrival.ensures.place in
+    let i = c.arrival_by-arrival.result in
+    let stands : place_at slots i ≡ c.args.place = subst (λ xs. place_at xs i ≡ c.args.place) c.as_slice.ensures.value c.arrival_by-arrival.ensures.place in
     subst (λ xs. TakesAt total c.args.self.now c.args.place node (open_view xs (Some c.take_from-node.result.1))) (sym c.take_from-node.ensures.slots)
     (subst (λ h. TakesAt total c.args.self.now c.args.place node (open_view (slice_set slots i None) (Some h))) (sym c.take_from-node.ensures.gap)
     (taken_at total slots c.args.self.now i c.args.place node (ap (λ o. o.nodes) c.self.view_is) c.take_from-node.ensures.node stands))

@@ -1,0 +1,111 @@
+//! Places and estimates in a few bytes.
+ghost use Rattle.std.specs.Prelude.{◌≡◌, ◌<◌, None, Some, IfSome};
+
+use hd_hmax::EstimateValue;
+use std::marker::Model;
+
+/// So many places have a number of 32 bits.
+pub(crate) const MAX_PLACES: usize = 4_294_967_295;
+
+/// A place, or none, in 32 bits.
+#[derive(Debug, Drop)]
+pub(crate) struct Place {
+    /// 0 for none, else one more than the place.
+    code: u32,
+}
+
+impl Model for Place {
+    ghost use Rattle.std.specs.Prelude.{ℕ, Option};
+    ghost use Rattle.hd_closed.specs.Short.{place_of_code};
+
+    ghost Value = { Option ℕ };
+
+    ghost view = { λ p. place_of_code p.code };
+}
+
+impl Place {
+    /// No place.
+    pub(crate) fn none() -> Place
+        ensures { result ≡ None }
+    {
+        Place { code: 0 }
+    }
+
+    /// A place.
+    pub(crate) fn of(place: usize) -> Place
+        requires { place < MAX_PLACES }
+        ensures { result ≡ Some place }
+    {
+        Place {
+            code: place as u32 + 1,
+        }
+    }
+
+    /// The place, if it is one.
+    pub(crate) fn get(&self) -> Option<usize>
+        ensures { result ≡ self.now }
+    {
+        if self.code == 0 {
+            None
+        } else {
+            Some((self.code - 1) as usize)
+        }
+    }
+}
+
+/// The value of an estimate, or none, in 64 bits.
+#[derive(Debug, Drop)]
+pub(crate) struct Known {
+    /// 0 for none, 1 where there is no way to the goal, else two more than the cost.
+    code: u64,
+}
+
+impl Model for Known {
+    ghost use Rattle.std.specs.Prelude.{Option};
+    ghost use Rattle.hd_hmax.specs.declared.estimate.EstimateValue.{EstimateValue};
+    ghost use Rattle.hd_closed.specs.Short.{value_of_code};
+
+    ghost Value = { Option EstimateValue };
+
+    ghost view = { λ k. value_of_code k.code };
+}
+
+impl Known {
+    /// No value.
+    pub(crate) fn none() -> Known
+        ensures { result ≡ None }
+    {
+        Known { code: 0 }
+    }
+
+    /// A value; none where it has more than 64 bits.
+    pub(crate) fn of(value: EstimateValue) -> Known
+        ensures { IfSome result (λ v. v ≡ value) }
+    {
+        match value {
+            EstimateValue::Cost(cost) => {
+                if cost < u128::from(u64::MAX - 1) {
+                    Known {
+                        code: cost as u64 + 2,
+                    }
+                } else {
+                    Known { code: 0 }
+                }
+            }
+            EstimateValue::Dead => Known { code: 1 },
+        }
+    }
+
+    /// The value, if there is one.
+    pub(crate) fn get(&self) -> Option<EstimateValue>
+        ensures { result ≡ self.now }
+    {
+        if self.code == 0 {
+            None
+        } else if self.code == 1 {
+            Some(EstimateValue::Dead)
+        } else {
+            Some(EstimateValue::Cost(u128::from(self.code - 2)))
+        }
+    }
+}

@@ -1,0 +1,18 @@
+use Rattle.std.proofs.Common.{ℕ, ◌*◌, refl, ap, ◌∙◌, arith}
+use Rattle.hd_open.specs.Live.{place_at}
+use Rattle.hd_open.proofs.Places.{place_at-le-all}
+use Rattle.hd_open.proofs.Counting.{counted_cover}
+use Rattle.hd_open.proofs.slots.cover.Goals as goal
+
+pub overflow_sub-counts : goal.overflow_sub-counts
+overflow_sub-counts g c =
+    let all = place_at-le-all c.args.slots.now (8 * c.start_of.result) in
+    let is = c.place_of-before.ensures in
+    let count = c.requires.counted.all in
+    omega arith
+
+pub returns-in_ok-push-clause-counted : goal.returns-in_ok-push-clause-counted
+returns-in_ok-push-clause-counted g c =
+    let slots = c.args.slots.now in
+    counted_cover slots c.args.counts.now (record { parts = c.push.new.self; all = c.args.counts.now.all }) c.place_of-before.result c.requires.counted
+    (omega arith) (c.place_of-before.ensures ∙ ap (λ (s : ℕ). place_at slots (8 * s)) c.start_of.ensures.value) c.in_ok-push.ensures.items refl
