@@ -1,0 +1,4 @@
+pub mod Batches
+pub mod Begins
+pub mod Parcels
+pub mod Steps

@@ -1,0 +1,50 @@
+-- A group that goes out, and the log that it is of.
+use Rattle.std.proofs.Common.{◌≡◌, ℕ, ◌-◌, Option, Some, None, List, ◌++◌, length, drop, refl, sym, ap, subst, ◌∙◌, append_assoc}
+use Rattle.std.specs.Prelude.{option_map, IfSome}
+use Rattle.std.specs.declared.ops.Range.{Range}
+use Rattle.std.proofs.lemmas.List.{take-append-drop}
+use Rattle.std.proofs.lemmas.Option.{none-some, same_Some}
+use Rattle.std.proofs.Math.Seq.{drop-append_seam}
+use Rattle.hd_task.specs.declared.plan.Kid.{Kid}
+use Rattle.hd_desk.specs.Views.{BeginsWith}
+use Rattle.hd_tickets.specs.Queue.{QueueView, group_next}
+use Rattle.hd_journal.specs.Group.{GroupView}
+use Rattle.hd_book.specs.View.{BookView}
+use Rattle.hd_book.specs.Steps.{after_take}
+use Rattle.hd_book.specs.Groups.{entries_between, group_of, next_group}
+use Rattle.hd_book.proofs.Between.{group_starts}
+use Rattle.hd_threads.specs.Shared.{IsGroupAt}
+
+-- the entries between two numbers stand in the log
+between_has : (entries : List Kid) (first end : ℕ) → BeginsWith (drop first entries) (entries_between entries first end)
+between_has entries first end = (drop (end - first) (drop first entries), sym (take-append-drop (end - first) (drop first entries)))
+
+range_at : (entries : List Kid) (first : ℕ) (r : Range ℕ) → r.start ≡ first → IsGroupAt entries first (group_of entries r)
+range_at entries first r e = record {
+  begins = e;
+  has = subst (λ n. BeginsWith (drop n entries) (entries_between entries r.start r.end)) e (between_has entries r.start r.end);
+}
+
+-- the group that goes out next begins behind what is acknowledged
+pub next_at : (entries : List Kid) (q : QueueView) (g : GroupView) → Some g ≡ option_map (group_of entries) (group_next q) → IsGroupAt entries q.acknowledged g
+next_at entries q g e =
+    elim (group_next q) as (λ o. group_next q ≡ o → Some g ≡ option_map (group_of entries) o → IsGroupAt entries q.acknowledged g) [
+      | None ↦ λ _ e. absurd (none-some g (sym e))
+      | Some r ↦ λ is e.
+          subst (IsGroupAt entries q.acknowledged) (sym (same_Some g (group_of entries r) e))
+          (range_at entries q.acknowledged r (group_starts q r (sym is)))
+    ] refl e
+
+-- a list is a beginning of a log, which has a group behind it: with the group it is a beginning too
+pub begins_with_group : (log kids more : List Kid) (first : ℕ) → first ≡ length kids → BeginsWith log kids → BeginsWith (drop first log) more → BeginsWith log (kids ++ more)
+begins_with_group log kids more first at is has =
+    let rest : drop first log ≡ is.0 = ap (λ n. drop n log) at ∙ (ap (drop (length kids)) is.1 ∙ drop-append_seam kids is.0) in
+    (has.0, is.1 ∙ (ap (λ l. kids ++ l) (sym rest ∙ has.1) ∙ sym (append_assoc kids more has.0)))
+
+-- what went out of a book is such a group, where so many entries are acknowledged
+pub taken_at :
+    (g : Option GroupView) (b b' : BookView) (n : ℕ) → n ≡ b.batches.queue.acknowledged → b' ≡ after_take b → g ≡ next_group b → IfSome g (IsGroupAt b'.state.entries n)
+taken_at None b b' n e after is = tt
+taken_at (Some g) b b' n e after is =
+    subst (λ (x : BookView). IsGroupAt x.state.entries n g) (sym after)
+    (subst (λ (m : ℕ). IsGroupAt b.state.entries m g) (sym e) (next_at b.state.entries b.batches.queue g is))

@@ -1,0 +1,25 @@
+use Rattle.std.proofs.Common.{◌≡◌, ap, subst, ◌∙◌}
+use Rattle.std.specs.Prelude.{IfSome}
+use Rattle.crossbeam_queue.specs.Passes.{view}
+use Rattle.hd_node.specs.declared.batch.Batch.{Batch}
+use Rattle.hd_entries.specs.Growing.{kids_in}
+use Rattle.hd_entries.proofs.Children.{few_kids}
+use Rattle.hd_turns.specs.Calls.{batch_of, after_batch, after_numbering}
+use Rattle.hd_threads.proofs.Batches.{batch_in}
+use Rattle.hd_threads.proofs.working.commit_next.Goals as goal
+
+pub count_kids-kids-requires : goal.count_kids-kids-requires
+count_kids-kids-requires g c = record { fits = few_kids c.in-Some.batch.outcomes c.as_slice.result.now c.as_slice.ensures c.in-Some.batch.few }
+
+pub returns-in-Ok-clause-committed : goal.returns-in-Ok-clause-committed
+returns-in-Ok-clause-committed g c =
+    let w = c.args.worker.now in
+    let outcomes = c.in-Some.batch.outcomes in
+    let taken = c.in-Ok.taken in
+    let these : outcomes ≡ batch_of w = subst (λ o. IfSome o (λ (b : Batch). b.outcomes ≡ batch_of w)) c.in-Some.is c.in_ok-batch.ensures.batch in
+    let given : c.next_batch.new.self ≡ after_batch w = subst (λ o. IfSome o (λ _. c.next_batch.new.self ≡ after_batch w)) c.in-Some.is c.in_ok-batch.ensures.given in (
+      batch_in (view c.args.pass.now).seen.log c.args.share.now.amount c.args.seat.now w (view c.commit_batch.new.pass).seen.log c.commit_batch.new.share.amount c.offer.new.seat c.committed.new.self
+          (view c.args.pass.now).seen.task outcomes taken.first taken.bound
+          c.requires.task these c.in-Ok.ensures.committed (c.committed.ensures ∙ ap (after_numbering taken.first) given) c.in-Ok.ensures.counted c.offer.ensures.offers,
+      c.count_kids-kids.ensures ∙ ap kids_in (c.as_slice.ensures ∙ these),
+    )

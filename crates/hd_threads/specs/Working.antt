@@ -1,0 +1,77 @@
+-- What a worker does under the lock, and beside it. (The search is HDA*, Kishimoto, Fukunaga and Botea 2013.)
+use Rattle.std.specs.Prelude.{◌≡◌, ℕ, ◌+◌, ◌≤◌, List, [], ◌∷◌, ◌++◌, length, flat_map, unwrap_or, Option, Some, None}
+use Rattle.hd_task.specs.declared.task.Task.{Task}
+use Rattle.hd_task.specs.declared.plan.Kid.{Kid}
+use Rattle.hd_task.specs.Entries.{plans_of}
+use Rattle.hd_task.specs.Expansions.{bound_of}
+use Rattle.hd_node.specs.declared.batch.Outcome.{Outcome}
+use Rattle.hd_bound.specs.Bound.{SeatView}
+use Rattle.hd_desk.specs.Views.{BeginsWith}
+use Rattle.hd_entries.specs.declared.refusal.Refusal.{Refusal}
+use Rattle.hd_entries.specs.declared.refusal.Refusal.TheVariants as refusals
+use Rattle.hd_entries.specs.Settling.{entry_of}
+use Rattle.hd_entries.specs.Growing.{kids_in}
+use Rattle.hd_entries.specs.Holding.{Released}
+use Rattle.hd_turns.specs.Worker.{WorkerView}
+use Rattle.hd_turns.specs.Calls.{batch_of, after_batch, after_numbering, after_releasing}
+use Rattle.hd_search.specs.declared.fault.RunFault.{RunFault}
+use Rattle.hd_search.specs.declared.fault.RunFault.TheVariants.{Full, NotOut, NoMemory}
+use Rattle.hd_threads.specs.declared.working.Committed.{Committed}
+use Rattle.hd_threads.specs.declared.working.Committed.TheVariants.{Taken, Halted, Idle}
+use Rattle.hd_threads.specs.declared.working.Redemption.{Redemption}
+use Rattle.hd_threads.specs.declared.working.Redemption.TheVariants.{Opened, Waiting, Void}
+
+-- what is told of why the entries refuse a batch: for want of room or of memory, or for what it says
+abbrev pub fault_of : Refusal → RunFault
+fault_of refusals.Full = Full
+fault_of refusals.NoMemory = NoMemory
+fault_of refusals.UnknownParent = NotOut
+fault_of refusals.NotAKid = NotOut
+fault_of refusals.SettledBefore = NotOut
+fault_of refusals.StateDiffers = NotOut
+fault_of refusals.NotDominated = NotOut
+fault_of refusals.BelowBound = NotOut
+
+-- the bound of the plans that a log's entries name
+abbrev pub bound_by : Task → List Kid → Option ℕ
+bound_by t log = bound_of t (unwrap_or (plans_of log) [])
+
+-- a bound is that of a log, which is of a task
+abbrev pub IsBoundBy : Option Task → List Kid → Option ℕ → Type 0
+IsBoundBy None log bound = ⊥
+IsBoundBy (Some t) log bound = bound ≡ bound_by t log
+
+-- a batch of these outcomes came into the book of a task: behind a log that began with what was seen before, of so many entries, the log
+-- has now its expansions, and nothing else; and this is the bound of all
+pub record IsIn (task : Option Task) (before : List Kid) (outcomes : List Outcome) (after : List Kid) (first : ℕ) (bound : Option ℕ) : Type 0 where
+  pub earlier : List Kid
+  pub begins : BeginsWith earlier before
+  pub number : first ≡ length earlier
+  pub gains : after ≡ earlier ++ flat_map entry_of outcomes
+  pub least : IsBoundBy task after bound
+
+-- a bound is offered, if there is one
+abbrev pub with_offer : Option ℕ → List ℕ → List ℕ
+with_offer None offers = offers
+with_offer (Some cost) offers = offers ++ cost ∷ []
+
+-- a worker's next batch is in the book: its expansions have the numbers behind those of earlier entries, and the bound is offered
+pub record IsBatchIn (before : List Kid) (count : ℕ) (seat : SeatView) (w : WorkerView) (after : List Kid) (count' : ℕ) (seat' : SeatView) (w' : WorkerView) : Type 0 where
+  pub first : ℕ
+  pub bound : Option ℕ
+  pub is : IsIn (Some w.task) before (batch_of w) after first bound
+  pub numbered : w' ≡ after_numbering first (after_batch w)
+  pub counted : count' ≡ count + 1
+  pub offered : seat'.offers ≡ with_offer bound seat.offers
+
+-- what became of it: it is in the book, and there is room for what it releases; the book refused it; or there was none
+abbrev pub HasCommitted : List Kid → ℕ → SeatView → WorkerView → List Kid → ℕ → SeatView → WorkerView → Committed → Type 0
+HasCommitted before count seat w after count' seat' w' (Taken held) = IsBatchIn before count seat w after count' seat' w' × (held.kids ≡ kids_in (batch_of w))
+HasCommitted before count seat w after count' seat' w' Halted = (count' ≡ count) × (seat' ≡ seat)
+HasCommitted before count seat w after count' seat' w' Idle = (w.outcomes ≡ []) × (w' ≡ w) × (after ≡ before) × (count' ≡ count) × (seat' ≡ seat)
+
+-- what became of a ticket whose batch releases so many parcels at most: they came to the worker; or nothing has changed
+abbrev pub HasRedeemed : ℕ → WorkerView → WorkerView → Redemption → Type 0
+HasRedeemed most w w' Opened = (parcels : List Released) × (length parcels ≤ most) × (w' ≡ after_releasing parcels w)
+HasRedeemed most w w' (Waiting held) = (w' ≡ w) × (held.kids ≡ most)
+HasRedeemed most w w' Void = w' ≡ w

@@ -1,0 +1,201 @@
+//! What the committer does.
+ghost use Rattle.std.specs.Prelude.{◌≡◌, ◌+◌, ◌<◌, length, IfOk, IfErr, IfSome, OnOk, OnErr};
+ghost use Rattle.crossbeam_queue.specs.Passes.{view};
+ghost use Rattle.hd_desk.specs.Passes.{IsOutside};
+ghost use Rattle.hd_desk.specs.Views.{BeginsWith};
+ghost use Rattle.hd_journal.specs.Journal.{kids_of};
+ghost use Rattle.hd_search.specs.Fault.{of_journal};
+ghost use Rattle.hd_search.specs.Searching.{Grows};
+ghost use Rattle.hd_threads.specs.Shared.{IsGroupAt};
+ghost use Rattle.hd_threads.specs.Committing.{HasRun, StopsRound};
+
+use crate::SharedBook;
+use hd_base::NoMemory;
+use hd_book::{Flushed, Group, NotOut};
+use hd_desk::{Lock, Pass};
+use hd_journal::{Journal, JournalError};
+use hd_search::RunFault;
+use hd_store::Store;
+use std::ops::Range;
+use std::sync::Wait;
+use std::sync::ledger::{Ledger, Share};
+
+/// What a round of the committer did.
+#[derive(Clone, Debug, PartialEq, Eq, Drop)]
+pub enum Round {
+    /// The entries with these numbers are appended, and acknowledged.
+    Flushed(Range<u64>),
+    /// Nothing waited.
+    Idle,
+}
+
+/// What is told of a journal's error.
+fn told_of(error: JournalError) -> RunFault
+    ensures { result ≡ of_journal error }
+{
+    match error {
+        JournalError::Damaged(at) => RunFault::Damaged(at),
+        JournalError::Device => RunFault::Device,
+        JournalError::Failed => RunFault::Failed,
+        JournalError::NoMemory => RunFault::NoMemory,
+        JournalError::NotAJournal
+        | JournalError::OtherTask
+        | JournalError::JournalExists
+        | JournalError::NotOut => RunFault::NotOut,
+    }
+}
+
+/// Takes the next group out of the book, if one is due; a book without room for its pairs is halted.
+///
+/// # Errors
+/// `NoMemory` where there is no room for them.
+fn take_group<'t, L: Ledger, A: Ledger, R: Wait>(
+    rt: &R,
+    lock: &Lock<SharedBook<'t, L, A>>,
+    pass: &mut Pass<SharedBook<'t, L, A>>,
+    share: &mut Share<A>,
+) -> Result<Option<Group>, NoMemory>
+    requires pass { IsOutside lock.now.place pass.old }
+    requires whole { share.old.parts ≡ A.parts }
+    ensures pass { IsOutside lock.now.place pass.new }
+    ensures parts { (view pass.new).parts ≡ (view pass.old).parts }
+    ensures task { (view pass.new).seen.task ≡ (view pass.old).seen.task }
+    ensures grows { BeginsWith (view pass.new).seen.log (view pass.old).seen.log }
+    ensures group { IfOk result (λ g. IfSome g
+        (IsGroupAt (view pass.new).seen.log share.old.amount)) }
+    ensures share { share.new.parts ≡ share.old.parts }
+    ensures amount { share.new.amount ≡ share.old.amount }
+{
+    let mut book = lock.enter(rt, pass);
+    let taken = book.take_pending(share);
+    lock.leave(rt, pass, book);
+    taken
+}
+
+/// Acknowledges a group that was appended; a book that does not have it out is halted.
+///
+/// # Errors
+/// `NotOut` where it is not the group that is out.
+fn acknowledge<'t, L: Ledger, A: Ledger, R: Wait>(
+    rt: &R,
+    lock: &Lock<SharedBook<'t, L, A>>,
+    pass: &mut Pass<SharedBook<'t, L, A>>,
+    share: &mut Share<A>,
+    flushed: Flushed,
+) -> Result<(), NotOut>
+    requires pass { IsOutside lock.now.place pass.old }
+    requires some { 0 < share.old.parts }
+    ensures pass { IsOutside lock.now.place pass.new }
+    ensures parts { (view pass.new).parts ≡ (view pass.old).parts }
+    ensures task { (view pass.new).seen.task ≡ (view pass.old).seen.task }
+    ensures grows { BeginsWith (view pass.new).seen.log (view pass.old).seen.log }
+    ensures share { share.new.parts ≡ share.old.parts }
+    ensures counted { OnOk result (share.new.amount ≡ share.old.amount + length flushed.kids) }
+    ensures uncounted { OnErr result (share.new.amount ≡ share.old.amount) }
+{
+    let mut book = lock.enter(rt, pass);
+    let done = book.acknowledge(share, flushed);
+    lock.leave(rt, pass, book);
+    done
+}
+
+/// Hands back a group that was not appended, with which the book is halted.
+fn hand_back<'t, L: Ledger, A: Ledger, R: Wait>(
+    rt: &R,
+    lock: &Lock<SharedBook<'t, L, A>>,
+    pass: &mut Pass<SharedBook<'t, L, A>>,
+    group: Group,
+)
+    requires pass { IsOutside lock.now.place pass.old }
+    ensures pass { IsOutside lock.now.place pass.new }
+    ensures parts { (view pass.new).parts ≡ (view pass.old).parts }
+    ensures task { (view pass.new).seen.task ≡ (view pass.old).seen.task }
+    ensures grows { BeginsWith (view pass.new).seen.log (view pass.old).seen.log }
+{
+    let mut book = lock.enter(rt, pass);
+    book.hand_back(group);
+    lock.leave(rt, pass, book);
+}
+
+/// Appends the group that is out, outside the lock, and acknowledges it; where that fails, the group is handed back, or the book is halted.
+///
+/// # Errors
+/// Why it is not appended, or `NotOut` where it is not the group that is out.
+#[tactic(auto, using(crate::proofs::Begins::begins_along))]
+fn append_group<'t, L: Ledger, A: Ledger, S: Store, R: Wait>(
+    rt: &R,
+    lock: &Lock<SharedBook<'t, L, A>>,
+    pass: &mut Pass<SharedBook<'t, L, A>>,
+    share: &mut Share<A>,
+    journal: &mut Journal<S>,
+    group: Group,
+) -> Result<Round, RunFault>
+    requires pass { IsOutside lock.now.place pass.old }
+    requires some { 0 < share.old.parts }
+    requires begins { BeginsWith (view pass.old).seen.log (kids_of journal.old) }
+    requires counted { share.old.amount ≡ length (kids_of journal.old) }
+    requires group { IsGroupAt (view pass.old).seen.log share.old.amount group }
+    ensures pass { IsOutside lock.now.place pass.new }
+    ensures parts { (view pass.new).parts ≡ (view pass.old).parts }
+    ensures task { (view pass.new).seen.task ≡ (view pass.old).seen.task }
+    ensures grows { BeginsWith (view pass.new).seen.log (view pass.old).seen.log }
+    ensures begins { BeginsWith (view pass.new).seen.log (kids_of journal.new) }
+    ensures share { share.new.parts ≡ share.old.parts }
+    ensures counted { OnOk result (share.new.amount ≡ length (kids_of journal.new)) }
+    ensures ran { IfOk result (HasRun (kids_of journal.old) (kids_of journal.new)) }
+    ensures journal { OnOk result (Grows journal.old journal.new) }
+    ensures kids { BeginsWith (kids_of journal.new) (kids_of journal.old) }
+    ensures told { IfErr result (StopsRound journal.old journal.new share.new.amount) }
+{
+    let start = journal.entries().len() as u64;
+    match journal.append(group) {
+        Ok(flushed) => match acknowledge(rt, lock, pass, share, flushed) {
+            Ok(()) => Ok(Round::Flushed(start..journal.entries().len() as u64)),
+            Err(_) => Err(RunFault::NotOut),
+        },
+        Err((group, error)) => {
+            hand_back(rt, lock, pass, group);
+            Err(told_of(error))
+        }
+    }
+}
+
+/// One round of the committer: takes the next group out of the book under the lock, if one is due, appends it to the journal outside the
+/// lock, and acknowledges it under the lock.
+///
+/// The journal's list is a beginning of the log that the pass has seen, and the entries that are acknowledged are just those of the
+/// journal: so it is before a round, and so it is after one, unless that answers `NotOut`. A group that goes out is whole batches.
+///
+/// # Errors
+/// `NoMemory` where there is no room for the group, `Device` or `Failed` where the journal does not take it: it is handed back, nothing is
+/// appended. `NotOut` where the journal can't take it, or the book does not have it out any more. After each of them the book is halted.
+#[tactic(auto, using(crate::proofs::Begins::begins_along, crate::proofs::Begins::begins_itself))]
+pub fn committer_round<'t, L: Ledger, A: Ledger, S: Store, R: Wait>(
+    rt: &R,
+    lock: &Lock<SharedBook<'t, L, A>>,
+    pass: &mut Pass<SharedBook<'t, L, A>>,
+    share: &mut Share<A>,
+    journal: &mut Journal<S>,
+) -> Result<Round, RunFault>
+    requires pass { IsOutside lock.now.place pass.old }
+    requires whole { share.old.parts ≡ A.parts }
+    requires some { 0 < A.parts }
+    requires begins { BeginsWith (view pass.old).seen.log (kids_of journal.old) }
+    requires counted { share.old.amount ≡ length (kids_of journal.old) }
+    ensures pass { IsOutside lock.now.place pass.new }
+    ensures parts { (view pass.new).parts ≡ (view pass.old).parts }
+    ensures task { (view pass.new).seen.task ≡ (view pass.old).seen.task }
+    ensures grows { BeginsWith (view pass.new).seen.log (view pass.old).seen.log }
+    ensures begins { BeginsWith (view pass.new).seen.log (kids_of journal.new) }
+    ensures share { share.new.parts ≡ share.old.parts }
+    ensures counted { OnOk result (share.new.amount ≡ length (kids_of journal.new)) }
+    ensures ran { IfOk result (HasRun (kids_of journal.old) (kids_of journal.new)) }
+    ensures journal { OnOk result (Grows journal.old journal.new) }
+    ensures kids { BeginsWith (kids_of journal.new) (kids_of journal.old) }
+    ensures told { IfErr result (StopsRound journal.old journal.new share.new.amount) }
+{
+    match take_group(rt, lock, pass, share)? {
+        Some(group) => append_group(rt, lock, pass, share, journal, group),
+        None => Ok(Round::Idle),
+    }
+}

@@ -1,0 +1,194 @@
+//! When a search is over, and what its book says then.
+ghost use Rattle.std.specs.Prelude.{◌≡◌, ◌<◌, length, IfOk, IfErr, IfSome, OnOk};
+ghost use Rattle.crossbeam_queue.specs.Passes.{view};
+ghost use Rattle.hd_desk.specs.Passes.{IsOutside};
+ghost use Rattle.hd_desk.specs.Views.{BeginsWith};
+ghost use Rattle.hd_journal.specs.Journal.{kids_of};
+ghost use Rattle.hd_search.specs.Searching.{Grows};
+ghost use Rattle.hd_threads.specs.Committing.{StopsLater};
+ghost use Rattle.hd_threads.specs.Ending.{is_reached, outcome_of, IsOutcomeOf, IsTrueOutcome, IsCountedBy};
+
+use crate::SharedBook;
+use crate::committing::{Round, committer_round};
+use crate::pausing::Pause;
+use hd_book::{Counts, Verdict};
+use hd_desk::{Lock, Pass};
+use hd_journal::Journal;
+use hd_search::RunFault;
+use hd_store::Store;
+use hd_task::{Departure, Plan};
+use std::sync::Wait;
+use std::sync::ledger::{Ledger, Share};
+
+/// What a search by threads answers.
+#[derive(Debug, Drop)]
+pub enum Outcome {
+    /// The plan is valid, and no valid plan costs less.
+    Optimal(Plan),
+    /// No plan is valid.
+    NoPlan,
+    /// A number left the range at this departure, the first; with the best plan that was found, if there is one.
+    RangeLeft(Departure, Option<Plan>),
+    /// There are as many entries as the limit says; with the best plan that was found, if there is one.
+    Stopped(Option<Plan>),
+}
+
+/// What a search by threads ends with: its answer, and how far it came.
+#[derive(Debug, Drop)]
+pub struct Concluded {
+    pub outcome: Outcome,
+    pub counts: Counts,
+}
+
+/// What is told of a verdict.
+fn outcome_of(verdict: Verdict) -> Outcome
+    ensures { result ≡ outcome_of verdict }
+{
+    match verdict {
+        Verdict::Optimal(plan) => Outcome::Optimal(plan),
+        Verdict::NoPlan => Outcome::NoPlan,
+        Verdict::RangeLeft(departure, plan) => Outcome::RangeLeft(departure, plan),
+    }
+}
+
+/// Whether a limit is given, and so many entries reach it.
+pub(crate) fn is_reached(limit: Option<u64>, count: u64) -> bool
+    ensures { result ≡ is_reached limit count }
+{
+    match limit {
+        Some(most) => most <= count,
+        None => false,
+    }
+}
+
+/// Whether a search is over: its book is halted, or each entry is acknowledged, and all is settled, or there are as many entries as the
+/// limit says.
+pub fn is_over<'t, L: Ledger, A: Ledger, R: Wait>(
+    rt: &R,
+    lock: &Lock<SharedBook<'t, L, A>>,
+    pass: &mut Pass<SharedBook<'t, L, A>>,
+    limit: Option<u64>,
+) -> bool
+    requires { IsOutside lock.now.place pass.old }
+    ensures pass { IsOutside lock.now.place pass.new }
+    ensures parts { (view pass.new).parts ≡ (view pass.old).parts }
+    ensures task { (view pass.new).seen.task ≡ (view pass.old).seen.task }
+    ensures grows { BeginsWith (view pass.new).seen.log (view pass.old).seen.log }
+{
+    let book = lock.enter(rt, pass);
+    let counts = book.counts();
+    let ended = counts.settled == counts.posted || is_reached(limit, counts.entries);
+    let written = counts.acknowledged == counts.entries;
+    let over = book.is_halted() || ended && written;
+    lock.leave(rt, pass, book);
+    over
+}
+
+/// Takes rounds of the committer until the search is over and a further round finds nothing to append; it waits longer and longer while
+/// there is nothing. A book that is halted takes no more batches, so then all its entries are appended.
+///
+/// # Errors
+/// Those of a round.
+pub fn commit_all<'t, L: Ledger, A: Ledger, S: Store, R: Wait>(
+    rt: &R,
+    lock: &Lock<SharedBook<'t, L, A>>,
+    pass: &mut Pass<SharedBook<'t, L, A>>,
+    share: &mut Share<A>,
+    journal: &mut Journal<S>,
+    limit: Option<u64>,
+) -> Result<(), RunFault>
+    requires pass { IsOutside lock.now.place pass.old }
+    requires whole { share.old.parts ≡ A.parts }
+    requires some { 0 < A.parts }
+    requires begins { BeginsWith (view pass.old).seen.log (kids_of journal.old) }
+    requires counted { share.old.amount ≡ length (kids_of journal.old) }
+    ensures pass { IsOutside lock.now.place pass.new }
+    ensures parts { (view pass.new).parts ≡ (view pass.old).parts }
+    ensures task { (view pass.new).seen.task ≡ (view pass.old).seen.task }
+    ensures grows { BeginsWith (view pass.new).seen.log (view pass.old).seen.log }
+    ensures begins { BeginsWith (view pass.new).seen.log (kids_of journal.new) }
+    ensures share { share.new.parts ≡ share.old.parts }
+    ensures counted { OnOk result (share.new.amount ≡ length (kids_of journal.new)) }
+    ensures journal { OnOk result (Grows journal.old journal.new) }
+    ensures kids { BeginsWith (kids_of journal.new) (kids_of journal.old) }
+    ensures told { IfErr result (StopsLater journal.old journal.new) }
+{
+    let mut pause = Pause::new();
+    let mut over = false;
+    for _round in rt.forever() {
+        match committer_round(rt, lock, pass, share, journal)? {
+            Round::Flushed(_) => pause.reset(),
+            Round::Idle => {
+                if over {
+                    return Ok(());
+                }
+                over = is_over(rt, lock, pass, limit);
+                if !over {
+                    pause.wait(rt);
+                }
+            }
+        }
+    }
+    unreachable!()
+}
+
+/// What a book says that is at its end, where the journal has its entries.
+///
+/// # Errors
+/// `NotOut` where it is not at its end, or the journal does not have its entries; `NoMemory` where there is no room for a plan.
+fn said_by<L: Ledger, A: Ledger, S: Store>(
+    book: &SharedBook<'_, L, A>,
+    journal: &Journal<S>,
+    limit: Option<u64>,
+) -> Result<Concluded, RunFault>
+    requires begins { BeginsWith book.now.state.entries (kids_of journal.now) }
+    ensures answer { IfOk result (λ e.
+        IsOutcomeOf book.now.state.task limit (kids_of journal.now) e.outcome) }
+    ensures truth { IfOk result (λ e. IsTrueOutcome book.now.state.task e.outcome) }
+    ensures counts { IfOk result (λ e. IsCountedBy (kids_of journal.now) e.outcome e.counts) }
+{
+    let counts = book.counts();
+    let written = journal.entries().len() as u64;
+    if counts.entries != written || counts.acknowledged != written {
+        return Err(RunFault::NotOut);
+    }
+    if let Some(verdict) = book.verdict()? {
+        let outcome = outcome_of(verdict);
+        return Ok(Concluded { outcome, counts });
+    }
+    if !is_reached(limit, counts.entries) {
+        return Err(RunFault::NotOut);
+    }
+    let outcome = Outcome::Stopped(book.extract()?);
+    Ok(Concluded { outcome, counts })
+}
+
+/// What the book says under the lock, at the end of a search, where the journal has its entries: just those, all of them acknowledged.
+///
+/// # Errors
+/// `NotOut` where the search is not at its end, or the journal does not have the book's entries; `NoMemory` where there is no room for a
+/// plan.
+pub fn answer<'t, L: Ledger, A: Ledger, S: Store, R: Wait>(
+    rt: &R,
+    lock: &Lock<SharedBook<'t, L, A>>,
+    pass: &mut Pass<SharedBook<'t, L, A>>,
+    journal: &Journal<S>,
+    limit: Option<u64>,
+) -> Result<Concluded, RunFault>
+    requires pass { IsOutside lock.now.place pass.old }
+    requires begins { BeginsWith (view pass.old).seen.log (kids_of journal.now) }
+    ensures pass { IsOutside lock.now.place pass.new }
+    ensures parts { (view pass.new).parts ≡ (view pass.old).parts }
+    ensures task { (view pass.new).seen.task ≡ (view pass.old).seen.task }
+    ensures grows { BeginsWith (view pass.new).seen.log (view pass.old).seen.log }
+    ensures answer { IfSome (view pass.old).seen.task (λ t. IfOk result (λ e.
+        IsOutcomeOf t limit (kids_of journal.now) e.outcome)) }
+    ensures truth { IfSome (view pass.old).seen.task (λ t. IfOk result (λ e.
+        IsTrueOutcome t e.outcome)) }
+    ensures counts { IfOk result (λ e. IsCountedBy (kids_of journal.now) e.outcome e.counts) }
+{
+    let book = lock.enter(rt, pass);
+    let said = said_by(&book, journal, limit);
+    lock.leave(rt, pass, book);
+    said
+}

@@ -1,0 +1,46 @@
+//! How a search is halted, and a ticket given up.
+ghost use Rattle.std.specs.Prelude.{◌≡◌};
+ghost use Rattle.crossbeam_queue.specs.Passes.{view};
+ghost use Rattle.hd_desk.specs.Passes.{IsOutside};
+ghost use Rattle.hd_desk.specs.Views.{BeginsWith};
+
+use crate::SharedBook;
+use hd_book::Ticket;
+use hd_desk::{Lock, Pass};
+use std::sync::Wait;
+use std::sync::ledger::Ledger;
+
+/// Halts the book, after which it takes no batch.
+pub fn halt<'t, L: Ledger, A: Ledger, R: Wait>(
+    rt: &R,
+    lock: &Lock<SharedBook<'t, L, A>>,
+    pass: &mut Pass<SharedBook<'t, L, A>>,
+)
+    requires { IsOutside lock.now.place pass.old }
+    ensures pass { IsOutside lock.now.place pass.new }
+    ensures parts { (view pass.new).parts ≡ (view pass.old).parts }
+    ensures task { (view pass.new).seen.task ≡ (view pass.old).seen.task }
+    ensures grows { BeginsWith (view pass.new).seen.log (view pass.old).seen.log }
+{
+    let mut book = lock.enter(rt, pass);
+    book.halt();
+    lock.leave(rt, pass, book);
+}
+
+/// Halts the book, and spends a ticket: what it releases is dropped.
+pub fn give_up<'t, L: Ledger, A: Ledger, R: Wait>(
+    rt: &R,
+    lock: &Lock<SharedBook<'t, L, A>>,
+    pass: &mut Pass<SharedBook<'t, L, A>>,
+    ticket: Ticket,
+)
+    requires { IsOutside lock.now.place pass.old }
+    ensures pass { IsOutside lock.now.place pass.new }
+    ensures parts { (view pass.new).parts ≡ (view pass.old).parts }
+    ensures task { (view pass.new).seen.task ≡ (view pass.old).seen.task }
+    ensures grows { BeginsWith (view pass.new).seen.log (view pass.old).seen.log }
+{
+    let mut book = lock.enter(rt, pass);
+    book.give_up(ticket);
+    lock.leave(rt, pass, book);
+}

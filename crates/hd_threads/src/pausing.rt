@@ -1,0 +1,43 @@
+//! How a thread waits that has nothing to do.
+use std::sync::Wait;
+use std::thread::{self, Parker};
+use std::time::Duration;
+
+/// How often a thread lets others run, before it sleeps.
+const YIELDS: u32 = 32;
+
+/// How long its first sleep is, in microseconds. Each later one is twice as long as the one before.
+const FIRST_SLEEP: u64 = 16;
+
+/// How often the length is doubled.
+const DOUBLINGS: u32 = 7;
+
+/// The waits of a thread that has nothing to do: they grow, up to about two milliseconds, until it has something to do again.
+#[derive(Clone, Copy, Debug, Drop)]
+pub struct Pause {
+    waits: u32,
+}
+
+impl Pause {
+    /// No wait yet.
+    pub fn new() -> Pause {
+        Pause { waits: 0 }
+    }
+
+    /// There was something to do: the next wait is short again.
+    pub fn reset(&mut self) {
+        self.waits = 0;
+    }
+
+    /// Waits, longer than the last time.
+    pub fn wait<R: Wait>(&mut self, rt: &R) {
+        if self.waits < YIELDS {
+            thread::yield_now();
+        } else {
+            let doublings = (self.waits - YIELDS).min(DOUBLINGS);
+            let length = Duration::from_micros(FIRST_SLEEP << doublings);
+            Parker::new().park_timeout(rt, length);
+        }
+        self.waits = self.waits.saturating_add(1);
+    }
+}

@@ -1,0 +1,126 @@
+//! What a worker's thread holds from turn to turn.
+ghost use Rattle.std.specs.Prelude.{◌≡◌, ◌<◌, ◌≤◌, true, [], ◌∷◌, ◌++◌, IfOk, IfSome, IfNone};
+ghost use Rattle.std.specs.VecDeque.{deque_len, deque_capacity};
+ghost use Rattle.crossbeam_queue.specs.Passes.{view};
+ghost use Rattle.hd_threads.specs.declared.progress.TheConstants.{MOST_TICKETS};
+ghost use Rattle.hd_desk.specs.Passes.{IsOutside};
+ghost use Rattle.hd_desk.specs.Views.{BeginsWith};
+
+use crate::SharedBook;
+use crate::halting::give_up;
+use crate::working::Held;
+use hd_base::NoMemory;
+use hd_desk::{Lock, Pass};
+use hd_node::MAX_OUTCOMES;
+use std::alloc::Global;
+use std::collections::VecDeque;
+use std::sync::Wait;
+use std::sync::ledger::Ledger;
+
+/// How many tickets a worker holds at most.
+pub const MOST_TICKETS: usize = 4;
+
+/// What a worker's thread holds from turn to turn: its tickets, the oldest first, how many of its outcomes are not committed, and how many
+/// nodes it has settled.
+///
+/// It must be ended: it can't be let go.
+#[must_use]
+#[derive(Debug)]
+pub struct Progress {
+    held: VecDeque<Held>,
+    uncommitted: usize,
+    settled: u64,
+    ghost few: { deque_len held ≤ MOST_TICKETS },
+    ghost room: { MOST_TICKETS ≤ deque_capacity held },
+}
+
+impl Progress {
+    /// That of a worker which has not begun: it has room for its tickets.
+    ///
+    /// # Errors
+    /// `NoMemory` where there is no room for them.
+    pub fn begin(alloc: Global) -> Result<Progress, NoMemory>
+        ensures { IfOk result (λ p. p.held.items ≡ []) }
+    {
+        let held = VecDeque::with_capacity(alloc, MOST_TICKETS)?;
+        Ok(Progress {
+            held,
+            uncommitted: 0,
+            settled: 0,
+        })
+    }
+
+    /// Whether a batch is to be committed: there is room for its ticket, and there are so many outcomes, or some and no node is open.
+    pub(crate) fn is_due(&self, open: bool, together: usize) -> bool
+        ensures { result ≡ true → deque_len self.now.held < MOST_TICKETS }
+    {
+        let enough = self.uncommitted >= together || !open;
+        self.held.len() < MOST_TICKETS && self.uncommitted > 0 && enough
+    }
+
+    /// A node more is an outcome: the number of this node, from 1.
+    pub(crate) fn count(&mut self) -> u64
+        ensures { self.new.held ≡ self.old.held }
+    {
+        self.uncommitted = self.uncommitted.saturating_add(1);
+        self.settled = self.settled.saturating_add(1);
+        self.settled
+    }
+
+    /// The next batch was made of the outcomes.
+    pub(crate) fn batched(&mut self)
+        ensures { self.new.held ≡ self.old.held }
+    {
+        self.uncommitted = self.uncommitted.saturating_sub(MAX_OUTCOMES);
+    }
+
+    /// A ticket is the youngest.
+    pub(crate) fn hold(&mut self, ticket: Held)
+        requires { deque_len self.old.held < MOST_TICKETS }
+        ensures { self.new.held.items ≡ self.old.held.items ++ ticket ∷ [] }
+    {
+        self.held.push_back_reserved(ticket);
+    }
+
+    /// The oldest ticket, which leaves.
+    pub(crate) fn oldest(&mut self) -> Option<Held>
+        ensures ticket { IfSome result (λ h. self.old.held.items ≡ h ∷ self.new.held.items) }
+        ensures room { IfSome result (λ _. deque_len self.new.held < MOST_TICKETS) }
+        ensures none { IfNone result (self.new.held.items ≡ self.old.held.items) }
+    {
+        self.held.pop_front()
+    }
+
+    /// A ticket is the oldest again.
+    pub(crate) fn keep(&mut self, ticket: Held)
+        requires { deque_len self.old.held < MOST_TICKETS }
+        ensures { self.new.held.items ≡ ticket ∷ self.old.held.items }
+    {
+        self.held.push_front_reserved(ticket);
+    }
+}
+
+/// Ends what a worker's thread holds: each ticket is given up, with which the book is halted.
+pub(crate) fn end<'t, L: Ledger, A: Ledger, R: Wait>(
+    rt: &R,
+    lock: &Lock<SharedBook<'t, L, A>>,
+    pass: &mut Pass<SharedBook<'t, L, A>>,
+    progress: Progress,
+)
+    requires { IsOutside lock.now.place pass.old }
+    ensures pass { IsOutside lock.now.place pass.new }
+    ensures parts { (view pass.new).parts ≡ (view pass.old).parts }
+    ensures task { (view pass.new).seen.task ≡ (view pass.old).seen.task }
+    ensures grows { BeginsWith (view pass.new).seen.log (view pass.old).seen.log }
+{
+    let Progress {
+        mut held,
+        uncommitted: _,
+        settled: _,
+    } = progress;
+    while let Some(oldest) = held.pop_front() {
+        let Held { ticket, kids: _ } = oldest;
+        give_up(rt, lock, pass, ticket);
+    }
+    held.destroy_empty();
+}

@@ -1,0 +1,312 @@
+//! The book that threads share.
+ghost use Rattle.std.specs.Prelude.{◌≡◌, ◌+◌, ◌<◌, ◌≤◌, ◌^◌, ◌&&◌, None, true, false, length, is_ok, is_some, IfOk, IfErr, IfSome, OnOk, OnErr};
+ghost use Rattle.std.specs.List.{AllByRecursion};
+ghost use Rattle.hd_task.specs.Expansions.{bound_of};
+ghost use Rattle.hd_entries.specs.Settling.{IsOf, IsKept, expansions};
+ghost use Rattle.hd_desk.specs.Views.{BeginsWith};
+ghost use Rattle.hd_entries.specs.Answers.{is_over, IsCoveredBook, IsAnswerOf, IsBoundPlanOf, IsValidPlan, IsTrueAnswer};
+ghost use Rattle.hd_tickets.specs.Queue.{is_due, is_idle};
+ghost use Rattle.hd_book.specs.View.{counts_of};
+ghost use Rattle.hd_book.specs.Groups.{is_group_out};
+ghost use Rattle.hd_book.specs.Refusing.{refusal_to, IsRefusalTo};
+ghost use Rattle.hd_book.specs.Steps.{after_commit, ticket_after, after_take, after_flush, after_hand_back, after_halt};
+ghost use Rattle.hd_threads.specs.Shared.{IsGroupAt, IsGivenOf};
+
+use hd_book::{
+    Book, CommitRefusal, Counts, Flushed, Group, NotOut, Parcels, Redeemed, Ticket, Verdict,
+};
+use hd_desk::Locked;
+use hd_node::Batch;
+use hd_task::{Kid, NoMemory, Plan, Task};
+use std::marker::Model;
+use std::sync::ledger::{self, Blank, Ledger, Share};
+
+/// What is given for a ticket.
+#[must_use]
+#[derive(Debug)]
+pub enum Given<'t> {
+    /// Its batch is acknowledged: the parcels that it releases.
+    Parcels(Parcels<'t>),
+    /// Its batch waits to be appended.
+    NotYet(Ticket),
+    /// The book is halted: nothing.
+    Void,
+}
+
+/// The book of a search, as it lies in the lock. `A` counts the entries that are acknowledged: who has all shares of it, as the committer
+/// does, knows how many these are, and no one else can acknowledge any.
+///
+/// It is one pointer wide.
+#[derive(Drop)]
+pub struct SharedBook<'t, L: Ledger, A: Ledger> {
+    book: Book<'t, L>,
+    appended: ledger::Book<A>,
+}
+
+impl<'t, L: Ledger, A: Ledger> Model for SharedBook<'t, L, A> {
+    ghost use Rattle.std.specs.Prelude.{◌≡◌};
+    ghost use Rattle.hd_book.specs.View.{BookView};
+    ghost use Rattle.hd_task.specs.contracts.task.Task as tasks;
+    ghost use Rattle.std.specs.Coded.{codes};
+
+    ghost Value = { BookView };
+
+    ghost coded = { Prim.hlevel (codes, tasks.the_row.coded) };
+
+    ghost view = { λ b. b.book };
+
+    // The ledger counts the entries that are acknowledged.
+    ghost invariant = { λ b. b.appended.total ≡ b.book.batches.queue.acknowledged };
+}
+
+impl<'t, L: Ledger, A: Ledger> Locked for SharedBook<'t, L, A> {
+    type Task = Task;
+
+    type Item = Kid;
+
+    ghost task = { λ b. b.state.task };
+
+    ghost log = { λ b. b.state.entries };
+}
+
+impl<'t, L: Ledger, A: Ledger> SharedBook<'t, L, A> {
+    /// A book that is to be shared, with the share that is the whole of the ledger of what is acknowledged.
+    pub fn of(blank: Blank, book: Book<'t, L>) -> (SharedBook<'t, L, A>, Share<A>)
+        requires name { blank.name ≡ A.name }
+        requires parts { blank.parts ≡ A.parts }
+        requires some { 0 < A.parts }
+        ensures book { result.0 ≡ book.entry }
+        ensures parts { result.1.parts ≡ A.parts }
+        ensures amount { result.1.amount ≡ book.entry.batches.queue.acknowledged }
+    {
+        let (mut appended, mut share) = blank.open::<A>();
+        appended.add(&mut share, book.counts().acknowledged);
+        (SharedBook { book, appended }, share)
+    }
+
+    /// The next group goes out, as from [`Book::take_pending`]. It begins where the share says that the acknowledged entries end.
+    ///
+    /// # Errors
+    /// `NoMemory` where there is no room for the group's pairs: the book is halted.
+    #[tactic(auto, using(crate::proofs::Begins::begins_same))]
+    pub fn take_pending(&mut self, share: &mut Share<A>) -> Result<Option<Group>, NoMemory>
+        requires whole { share.old.parts ≡ A.parts }
+        ensures task { self.new.state.task ≡ self.old.state.task }
+        ensures begins { BeginsWith self.new.state.entries self.old.state.entries }
+        ensures due { IfOk result (λ g. is_some g ≡ is_due self.old.batches.queue) }
+        ensures group { IfOk result (λ g. IfSome g
+            (IsGroupAt self.new.state.entries share.old.amount)) }
+        ensures taken { OnOk result (self.new ≡ after_take self.old) }
+        ensures err { OnErr result (self.new ≡ after_halt self.old) }
+        ensures parts { share.new.parts ≡ share.old.parts }
+        ensures amount { share.new.amount ≡ share.old.amount }
+    {
+        let SharedBook { book, appended } = self;
+        appended.audit(share);
+        let group = match book.take_pending() {
+            Ok(group) => group,
+            Err(error) => {
+                book.halt();
+                return Err(error);
+            }
+        };
+        Ok(group)
+    }
+
+    /// Acknowledges the entries of the group that is out, as [`Book::acknowledge`] does; the share counts them.
+    ///
+    /// # Errors
+    /// `NotOut` where this group is not the one that is out: what said that it was appended is spent, and the book is halted.
+    #[tactic(auto, using(crate::proofs::Begins::begins_same))]
+    pub fn acknowledge(&mut self, share: &mut Share<A>, flushed: Flushed) -> Result<(), NotOut>
+        requires some { 0 < share.old.parts }
+        ensures task { self.new.state.task ≡ self.old.state.task }
+        ensures begins { BeginsWith self.new.state.entries self.old.state.entries }
+        ensures out { is_ok result ≡ is_group_out self.old flushed }
+        ensures flushed { OnOk result (self.new ≡ after_flush self.old) }
+        ensures err { OnErr result (self.new ≡ after_halt self.old) }
+        ensures parts { share.new.parts ≡ share.old.parts }
+        ensures counted { OnOk result (share.new.amount ≡ share.old.amount + length flushed.kids) }
+        ensures uncounted { OnErr result (share.new.amount ≡ share.old.amount) }
+    {
+        let SharedBook { book, appended } = self;
+        let before = book.counts().acknowledged;
+        match book.acknowledge(flushed) {
+            Ok(()) => {
+                appended.add(share, book.counts().acknowledged - before);
+                Ok(())
+            }
+            Err(error) => {
+                book.halt();
+                Err(error)
+            }
+        }
+    }
+
+    /// Hands back the group that is out, as [`Book::hand_back`] does, with which the book is halted; another group is spent, and the book
+    /// is halted too.
+    #[tactic(auto, using(crate::proofs::Begins::begins_same))]
+    pub fn hand_back(&mut self, group: Group)
+        ensures task { self.new.state.task ≡ self.old.state.task }
+        ensures begins { BeginsWith self.new.state.entries self.old.state.entries }
+        ensures handed_back { is_group_out self.old group ≡ true
+            → self.new ≡ after_hand_back self.old }
+        ensures halted { is_group_out self.old group ≡ false → self.new ≡ after_halt self.old }
+    {
+        match self.book.hand_back(group) {
+            Ok(()) => {}
+            Err(_) => self.book.halt(),
+        }
+    }
+
+    /// From now on each commit is refused. It takes no memory.
+    pub fn halt(&mut self)
+        ensures task { self.new.state.task ≡ self.old.state.task }
+        ensures begins { BeginsWith self.new.state.entries self.old.state.entries }
+        ensures halted { self.new ≡ after_halt self.old }
+    {
+        self.book.halt();
+    }
+
+    /// Takes a batch, as [`Book::commit`] does. A book that refuses one is halted.
+    ///
+    /// # Errors
+    /// Why it is refused, as there; the batch is dropped.
+    #[tactic(auto, using(crate::proofs::Begins::begins_same))]
+    pub fn commit(
+        &mut self,
+        share: &mut Share<L>,
+        batch: Batch<'t>,
+    ) -> Result<Ticket, CommitRefusal>
+        requires part { 0 < share.old.parts }
+        requires of_task { AllByRecursion (IsOf self.old.state.task) batch.outcomes }
+        ensures task { self.new.state.task ≡ self.old.state.task }
+        ensures begins { BeginsWith self.new.state.entries self.old.state.entries }
+        ensures accepted { OnOk result (refusal_to self.old batch.entry.outcomes ≡ None) }
+        ensures ticket { IfOk result (λ k. k ≡ ticket_after batch.entry.outcomes self.old) }
+        ensures committed { OnOk result
+            (self.new ≡ after_commit batch.entry.outcomes self.old) }
+        ensures counted { OnOk result (share.new.amount ≡ share.old.amount + 1) }
+        ensures parts { share.new.parts ≡ share.old.parts }
+        ensures refused { IfErr result (IsRefusalTo self.old batch.entry.outcomes) }
+        ensures err { OnErr result (self.new ≡ after_halt self.old) }
+        ensures uncounted { OnErr result (share.new.amount ≡ share.old.amount) }
+    {
+        match self.book.commit(share, batch) {
+            Ok(ticket) => Ok(ticket),
+            Err((_, refusal)) => {
+                self.book.halt();
+                Err(refusal)
+            }
+        }
+    }
+
+    /// Redeems a ticket, as [`Book::redeem`] does, and presents the receipt.
+    ///
+    /// # Errors
+    /// `NotOut` where no such ticket is out: it is spent, and the book is halted.
+    #[tactic(auto, using(crate::proofs::Begins::begins_same))]
+    pub fn redeem(&mut self, ticket: Ticket) -> Result<Given<'t>, NotOut>
+        ensures task { self.new.state.task ≡ self.old.state.task }
+        ensures begins { BeginsWith self.new.state.entries self.old.state.entries }
+        ensures given { IfOk result (IsGivenOf self.old.state.task) }
+    {
+        match self.book.redeem(ticket) {
+            Ok(Redeemed::Released(receipt, parcels)) => match self.book.present(receipt) {
+                Ok(_) => Ok(Given::Parcels(parcels)),
+                Err(error) => {
+                    self.book.halt();
+                    Err(error)
+                }
+            },
+            Ok(Redeemed::NotYet(ticket)) => Ok(Given::NotYet(ticket)),
+            Ok(Redeemed::Void) => Ok(Given::Void),
+            Err(error) => {
+                self.book.halt();
+                Err(error)
+            }
+        }
+    }
+
+    /// Halts the book, and spends a ticket; what it releases is dropped.
+    #[tactic(auto, using(crate::proofs::Begins::begins_same))]
+    pub fn give_up(&mut self, ticket: Ticket)
+        ensures task { self.new.state.task ≡ self.old.state.task }
+        ensures begins { BeginsWith self.new.state.entries self.old.state.entries }
+    {
+        self.book.halt();
+        match self.book.redeem(ticket) {
+            Ok(Redeemed::Released(receipt, parcels)) => {
+                drop(parcels);
+                let _ = self.book.present(receipt);
+            }
+            Ok(Redeemed::Void) => {}
+            Ok(Redeemed::NotYet(_ticket)) => unreachable!(),
+            Err(_) => {}
+        }
+    }
+
+    /// How far the search has come.
+    pub fn counts(&self) -> Counts
+        ensures counts { result ≡ counts_of self.now }
+        ensures kept { IsKept self.now.state }
+        ensures entries_few { result.entries ≤ self.now.most }
+        ensures acknowledged_few { result.acknowledged ≤ result.entries }
+        ensures commits_few { result.commits ≤ result.settled }
+        ensures settled_few { result.settled ≤ result.posted }
+        ensures posted_few { result.posted < 2 ^ 61 }
+    {
+        self.book.counts()
+    }
+
+    /// The least cost of an entry at which the goal holds, if there is one.
+    pub fn bound(&self) -> Option<u64>
+        ensures { result ≡ bound_of self.now.state.task (expansions self.now.state) }
+    {
+        self.book.bound()
+    }
+
+    /// Whether each commit is refused.
+    pub fn is_halted(&self) -> bool
+        ensures { result ≡ self.now.batches.halted }
+    {
+        self.book.is_halted()
+    }
+
+    /// The answer, as [`Book::verdict`] says it.
+    ///
+    /// # Errors
+    /// `NoMemory` where there is no room for a plan.
+    pub fn verdict(&self) -> Result<Option<Verdict>, NoMemory>
+        ensures over { IfOk result (λ v. is_some v
+            ≡ (is_over self.now.state && is_idle self.now.batches.queue)) }
+        ensures covered { IfOk result (λ v. IfSome v (λ _. IsCoveredBook self.now.state)) }
+        ensures answer { IfOk result (λ v. IfSome v (IsAnswerOf self.now.state)) }
+        ensures is_true { IfOk result (λ v. IfSome v (IsTrueAnswer self.now.state.task)) }
+    {
+        self.book.verdict()
+    }
+
+    /// The plan of the bound, if there is a bound, as [`Book::extract`] gives it.
+    ///
+    /// # Errors
+    /// `NoMemory` where there is no room for the plan.
+    pub fn extract(&self) -> Result<Option<Plan>, NoMemory>
+        ensures plan { IfOk result (IsBoundPlanOf self.now.state.task (expansions self.now.state)) }
+        ensures valid { IfOk result (IsValidPlan self.now.state.task) }
+    {
+        self.book.extract()
+    }
+
+    /// The book, once it is no more shared. Of all shares of the ledger of what is acknowledged it is known that they count just that.
+    pub fn into_book(self, share: Share<A>) -> Book<'t, L>
+        requires whole { share.parts ≡ A.parts }
+        ensures book { result ≡ self.entry }
+        ensures amount { share.amount ≡ self.entry.batches.queue.acknowledged }
+    {
+        let SharedBook { book, appended } = self;
+        let (mut appended, mut share) = (appended, share);
+        appended.audit(&mut share);
+        book
+    }
+}

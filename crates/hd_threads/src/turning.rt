@@ -1,0 +1,425 @@
+//! One turn of a worker.
+ghost use Rattle.std.specs.Prelude.{◌≡◌, ◌<◌, ◌≤◌, length, OnOk};
+ghost use Rattle.std.specs.VecDeque.{deque_len};
+ghost use Rattle.hd_zobrist.specs.declared.owners.TheConstants.{MAX_WORKERS};
+ghost use Rattle.hd_threads.specs.declared.progress.TheConstants.{MOST_TICKETS};
+ghost use Rattle.hd_threads.specs.Turning.{IsSeated, IsAt, Keeps, IsStill, kids_held, IsGoing};
+
+use crate::ending::is_over;
+use crate::gate::Gate;
+use crate::halting::halt;
+use crate::pausing::Pause;
+use crate::posting::{Sending, send_next, take_next};
+use crate::progress::{MOST_TICKETS, Progress, end};
+use crate::working::{Committed, Redemption, commit_next, redeem_next, settle_best};
+use crate::{Letter, SharedBook};
+use hd_base::NoMemory;
+use hd_bound::{BoundSeat, BoundWord};
+use hd_desk::{Hands, Lock, MAILBOX_PLACES, Mailboxes, Pass};
+use hd_search::RunFault;
+use hd_task::Task;
+use hd_worker::{Lookup, Worker};
+use std::alloc::Global;
+use std::sync::Wait;
+use std::sync::ledger::{Ledger, Share};
+
+/// What the threads of a search share: the lock of the book, the mailboxes, and the bound word.
+#[derive(Drop)]
+pub struct Desk<'t, L: Ledger, A: Ledger> {
+    pub lock: Lock<SharedBook<'t, L, A>>,
+    pub boxes: Mailboxes<Task, Letter<'t>>,
+    pub bound: BoundWord,
+}
+
+/// What a worker's thread has of its own: a pass of the lock, a share of the commits, a seat at the bound, hands at the mailboxes, the
+/// worker, and what it looks up.
+#[derive(Drop)]
+pub struct Workplace<'t, L: Ledger, A: Ledger> {
+    pub pass: Pass<SharedBook<'t, L, A>>,
+    pub share: Share<L>,
+    pub seat: BoundSeat,
+    pub hands: Hands<'t, Task, Letter<'t>>,
+    pub worker: Worker<'t>,
+    pub lookup: Lookup<'t>,
+}
+
+/// How a turn ended.
+#[must_use]
+#[derive(Clone, Copy, Debug, PartialEq, Eq)]
+pub enum Turn {
+    /// The search goes on, and something was done.
+    Busy,
+    /// The search goes on, and there was nothing to do.
+    Idle,
+    /// The search ends for this worker: by this fault, with which the book is halted; or since the book takes no batch any more.
+    Ended(Option<RunFault>),
+}
+
+/// Redeems a worker's oldest ticket, if it has one: whether its batch has released what it leads to.
+///
+/// # Errors
+/// How the search ends for the worker.
+fn redeem_oldest<'t, L: Ledger, A: Ledger, R: Wait>(
+    rt: &R,
+    desk: &Desk<'t, L, A>,
+    place: &mut Workplace<'t, L, A>,
+    progress: &mut Progress,
+) -> Result<bool, Option<RunFault>>
+    requires at { IsAt desk.now place.old }
+    requires room { kids_held progress.old ≤ place.old.worker.room }
+    ensures at { IsAt desk.now place.new }
+    ensures keeps { Keeps place.old place.new }
+    ensures room { OnOk result (kids_held progress.new ≤ place.new.worker.room) }
+{
+    let Some(oldest) = progress.oldest() else {
+        return Ok(false);
+    };
+    match redeem_next(rt, &desk.lock, &mut place.pass, &mut place.worker, oldest) {
+        Ok(Redemption::Opened) => Ok(true),
+        Ok(Redemption::Waiting(held)) => {
+            progress.keep(held);
+            Ok(false)
+        }
+        Ok(Redemption::Void) => Err(None),
+        Err(fault) => Err(Some(fault)),
+    }
+}
+
+/// Redeems a worker's tickets from the oldest on, as long as they are released: whether one was.
+///
+/// # Errors
+/// How the search ends for the worker.
+fn redeem_all<'t, L: Ledger, A: Ledger, R: Wait>(
+    rt: &R,
+    desk: &Desk<'t, L, A>,
+    place: &mut Workplace<'t, L, A>,
+    progress: &mut Progress,
+) -> Result<bool, Option<RunFault>>
+    requires at { IsAt desk.now place.old }
+    requires room { kids_held progress.old ≤ place.old.worker.room }
+    ensures at { IsAt desk.now place.new }
+    ensures keeps { Keeps place.old place.new }
+    ensures room { OnOk result (kids_held progress.new ≤ place.new.worker.room) }
+{
+    let mut released = false;
+    for _ticket in 0..MOST_TICKETS {
+        if !redeem_oldest(rt, desk, place, progress)? {
+            break;
+        }
+        released = true;
+    }
+    Ok(released)
+}
+
+/// Sends a worker's parcels, until its outbox is empty or one comes back: whether one was sent.
+fn send_all<'t, L: Ledger, A: Ledger>(
+    desk: &Desk<'t, L, A>,
+    place: &mut Workplace<'t, L, A>,
+    workers: usize,
+) -> bool
+    requires at { IsAt desk.now place.old }
+    requires some { 1 ≤ workers }
+    requires most { workers ≤ MAX_WORKERS }
+    requires boxes { workers ≤ length desk.now.boxes }
+    ensures at { IsAt desk.now place.new }
+    ensures still { IsStill place.old place.new }
+{
+    let mut sent = false;
+    for _parcel in 0..u64::MAX {
+        match send_next(&desk.boxes, &mut place.hands, &mut place.worker, workers) {
+            Sending::Sent => sent = true,
+            Sending::Full | Sending::Empty => break,
+        }
+    }
+    sent
+}
+
+/// Takes the parcels that came to a worker: whether one came.
+///
+/// # Errors
+/// `NoMemory` where there is no room for one.
+fn take_all<'t, L: Ledger, A: Ledger>(
+    desk: &Desk<'t, L, A>,
+    place: &mut Workplace<'t, L, A>,
+    id: usize,
+) -> Result<bool, NoMemory>
+    requires at { IsAt desk.now place.old }
+    requires there { id < length desk.now.boxes }
+    ensures at { IsAt desk.now place.new }
+    ensures still { IsStill place.old place.new }
+{
+    let mut taken = false;
+    for _parcel in 0..MAILBOX_PLACES {
+        if !take_next(&desk.boxes, &mut place.hands, &mut place.worker, id)? {
+            break;
+        }
+        taken = true;
+    }
+    Ok(taken)
+}
+
+/// Settles a worker's best open node, if one is open, between the calls of the gate: whether one was.
+///
+/// # Errors
+/// `NoMemory` where there is no room for an outcome, or for what is kept of estimates.
+fn settle_one<'t, L: Ledger, A: Ledger, R: Wait, G: Gate>(
+    rt: &R,
+    desk: &Desk<'t, L, A>,
+    place: &mut Workplace<'t, L, A>,
+    progress: &mut Progress,
+    id: usize,
+    gate: &G,
+) -> Result<bool, NoMemory>
+    requires at { IsAt desk.now place.old }
+    ensures at { IsAt desk.now place.new }
+    ensures still { IsStill place.old place.new }
+    ensures tickets { kids_held progress.new ≡ kids_held progress.old }
+{
+    if place.worker.best(&mut place.lookup)?.is_none() {
+        return Ok(false);
+    }
+    let nth = progress.count();
+    gate.before(rt, id, nth);
+    let done = settle_best(
+        &desk.bound,
+        &mut place.seat,
+        &mut place.worker,
+        &mut place.lookup,
+    );
+    gate.after(rt, id, nth);
+    done?;
+    Ok(true)
+}
+
+/// Settles a worker's best open nodes, so many of them, or as many as are open: how many these are.
+///
+/// # Errors
+/// Those of settling one.
+fn settle_some<'t, L: Ledger, A: Ledger, R: Wait, G: Gate>(
+    rt: &R,
+    desk: &Desk<'t, L, A>,
+    place: &mut Workplace<'t, L, A>,
+    progress: &mut Progress,
+    id: usize,
+    together: usize,
+    gate: &G,
+) -> Result<usize, NoMemory>
+    requires at { IsAt desk.now place.old }
+    ensures at { IsAt desk.now place.new }
+    ensures still { IsStill place.old place.new }
+    ensures tickets { kids_held progress.new ≡ kids_held progress.old }
+{
+    for settled in 0..together {
+        if !settle_one(rt, desk, place, progress, id, gate)? {
+            return Ok(settled);
+        }
+    }
+    Ok(together)
+}
+
+/// What a worker did without the lock.
+#[derive(Clone, Copy)]
+struct Worked {
+    /// Something.
+    any: bool,
+    /// It settled as many nodes as it may, and further ones may be open.
+    open: bool,
+}
+
+/// What a worker does without the lock: it sends, takes, and settles.
+///
+/// # Errors
+/// `NoMemory` where there is no room for a parcel that came, or an outcome.
+fn go_on<'t, L: Ledger, A: Ledger, R: Wait, G: Gate>(
+    rt: &R,
+    desk: &Desk<'t, L, A>,
+    place: &mut Workplace<'t, L, A>,
+    progress: &mut Progress,
+    id: usize,
+    workers: usize,
+    together: usize,
+    gate: &G,
+) -> Result<Worked, NoMemory>
+    requires at { IsAt desk.now place.old }
+    requires there { id < workers }
+    requires most { workers ≤ MAX_WORKERS }
+    requires boxes { workers ≤ length desk.now.boxes }
+    ensures at { IsAt desk.now place.new }
+    ensures still { IsStill place.old place.new }
+    ensures tickets { kids_held progress.new ≡ kids_held progress.old }
+{
+    let sent = send_all(desk, place, workers);
+    let taken = take_all(desk, place, id)?;
+    let settled = settle_some(rt, desk, place, progress, id, together, gate)?;
+    Ok(Worked {
+        any: sent || taken || settled > 0,
+        open: settled == together,
+    })
+}
+
+/// Commits a worker's next batch: whether there was one.
+///
+/// # Errors
+/// How the search ends for the worker.
+fn commit_some<'t, L: Ledger, A: Ledger, R: Wait>(
+    rt: &R,
+    desk: &Desk<'t, L, A>,
+    place: &mut Workplace<'t, L, A>,
+    progress: &mut Progress,
+    limit: Option<u64>,
+) -> Result<bool, Option<RunFault>>
+    requires at { IsAt desk.now place.old }
+    requires tickets { kids_held progress.old ≤ place.old.worker.room }
+    requires few { deque_len progress.old.held < MOST_TICKETS }
+    ensures seated { IsSeated desk.now place.new }
+    ensures keeps { Keeps place.old place.new }
+    ensures at { OnOk result (IsAt desk.now place.new) }
+    ensures room { OnOk result (kids_held progress.new ≤ place.new.worker.room) }
+{
+    match commit_next(
+        rt,
+        &desk.lock,
+        &mut place.pass,
+        &mut place.share,
+        &desk.bound,
+        &mut place.seat,
+        &mut place.worker,
+        limit,
+    ) {
+        Ok(Committed::Taken(held)) => {
+            progress.batched();
+            progress.hold(held);
+            Ok(true)
+        }
+        Ok(Committed::Idle) => {
+            progress.batched();
+            Ok(false)
+        }
+        Ok(Committed::Halted) => Err(None),
+        Err(fault) => {
+            halt(rt, &desk.lock, &mut place.pass);
+            Err(Some(fault))
+        }
+    }
+}
+
+/// One turn of the worker of this number, of so many: it redeems its tickets from the oldest on, sends what is in its outbox, takes what
+/// came to it, settles its best open nodes, `together` of them, and commits its next batch, if it holds fewer than [`MOST_TICKETS`] tickets
+/// and has so many outcomes, or some and no node open. The book is locked while a ticket is redeemed and while a batch is committed, and at
+/// no other time; no batch is committed once the book has as many entries as the limit says.
+pub fn worker_turn<'t, L: Ledger, A: Ledger, R: Wait, G: Gate>(
+    rt: &R,
+    desk: &Desk<'t, L, A>,
+    place: &mut Workplace<'t, L, A>,
+    progress: &mut Progress,
+    id: usize,
+    workers: usize,
+    together: usize,
+    limit: Option<u64>,
+    gate: &G,
+) -> Turn
+    requires at { IsAt desk.now place.old }
+    requires tickets { kids_held progress.old ≤ place.old.worker.room }
+    requires there { id < workers }
+    requires most { workers ≤ MAX_WORKERS }
+    requires boxes { workers ≤ length desk.now.boxes }
+    ensures seated { IsSeated desk.now place.new }
+    ensures keeps { Keeps place.old place.new }
+    ensures going { IsGoing desk.now place.new progress.new result }
+{
+    let together = together.max(1);
+    let released = match redeem_all(rt, desk, place, progress) {
+        Ok(released) => released,
+        Err(fault) => return Turn::Ended(fault),
+    };
+    let Ok(worked) = go_on(rt, desk, place, progress, id, workers, together, gate) else {
+        halt(rt, &desk.lock, &mut place.pass);
+        return Turn::Ended(Some(RunFault::NoMemory));
+    };
+    let mut busy = released || worked.any;
+    if progress.is_due(worked.open, together) {
+        match commit_some(rt, desk, place, progress, limit) {
+            Ok(committed) => busy = busy || committed,
+            Err(fault) => return Turn::Ended(fault),
+        }
+    }
+    if busy { Turn::Busy } else { Turn::Idle }
+}
+
+/// What the thread of a worker does: turn after turn, until the search is over; it waits longer and longer while there is nothing to do. In
+/// the end its tickets are given up. Its fault, if it ends by one.
+pub fn work<'t, L: Ledger, A: Ledger, R: Wait, G: Gate>(
+    rt: &R,
+    alloc: Global,
+    desk: &Desk<'t, L, A>,
+    place: &mut Workplace<'t, L, A>,
+    id: usize,
+    workers: usize,
+    together: usize,
+    limit: Option<u64>,
+    gate: &G,
+) -> Option<RunFault>
+    requires at { IsAt desk.now place.old }
+    requires there { id < workers }
+    requires most { workers ≤ MAX_WORKERS }
+    requires boxes { workers ≤ length desk.now.boxes }
+    ensures seated { IsSeated desk.now place.new }
+    ensures keeps { Keeps place.old place.new }
+{
+    let Ok(progress) = Progress::begin(alloc) else {
+        halt(rt, &desk.lock, &mut place.pass);
+        return Some(RunFault::NoMemory);
+    };
+    let mut progress = progress;
+    let fault = turns(
+        rt,
+        desk,
+        place,
+        &mut progress,
+        id,
+        workers,
+        together,
+        limit,
+        gate,
+    );
+    end(rt, &desk.lock, &mut place.pass, progress);
+    fault
+}
+
+/// Takes turns until the search is over.
+fn turns<'t, L: Ledger, A: Ledger, R: Wait, G: Gate>(
+    rt: &R,
+    desk: &Desk<'t, L, A>,
+    place: &mut Workplace<'t, L, A>,
+    progress: &mut Progress,
+    id: usize,
+    workers: usize,
+    together: usize,
+    limit: Option<u64>,
+    gate: &G,
+) -> Option<RunFault>
+    requires at { IsAt desk.now place.old }
+    requires tickets { kids_held progress.old ≤ place.old.worker.room }
+    requires there { id < workers }
+    requires most { workers ≤ MAX_WORKERS }
+    requires boxes { workers ≤ length desk.now.boxes }
+    ensures seated { IsSeated desk.now place.new }
+    ensures keeps { Keeps place.old place.new }
+{
+    let mut pause = Pause::new();
+    for _turn in rt.forever() {
+        match worker_turn(
+            rt, desk, place, progress, id, workers, together, limit, gate,
+        ) {
+            Turn::Busy => pause.reset(),
+            Turn::Idle => {
+                if is_over(rt, &desk.lock, &mut place.pass, limit) {
+                    return None;
+                }
+                pause.wait(rt);
+            }
+            Turn::Ended(fault) => return fault,
+        }
+    }
+    unreachable!()
+}

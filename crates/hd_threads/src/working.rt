@@ -1,0 +1,303 @@
+//! What a worker does under the lock, and beside it.
+ghost use Rattle.std.specs.Prelude.{◌≡◌, ◌+◌, ◌<◌, ◌≤◌, ◌^◌, [], Some, IfOk, IfSome, OnOk, OnErr};
+ghost use Rattle.std.specs.List.{AllByRecursion};
+ghost use Rattle.crossbeam_queue.specs.Passes.{view};
+ghost use Rattle.hd_desk.specs.Passes.{IsOutside};
+ghost use Rattle.hd_desk.specs.Views.{BeginsWith};
+ghost use Rattle.hd_bound.specs.Bound.{bound_in};
+ghost use Rattle.hd_entries.specs.Settling.{IsOf};
+ghost use Rattle.hd_entries.specs.Growing.{kids_in};
+ghost use Rattle.hd_turns.specs.Calls.{ExpandsBest, after_seeing};
+ghost use Rattle.hd_worker.specs.Lookup.{IsLookupOf};
+ghost use Rattle.hd_threads.specs.Working.{fault_of, with_offer, IsIn, HasCommitted, HasRedeemed};
+ghost use Rattle.hd_threads.specs.Shared.{IsGivenOf};
+
+use crate::ending::is_reached;
+use crate::halting::halt;
+use crate::shared::{Given, SharedBook};
+use hd_base::NoMemory;
+use hd_book::{CommitRefusal, NotOut, Refusal, Ticket};
+use hd_bound::{BoundSeat, BoundWord};
+use hd_desk::{Lock, Pass};
+use hd_node::{Batch, Outcome};
+use hd_search::RunFault;
+use hd_worker::{Lookup, Worker};
+use std::sync::Wait;
+use std::sync::ledger::{Ledger, Share};
+
+/// A ticket that is out, and how many parcels its batch releases at most.
+///
+/// It must be spent: it can't be let go.
+#[must_use]
+#[derive(Debug)]
+pub struct Held {
+    pub(crate) ticket: Ticket,
+    pub(crate) kids: usize,
+}
+
+/// What became of a worker's next batch.
+#[must_use]
+#[derive(Debug)]
+pub enum Committed {
+    /// The book has it.
+    Taken(Held),
+    /// The book takes no batch any more, since it is halted, or has as many entries as the limit says; the batch is dropped.
+    Halted,
+    /// There was none.
+    Idle,
+}
+
+/// What became of a ticket.
+#[must_use]
+#[derive(Debug)]
+pub enum Redemption {
+    /// Its batch is acknowledged: what it releases is open, or in the outbox.
+    Opened,
+    /// Its batch waits to be appended.
+    Waiting(Held),
+    /// The book is halted, and its batch will not be appended.
+    Void,
+}
+
+/// A batch that is in the book: its ticket, the number of its first entry, and the bound behind it.
+struct Taken {
+    ticket: Ticket,
+    first: u64,
+    bound: Option<u64>,
+}
+
+/// What is told of why the entries refuse a batch.
+fn told_by(refusal: Refusal) -> RunFault
+    ensures { result ≡ fault_of refusal }
+{
+    match refusal {
+        Refusal::Full => RunFault::Full,
+        Refusal::NoMemory => RunFault::NoMemory,
+        Refusal::UnknownParent
+        | Refusal::NotAKid
+        | Refusal::SettledBefore
+        | Refusal::StateDiffers
+        | Refusal::NotDominated
+        | Refusal::BelowBound => RunFault::NotOut,
+    }
+}
+
+/// How many parcels outcomes release.
+fn count_kids(outcomes: &[Outcome]) -> usize
+    requires fits { kids_in outcomes.now < 2 ^ 64 }
+    ensures { result ≡ kids_in outcomes.now }
+{
+    let mut count = 0usize;
+    for outcome in outcomes {
+        if let Outcome::Expanded(expansion) = outcome {
+            count += expansion.children().len();
+        }
+    }
+    count
+}
+
+/// Settles a worker's best open node by the bound as it is now: outside the lock.
+///
+/// # Errors
+/// `NoMemory` where there is no room for it; the node is open again.
+pub fn settle_best<'t>(
+    bound: &BoundWord,
+    seat: &mut BoundSeat,
+    worker: &mut Worker<'t>,
+    lookup: &mut Lookup<'t>,
+) -> Result<(), NoMemory>
+    requires seat { seat.old.of ≡ bound.now.of }
+    requires lookup { IsLookupOf worker.old.task lookup.old }
+    ensures seat { seat.new.of ≡ seat.old.of }
+    ensures parts { seat.new.parts ≡ seat.old.parts }
+    ensures offers { seat.new.offers ≡ seat.old.offers }
+    ensures seen { seat.new.seen ≤ seat.old.seen }
+    ensures lookup { IsLookupOf worker.old.task lookup.new }
+    ensures ok { OnOk result (ExpandsBest worker.old.task
+        (after_seeing (bound_in seat.new.seen) worker.old) worker.new) }
+    ensures err { OnErr result
+        (worker.new ≡ after_seeing (bound_in seat.new.seen) worker.old) }
+{
+    worker.see(bound.load(seat));
+    worker.expand_best(lookup)
+}
+
+/// Offers a bound, if there is one.
+fn offer(word: &BoundWord, seat: &mut BoundSeat, bound: Option<u64>)
+    requires { seat.old.of ≡ word.now.of }
+    ensures of { seat.new.of ≡ seat.old.of }
+    ensures parts { seat.new.parts ≡ seat.old.parts }
+    ensures seen { seat.new.seen ≤ seat.old.seen }
+    ensures offers { seat.new.offers ≡ with_offer bound seat.old.offers }
+{
+    match bound {
+        Some(cost) => word.offer(seat, cost),
+        None => {}
+    }
+}
+
+/// Commits a batch under the lock, where there are fewer entries than the limit says. A book that refuses it is halted.
+///
+/// # Errors
+/// Why it is refused: as by a book that is halted, where the limit is reached.
+fn commit_batch<'t, L: Ledger, A: Ledger, R: Wait>(
+    rt: &R,
+    lock: &Lock<SharedBook<'t, L, A>>,
+    pass: &mut Pass<SharedBook<'t, L, A>>,
+    share: &mut Share<L>,
+    batch: Batch<'t>,
+    limit: Option<u64>,
+) -> Result<Taken, CommitRefusal>
+    requires pass { IsOutside lock.now.place pass.old }
+    requires part { 0 < share.old.parts }
+    requires of_task { IfSome (view pass.old).seen.task
+        (λ t. AllByRecursion (IsOf t) batch.outcomes) }
+    ensures pass { IsOutside lock.now.place pass.new }
+    ensures parts { (view pass.new).parts ≡ (view pass.old).parts }
+    ensures task { (view pass.new).seen.task ≡ (view pass.old).seen.task }
+    ensures grows { BeginsWith (view pass.new).seen.log (view pass.old).seen.log }
+    ensures share { share.new.parts ≡ share.old.parts }
+    ensures counted { OnOk result (share.new.amount ≡ share.old.amount + 1) }
+    ensures uncounted { OnErr result (share.new.amount ≡ share.old.amount) }
+    ensures committed { IfOk result (λ r. IsIn (view pass.old).seen.task
+        (view pass.old).seen.log batch.entry.outcomes (view pass.new).seen.log r.first r.bound) }
+    ensures few { IfOk result (λ r. r.first < 2 ^ 40) }
+{
+    let mut book = lock.enter(rt, pass);
+    let first = book.counts().entries;
+    if is_reached(limit, first) {
+        lock.leave(rt, pass, book);
+        return Err(CommitRefusal::Halted);
+    }
+    match book.commit(share, batch) {
+        Ok(ticket) => {
+            let bound = book.bound();
+            lock.leave(rt, pass, book);
+            Ok(Taken {
+                ticket,
+                first,
+                bound,
+            })
+        }
+        Err(refusal) => {
+            lock.leave(rt, pass, book);
+            Err(refusal)
+        }
+    }
+}
+
+/// Commits a worker's next batch, if there is one and the book has fewer entries than the limit says, and then, outside the lock, offers the bound that the book has behind it.
+///
+/// # Errors
+/// `NoMemory` where there is no room for the batch's numbers, or in the book; `Full` where there would be more entries than there may be;
+/// `NotOut` where the book refuses the batch for what it says. The book is halted, but in the first case.
+#[tactic(auto, using(crate::proofs::Begins::begins_itself))]
+pub fn commit_next<'t, L: Ledger, A: Ledger, R: Wait>(
+    rt: &R,
+    lock: &Lock<SharedBook<'t, L, A>>,
+    pass: &mut Pass<SharedBook<'t, L, A>>,
+    share: &mut Share<L>,
+    bound: &BoundWord,
+    seat: &mut BoundSeat,
+    worker: &mut Worker<'t>,
+    limit: Option<u64>,
+) -> Result<Committed, RunFault>
+    requires pass { IsOutside lock.now.place pass.old }
+    requires part { 0 < share.old.parts }
+    requires task { (view pass.old).seen.task ≡ Some worker.old.task }
+    requires seat { seat.old.of ≡ bound.now.of }
+    requires numbered { worker.old.given ≡ [] }
+    ensures pass { IsOutside lock.now.place pass.new }
+    ensures parts { (view pass.new).parts ≡ (view pass.old).parts }
+    ensures task { (view pass.new).seen.task ≡ (view pass.old).seen.task }
+    ensures grows { BeginsWith (view pass.new).seen.log (view pass.old).seen.log }
+    ensures share { share.new.parts ≡ share.old.parts }
+    ensures seat { seat.new.of ≡ seat.old.of }
+    ensures seat_parts { seat.new.parts ≡ seat.old.parts }
+    ensures seen { seat.new.seen ≤ seat.old.seen }
+    ensures worker_task { worker.new.task ≡ worker.old.task }
+    ensures committed { IfOk result (HasCommitted (view pass.old).seen.log
+        share.old.amount seat.old worker.old
+        (view pass.new).seen.log share.new.amount seat.new worker.new) }
+{
+    let Some(batch) = worker.next_batch()? else {
+        return Ok(Committed::Idle);
+    };
+    let kids = count_kids(batch.outcomes.as_slice());
+    match commit_batch(rt, lock, pass, share, batch, limit) {
+        Ok(taken) => {
+            let Taken {
+                ticket,
+                first,
+                bound: cost,
+            } = taken;
+            worker.committed(first);
+            offer(bound, seat, cost);
+            Ok(Committed::Taken(Held { ticket, kids }))
+        }
+        Err(CommitRefusal::Halted) => Ok(Committed::Halted),
+        Err(CommitRefusal::Refused(refusal)) => Err(told_by(refusal)),
+    }
+}
+
+/// Redeems a ticket under the lock.
+///
+/// # Errors
+/// `NotOut` where no such ticket is out; the book is halted.
+fn redeem_inside<'t, L: Ledger, A: Ledger, R: Wait>(
+    rt: &R,
+    lock: &Lock<SharedBook<'t, L, A>>,
+    pass: &mut Pass<SharedBook<'t, L, A>>,
+    ticket: Ticket,
+) -> Result<Given<'t>, NotOut>
+    requires pass { IsOutside lock.now.place pass.old }
+    ensures pass { IsOutside lock.now.place pass.new }
+    ensures parts { (view pass.new).parts ≡ (view pass.old).parts }
+    ensures task { (view pass.new).seen.task ≡ (view pass.old).seen.task }
+    ensures grows { BeginsWith (view pass.new).seen.log (view pass.old).seen.log }
+    ensures given { IfSome (view pass.old).seen.task (λ t. IfOk result (IsGivenOf t)) }
+{
+    let mut book = lock.enter(rt, pass);
+    let given = book.redeem(ticket);
+    lock.leave(rt, pass, book);
+    given
+}
+
+/// Redeems a worker's ticket: what its batch releases is open, or in the outbox, once the batch is acknowledged.
+///
+/// # Errors
+/// `NotOut` where no such ticket is out, or it releases more than its batch has; the book is halted.
+#[tactic(auto, using(crate::proofs::Begins::begins_along))]
+pub fn redeem_next<'t, L: Ledger, A: Ledger, R: Wait>(
+    rt: &R,
+    lock: &Lock<SharedBook<'t, L, A>>,
+    pass: &mut Pass<SharedBook<'t, L, A>>,
+    worker: &mut Worker<'t>,
+    held: Held,
+) -> Result<Redemption, RunFault>
+    requires pass { IsOutside lock.now.place pass.old }
+    requires task { (view pass.old).seen.task ≡ Some worker.old.task }
+    requires room { held.kids ≤ worker.old.room }
+    ensures pass { IsOutside lock.now.place pass.new }
+    ensures parts { (view pass.new).parts ≡ (view pass.old).parts }
+    ensures task { (view pass.new).seen.task ≡ (view pass.old).seen.task }
+    ensures grows { BeginsWith (view pass.new).seen.log (view pass.old).seen.log }
+    ensures redeemed { IfOk result (HasRedeemed held.kids worker.old worker.new) }
+    ensures err { OnErr result (worker.new ≡ worker.old) }
+{
+    let Held { ticket, kids } = held;
+    match redeem_inside(rt, lock, pass, ticket) {
+        Ok(Given::Parcels(parcels)) => {
+            let parcels = parcels.into_vec();
+            if parcels.len() > kids {
+                halt(rt, lock, pass);
+                return Err(RunFault::NotOut);
+            }
+            worker.released(parcels);
+            Ok(Redemption::Opened)
+        }
+        Ok(Given::NotYet(ticket)) => Ok(Redemption::Waiting(Held { ticket, kids })),
+        Ok(Given::Void) => Ok(Redemption::Void),
+        Err(_) => Err(RunFault::NotOut),
+    }
+}
