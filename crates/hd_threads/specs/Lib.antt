@@ -1,5 +1,6 @@
 pub mod Committing
 pub mod Ending
+pub mod Placing
 pub mod Posting
 pub mod Shared
 pub mod Turning

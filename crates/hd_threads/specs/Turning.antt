@@ -1,50 +1,13 @@
--- A worker at its place, from turn to turn. (Our own; the search is HDA*, Kishimoto, Fukunaga and Botea 2013.)
-use Rattle.std.specs.Prelude.{◌≡◌, ℕ, ◌<◌, ◌≤◌, [], Some}
+-- A worker from turn to turn. (Our own; the search is HDA*, Kishimoto, Fukunaga and Botea 2013.)
+use Rattle.std.specs.Prelude.{ℕ, ◌≤◌}
 use Rattle.std.specs.List.{sum_by}
-use Rattle.crossbeam_queue.specs.Passes.{view}
-use Rattle.hd_desk.specs.Passes.{IsOutside}
-use Rattle.hd_desk.specs.Views.{BeginsWith}
-use Rattle.hd_desk.specs.Hands.{IsFor, parts_of}
-use Rattle.hd_worker.specs.Lookup.{IsLookupOf}
 use Rattle.hd_threads.specs.declared.working.Held.{Held}
 use Rattle.hd_threads.specs.declared.progress.Progress.{Progress}
-use Rattle.hd_threads.specs.declared.turning.Desk.{Desk}
-use Rattle.hd_threads.specs.declared.turning.Workplace.{Workplace}
+use Rattle.hd_threads.specs.declared.placing.Desk.{Desk}
+use Rattle.hd_threads.specs.declared.placing.Workplace.{Workplace}
 use Rattle.hd_threads.specs.declared.turning.Turn.{Turn}
 use Rattle.hd_threads.specs.declared.turning.Turn.TheVariants.{Busy, Idle, Ended}
-
--- a worker's place is at a desk: its pass, seat and hands are of that, and all that it has is of the task that its pass has seen
-pub record IsSeated {L A : Type 0} (d : Desk L A) (p : Workplace L A) : Type 0 where
-  pub outside : IsOutside d.lock.place p.pass
-  pub task : (view p.pass).seen.task ≡ Some p.worker.task
-  pub part : 0 < p.share.parts
-  pub seat : p.seat.of ≡ d.bound.of
-  pub hands : IsFor d.boxes p.hands
-  pub parcels : p.worker.task ≡ p.hands.of
-  pub lookup : IsLookupOf p.worker.task p.lookup
-
--- a worker is at a desk between two turns: the batch that it gave last is numbered
-pub record IsAt {L A : Type 0} (d : Desk L A) (p : Workplace L A) : Type 0 where
-  pub seated : IsSeated d p
-  pub numbered : p.worker.given ≡ []
-
--- what a worker keeps: its passes, its share and its seat have as many parts as before, its pass has seen no less, and its task is the same
-pub record Keeps {L A : Type 0} (p p' : Workplace L A) : Type 0 where
-  pub parts : (view p'.pass).parts ≡ (view p.pass).parts
-  pub share : p'.share.parts ≡ p.share.parts
-  pub seat : p'.seat.parts ≡ p.seat.parts
-  pub hands : parts_of p'.hands ≡ parts_of p.hands
-  pub grows : BeginsWith (view p'.pass).seen.log (view p.pass).seen.log
-  pub task : p'.worker.task ≡ p.worker.task
-
--- what it keeps while it is not in the lock: its pass and its share are as before, and it has as much room for what its tickets release
-pub record IsStill {L A : Type 0} (p p' : Workplace L A) : Type 0 where
-  pub pass : p'.pass ≡ p.pass
-  pub share : p'.share ≡ p.share
-  pub seat : p'.seat.parts ≡ p.seat.parts
-  pub hands : parts_of p'.hands ≡ parts_of p.hands
-  pub task : p'.worker.task ≡ p.worker.task
-  pub room : p'.worker.room ≡ p.worker.room
+use Rattle.hd_threads.specs.Placing.{IsAt}
 
 -- how many parcels the tickets release at most that a worker holds
 abbrev pub kids_held : Progress → ℕ

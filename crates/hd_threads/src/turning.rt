@@ -1,47 +1,25 @@
-//! One turn of a worker.
+//! One turn of a worker, and turn after turn.
 ghost use Rattle.std.specs.Prelude.{◌≡◌, ◌<◌, ◌≤◌, length, OnOk};
 ghost use Rattle.std.specs.VecDeque.{deque_len};
 ghost use Rattle.hd_zobrist.specs.declared.owners.TheConstants.{MAX_WORKERS};
 ghost use Rattle.hd_threads.specs.declared.progress.TheConstants.{MOST_TICKETS};
-ghost use Rattle.hd_threads.specs.Turning.{IsSeated, IsAt, Keeps, IsStill, kids_held, IsGoing};
+ghost use Rattle.hd_threads.specs.Placing.{IsSeated, IsAt, Keeps, IsStill};
+ghost use Rattle.hd_threads.specs.Turning.{kids_held, IsGoing};
 
 use crate::ending::is_over;
 use crate::gate::Gate;
 use crate::halting::halt;
 use crate::pausing::Pause;
-use crate::posting::{Sending, send_next, take_next};
+use crate::placing::{Desk, Workplace, commit, has_open, redeem, send, settle, take};
+use crate::posting::Sending;
 use crate::progress::{MOST_TICKETS, Progress, end};
-use crate::working::{Committed, Redemption, commit_next, redeem_next, settle_best};
-use crate::{Letter, SharedBook};
+use crate::working::{Committed, Redemption};
 use hd_base::NoMemory;
-use hd_bound::{BoundSeat, BoundWord};
-use hd_desk::{Hands, Lock, MAILBOX_PLACES, Mailboxes, Pass};
+use hd_desk::MAILBOX_PLACES;
 use hd_search::RunFault;
-use hd_task::Task;
-use hd_worker::{Lookup, Worker};
 use std::alloc::Global;
 use std::sync::Wait;
-use std::sync::ledger::{Ledger, Share};
-
-/// What the threads of a search share: the lock of the book, the mailboxes, and the bound word.
-#[derive(Drop)]
-pub struct Desk<'t, L: Ledger, A: Ledger> {
-    pub lock: Lock<SharedBook<'t, L, A>>,
-    pub boxes: Mailboxes<Task, Letter<'t>>,
-    pub bound: BoundWord,
-}
-
-/// What a worker's thread has of its own: a pass of the lock, a share of the commits, a seat at the bound, hands at the mailboxes, the
-/// worker, and what it looks up.
-#[derive(Drop)]
-pub struct Workplace<'t, L: Ledger, A: Ledger> {
-    pub pass: Pass<SharedBook<'t, L, A>>,
-    pub share: Share<L>,
-    pub seat: BoundSeat,
-    pub hands: Hands<'t, Task, Letter<'t>>,
-    pub worker: Worker<'t>,
-    pub lookup: Lookup<'t>,
-}
+use std::sync::ledger::Ledger;
 
 /// How a turn ended.
 #[must_use]
@@ -53,6 +31,48 @@ pub enum Turn {
     Idle,
     /// The search ends for this worker: by this fault, with which the book is halted; or since the book takes no batch any more.
     Ended(Option<RunFault>),
+}
+
+/// Halts the book for a worker that has no memory.
+fn stop<'t, L: Ledger, A: Ledger, R: Wait>(
+    rt: &R,
+    desk: &Desk<'t, L, A>,
+    place: &mut Workplace<'t, L, A>,
+)
+    requires seated { IsSeated desk.now place.old }
+    ensures seated { IsSeated desk.now place.new }
+    ensures keeps { Keeps place.old place.new }
+{
+    halt(rt, &desk.lock, &mut place.pass);
+}
+
+/// Whether the search is over, by a worker.
+fn is_done<'t, L: Ledger, A: Ledger, R: Wait>(
+    rt: &R,
+    desk: &Desk<'t, L, A>,
+    place: &mut Workplace<'t, L, A>,
+    limit: Option<u64>,
+) -> bool
+    requires at { IsAt desk.now place.old }
+    ensures at { IsAt desk.now place.new }
+    ensures keeps { Keeps place.old place.new }
+    ensures room { place.new.worker.room ≡ place.old.worker.room }
+{
+    is_over(rt, &desk.lock, &mut place.pass, limit)
+}
+
+/// Gives up what tickets a worker holds.
+fn finish<'t, L: Ledger, A: Ledger, R: Wait>(
+    rt: &R,
+    desk: &Desk<'t, L, A>,
+    place: &mut Workplace<'t, L, A>,
+    progress: Progress,
+)
+    requires seated { IsSeated desk.now place.old }
+    ensures seated { IsSeated desk.now place.new }
+    ensures keeps { Keeps place.old place.new }
+{
+    end(rt, &desk.lock, &mut place.pass, progress);
 }
 
 /// Redeems a worker's oldest ticket, if it has one: whether its batch has released what it leads to.
@@ -74,7 +94,7 @@ fn redeem_oldest<'t, L: Ledger, A: Ledger, R: Wait>(
     let Some(oldest) = progress.oldest() else {
         return Ok(false);
     };
-    match redeem_next(rt, &desk.lock, &mut place.pass, &mut place.worker, oldest) {
+    match redeem(rt, desk, place, oldest) {
         Ok(Redemption::Opened) => Ok(true),
         Ok(Redemption::Waiting(held)) => {
             progress.keep(held);
@@ -126,7 +146,7 @@ fn send_all<'t, L: Ledger, A: Ledger>(
 {
     let mut sent = false;
     for _parcel in 0..u64::MAX {
-        match send_next(&desk.boxes, &mut place.hands, &mut place.worker, workers) {
+        match send(desk, place, workers) {
             Sending::Sent => sent = true,
             Sending::Full | Sending::Empty => break,
         }
@@ -150,7 +170,7 @@ fn take_all<'t, L: Ledger, A: Ledger>(
 {
     let mut taken = false;
     for _parcel in 0..MAILBOX_PLACES {
-        if !take_next(&desk.boxes, &mut place.hands, &mut place.worker, id)? {
+        if !take(desk, place, id)? {
             break;
         }
         taken = true;
@@ -173,21 +193,16 @@ fn settle_one<'t, L: Ledger, A: Ledger, R: Wait, G: Gate>(
     requires at { IsAt desk.now place.old }
     ensures at { IsAt desk.now place.new }
     ensures still { IsStill place.old place.new }
-    ensures tickets { kids_held progress.new ≡ kids_held progress.old }
+    ensures tickets { progress.new.held ≡ progress.old.held }
 {
-    if place.worker.best(&mut place.lookup)?.is_none() {
+    if !has_open(desk, place)? {
         return Ok(false);
     }
     let nth = progress.count();
     gate.before(rt, id, nth);
-    let done = settle_best(
-        &desk.bound,
-        &mut place.seat,
-        &mut place.worker,
-        &mut place.lookup,
-    );
+    let settled = settle(desk, place);
     gate.after(rt, id, nth);
-    done?;
+    settled?;
     Ok(true)
 }
 
@@ -207,7 +222,7 @@ fn settle_some<'t, L: Ledger, A: Ledger, R: Wait, G: Gate>(
     requires at { IsAt desk.now place.old }
     ensures at { IsAt desk.now place.new }
     ensures still { IsStill place.old place.new }
-    ensures tickets { kids_held progress.new ≡ kids_held progress.old }
+    ensures tickets { progress.new.held ≡ progress.old.held }
 {
     for settled in 0..together {
         if !settle_one(rt, desk, place, progress, id, gate)? {
@@ -246,7 +261,7 @@ fn go_on<'t, L: Ledger, A: Ledger, R: Wait, G: Gate>(
     requires boxes { workers ≤ length desk.now.boxes }
     ensures at { IsAt desk.now place.new }
     ensures still { IsStill place.old place.new }
-    ensures tickets { kids_held progress.new ≡ kids_held progress.old }
+    ensures tickets { progress.new.held ≡ progress.old.held }
 {
     let sent = send_all(desk, place, workers);
     let taken = take_all(desk, place, id)?;
@@ -276,16 +291,7 @@ fn commit_some<'t, L: Ledger, A: Ledger, R: Wait>(
     ensures at { OnOk result (IsAt desk.now place.new) }
     ensures room { OnOk result (kids_held progress.new ≤ place.new.worker.room) }
 {
-    match commit_next(
-        rt,
-        &desk.lock,
-        &mut place.pass,
-        &mut place.share,
-        &desk.bound,
-        &mut place.seat,
-        &mut place.worker,
-        limit,
-    ) {
+    match commit(rt, desk, place, limit) {
         Ok(Committed::Taken(held)) => {
             progress.batched();
             progress.hold(held);
@@ -297,7 +303,7 @@ fn commit_some<'t, L: Ledger, A: Ledger, R: Wait>(
         }
         Ok(Committed::Halted) => Err(None),
         Err(fault) => {
-            halt(rt, &desk.lock, &mut place.pass);
+            stop(rt, desk, place);
             Err(Some(fault))
         }
     }
@@ -333,7 +339,7 @@ pub fn worker_turn<'t, L: Ledger, A: Ledger, R: Wait, G: Gate>(
         Err(fault) => return Turn::Ended(fault),
     };
     let Ok(worked) = go_on(rt, desk, place, progress, id, workers, together, gate) else {
-        halt(rt, &desk.lock, &mut place.pass);
+        stop(rt, desk, place);
         return Turn::Ended(Some(RunFault::NoMemory));
     };
     let mut busy = released || worked.any;
@@ -344,46 +350,6 @@ pub fn worker_turn<'t, L: Ledger, A: Ledger, R: Wait, G: Gate>(
         }
     }
     if busy { Turn::Busy } else { Turn::Idle }
-}
-
-/// What the thread of a worker does: turn after turn, until the search is over; it waits longer and longer while there is nothing to do. In
-/// the end its tickets are given up. Its fault, if it ends by one.
-pub fn work<'t, L: Ledger, A: Ledger, R: Wait, G: Gate>(
-    rt: &R,
-    alloc: Global,
-    desk: &Desk<'t, L, A>,
-    place: &mut Workplace<'t, L, A>,
-    id: usize,
-    workers: usize,
-    together: usize,
-    limit: Option<u64>,
-    gate: &G,
-) -> Option<RunFault>
-    requires at { IsAt desk.now place.old }
-    requires there { id < workers }
-    requires most { workers ≤ MAX_WORKERS }
-    requires boxes { workers ≤ length desk.now.boxes }
-    ensures seated { IsSeated desk.now place.new }
-    ensures keeps { Keeps place.old place.new }
-{
-    let Ok(progress) = Progress::begin(alloc) else {
-        halt(rt, &desk.lock, &mut place.pass);
-        return Some(RunFault::NoMemory);
-    };
-    let mut progress = progress;
-    let fault = turns(
-        rt,
-        desk,
-        place,
-        &mut progress,
-        id,
-        workers,
-        together,
-        limit,
-        gate,
-    );
-    end(rt, &desk.lock, &mut place.pass, progress);
-    fault
 }
 
 /// Takes turns until the search is over.
@@ -413,7 +379,7 @@ fn turns<'t, L: Ledger, A: Ledger, R: Wait, G: Gate>(
         ) {
             Turn::Busy => pause.reset(),
             Turn::Idle => {
-                if is_over(rt, &desk.lock, &mut place.pass, limit) {
+                if is_done(rt, desk, place, limit) {
                     return None;
                 }
                 pause.wait(rt);
@@ -422,4 +388,44 @@ fn turns<'t, L: Ledger, A: Ledger, R: Wait, G: Gate>(
         }
     }
     unreachable!()
+}
+
+/// What the thread of a worker does: turn after turn, until the search is over; it waits longer and longer while there is nothing to do. In
+/// the end its tickets are given up. Its fault, if it ends by one.
+pub fn work<'t, L: Ledger, A: Ledger, R: Wait, G: Gate>(
+    rt: &R,
+    alloc: Global,
+    desk: &Desk<'t, L, A>,
+    place: &mut Workplace<'t, L, A>,
+    id: usize,
+    workers: usize,
+    together: usize,
+    limit: Option<u64>,
+    gate: &G,
+) -> Option<RunFault>
+    requires at { IsAt desk.now place.old }
+    requires there { id < workers }
+    requires most { workers ≤ MAX_WORKERS }
+    requires boxes { workers ≤ length desk.now.boxes }
+    ensures seated { IsSeated desk.now place.new }
+    ensures keeps { Keeps place.old place.new }
+{
+    let Ok(progress) = Progress::begin(alloc) else {
+        stop(rt, desk, place);
+        return Some(RunFault::NoMemory);
+    };
+    let mut progress = progress;
+    let fault = turns(
+        rt,
+        desk,
+        place,
+        &mut progress,
+        id,
+        workers,
+        together,
+        limit,
+        gate,
+    );
+    finish(rt, desk, place, progress);
+    fault
 }

@@ -1,0 +1,21 @@
+use Rattle.std.proofs.Common.{◌≡◌, length}
+use Rattle.crossbeam_queue.specs.Passes.{view}
+use Rattle.hd_desk.specs.Passes.{IsOutside}
+use Rattle.hd_desk.specs.Views.{BeginsWith}
+use Rattle.hd_journal.specs.Journal.{kids_of}
+use Rattle.hd_search.specs.Searching.{Grows}
+use Rattle.hd_threads.proofs.ending.commit_all.Given as goal
+
+-- the pass is outside, and the journal is a beginning of what it has seen, all of which is acknowledged
+abbrev pub invariant-loop-round : goal.invariant-loop-round
+invariant-loop-round g l = record {
+  outside : IsOutside l.lock.place l.pass;
+  parts : (view l.pass).parts ≡ (view l.fn.pass).parts;
+  share : l.share.parts ≡ l.fn.share.parts;
+  task : (view l.pass).seen.task ≡ (view l.fn.pass).seen.task;
+  grows : BeginsWith (view l.pass).seen.log (view l.fn.pass).seen.log;
+  begins : BeginsWith (view l.pass).seen.log (kids_of l.journal);
+  counted : l.share.amount ≡ length (kids_of l.journal);
+  journal : Grows l.fn.journal l.journal;
+  kids : BeginsWith (kids_of l.journal) (kids_of l.fn.journal);
+}

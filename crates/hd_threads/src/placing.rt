@@ -1,0 +1,154 @@
+//! What a worker does at its place, call by call.
+ghost use Rattle.std.specs.Prelude.{◌≡◌, ◌<◌, ◌≤◌, length, IfOk, OnOk, OnErr};
+ghost use Rattle.hd_zobrist.specs.declared.owners.TheConstants.{MAX_WORKERS};
+ghost use Rattle.hd_threads.specs.Working.{HasRedeemed};
+ghost use Rattle.hd_threads.specs.Placing.{IsSeated, IsAt, Keeps, IsStill, IsBehind};
+
+use crate::posting::{Sending, send_next, take_next};
+use crate::working::{Committed, Held, Redemption, commit_next, redeem_next, settle_best};
+use crate::{Letter, SharedBook};
+use hd_base::NoMemory;
+use hd_bound::{BoundSeat, BoundWord};
+use hd_desk::{Hands, Lock, Mailboxes, Pass};
+use hd_search::RunFault;
+use hd_task::Task;
+use hd_worker::{Lookup, Worker};
+use std::sync::Wait;
+use std::sync::ledger::{Ledger, Share};
+
+/// What the threads of a search share: the lock of the book, the mailboxes, and the bound word.
+#[derive(Drop)]
+pub struct Desk<'t, L: Ledger, A: Ledger> {
+    pub lock: Lock<SharedBook<'t, L, A>>,
+    pub boxes: Mailboxes<Task, Letter<'t>>,
+    pub bound: BoundWord,
+}
+
+/// What a worker's thread has of its own: a pass of the lock, a share of the commits, a seat at the bound, hands at the mailboxes, the
+/// worker, and what it looks up.
+#[derive(Drop)]
+pub struct Workplace<'t, L: Ledger, A: Ledger> {
+    pub pass: Pass<SharedBook<'t, L, A>>,
+    pub share: Share<L>,
+    pub seat: BoundSeat,
+    pub hands: Hands<'t, Task, Letter<'t>>,
+    pub worker: Worker<'t>,
+    pub lookup: Lookup<'t>,
+}
+
+/// Redeems a worker's ticket, as [`redeem_next`] does.
+///
+/// # Errors
+/// As there.
+pub(crate) fn redeem<'t, L: Ledger, A: Ledger, R: Wait>(
+    rt: &R,
+    desk: &Desk<'t, L, A>,
+    place: &mut Workplace<'t, L, A>,
+    held: Held,
+) -> Result<Redemption, RunFault>
+    requires at { IsAt desk.now place.old }
+    requires room { held.kids ≤ place.old.worker.room }
+    ensures at { IsAt desk.now place.new }
+    ensures keeps { Keeps place.old place.new }
+    ensures redeemed { IfOk result
+        (HasRedeemed held.kids place.old.worker place.new.worker) }
+{
+    redeem_next(rt, &desk.lock, &mut place.pass, &mut place.worker, held)
+}
+
+/// Sends the first parcel of a worker's outbox, as [`send_next`] does.
+pub(crate) fn send<'t, L: Ledger, A: Ledger>(
+    desk: &Desk<'t, L, A>,
+    place: &mut Workplace<'t, L, A>,
+    workers: usize,
+) -> Sending
+    requires at { IsAt desk.now place.old }
+    requires some { 1 ≤ workers }
+    requires most { workers ≤ MAX_WORKERS }
+    requires boxes { workers ≤ length desk.now.boxes }
+    ensures at { IsAt desk.now place.new }
+    ensures still { IsStill place.old place.new }
+{
+    send_next(&desk.boxes, &mut place.hands, &mut place.worker, workers)
+}
+
+/// Takes the oldest parcel out of a worker's mailbox, as [`take_next`] does.
+///
+/// # Errors
+/// As there.
+pub(crate) fn take<'t, L: Ledger, A: Ledger>(
+    desk: &Desk<'t, L, A>,
+    place: &mut Workplace<'t, L, A>,
+    id: usize,
+) -> Result<bool, NoMemory>
+    requires at { IsAt desk.now place.old }
+    requires there { id < length desk.now.boxes }
+    ensures at { IsAt desk.now place.new }
+    ensures still { IsStill place.old place.new }
+{
+    take_next(&desk.boxes, &mut place.hands, &mut place.worker, id)
+}
+
+/// Whether a worker has an open node.
+///
+/// # Errors
+/// `NoMemory` where there is no room for what is kept of estimates.
+pub(crate) fn has_open<'t, L: Ledger, A: Ledger>(
+    desk: &Desk<'t, L, A>,
+    place: &mut Workplace<'t, L, A>,
+) -> Result<bool, NoMemory>
+    requires at { IsAt desk.now place.old }
+    ensures at { IsAt desk.now place.new }
+    ensures still { IsStill place.old place.new }
+{
+    let _ = desk;
+    let best = place.worker.best(&mut place.lookup)?;
+    Ok(best.is_some())
+}
+
+/// Settles a worker's best open node, as [`settle_best`] does.
+///
+/// # Errors
+/// As there.
+pub(crate) fn settle<'t, L: Ledger, A: Ledger>(
+    desk: &Desk<'t, L, A>,
+    place: &mut Workplace<'t, L, A>,
+) -> Result<(), NoMemory>
+    requires at { IsAt desk.now place.old }
+    ensures at { IsAt desk.now place.new }
+    ensures still { IsStill place.old place.new }
+{
+    settle_best(
+        &desk.bound,
+        &mut place.seat,
+        &mut place.worker,
+        &mut place.lookup,
+    )
+}
+
+/// Commits a worker's next batch, as [`commit_next`] does.
+///
+/// # Errors
+/// As there.
+pub(crate) fn commit<'t, L: Ledger, A: Ledger, R: Wait>(
+    rt: &R,
+    desk: &Desk<'t, L, A>,
+    place: &mut Workplace<'t, L, A>,
+    limit: Option<u64>,
+) -> Result<Committed, RunFault>
+    requires at { IsAt desk.now place.old }
+    ensures seated { IsSeated desk.now place.new }
+    ensures keeps { Keeps place.old place.new }
+    ensures behind { IfOk result (IsBehind desk.now place.old place.new) }
+{
+    commit_next(
+        rt,
+        &desk.lock,
+        &mut place.pass,
+        &mut place.share,
+        &desk.bound,
+        &mut place.seat,
+        &mut place.worker,
+        limit,
+    )
+}
