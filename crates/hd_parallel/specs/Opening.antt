@@ -1,6 +1,6 @@
 -- A search that is opened for its threads. (Our own; the search is HDA*, Kishimoto, Fukunaga and Botea 2013.)
 use Rattle.std.specs.Prelude.{◌≡◌, ℕ, ◌<◌, ◌≤◌, List, [], length, Some}
-use Rattle.std.specs.List.{AllByRecursion, replicate}
+use Rattle.std.specs.List.{AllByRecursion}
 use Rattle.crossbeam_queue.specs.Passes.{view}
 use Rattle.hd_task.specs.declared.task.Task.{Task}
 use Rattle.hd_task.specs.declared.plan.Kid.{Kid}

@@ -1,5 +1,5 @@
 //! What the committer does while the workers' threads run.
-ghost use Rattle.std.specs.Prelude.{◌≡◌, ◌×◌};
+ghost use Rattle.std.specs.Prelude.{◌≡◌};
 ghost use Rattle.hd_parallel.specs.Committing.{CanRun, HasEnded};
 
 use crate::opening::CommitterPlace;
@@ -63,18 +63,14 @@ fn commit_beside<'t, L: Ledger, A: Ledger, S: Store, R: Wait>(
     if !started {
         halt(rt, &desk.lock, &mut place.pass);
     }
-    let done = commit_all(
+    commit_all(
         rt,
         &desk.lock,
         &mut place.pass,
         &mut place.share,
         journal,
         limit,
-    );
-    if done.is_err() {
-        halt(rt, &desk.lock, &mut place.pass);
-    }
-    done
+    )
 }
 
 impl<'d, 't, 'j, L: Ledger, A: Ledger, S: Store, R: Wait> Beside

@@ -1,5 +1,5 @@
 //! The scope in which the threads of a search run.
-ghost use Rattle.std.specs.Prelude.{◌≡◌, ◌×◌, IfErr};
+ghost use Rattle.std.specs.Prelude.{◌≡◌, IfErr};
 ghost use Rattle.std.specs.Thread.{IsSync};
 ghost use Rattle.hd_parallel.specs.Fault.{IsOfThreads};
 ghost use Rattle.hd_parallel.specs.Opening.{AreAt};
