@@ -1,1 +1,4 @@
-mod Handing
+mod Leading
+mod Parts
+mod Teams
+mod Truth

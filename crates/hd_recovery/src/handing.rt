@@ -6,6 +6,7 @@ ghost use Rattle.hd_zobrist.specs.declared.owners.TheConstants.{MAX_WORKERS};
 ghost use Rattle.hd_node.specs.declared.batch.By.TheVariants.{Entry};
 ghost use Rattle.hd_entries.specs.Holding.{Released, parcel_of, IsParcelOf};
 ghost use Rattle.hd_closed.specs.Closed.{Closed};
+ghost use Rattle.hd_turns.specs.Calls.{with_parcel};
 ghost use Rattle.hd_recovery.specs.Recovered.{closed_at, closed_in, team};
 
 use hd_base::NoMemory;
@@ -56,7 +57,8 @@ fn close_at_owner<'t>(
         → OnOk result (workers.new.items ≡ team task.now count
         (closed ++ record { by = Entry number; state = state.now; cost = cost } ∷ []) []) }
 {
-    workers[owner(state.hash(), count)].close(number, state, cost)
+    let id = owner(state.hash(), count);
+    workers[id].close(number, state, cost)
 }
 
 /// An entry of a book is closed at the worker that owns its state.
@@ -104,6 +106,20 @@ pub(crate) fn close_all<'t, L: Ledger>(
     Ok(())
 }
 
+/// A parcel is a worker's last open node.
+///
+/// # Errors
+/// `NoMemory` where there is no room for it.
+fn take<'t>(worker: &mut Worker<'t>, parcel: Parcel<'t>) -> Result<(), NoMemory>
+    requires { parcel.task ≡ worker.old.task }
+    ensures { OnOk result (worker.new ≡ with_parcel (parcel_of parcel.entry) worker.old) }
+{
+    match worker.take(parcel) {
+        Ok(()) => Ok(()),
+        Err((_, error)) => Err(error),
+    }
+}
+
 /// A parcel is the last open node of the worker that owns its state.
 ///
 /// # Errors
@@ -124,10 +140,8 @@ fn take_at_owner<'t>(
         → OnOk result (workers.new.items
         ≡ team task.now count closed (taken ++ parcel_of parcel.entry ∷ [])) }
 {
-    match workers[owner(parcel.hash(), count)].take(parcel) {
-        Ok(()) => Ok(()),
-        Err((_, error)) => Err(error),
-    }
+    let id = owner(parcel.hash(), count);
+    take(&mut workers[id], parcel)
 }
 
 /// Parcels are open nodes, each of the worker that owns its state, in their order.

@@ -4,6 +4,7 @@
 
 mod fault;
 mod handing;
+pub mod laws;
 mod recovering;
 mod resuming;
 

@@ -1,5 +1,6 @@
 pub mod Batches
 pub mod Begins
+pub mod Endings
 pub mod Later
 pub mod Parcels
 pub mod Places

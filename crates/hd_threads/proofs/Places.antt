@@ -1,9 +1,10 @@
 -- A worker at its place, from call to call.
 use Rattle.std.proofs.Common.{◌≡◌, ℕ, ◌+◌, ◌<◌, Some, Result, Ok, Err, List, [], refl, sym, ap, subst, ◌∙◌}
 use Rattle.std.specs.Prelude.{IfOk}
-use Rattle.crossbeam_queue.specs.Passes.{view}
+use Rattle.crossbeam_queue.specs.Passes.{Pass, view}
 use Rattle.hd_task.specs.declared.plan.Kid.{Kid}
 use Rattle.hd_bound.specs.Bound.{SeatView}
+use Rattle.hd_desk.specs.declared.view.View.{View}
 use Rattle.hd_desk.specs.Hands.{IsFor}
 use Rattle.hd_desk.specs.Passes.{IsOutside}
 use Rattle.hd_desk.specs.Views.{BeginsWith}
@@ -17,6 +18,17 @@ use Rattle.hd_threads.specs.Working.{HasCommitted}
 use Rattle.hd_threads.specs.Placing.{IsSeated, IsAt, Keeps, IsStill, IsBehind}
 use Rattle.hd_threads.proofs.Begins.{begins_itself, begins_along}
 use Rattle.hd_threads.proofs.Stays.{batch_numbered, batch_room}
+
+module _ {B T I : Type 0} where
+  -- a pass that is the same knows the same
+  same_parts : (p q : Pass B (View T I)) → q ≡ p → (view q).parts ≡ (view p).parts
+  same_parts p q e = ap (λ (s : Pass B (View T I)). (view s).parts) e
+
+  same_task : (p q : Pass B (View T I)) → q ≡ p → (view q).seen.task ≡ (view p).seen.task
+  same_task p q e = ap (λ (s : Pass B (View T I)). (view s).seen.task) e
+
+  same_log : (p q : Pass B (View T I)) → q ≡ p → (view p).seen.log ≡ (view q).seen.log
+  same_log p q e = sym (ap (λ (s : Pass B (View T I)). (view s).seen.log) e)
 
 module _ {L A : Type 0} where
   -- ---- what is kept, from call to call
@@ -49,11 +61,11 @@ module _ {L A : Type 0} where
 
   pub still_keeps : (p q : Workplace L A) → IsStill p q → Keeps p q
   still_keeps p q x = record {
-    parts = ap (λ s. (view s).parts) x.pass;
+    parts = same_parts p.pass q.pass x.pass;
     share = ap (λ s. s.parts) x.share;
     seat = x.seat;
     hands = x.hands;
-    grows = subst (λ s. BeginsWith (view s).seen.log (view p.pass).seen.log) (sym x.pass) (begins_itself (view p.pass).seen.log);
+    grows = subst (λ l. BeginsWith l (view p.pass).seen.log) (same_log p.pass q.pass x.pass) (begins_itself (view p.pass).seen.log);
     task = x.task;
   }
 
@@ -72,6 +84,14 @@ module _ {L A : Type 0} where
     parcels = worker ∙ (s.parcels ∙ sym of);
     lookup = subst (λ t. IsLookupOf t q.lookup) (sym worker) lookup;
   }
+
+  -- parcels went out, or came in
+  pub moved_seated :
+      (d : Desk L A) (p q : Workplace L A) → IsSeated d p → IsFor d.boxes q.hands → q.hands.of ≡ p.hands.of → q.worker.task ≡ p.worker.task
+      → q.pass ≡ p.pass → q.share ≡ p.share → q.seat ≡ p.seat → q.lookup ≡ p.lookup → IsSeated d q
+  moved_seated d p q s hands of worker pass share seat lookup =
+      seated_by d p q s (subst (IsOutside d.lock.place) (sym pass) s.outside) (same_task p.pass q.pass pass) (ap (λ x. x.parts) share) (ap (λ x. x.of) seat) hands of worker
+      (subst (IsLookupOf p.worker.task) (sym lookup) s.lookup)
 
   -- the lock was entered and left
   pub entered_seated :

@@ -342,14 +342,15 @@ pub fn worker_turn<'t, L: Ledger, A: Ledger, R: Wait, G: Gate>(
         stop(rt, desk, place);
         return Turn::Ended(Some(RunFault::NoMemory));
     };
-    let mut busy = released || worked.any;
-    if progress.is_due(worked.open, together) {
-        match commit_some(rt, desk, place, progress, limit) {
-            Ok(committed) => busy = busy || committed,
-            Err(fault) => return Turn::Ended(fault),
-        }
+    let busy = released || worked.any;
+    if !progress.is_due(worked.open, together) {
+        return if busy { Turn::Busy } else { Turn::Idle };
     }
-    if busy { Turn::Busy } else { Turn::Idle }
+    match commit_some(rt, desk, place, progress, limit) {
+        Ok(committed) if busy || committed => Turn::Busy,
+        Ok(_) => Turn::Idle,
+        Err(fault) => Turn::Ended(fault),
+    }
 }
 
 /// Takes turns until the search is over.

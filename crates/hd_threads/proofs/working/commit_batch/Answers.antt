@@ -15,4 +15,4 @@ returns-in-Ok-clause-committed g c =
     c.enter-book.ensures.task c.enter-book.ensures.begins c.in-Ok.ensures.committed c.in-Ok.ensures.task (ap (λ (x : Counts). x.entries) c.counts-first.ensures.counts) c.bound-bound.ensures
     in
     subst (λ (log : List Kid). IsIn before.seen.task before.seen.log c.args.batch.outcomes log c.counts-first.result.entries c.bound-bound.result)
-    (sym (ap (λ (v : View Task Kid). v.seen.log) c.leave.ensures.view)) there
+    (sym (ap (λ (v : View Task Kid). v.seen.log) c.leave-in-Ok.ensures.view)) there

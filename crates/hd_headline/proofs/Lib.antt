@@ -1,0 +1,6 @@
+pub mod Answering
+pub mod Leading
+pub mod Owning
+pub mod Stepping
+pub mod Tracing
+pub mod Whole

@@ -1,0 +1,8 @@
+pub mod Headline
+pub mod Moves
+pub mod Once
+pub mod Search
+pub mod Seats
+pub mod Starting
+pub mod Stops
+pub mod World
