@@ -21,9 +21,9 @@ pub record IsFresh (t : Task) (w : WorkerView) : Type 0 where
   pub numbered : w.given ≡ []
 
 -- what a pass has seen is a book of this task with just these entries
-pub record HasSeen (t : Task) (log : List Kid) (s : Seen Task Kid) : Type 0 where
+pub record HasSeen (t : Task) (kids : List Kid) (s : Seen Task Kid) : Type 0 where
   pub task : s.task ≡ Some t
-  pub log : s.log ≡ log
+  pub log : s.log ≡ kids
 
 -- there is room for so many places more at a desk: of all that a place has a part of, more parts are left
 pub record HasRoom {L A : Type 0} (t : Task) (log : List Kid) (d : Desk L A) (left : ℕ) (r : Rest L A) : Type 0 where
