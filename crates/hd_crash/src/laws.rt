@@ -1,0 +1,1 @@
+//! Laws over the definitions. Each function does nothing: its contract is the law.
