@@ -1,1 +1,4 @@
+pub mod Leaving
+pub mod Opened
+pub mod Placing
 pub mod Within

@@ -1,1 +1,0 @@
-//! Laws over the definitions. Each function does nothing: its contract is the law.
