@@ -23,13 +23,13 @@ use Rattle.hd_journal.proofs.Bytes.{cut_whole, cut_part}
 use Rattle.hd_journal.proofs.Opening.{stands_found}
 use Rattle.hd_journal.proofs.Passing.{sure_then, no_more}
 use Rattle.hd_world.specs.Stops.{File, at_rest, bytes_of, stopped_in, Opens}
-use Rattle.hd_crash.specs.Left.{Doing, Making, Standing, Appending, AreGroups, IsSound, IsLeft, MayBeLeft}
+use Rattle.hd_crash.specs.Left.{Doing, Making, Standing, Appending, AreGroups, IsSound, IsLeft, StopMayLeave}
 use Rattle.hd_crash.proofs.Within.{rest_ran, leaves_in}
 
 -- ---- while a group is appended
 
 pub append_stop : (digest : List ℕ) (f : File) (next : List Kid) (c : ℕ) (content : List ℕ)
-    → MayBeLeft (stopped_in (at_rest (bytes_of digest f)) (append_calls f.version (length (front f.version digest f.groups)) next) c) content
+    → StopMayLeave (stopped_in (at_rest (bytes_of digest f)) (append_calls f.version (length (front f.version digest f.groups)) next) c) content
     → IsLeft digest (Appending f next) content
 append_stop digest f next c content left =
     let v = f.version in
@@ -88,9 +88,9 @@ found_moments digest (Appending f next) content found new len sound left is ran 
 
 pub open_stop : (digest : List ℕ) (doing : Doing) (content : List ℕ) (calls : List Call) (f : File) (c : ℕ) (left : List ℕ)
     → length digest ≡ DIGEST_LEN → IsSound doing → IsLeft digest doing content → Opens digest content calls f
-    → MayBeLeft (stopped_in (at_rest content) calls c) left → IsLeft digest doing left
+    → StopMayLeave (stopped_in (at_rest content) calls c) left → IsLeft digest doing left
 open_stop digest doing content calls f c left len sound before o stop =
     let made = open_calls digest o.found in
     leaves_in (IsLeft digest doing) content made c
     (found_moments digest doing content o.found (after_calls (at_rest content) made) len sound before o.is (rest_ran content made)) left
-    (subst (λ (cs : List Call). MayBeLeft (stopped_in (at_rest content) cs c) left) o.mend stop)
+    (subst (λ (cs : List Call). StopMayLeave (stopped_in (at_rest content) cs c) left) o.mend stop)

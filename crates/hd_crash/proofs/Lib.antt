@@ -1,3 +1,5 @@
+pub mod Beginnings
+pub mod Grouping
 pub mod Leaving
 pub mod Opened
 pub mod Placing

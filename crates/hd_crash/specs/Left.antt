@@ -42,5 +42,5 @@ IsFoundAfter (Standing f) found = found ≡ f
 IsFoundAfter (Appending f next) found = (found ≡ f) ⊎ (found ≡ with_group next f)
 
 -- a stop may leave this content of a disk
-abbrev pub MayBeLeft : Device → List ℕ → Type 0
-MayBeLeft disk content = MayLeave disk.start disk.steps content
+abbrev pub StopMayLeave : Device → List ℕ → Type 0
+StopMayLeave disk content = MayLeave disk.start disk.steps content

@@ -11,13 +11,13 @@ ghost use Rattle.hd_journal.specs.Calls.{Call, after_calls};
 ghost use Rattle.hd_journal.specs.Journal.{append_calls};
 ghost use Rattle.hd_journal.specs.Moments.{IsSettled};
 ghost use Rattle.hd_world.specs.Stops.{File, at_rest, bytes_of, stopped_in, with_group, Opens};
-ghost use Rattle.hd_crash.specs.Left.{Doing, Appending, IsFoundAfter, IsLeft, IsSound, MayBeLeft};
+ghost use Rattle.hd_crash.specs.Left.{Doing, Appending, IsFoundAfter, IsLeft, IsSound, StopMayLeave};
 
 /// A stop within any of the calls that append a group, or before them, leaves the groups with anything behind their closed gate, or
 /// the whole new group behind a gate that reads anything.
 pub fn a_stop_in_an_append_leaves_the_groups()
     ensures { (digest : List ℕ) (f : File) (next : List Kid) (c : ℕ) (content : List ℕ)
-        → MayBeLeft (stopped_in (at_rest (bytes_of digest f))
+        → StopMayLeave (stopped_in (at_rest (bytes_of digest f))
         (append_calls f.version (length (front f.version digest f.groups)) next) c) content
         → IsLeft digest (Appending f next) content }
 {}
@@ -27,7 +27,7 @@ pub fn a_stop_in_an_opening_leaves_as_much()
     ensures { (digest : List ℕ) (doing : Doing) (content : List ℕ) (calls : List Call) (f : File)
         (c : ℕ) (left : List ℕ) → length digest ≡ DIGEST_LEN → IsSound doing
         → IsLeft digest doing content → Opens digest content calls f
-        → MayBeLeft (stopped_in (at_rest content) calls c) left → IsLeft digest doing left }
+        → StopMayLeave (stopped_in (at_rest content) calls c) left → IsLeft digest doing left }
 {}
 
 /// What stops left is opened, and the journal that is there then is the one that stood there, or that with the whole group that was
