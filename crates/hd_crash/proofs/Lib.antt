@@ -1,5 +1,4 @@
 pub mod Beginnings
-pub mod Grouping
 pub mod Leaving
 pub mod Opened
 pub mod Placing
