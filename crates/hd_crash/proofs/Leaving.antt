@@ -23,7 +23,7 @@ use Rattle.hd_journal.proofs.Bytes.{cut_whole, cut_part}
 use Rattle.hd_journal.proofs.Opening.{stands_found}
 use Rattle.hd_journal.proofs.Passing.{sure_then, no_more}
 use Rattle.hd_world.specs.Stops.{File, at_rest, bytes_of, stopped_in, Opens}
-use Rattle.hd_crash.specs.Left.{Doing, Making, Standing, Appending, AreGroups, IsSound, IsLeft, StopMayLeave}
+use Rattle.hd_crash.specs.Left.{Doing, Making, Standing, Appending, AreGroups, HasGroups, IsLeft, StopMayLeave}
 use Rattle.hd_crash.proofs.Within.{rest_ran, leaves_in}
 
 -- ---- while a group is appended
@@ -78,7 +78,7 @@ closed_moments v digest groups found old new len settled sound is found_is ran =
 -- ---- while a file is opened that stops left
 
 found_moments : (digest : List ℕ) (doing : Doing) (content : List ℕ) (found : Found) (new : Device) → length digest ≡ DIGEST_LEN
-    → IsSound doing → IsLeft digest doing content → IsFound digest content found → RanThrough (at_rest content) (open_calls digest found) new
+    → HasGroups doing → IsLeft digest doing content → IsFound digest content found → RanThrough (at_rest content) (open_calls digest found) new
     → LeavesSince (IsLeft digest doing) (at_rest content) new
 found_moments digest Making content found new len sound left is ran = making_moments digest found (at_rest content) new (Ok tt) len tt left is ran
 found_moments digest (Standing f) content found new len sound left is ran =
@@ -87,7 +87,7 @@ found_moments digest (Appending f next) content found new len sound left is ran 
     open_moments f.version digest f.groups next found (at_rest content) new (Ok tt) len tt sound.0 sound.1 left is ran
 
 pub open_stop : (digest : List ℕ) (doing : Doing) (content : List ℕ) (calls : List Call) (f : File) (c : ℕ) (left : List ℕ)
-    → length digest ≡ DIGEST_LEN → IsSound doing → IsLeft digest doing content → Opens digest content calls f
+    → length digest ≡ DIGEST_LEN → HasGroups doing → IsLeft digest doing content → Opens digest content calls f
     → StopMayLeave (stopped_in (at_rest content) calls c) left → IsLeft digest doing left
 open_stop digest doing content calls f c left len sound before o stop =
     let made = open_calls digest o.found in

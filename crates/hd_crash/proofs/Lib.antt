@@ -1,4 +1,5 @@
 pub mod Beginnings
+pub mod Halting
 pub mod Leaving
 pub mod Opened
 pub mod Placing

@@ -23,7 +23,7 @@ use Rattle.hd_journal.proofs.Appending.{behind_content}
 use Rattle.hd_journal.proofs.Opening.{found_one, opens}
 use Rattle.hd_journal.proofs.Standing.{stop_stands, stands_not_refused, making_not_refused}
 use Rattle.hd_world.specs.Stops.{File, at_rest, bytes_of, with_group, Opens}
-use Rattle.hd_crash.specs.Left.{Doing, Making, Standing, Appending, AreGroups, IsSound, IsLeft, IsFoundAfter, first_file}
+use Rattle.hd_crash.specs.Left.{Doing, Making, Standing, Appending, AreGroups, HasGroups, IsLeft, IsFoundAfter, first_file}
 use Rattle.hd_crash.proofs.Placing.{groups_same}
 use Rattle.hd_crash.proofs.Within.{rest_ran}
 
@@ -99,7 +99,7 @@ making_opened digest content len making =
 zero_not_one : ◌≢◌ {A = ℕ} 0 1
 zero_not_one e = omega (arith, e)
 
-pub left_opened : (digest : List ℕ) (doing : Doing) (content : List ℕ) → length digest ≡ DIGEST_LEN → IsSound doing → IsLeft digest doing content
+pub left_opened : (digest : List ℕ) (doing : Doing) (content : List ℕ) → length digest ≡ DIGEST_LEN → HasGroups doing → IsLeft digest doing content
     → IsOpened digest content doing
 left_opened digest Making content len sound left = making_opened digest content len left
 left_opened digest (Standing f) content len sound left =
@@ -116,7 +116,7 @@ left_opened digest (Appending f next) content len sound left =
     ]
 
 -- what is opened is such a journal
-pub left_found : (digest : List ℕ) (doing : Doing) (content : List ℕ) (calls : List Call) (f : File) → length digest ≡ DIGEST_LEN → IsSound doing
+pub left_found : (digest : List ℕ) (doing : Doing) (content : List ℕ) (calls : List Call) (f : File) → length digest ≡ DIGEST_LEN → HasGroups doing
     → IsLeft digest doing content → Opens digest content calls f → IsFoundAfter doing f
 left_found digest doing content calls f len sound left o =
     let one = left_opened digest doing content len sound left in
@@ -124,7 +124,7 @@ left_found digest doing content calls f len sound left o =
 
 -- ---- nothing is said against it
 
-pub left_not_refused : (digest : List ℕ) (doing : Doing) (content : List ℕ) (error : ImageError) → length digest ≡ DIGEST_LEN → IsSound doing
+pub left_not_refused : (digest : List ℕ) (doing : Doing) (content : List ℕ) (error : ImageError) → length digest ≡ DIGEST_LEN → HasGroups doing
     → IsLeft digest doing content → IsRefused digest content error → error ≡ NoMemory
 left_not_refused digest Making content error len sound left refused = making_not_refused Two digest content error len left refused
 left_not_refused digest (Standing f) content error len sound left refused =

@@ -20,10 +20,10 @@ pub data Doing : Type 0 where
   Appending : File → List Kid → Doing
 
 -- its groups are groups
-abbrev pub IsSound : Doing → Type 0
-IsSound Making = Unit {0}
-IsSound (Standing f) = AreGroups f
-IsSound (Appending f next) = AreGroups f × IsGroup f.version next
+abbrev pub HasGroups : Doing → Type 0
+HasGroups Making = Unit {0}
+HasGroups (Standing f) = AreGroups f
+HasGroups (Appending f next) = AreGroups f × IsGroup f.version next
 
 -- what the stop leaves then, and each further one that falls while that is opened again
 abbrev pub IsLeft : List ℕ → Doing → List ℕ → Type 0

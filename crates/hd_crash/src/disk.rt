@@ -11,7 +11,7 @@ ghost use Rattle.hd_journal.specs.Calls.{Call, after_calls};
 ghost use Rattle.hd_journal.specs.Journal.{append_calls};
 ghost use Rattle.hd_journal.specs.Moments.{IsSettled};
 ghost use Rattle.hd_world.specs.Stops.{File, at_rest, bytes_of, stopped_in, with_group, Opens};
-ghost use Rattle.hd_crash.specs.Left.{Doing, Appending, IsFoundAfter, IsLeft, IsSound, StopMayLeave};
+ghost use Rattle.hd_crash.specs.Left.{Doing, Appending, IsFoundAfter, IsLeft, HasGroups, StopMayLeave};
 
 /// A stop within any of the calls that append a group, or before them, leaves the groups with anything behind their closed gate, or
 /// the whole new group behind a gate that reads anything.
@@ -25,7 +25,7 @@ pub fn a_stop_in_an_append_leaves_the_groups()
 /// A stop within any of the calls that open what stops left, or before them, leaves again what those may have left.
 pub fn a_stop_in_an_opening_leaves_as_much()
     ensures { (digest : List ℕ) (doing : Doing) (content : List ℕ) (calls : List Call) (f : File)
-        (c : ℕ) (left : List ℕ) → length digest ≡ DIGEST_LEN → IsSound doing
+        (c : ℕ) (left : List ℕ) → length digest ≡ DIGEST_LEN → HasGroups doing
         → IsLeft digest doing content → Opens digest content calls f
         → StopMayLeave (stopped_in (at_rest content) calls c) left → IsLeft digest doing left }
 {}
@@ -34,17 +34,17 @@ pub fn a_stop_in_an_opening_leaves_as_much()
 /// being appended; or the first one, where one was being made.
 pub fn what_stops_left_is_opened()
     ensures some { (digest : List ℕ) (doing : Doing) (content : List ℕ)
-        → length digest ≡ DIGEST_LEN → IsSound doing → IsLeft digest doing content
+        → length digest ≡ DIGEST_LEN → HasGroups doing → IsLeft digest doing content
         → (calls : List Call) × (f : File) × Opens digest content calls f }
     ensures found { (digest : List ℕ) (doing : Doing) (content : List ℕ) (calls : List Call)
-        (f : File) → length digest ≡ DIGEST_LEN → IsSound doing → IsLeft digest doing content
+        (f : File) → length digest ≡ DIGEST_LEN → HasGroups doing → IsLeft digest doing content
         → Opens digest content calls f → IsFoundAfter doing f }
 {}
 
 /// Nothing is said against what stops left.
 pub fn what_stops_left_is_not_refused()
     ensures { (digest : List ℕ) (doing : Doing) (content : List ℕ) (error : ImageError)
-        → length digest ≡ DIGEST_LEN → IsSound doing → IsLeft digest doing content
+        → length digest ≡ DIGEST_LEN → HasGroups doing → IsLeft digest doing content
         → IsRefused digest content error → error ≡ NoMemory }
 {}
 
