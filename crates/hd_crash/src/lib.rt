@@ -6,3 +6,4 @@
 #![tactic(auto)]
 
 pub mod disk;
+pub mod worlds;
