@@ -1,3 +1,4 @@
+pub mod Admitting
 pub mod Beginning
 pub mod Committing
 pub mod Counting
@@ -8,6 +9,7 @@ pub mod Ordering
 pub mod Quiet
 pub mod Same
 pub mod Staying
+pub mod Searching
 pub mod Sounding
 pub mod Sums
 pub mod Tickets

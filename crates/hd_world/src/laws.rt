@@ -18,6 +18,7 @@ ghost use Rattle.hd_world.specs.Truth.{IsTrueRun};
 ghost use Rattle.hd_world.specs.Once.{IsOnce};
 ghost use Rattle.hd_world.specs.Order.{AreTicketsOut, InOrder};
 ghost use Rattle.hd_world.specs.Sound.{IsSound};
+ghost use Rattle.hd_world.specs.Headline.{AllIsAdmissible, MovesSearch};
 ghost use Rattle.hd_world.specs.Starting.{run_after};
 ghost use Rattle.hd_world.specs.Stops.{File, entries_of, with_group, is_next};
 
@@ -82,4 +83,16 @@ pub fn runs_stay_sound()
         → r.group ≡ Some g → is_next f g ≡ true }
     ensures whole { (t : Task) (f : File) (r : Run) (g : GroupView) → IsSound t f r
         → r.group ≡ Some g → IsGroup f.version g.kids }
+{}
+
+/// In a sound run no batch is refused for what it says, and no ticket and no group is refused.
+pub fn nothing_is_refused()
+    ensures { (t : Task) (f : File) (r : Run) → IsSound t f r → AllIsAdmissible f r }
+{}
+
+/// Each move of a sound run moves its search as an abstract search may be moved: a commit that is accepted lengthens it by exactly its
+/// expansions, `ack` acknowledges, and no other move changes it.
+pub fn moves_move_the_search()
+    ensures { (t : Task) (f : File) (r r' : Run) (m : Move)
+        → IsSound t f r → TurnsTo t r m r' → MovesSearch t r m r' }
 {}
