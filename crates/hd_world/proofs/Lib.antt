@@ -7,6 +7,7 @@ pub mod Lists
 pub mod Moving
 pub mod Ordering
 pub mod Quiet
+pub mod Rooms
 pub mod Same
 pub mod Staying
 pub mod Searching

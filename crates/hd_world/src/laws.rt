@@ -16,7 +16,7 @@ ghost use Rattle.hd_world.specs.Seats.{Seat, Run};
 ghost use Rattle.hd_world.specs.Moves.{is_dropped, TurnsTo};
 ghost use Rattle.hd_world.specs.Truth.{IsTrueRun};
 ghost use Rattle.hd_world.specs.Once.{IsOnce};
-ghost use Rattle.hd_world.specs.Order.{AreTicketsOut, InOrder};
+ghost use Rattle.hd_world.specs.Order.{AreTicketsOut, HaveRoom, InOrder};
 ghost use Rattle.hd_world.specs.Sound.{IsSound};
 ghost use Rattle.hd_world.specs.Headline.{AllIsAdmissible, MovesSearch};
 ghost use Rattle.hd_world.specs.Starting.{run_after};
@@ -49,12 +49,14 @@ pub fn kids_stay_once()
         → IsTrueRun t r → IsOnce r → TurnsTo t r m r' → IsOnce r' }
 {}
 
-/// Each ticket that a worker holds is out, and none is held twice: it stays so over each move. And so does the order of a run with its
-/// journal: where a group was pulled, it is whole batches behind the entries of the journal, and where one was appended, it is the one that is
-/// out.
+/// Each ticket that a worker holds is out, none is held twice, and the worker has room for what they release: it stays so over each move. And so
+/// does the order of a run with its journal: where a group was pulled, it is whole batches behind the entries of the journal, and where one
+/// was appended, it is the one that is out.
 pub fn tickets_and_groups_stay_out()
     ensures tickets { (t : Task) (r r' : Run) (m : Move)
         → AreTicketsOut r → TurnsTo t r m r' → AreTicketsOut r' }
+    ensures rooms { (t : Task) (r r' : Run) (m : Move)
+        → AreTicketsOut r → HaveRoom r → TurnsTo t r m r' → HaveRoom r' }
     ensures order { (t : Task) (f : File) (r r' : Run) (m : Move)
         → InOrder f r → TurnsTo t r m r' → InOrder f r' }
     ensures flushed { (t : Task) (f : File) (r : Run) (g : GroupView)
