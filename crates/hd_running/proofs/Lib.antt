@@ -1,0 +1,17 @@
+pub mod Admitting
+pub mod Beginning
+pub mod Committing
+pub mod Counting
+pub mod Going
+pub mod Lists
+pub mod Moving
+pub mod Ordering
+pub mod Quiet
+pub mod Rooms
+pub mod Same
+pub mod Staying
+pub mod Searching
+pub mod Sounding
+pub mod Sums
+pub mod Tickets
+pub mod Writing
