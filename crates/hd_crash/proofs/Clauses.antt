@@ -17,7 +17,7 @@ use Rattle.hd_schedule.specs.declared.moves.Move.{Move}
 use Rattle.hd_world.specs.Headline.{AreResumptions, IsResumed}
 use Rattle.hd_world.specs.Search.{IsCutTo, first_search, search_of}
 use Rattle.hd_world.specs.Seats.{Run}
-use Rattle.hd_world.specs.Sound.{IsSound}
+use Rattle.hd_running.specs.Sound.{IsSound}
 use Rattle.hd_world.specs.Starting.{run_after}
 use Rattle.hd_world.specs.Stops.{File, Anything, Opens, entries_of}
 use Rattle.hd_world.specs.World.{Stopped, Running, is_recovered, StepsTo, Plays, Reaches}

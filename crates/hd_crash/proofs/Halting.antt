@@ -15,12 +15,12 @@ use Rattle.hd_tickets.specs.Queue as queues
 use Rattle.hd_tickets.specs.Queue.{group_end}
 use Rattle.hd_tickets.proofs.Ends.{first_above, group_within}
 use Rattle.hd_world.specs.Headline.{MayBeLeft, MayBeLeftBy}
-use Rattle.hd_world.specs.Order.{group_in, Stands, NoneIsOut, IsPulled, IsAppended}
+use Rattle.hd_running.specs.Order.{group_in, Stands, NoneIsOut, IsPulled, IsAppended}
 use Rattle.hd_world.specs.Seats.{Run}
-use Rattle.hd_world.specs.Sound.{IsSound}
+use Rattle.hd_running.specs.Sound.{IsSound}
 use Rattle.hd_world.specs.Stops.{File, entries_of, with_group, at_rest, appending, bytes_of, is_next, stopped_in}
-use Rattle.hd_world.proofs.Ordering.{between_joins}
-use Rattle.hd_world.proofs.Sounding.{group_ready}
+use Rattle.hd_running.proofs.Ordering.{between_joins}
+use Rattle.hd_running.proofs.Sounding.{group_ready}
 use Rattle.hd_crash.specs.Left.{Appending, HasGroups, IsLeft, IsFoundAfter, StopMayLeave}
 use Rattle.hd_crash.specs.Lasting.{doing_in, GoesOnFrom, IsResting}
 use Rattle.hd_crash.proofs.Beginnings.{beginning_recovered}

@@ -14,11 +14,11 @@ use Rattle.hd_schedule.specs.declared.moves.Move.TheVariants.{Resume, Pop, Take,
 use Rattle.hd_schedule.specs.declared.moves.StopAt.{StopAt}
 use Rattle.hd_world.specs.Headline.{AreResumptions}
 use Rattle.hd_world.specs.Seats.{Run}
-use Rattle.hd_world.specs.Sound.{IsSound}
+use Rattle.hd_running.specs.Sound.{IsSound}
 use Rattle.hd_world.specs.Starting.{run_after}
 use Rattle.hd_world.specs.Stops.{File, Anything, IsUnopened, entries_of, with_group, bytes_of, is_next}
 use Rattle.hd_world.specs.World.{World, Stopped, Running, flushed_to, StopsIn, Falls, IsNone, MayResume, is_recovered, recovered, ResumesTo, IsNot, IsRefused, IsStopped, IsOpened, GoesOn, StepsOn, StepsFrom, StepsTo, Plays, Reaches}
-use Rattle.hd_world.proofs.Sounding.{starts_sound, turns_sound, flush_sound}
+use Rattle.hd_running.proofs.Sounding.{starts_sound, turns_sound, flush_sound}
 use Rattle.hd_crash.specs.Left.{Doing, Making, Standing, Appending, AreGroups, HasGroups, IsLeft, IsFoundAfter}
 use Rattle.hd_crash.specs.Lasting.{doing_in, GoesOnFrom, IsGoneOn, IsResting, IsSoundWorld}
 use Rattle.hd_crash.proofs.Halting.{whole_left, run_stopped, run_rests}

@@ -5,7 +5,7 @@ use Rattle.hd_zobrist.specs.declared.owners.TheConstants.{MAX_WORKERS}
 use Rattle.hd_image.specs.Image.{most_of}
 use Rattle.hd_journal.specs.Group.{GroupView}
 use Rattle.hd_world.specs.Seats.{Run}
-use Rattle.hd_world.specs.Sound.{IsSound}
+use Rattle.hd_running.specs.Sound.{IsSound}
 use Rattle.hd_world.specs.Starting.{run_after}
 use Rattle.hd_world.specs.Stops.{File, entries_of}
 use Rattle.hd_world.specs.World.{World, Stopped, Running, is_recovered}

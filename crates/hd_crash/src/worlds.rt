@@ -13,7 +13,7 @@ ghost use Rattle.hd_schedule.specs.declared.moves.Move.{Move};
 ghost use Rattle.hd_world.specs.Headline.{AreResumptions, IsResumed};
 ghost use Rattle.hd_world.specs.Search.{first_search, search_of};
 ghost use Rattle.hd_world.specs.Seats.{Run};
-ghost use Rattle.hd_world.specs.Sound.{IsSound};
+ghost use Rattle.hd_running.specs.Sound.{IsSound};
 ghost use Rattle.hd_world.specs.Stops.{File, Anything, Opens, entries_of};
 ghost use Rattle.hd_world.specs.World.{World, Stopped, Running, is_recovered, Plays, Reaches, StepsTo};
 ghost use Rattle.hd_crash.specs.Lasting.{IsSoundWorld};

@@ -1,12 +1,8 @@
 pub mod Headline
 pub mod Moves
-pub mod Once
-pub mod Order
 pub mod Recovered
 pub mod Search
 pub mod Seats
-pub mod Sound
 pub mod Starting
 pub mod Stops
-pub mod Truth
 pub mod World

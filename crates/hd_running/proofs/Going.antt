@@ -21,14 +21,14 @@ use Rattle.hd_schedule.specs.declared.moves.Move.{Move}
 use Rattle.hd_schedule.specs.declared.moves.Move.TheVariants as moves
 use Rattle.hd_world.specs.Seats.{Seat, Run}
 use Rattle.hd_world.specs.Moves.{popped, taken, redeemed, pushed, offered, loaded, pulled, acked, may_commit, with_commit, with_drop, is_dropped, committed_by, committed, TurnsTo}
-use Rattle.hd_world.specs.Truth.{IsTrueSeat, IsTrueRun}
-use Rattle.hd_world.specs.Once.{in_run, in_seat, in_worker, in_outcomes, only, room_of, IsOnce}
-use Rattle.hd_world.proofs.Sums.{total_at}
-use Rattle.hd_world.proofs.Moving.{is_free, batch_right, batch_of_task, commit_room, turns_true}
-use Rattle.hd_world.proofs.Counting.{batch_parts, pop_keeps, take_keeps, expand_keeps, redeem_keeps, push_keeps, offer_keeps, load_keeps, pull_keeps, ack_keeps, commit_keeps}
-use Rattle.hd_world.proofs.Committing.{free_from, commit_room_of}
-use Rattle.hd_world.proofs.Quiet.{IsQuiet, pop_quiet, take_quiet, expand_quiet, push_quiet, offer_quiet, load_quiet}
-use Rattle.hd_world.proofs.Same.{redeem_state, pull_state, ack_state}
+use Rattle.hd_running.specs.Truth.{IsTrueSeat, IsTrueRun}
+use Rattle.hd_running.specs.Once.{in_run, in_seat, in_worker, in_outcomes, only, room_of, IsOnce}
+use Rattle.hd_running.proofs.Sums.{total_at}
+use Rattle.hd_running.proofs.Moving.{is_free, batch_right, batch_of_task, commit_room, turns_true}
+use Rattle.hd_running.proofs.Counting.{batch_parts, pop_keeps, take_keeps, expand_keeps, redeem_keeps, push_keeps, offer_keeps, load_keeps, pull_keeps, ack_keeps, commit_keeps}
+use Rattle.hd_running.proofs.Committing.{free_from, commit_room_of}
+use Rattle.hd_running.proofs.Quiet.{IsQuiet, pop_quiet, take_quiet, expand_quiet, push_quiet, offer_quiet, load_quiet}
+use Rattle.hd_running.proofs.Same.{redeem_state, pull_state, ack_state}
 
 -- a batch that is refused for nothing that it says is not dropped
 kind_by : (b : BookView) (halted room : Bool) (c : CommitRefusal) → cond halted (Some Halted) (option_map Refused (cond (not room) (Some Full) None)) ≡ Some c → is_dropped c ≡ false

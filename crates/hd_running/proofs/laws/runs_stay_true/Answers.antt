@@ -1,5 +1,5 @@
-use Rattle.hd_world.proofs.Moving.{batch_admissible, turns_true}
-use Rattle.hd_world.proofs.laws.runs_stay_true.Goals as goal
+use Rattle.hd_running.proofs.Moving.{batch_admissible, turns_true}
+use Rattle.hd_running.proofs.laws.runs_stay_true.Goals as goal
 
 pub returns : goal.returns
 returns c = record {

@@ -7,7 +7,7 @@ use Rattle.hd_base.proofs.Distinct.{AreApart}
 use Rattle.hd_task.specs.declared.plan.Kid.{Kid}
 use Rattle.hd_kids.specs.Kids.{same_kid}
 use Rattle.hd_entries.proofs.Accepting.{same_kid-true}
-use Rattle.hd_world.specs.Once.{total, only}
+use Rattle.hd_running.specs.Once.{total, only}
 
 pub total-append : {X : Type 0} (h : X → ℕ) (xs ys : List X) → total h (xs ++ ys) ≡ total h xs + total h ys
 total-append h [] ys = omega arith

@@ -1,5 +1,5 @@
-use Rattle.hd_world.proofs.Going.{batch_free, none_dropped, turns_stay_true, turns_stay_once}
-use Rattle.hd_world.proofs.laws.kids_stay_once.Goals as goal
+use Rattle.hd_running.proofs.Going.{batch_free, none_dropped, turns_stay_true, turns_stay_once}
+use Rattle.hd_running.proofs.laws.kids_stay_once.Goals as goal
 
 pub returns : goal.returns
 returns c = record {

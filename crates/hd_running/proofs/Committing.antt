@@ -30,8 +30,8 @@ use Rattle.hd_entries.proofs.Held.{late}
 use Rattle.hd_entries.proofs.Naming as naming
 use Rattle.hd_entries.proofs.Posting.{posted_for, kids_led}
 use Rattle.hd_turns.specs.Truth.{AreRight}
-use Rattle.hd_world.specs.Once.{total, in_parcels, in_outcomes, only, room_of}
-use Rattle.hd_world.proofs.Sums.{one_if, total-append, total-map, total_some, total_none, total-apart}
+use Rattle.hd_running.specs.Once.{total, in_parcels, in_outcomes, only, room_of}
+use Rattle.hd_running.proofs.Sums.{one_if, total-append, total-map, total_some, total_none, total-apart}
 
 -- ---- rooms
 

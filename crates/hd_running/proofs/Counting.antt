@@ -32,9 +32,9 @@ use Rattle.hd_turns.specs.Calls.{with_parcel, with_outcome, ExpandsTo, Expands, 
 use Rattle.hd_world.specs.declared.limits.TheConstants.{MAILBOX_PLACES}
 use Rattle.hd_world.specs.Seats.{Seat, Run}
 use Rattle.hd_world.specs.Moves.{with_seat, bound_in, popped, taken_by, taken, Expanded, with_commit, redeemed_by, redeemed_of, redeemed, mailed, pushed_of, pushed, owner_of, offered, loaded, pulled_to, pulled, acked_of, acked}
-use Rattle.hd_world.specs.Once.{total, in_parcels, in_outcomes, in_hand, in_worker, in_seat, in_ticket, in_run}
-use Rattle.hd_world.proofs.Sums.{total-append, total-set, total-set_most, total-remove, total_parts}
-use Rattle.hd_world.proofs.Moving.{IsReleasedBy, released_by_ticket, slot_of}
+use Rattle.hd_running.specs.Once.{total, in_parcels, in_outcomes, in_hand, in_worker, in_seat, in_ticket, in_run}
+use Rattle.hd_running.proofs.Sums.{total-append, total-set, total-set_most, total-remove, total_parts}
+use Rattle.hd_running.proofs.Moving.{IsReleasedBy, released_by_ticket, slot_of}
 
 module _ (h : Kid → ℕ) where
   -- ---- workers

@@ -1,5 +1,5 @@
-use Rattle.hd_world.proofs.Sounding.{starts_sound, turns_sound, group_ready, flush_sound}
-use Rattle.hd_world.proofs.laws.runs_stay_sound.Goals as goal
+use Rattle.hd_running.proofs.Sounding.{starts_sound, turns_sound, group_ready, flush_sound}
+use Rattle.hd_running.proofs.laws.runs_stay_sound.Goals as goal
 
 pub returns : goal.returns
 returns c = record {

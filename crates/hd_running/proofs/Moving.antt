@@ -48,9 +48,9 @@ use Rattle.hd_schedule.specs.declared.moves.Move.TheVariants as moves
 use Rattle.hd_world.specs.declared.limits.TheConstants.{MAILBOX_PLACES}
 use Rattle.hd_world.specs.Seats.{Seat, Run}
 use Rattle.hd_world.specs.Moves.{with_seat, bound_in, popped, taken_by, taken, Expanded, may_commit, with_commit, with_drop, is_dropped, committed_by, committed, redeemed_by, redeemed_of, redeemed, mailed, pushed_of, pushed, owner_of, offered, loaded, pulled_to, pulled, acked_of, acked, TurnsTo}
-use Rattle.hd_world.specs.Truth.{IfTrueOf, IsTrueOut, IsTrueSeat, IsTrueRun}
-use Rattle.hd_world.proofs.Lists.{AllByRecursion-set}
-use Rattle.hd_world.proofs.Staying.{seat_stays, box_stays, out_stays}
+use Rattle.hd_running.specs.Truth.{IfTrueOf, IsTrueOut, IsTrueSeat, IsTrueRun}
+use Rattle.hd_running.proofs.Lists.{AllByRecursion-set}
+use Rattle.hd_running.proofs.Staying.{seat_stays, box_stays, out_stays}
 
 -- ---- bounds
 

@@ -22,9 +22,9 @@ use Rattle.hd_tickets.proofs.Taking.{group_next_busy, with_group_next, is_group,
 use Rattle.hd_book.specs.View.{BookView}
 use Rattle.hd_book.specs.Groups.{entries_between, group_of, begins_with, is_group_out, next_group}
 use Rattle.hd_world.specs.Stops.{File, entries_of, with_group as grown, is_next}
-use Rattle.hd_world.specs.Order.{group_in, Stands, NoneIsOut, IsPulled, IsAppended, IsOrderly}
-use Rattle.hd_world.proofs.Writing.{IsWritable, all_fit, all_held}
-use Rattle.hd_world.proofs.Lists.{AllByRecursion-take, AllByRecursion-drop}
+use Rattle.hd_running.specs.Order.{group_in, Stands, NoneIsOut, IsPulled, IsAppended, IsOrderly}
+use Rattle.hd_running.proofs.Writing.{IsWritable, all_fit, all_held}
+use Rattle.hd_running.proofs.Lists.{AllByRecursion-take, AllByRecursion-drop}
 
 -- ---- entries between two numbers
 

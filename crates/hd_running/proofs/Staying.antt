@@ -9,7 +9,7 @@ use Rattle.hd_turns.specs.Growth.{Grows}
 use Rattle.hd_turns.specs.Truth.{IsTrueOf}
 use Rattle.hd_turns.proofs.Growing.{true_stays, all_true_stay, seen_stays, worker_stays}
 use Rattle.hd_world.specs.Seats.{Seat}
-use Rattle.hd_world.specs.Truth.{IfTrueOf, IsTrueOut, IsTrueSeat}
+use Rattle.hd_running.specs.Truth.{IfTrueOf, IsTrueOut, IsTrueSeat}
 
 module _ (b b' : BookState) (g : Grows b b') where
   pub hand_stays : (hand : Option Released) → IfTrueOf b hand → IfTrueOf b' hand
