@@ -7,7 +7,6 @@ use Rattle.hd_image.specs.declared.version.Version.{Version}
 use Rattle.hd_image.specs.declared.entry.Entry.{Entry}
 use Rattle.hd_image.specs.Image.{IsGroup, opened, entry_width, entries_of, entries_in}
 use Rattle.hd_image.proofs.Joining.{length-counted}
-use Rattle.hd_kids.specs.Kids.{root}
 use Rattle.hd_journal.specs.Journal.{kid_of}
 
 -- ---- parts of a list of entries
@@ -17,7 +16,7 @@ first_place [] = 0
 first_place (e ∷ entries) = e.at
 
 abbrev first_kid : List Entry → Kid
-first_kid [] = root
+first_kid [] = record { parent = 0; action = 0 }
 first_kid (e ∷ entries) = kid_of e
 
 none_some : {X : Type 0} (x : X) (xs : List X) → ◌≢◌ {A = List X} [] (x ∷ xs)
