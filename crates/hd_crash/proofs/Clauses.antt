@@ -1,5 +1,5 @@
 -- What a search goes on with behind stops, and that what they left is always opened.
-use Rattle.std.proofs.Common.{◌≡◌, ℕ, true, Option, Some, List, [], take, length, ap, ◌∙◌, arith}
+use Rattle.std.proofs.Common.{◌≡◌, ℕ, ◌≤◌, true, Option, Some, None, List, [], take, length, sym, ap, ◌∙◌, arith}
 use Rattle.std.specs.Prelude.{unwrap_or}
 use Rattle.std.proofs.lemmas.List.{length-take}
 use Rattle.hd_task.specs.declared.task.Task.{Task}
@@ -14,19 +14,21 @@ use Rattle.hd_journal.specs.Calls.{Call}
 use Rattle.hd_entries.specs.Settling.{expansions}
 use Rattle.hd_entries.proofs.Naming.{length-plans_of}
 use Rattle.hd_schedule.specs.declared.moves.Move.{Move}
+use Rattle.hd_schedule.specs.declared.moves.Move.TheVariants.{Resume}
+use Rattle.hd_zobrist.specs.declared.owners.TheConstants.{MAX_WORKERS}
 use Rattle.hd_world.specs.Headline.{AreResumptions, IsResumed}
 use Rattle.hd_world.specs.Search.{IsCutTo, first_search, search_of}
 use Rattle.hd_world.specs.Seats.{Run}
 use Rattle.hd_running.specs.Sound.{IsSound}
 use Rattle.hd_world.specs.Starting.{run_after}
 use Rattle.hd_world.specs.Stops.{File, Anything, Opens, entries_of}
-use Rattle.hd_world.specs.World.{Stopped, Running, is_recovered, StepsTo, Plays, Reaches}
+use Rattle.hd_world.specs.World.{Stopped, Running, IsOpened, is_recovered, StepsTo, Plays, Reaches}
 use Rattle.hd_crash.specs.Left.{Making}
 use Rattle.hd_crash.specs.Lasting.{doing_in, IsRunAfter, IsResting}
 use Rattle.hd_crash.proofs.Beginnings.{named_take}
 use Rattle.hd_crash.proofs.Halting.{IsCut, run_found, run_goes_on, run_groups}
 use Rattle.hd_crash.proofs.Opened.{left_opened, left_found, left_not_refused}
-use Rattle.hd_crash.proofs.Playing.{run_left, gone_on, reached_sound, empty_left, first_goes_on}
+use Rattle.hd_crash.proofs.Playing.{run_left, gone_on, reached_sound, recovered_is, empty_left, first_goes_on}
 
 -- ---- behind a run
 
@@ -89,3 +91,12 @@ module _ (t : Task) (digest : List ℕ) (len : length digest ≡ DIGEST_LEN) whe
 
     pub recovers : (calls : List Call) (f : File) → Opens digest content calls f → is_recovered t f ≡ true
     recovers calls f o = rests.on f (left_found digest rests.doing content calls f len rests.groups rests.left o)
+
+    pub resumes : (workers : ℕ) → 1 ≤ workers → workers ≤ MAX_WORKERS
+        → (f : File) × (r : Run) × StepsTo Anything t digest (Stopped content) (Resume workers None) (Running f r)
+    resumes workers some most =
+        let o = left_opened digest rests.doing content len rests.groups rests.left in (
+          o.file,
+          run_after t (most_of o.file.version) workers (entries_of o.file),
+          IsOpened o.calls o.file (some, most) o.is tt (sym (recovered_is t digest workers o.file (rests.on o.file o.after))),
+        )

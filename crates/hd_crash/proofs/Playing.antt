@@ -88,7 +88,7 @@ workers_some : (workers : ℕ) (stop : Option StopAt) → MayResume workers stop
 workers_some workers None may = may
 workers_some workers (Some at) may = (may.0, may.1)
 
-recovered_is : (t : Task) (digest : List ℕ) (workers : ℕ) (f : File) → is_recovered t f ≡ true
+pub recovered_is : (t : Task) (digest : List ℕ) (workers : ℕ) (f : File) → is_recovered t f ≡ true
     → recovered t digest workers f ≡ Running f (run_after t (most_of f.version) workers (entries_of f))
 recovered_is t digest workers f e =
     ap (λ (b : Bool). if b then Running f (run_after t (most_of f.version) workers (entries_of f)) else Stopped (bytes_of digest f)) e

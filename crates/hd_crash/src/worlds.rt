@@ -1,5 +1,5 @@
 //! Laws of all schedules, whatever their stops leave of the disk. Each function does nothing: its contract is the law.
-ghost use Rattle.std.specs.Prelude.{◌≡◌, ◌≤◌, ℕ, List, length, take, true};
+ghost use Rattle.std.specs.Prelude.{◌≡◌, ◌≤◌, ℕ, List, None, length, take, true};
 ghost use Rattle.hd_task.specs.declared.task.Task.{Task};
 ghost use Rattle.hd_task.specs.declared.plan.Kid.{Kid};
 ghost use Rattle.hd_image.specs.declared.error.ImageError.{ImageError};
@@ -10,6 +10,8 @@ ghost use Rattle.hd_image.specs.Reading.{IsRefused};
 ghost use Rattle.hd_journal.specs.Calls.{Call};
 ghost use Rattle.hd_entries.specs.Resuming.{AreLegal};
 ghost use Rattle.hd_schedule.specs.declared.moves.Move.{Move};
+ghost use Rattle.hd_schedule.specs.declared.moves.Move.TheVariants.{Resume};
+ghost use Rattle.hd_zobrist.specs.declared.owners.TheConstants.{MAX_WORKERS};
 ghost use Rattle.hd_world.specs.Headline.{AreResumptions, IsResumed};
 ghost use Rattle.hd_world.specs.Search.{first_search, search_of};
 ghost use Rattle.hd_world.specs.Seats.{Run};
@@ -66,6 +68,12 @@ pub fn what_is_left_goes_on()
         (calls : List Call) (f : File) → length digest ≡ DIGEST_LEN
         → Reaches Anything t digest moves (Stopped content) → Opens digest content calls f
         → is_recovered t f ≡ true }
+    // So a resumption without a stop comes to a run.
+    ensures resumes { (t : Task) (digest : List ℕ) (moves : List Move) (content : List ℕ)
+        (workers : ℕ) → length digest ≡ DIGEST_LEN → 1 ≤ workers → workers ≤ MAX_WORKERS
+        → Reaches Anything t digest moves (Stopped content)
+        → (f : File) × (r : Run)
+        × StepsTo Anything t digest (Stopped content) (Resume workers None) (Running f r) }
 {}
 
 /// What a schedule comes to where each stop leaves the bytes that are not sure as the schedule names them, it may come to where a stop may
