@@ -8,6 +8,7 @@ pub mod Ordering
 pub mod Quiet
 pub mod Same
 pub mod Staying
+pub mod Sounding
 pub mod Sums
 pub mod Tickets
 pub mod Writing

@@ -27,7 +27,7 @@ module _ (r : Run) where
   itself : IsQuiet r r
   itself = quiet_same r r refl
 
-  seat_quiet : (k : ℕ) (s s' : Seat) → slice_get r.seats k ≡ Some s → s'.tickets ≡ s.tickets → IsQuiet r (with_seat k s' r)
+  pub seat_quiet : (k : ℕ) (s s' : Seat) → slice_get r.seats k ≡ Some s → s'.tickets ≡ s.tickets → IsQuiet r (with_seat k s' r)
   seat_quiet k s s' e same = record { book = refl; group = refl; flushed = refl; tickets = map-set_same tickets_of r.seats k s s' e same }
 
   both_quiet : (k to : ℕ) (s s' : Seat) (box : List Released) → slice_get r.seats k ≡ Some s → s'.tickets ≡ s.tickets

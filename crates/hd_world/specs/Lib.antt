@@ -5,6 +5,7 @@ pub mod Order
 pub mod Recovered
 pub mod Search
 pub mod Seats
+pub mod Sound
 pub mod Starting
 pub mod Stops
 pub mod Truth

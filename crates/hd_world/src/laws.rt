@@ -1,9 +1,14 @@
 //! Laws of a run. Each function does nothing: its contract is the law.
-ghost use Rattle.std.specs.Prelude.{◌≡◌, ◌⊎◌, ℕ, Some, None, [], slice_get, false};
+ghost use Rattle.std.specs.Prelude.{◌≡◌, ◌⊎◌, ◌≤◌, ℕ, Some, None, [], length, slice_get, false, true};
+ghost use Rattle.std.specs.List.{AllByRecursion};
 ghost use Rattle.hd_task.specs.declared.task.Task.{Task};
 ghost use Rattle.hd_entries.specs.declared.refusal.Refusal.TheVariants.{SettledBefore};
+ghost use Rattle.hd_image.specs.Image.{IsGroup, most_of};
+ghost use Rattle.hd_journal.specs.Group.{GroupView};
 ghost use Rattle.hd_entries.specs.Settling.{first_refusal};
+ghost use Rattle.hd_entries.specs.Resuming.{first_fault};
 ghost use Rattle.hd_book.specs.declared.refusal.CommitRefusal.{CommitRefusal};
+ghost use Rattle.hd_book.specs.Groups.{is_group_out};
 ghost use Rattle.hd_book.specs.Refusing.{refusal_to};
 ghost use Rattle.hd_turns.specs.Calls.{batch_of};
 ghost use Rattle.hd_schedule.specs.declared.moves.Move.{Move};
@@ -11,6 +16,10 @@ ghost use Rattle.hd_world.specs.Seats.{Seat, Run};
 ghost use Rattle.hd_world.specs.Moves.{is_dropped, TurnsTo};
 ghost use Rattle.hd_world.specs.Truth.{IsTrueRun};
 ghost use Rattle.hd_world.specs.Once.{IsOnce};
+ghost use Rattle.hd_world.specs.Order.{AreTicketsOut, InOrder};
+ghost use Rattle.hd_world.specs.Sound.{IsSound};
+ghost use Rattle.hd_world.specs.Starting.{run_after};
+ghost use Rattle.hd_world.specs.Stops.{File, entries_of, with_group, is_next};
 
 /// Where all that a run holds is true of its book, no batch is refused for what it says, but that a kid of it is settled; and as long as none
 /// is dropped for that, all of it stays true over each move.
@@ -37,4 +46,40 @@ pub fn kids_stay_once()
         → IsTrueRun t r → IsOnce r → TurnsTo t r m r' → IsTrueRun t r' }
     ensures once { (t : Task) (r r' : Run) (m : Move)
         → IsTrueRun t r → IsOnce r → TurnsTo t r m r' → IsOnce r' }
+{}
+
+/// Each ticket that a worker holds is out, and none is held twice: it stays so over each move. And so does the order of a run with its
+/// journal: where a group was pulled, it is whole batches behind the entries of the journal, and where one was appended, it is the one that is
+/// out.
+pub fn tickets_and_groups_stay_out()
+    ensures tickets { (t : Task) (r r' : Run) (m : Move)
+        → AreTicketsOut r → TurnsTo t r m r' → AreTicketsOut r' }
+    ensures order { (t : Task) (f : File) (r r' : Run) (m : Move)
+        → InOrder f r → TurnsTo t r m r' → InOrder f r' }
+    ensures flushed { (t : Task) (f : File) (r : Run) (g : GroupView)
+        → IsSound t f r → r.flushed ≡ Some g → is_group_out r.book g ≡ true }
+{}
+
+/// A run is sound right after a resumption from the entries of a journal, where these are not too many and none is faulty; and it stays sound
+/// over each move and over a flush, which appends a group that may be appended.
+pub fn runs_stay_sound()
+    ensures starts { (t : Task) (f : File) (workers : ℕ) → AllByRecursion (IsGroup f.version) f.groups
+        → first_fault t [] (entries_of f) ≡ None → length (entries_of f) ≤ most_of f.version
+        → IsSound t f (run_after t (most_of f.version) workers (entries_of f)) }
+    ensures turns { (t : Task) (f : File) (r r' : Run) (m : Move)
+        → IsSound t f r → TurnsTo t r m r' → IsSound t f r' }
+    ensures flush { (t : Task) (f : File) (r : Run) (g : GroupView) → IsSound t f r
+        → r.group ≡ Some g → IsSound t (with_group g.kids f)
+        (record {
+          book = r.book;
+          seats = r.seats;
+          mailboxes = r.mailboxes;
+          bound = r.bound;
+          group = None;
+          flushed = Some g;
+        }) }
+    ensures next { (t : Task) (f : File) (r : Run) (g : GroupView) → IsSound t f r
+        → r.group ≡ Some g → is_next f g ≡ true }
+    ensures whole { (t : Task) (f : File) (r : Run) (g : GroupView) → IsSound t f r
+        → r.group ≡ Some g → IsGroup f.version g.kids }
 {}
