@@ -1,5 +1,5 @@
 -- Where a search goes on, each open kid and each closed entry is at its owner, and each open kid is in exactly one place.
-use Rattle.std.proofs.Common.{◌≡◌, ℕ, zero, ◌+◌, ◌%◌, ◌<◌, ◌≤◌, ◌==◌, Bool, true, false, cond, not, Some, None, List, [], ◌∷◌, map, length, get_or, slice_get, Contains, refl, sym, ap, ◌∙◌, subst, arith, true≢false}
+use Rattle.std.proofs.Common.{◌≡◌, ℕ, ◌%◌, ◌<◌, ◌≤◌, true, false, cond, not, Some, None, List, [], map, length, slice_get, Contains, refl, sym, ap, ◌∙◌, subst, arith, true≢false}
 use Rattle.std.specs.List.{range_with_len}
 use Rattle.std.proofs.lemmas.Bool.{eq-eqb, ltb-true, ltb-false}
 use Rattle.std.proofs.lemmas.Option.{slice_get-get_or}
@@ -12,12 +12,11 @@ use Rattle.hd_base.proofs.Tests.{list_any-from_contains}
 use Rattle.hd_task.specs.declared.task.Task.{Task}
 use Rattle.hd_task.specs.declared.plan.Kid.{Kid}
 use Rattle.hd_task.specs.declared.plan.TheConstants.{ROOT_PARENT}
-use Rattle.hd_task.specs.Plans.{Node, node}
 use Rattle.hd_zobrist.specs.Hash.{state_hash}
 use Rattle.hd_kids.specs.Kids.{root, same_kid}
 use Rattle.hd_node.specs.declared.batch.By.TheVariants.{Entry}
 use Rattle.hd_entries.specs.Kids.{posted_by}
-use Rattle.hd_entries.specs.Settling.{BookState, IsKept, is_marked, is_posted, place_of, node_of, entry_node}
+use Rattle.hd_entries.specs.Settling.{BookState, IsKept, is_marked, is_posted, place_of}
 use Rattle.hd_entries.specs.Holding.{Released, plans_at}
 use Rattle.hd_entries.specs.Resuming.{has, first_fault, resumed_state, open_kids}
 use Rattle.hd_entries.proofs.Accepting.{same_kid-refl, stands}
@@ -25,10 +24,9 @@ use Rattle.hd_entries.proofs.Again.{mark_is, nothing_kept}
 use Rattle.hd_entries.proofs.Faultless.{kept_from}
 use Rattle.hd_closed.specs.Closed.{Closed}
 use Rattle.hd_turns.specs.Worker.{is_own}
-use Rattle.hd_world.specs.Seats.{Seat}
-use Rattle.hd_world.specs.Recovered.{open_as, open_at, open_in, closed_as, closed_at, closed_in, is_own_closed, recovered_worker}
+use Rattle.hd_world.specs.Recovered.{open_as, open_at, open_in, closed_as, closed_at, closed_in, is_own_closed}
 use Rattle.hd_world.specs.Starting.{seat_after, run_after}
-use Rattle.hd_world.specs.Once.{total, in_parcels, in_seat, in_run, only, room_of}
+use Rattle.hd_world.specs.Once.{in_seat, in_run, only, room_of}
 use Rattle.hd_world.proofs.Sums.{total_at, total_some}
 use Rattle.hd_world.proofs.Beginning.{starts_once}
 use Rattle.hd_once.specs.Owners.{IsOpenAtOwner, IsClosedAtOwner}
