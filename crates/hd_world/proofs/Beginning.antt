@@ -34,7 +34,7 @@ use Rattle.hd_world.specs.Moves.{bound_in}
 use Rattle.hd_world.specs.Stops.{File, entries_of}
 use Rattle.hd_world.specs.Truth.{IsTrueSeat, IsTrueRun}
 use Rattle.hd_world.specs.Once.{total, in_parcels, in_seat, in_run, only, room_of, IsOnce}
-use Rattle.hd_world.specs.Order.{AreOut, times_in, times_held, AreTicketsOut, NoneIsOut, InOrder}
+use Rattle.hd_world.specs.Order.{AreOut, times_in, times_held, AreTicketsOut, HasRoom, HaveRoom, NoneIsOut, InOrder}
 use Rattle.hd_world.proofs.Sums.{one_if, total-append, total-map, total_none}
 use Rattle.hd_world.proofs.Moving.{bound_itself}
 use Rattle.hd_world.proofs.Committing.{posted_once}
@@ -276,6 +276,10 @@ module _ (t : Task) (entries : List Kid) (kept : IsKept (resumed_state t entries
           total_zero (λ (id : ℕ). times_in n (seat_after t entries workers id)) (range_with_len 0 workers) (λ id. refl),
         );
   }
+
+  pub starts_roomy : (most workers : ℕ) → HaveRoom (run_after t most workers entries)
+  starts_roomy most workers =
+      each-map (HasRoom (run_after t most workers entries).book) (seat_after t entries workers) (range_with_len 0 workers) (λ id. omega arith)
 
 -- ---- in order
 

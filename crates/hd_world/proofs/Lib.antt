@@ -1,3 +1,4 @@
+pub mod Admitting
 pub mod Beginning
 pub mod Committing
 pub mod Counting
@@ -6,8 +7,10 @@ pub mod Lists
 pub mod Moving
 pub mod Ordering
 pub mod Quiet
+pub mod Rooms
 pub mod Same
 pub mod Staying
+pub mod Searching
 pub mod Sounding
 pub mod Sums
 pub mod Tickets

@@ -1,5 +1,5 @@
 -- What holds of the elements of lists that are changed.
-use Rattle.std.proofs.Common.{◌≡◌, ◌≢◌, ℕ, zero, suc, List, [], ◌∷◌, map, take, drop, set, slice_get, refl, ap}
+use Rattle.std.proofs.Common.{◌≡◌, ◌≢◌, ℕ, zero, suc, Some, List, [], ◌∷◌, map, take, drop, set, slice_get, refl, ap}
 use Rattle.std.specs.List.{AllByRecursion}
 
 pub AllByRecursion-set : {X : Type 0} (P : X → Type 0) (xs : List X) (i : ℕ) (x : X) → AllByRecursion P xs → P x → AllByRecursion P (set xs i x)
@@ -18,6 +18,10 @@ slice_get-set_other (y ∷ xs) zero x zero e = absurd (e refl)
 slice_get-set_other (y ∷ xs) zero x (suc j) e = refl
 slice_get-set_other (y ∷ xs) (suc i) x zero e = refl
 slice_get-set_other (y ∷ xs) (suc i) x (suc j) e = slice_get-set_other xs i x j (λ same. e (ap suc same))
+
+pub AllByRecursion-from_slice_get : {X : Type 0} (P : X → Type 0) (xs : List X) → ((k : ℕ) (x : X) → slice_get xs k ≡ Some x → P x) → AllByRecursion P xs
+AllByRecursion-from_slice_get P [] h = tt
+AllByRecursion-from_slice_get P (x ∷ xs) h = (h zero x refl, AllByRecursion-from_slice_get P xs (λ k y e. h (suc k) y e))
 
 -- ---- parts of lists
 

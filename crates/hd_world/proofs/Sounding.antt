@@ -43,12 +43,13 @@ use Rattle.hd_world.specs.Stops.{File, entries_of, with_group, is_next}
 use Rattle.hd_world.specs.Order.{AreTicketsOut, IsOrderly, InOrder}
 use Rattle.hd_world.specs.Sound.{IsSound}
 use Rattle.hd_world.proofs.Moving.{IsFree, is_free}
-use Rattle.hd_world.proofs.Quiet.{IsQuiet, quiet_same, pop_quiet, take_quiet, expand_quiet, push_quiet, offer_quiet, load_quiet, seat_quiet}
-use Rattle.hd_world.proofs.Tickets.{quiet_tickets, tickets_by, with_ticket, redeem_tickets}
+use Rattle.hd_world.proofs.Quiet.{IsQuiet, quiet_same, pop_quiet, take_quiet, expand_quiet, push_quiet, offer_quiet, load_quiet}
+use Rattle.hd_world.proofs.Tickets.{quiet_tickets, tickets_by, seat_tickets, with_ticket, redeem_tickets}
+use Rattle.hd_world.proofs.Rooms.{turns_stay_roomy}
 use Rattle.hd_world.proofs.Ordering.{commit_orderly, pull_orderly, IsReady, ready, is_acked}
 use Rattle.hd_world.proofs.Writing.{kept_writable}
 use Rattle.hd_world.proofs.Going.{none_dropped, turns_stay_true, turns_stay_once}
-use Rattle.hd_world.proofs.Beginning.{starts_true, starts_once, starts_out, starts_in_order}
+use Rattle.hd_world.proofs.Beginning.{starts_true, starts_once, starts_out, starts_roomy, starts_in_order}
 
 -- ---- after a resumption
 
@@ -67,6 +68,7 @@ starts_sound t f workers sound faultless few =
       truth = starts_true t entries kept (most_of f.version) workers (most_numbered f.version);
       once = starts_once t entries kept (most_of f.version) workers;
       tickets = starts_out t entries kept (most_of f.version) workers;
+      rooms = starts_roomy t entries kept (most_of f.version) workers;
       order = starts_in_order t f workers sound few;
     }
 
@@ -90,7 +92,7 @@ module _ (t : Task) (r : Run) (x : AreTicketsOut r) where
       }) e refl refl refl
 
   drop_tickets : (k : ℕ) (s : Seat) → slice_get r.seats k ≡ Some s → AreTicketsOut (with_drop k s r)
-  drop_tickets k s e = quiet_tickets r (with_drop k s r) (seat_quiet r k s _ e refl) x
+  drop_tickets k s e = seat_tickets r x k s (record s { worker = after_numbering ROOT_PARENT (after_batch s.worker) }) e refl
 
   commit_by : (k : ℕ) (s : Seat) (why : Option CommitRefusal) (r' : Run) → slice_get r.seats k ≡ Some s → committed_by k r s why ≡ Some r' → AreTicketsOut r'
   commit_by k s None r' e m = subst AreTicketsOut (same_Some (with_commit k (batch_of s.worker) s r) r' m) (commit_tickets k s e)
@@ -255,6 +257,7 @@ module _ (t : Task) (f : File) (r : Run) (x : IsSound t f r) where
     truth = turns_stay_true t r x.truth x.once m r' moved;
     once = turns_stay_once t r x.truth x.once m r' moved;
     tickets = turns_stay_out t r x.tickets m r' moved;
+    rooms = turns_stay_roomy t r x.tickets x.rooms m r' moved;
     order = turns_stay_ordered t f r x.order m r' moved;
   }
 
@@ -277,6 +280,7 @@ module _ (t : Task) (f : File) (r : Run) (x : IsSound t f r) where
     };
     once = x.once;
     tickets = tickets_by r (record r { group = None; flushed = Some g }) refl refl x.tickets;
+    rooms = x.rooms;
     order = (group_ready g e).after;
   }
 

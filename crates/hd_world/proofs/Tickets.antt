@@ -18,7 +18,7 @@ use Rattle.hd_tickets.specs.Steps as steps
 use Rattle.hd_book.specs.View.{BookView, ParcelsView}
 use Rattle.hd_turns.proofs.Lists.{AllByRecursion-map, AllByRecursion-weaker, slice_get-append_front}
 use Rattle.hd_world.specs.Seats.{Seat, Run}
-use Rattle.hd_world.specs.Moves.{redeemed_by, redeemed_of, redeemed}
+use Rattle.hd_world.specs.Moves.{with_seat, redeemed_by, redeemed_of, redeemed}
 use Rattle.hd_world.specs.Once.{total}
 use Rattle.hd_world.specs.Order.{AreOut, times_in, times_held, AreTicketsOut}
 use Rattle.hd_world.proofs.Lists.{AllByRecursion-set, AllByRecursion-from_map, slice_get-set_other}
@@ -64,15 +64,24 @@ tickets_by r r' same seats x = record {
   apart = λ n. omega (arith, x.apart n, ap (times_held n) seats);
 }
 
+-- one seat is replaced by one with the same tickets
+pub seat_tickets : (r : Run) (x : AreTicketsOut r) (k : ℕ) (s s' : Seat) → slice_get r.seats k ≡ Some s → s'.tickets ≡ s.tickets → AreTicketsOut (with_seat k s' r)
+seat_tickets r x k s s' e same = record {
+  out =
+      AllByRecursion-set (AreOut r.book) r.seats k s' x.out
+      (subst (AllOut r.book.batches) (sym same) (AllByRecursion-slice_get (AreOut r.book) r.seats k s x.out e));
+  apart = λ n. omega (arith, x.apart n, total-set (times_in n) r.seats k s s' e, ap (times_among n) same);
+}
+
 -- ---- a ticket more
 
-newest : (ts : List (Option (Outgoing ParcelsView))) (o : Outgoing ParcelsView) → ticket_at (ts ++ Some o ∷ []) (length ts) ≡ Some o
+pub newest : (ts : List (Option (Outgoing ParcelsView))) (o : Outgoing ParcelsView) → ticket_at (ts ++ Some o ∷ []) (length ts) ≡ Some o
 newest [] o = refl
 newest (t ∷ ts) o = newest ts o
 
 module _ (q : Batches ParcelsView) where
   -- a ticket that is out is so where there is one more
-  still_out : (o : Option (Outgoing ParcelsView)) (k : TicketView) → is_its k (ticket_at q.tickets k.number) ≡ true → is_its k (ticket_at (q.tickets ++ o ∷ []) k.number) ≡ true
+  pub still_out : (o : Option (Outgoing ParcelsView)) (k : TicketView) → is_its k (ticket_at q.tickets k.number) ≡ true → is_its k (ticket_at (q.tickets ++ o ∷ []) k.number) ≡ true
   still_out o k e =
       elim (slice_get q.tickets k.number) as (λ slot. slice_get q.tickets k.number ≡ slot → is_its k (option_flatten slot) ≡ true → is_its k (ticket_at (q.tickets ++ o ∷ []) k.number) ≡ true) [
         | None ↦ λ _ e. absurd (true≢false (sym e))
@@ -80,7 +89,7 @@ module _ (q : Batches ParcelsView) where
       ] refl e
 
   -- the number of a ticket that is out
-  out_within : (k : TicketView) → is_ticket_out q k ≡ true → k.number < length q.tickets
+  pub out_within : (k : TicketView) → is_ticket_out q k ≡ true → k.number < length q.tickets
   out_within k e =
       elim (slice_get q.tickets k.number) as (λ slot. slice_get q.tickets k.number ≡ slot → is_its k (option_flatten slot) ≡ true → k.number < length q.tickets) [
         | None ↦ λ _ e. absurd (true≢false (sym e))
@@ -156,12 +165,12 @@ module _ (r : Run) (x : AreTicketsOut r) where
     fewer : (n : ℕ) → times_held n seats' + cond {A = ℕ} (ticket.number == n) 1 0 ≡ times_held n r.seats
     fewer n = omega (arith, total-set (times_in n) r.seats k s s' e, ap (times_among n) held, ap (times_among n) left)
 
-    left_out : AllByRecursion (AreOut r.book) seats'
+    pub left_out : AllByRecursion (AreOut r.book) seats'
     left_out =
         let its : AllOut q (ticket ∷ rest) = subst (AllOut q) held (AllByRecursion-slice_get (AreOut r.book) r.seats k s x.out e) in
         AllByRecursion-set (AreOut r.book) r.seats k s' x.out (subst (AllOut q) (sym left) its.1)
 
-    gone : times_held ticket.number seats' ≡ 0
+    pub gone : times_held ticket.number seats' ≡ 0
     gone =
         let one : cond {A = ℕ} (ticket.number == ticket.number) 1 0 ≡ 1 = ap (λ (b : Bool). cond {A = ℕ} b 1 0) (eq-eqb ticket.number ticket.number refl) in
         omega (arith, fewer ticket.number, one, x.apart ticket.number)

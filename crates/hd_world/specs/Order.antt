@@ -6,10 +6,12 @@ use Rattle.hd_task.specs.declared.plan.Kid.{Kid}
 use Rattle.hd_image.specs.Image.{IsGroup, most_of}
 use Rattle.hd_journal.specs.Group.{GroupView}
 use Rattle.hd_tickets.specs.declared.queue.TheConstants.{MAX_GROUP}
+use Rattle.hd_tickets.specs.declared.outgoing.Outgoing.{Outgoing}
+use Rattle.hd_tickets.specs.Slots.{ticket_at}
 use Rattle.hd_tickets.specs.Batches.{TicketView, is_ticket_out}
 use Rattle.hd_tickets.specs.Queue as queues
 use Rattle.hd_tickets.specs.Queue.{QueueView, group_end, IsQueue}
-use Rattle.hd_book.specs.View.{BookView}
+use Rattle.hd_book.specs.View.{ParcelsView, BookView}
 use Rattle.hd_book.specs.Groups.{group_of}
 use Rattle.hd_world.specs.Seats.{Seat, Run}
 use Rattle.hd_world.specs.Once.{total}
@@ -33,6 +35,23 @@ times_held n seats = total (times_in n) seats
 pub record AreTicketsOut (r : Run) : Type 0 where
   pub out : AllByRecursion (AreOut r.book) r.seats
   pub apart : (n : ℕ) → times_held n r.seats ≤ 1
+
+-- how many kids a ticket releases that is out
+abbrev pub released_count : Option (Outgoing ParcelsView) → ℕ
+released_count None = 0
+released_count (Some o) = length o.released.kids
+
+-- how many kids some tickets release
+abbrev pub coming : BookView → List TicketView → ℕ
+coming b held = total (λ (k : TicketView). released_count (ticket_at b.batches.tickets k.number)) held
+
+-- a worker has room for all kids that its tickets release
+abbrev pub HasRoom : BookView → Seat → Type 0
+HasRoom b s = coming b s.tickets ≤ s.worker.room
+
+-- each worker does
+abbrev pub HaveRoom : Run → Type 0
+HaveRoom r = AllByRecursion (HasRoom r.book) r.seats
 
 -- ---- groups
 

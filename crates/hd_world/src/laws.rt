@@ -16,8 +16,9 @@ ghost use Rattle.hd_world.specs.Seats.{Seat, Run};
 ghost use Rattle.hd_world.specs.Moves.{is_dropped, TurnsTo};
 ghost use Rattle.hd_world.specs.Truth.{IsTrueRun};
 ghost use Rattle.hd_world.specs.Once.{IsOnce};
-ghost use Rattle.hd_world.specs.Order.{AreTicketsOut, InOrder};
+ghost use Rattle.hd_world.specs.Order.{AreTicketsOut, HaveRoom, InOrder};
 ghost use Rattle.hd_world.specs.Sound.{IsSound};
+ghost use Rattle.hd_world.specs.Headline.{AllIsAdmissible, MovesSearch};
 ghost use Rattle.hd_world.specs.Starting.{run_after};
 ghost use Rattle.hd_world.specs.Stops.{File, entries_of, with_group, is_next};
 
@@ -48,12 +49,14 @@ pub fn kids_stay_once()
         → IsTrueRun t r → IsOnce r → TurnsTo t r m r' → IsOnce r' }
 {}
 
-/// Each ticket that a worker holds is out, and none is held twice: it stays so over each move. And so does the order of a run with its
-/// journal: where a group was pulled, it is whole batches behind the entries of the journal, and where one was appended, it is the one that is
-/// out.
+/// Each ticket that a worker holds is out, none is held twice, and the worker has room for what they release: it stays so over each move. And so
+/// does the order of a run with its journal: where a group was pulled, it is whole batches behind the entries of the journal, and where one
+/// was appended, it is the one that is out.
 pub fn tickets_and_groups_stay_out()
     ensures tickets { (t : Task) (r r' : Run) (m : Move)
         → AreTicketsOut r → TurnsTo t r m r' → AreTicketsOut r' }
+    ensures rooms { (t : Task) (r r' : Run) (m : Move)
+        → AreTicketsOut r → HaveRoom r → TurnsTo t r m r' → HaveRoom r' }
     ensures order { (t : Task) (f : File) (r r' : Run) (m : Move)
         → InOrder f r → TurnsTo t r m r' → InOrder f r' }
     ensures flushed { (t : Task) (f : File) (r : Run) (g : GroupView)
@@ -82,4 +85,16 @@ pub fn runs_stay_sound()
         → r.group ≡ Some g → is_next f g ≡ true }
     ensures whole { (t : Task) (f : File) (r : Run) (g : GroupView) → IsSound t f r
         → r.group ≡ Some g → IsGroup f.version g.kids }
+{}
+
+/// In a sound run no batch is refused for what it says, and no ticket and no group is refused.
+pub fn nothing_is_refused()
+    ensures { (t : Task) (f : File) (r : Run) → IsSound t f r → AllIsAdmissible f r }
+{}
+
+/// Each move of a sound run moves its search as an abstract search may be moved: a commit that is accepted lengthens it by exactly its
+/// expansions, `ack` acknowledges, and no other move changes it.
+pub fn moves_move_the_search()
+    ensures { (t : Task) (f : File) (r r' : Run) (m : Move)
+        → IsSound t f r → TurnsTo t r m r' → MovesSearch t r m r' }
 {}
