@@ -9,7 +9,11 @@ ghost use Rattle.hd_world.specs.Seats.{Run};
 ghost use Rattle.hd_world.specs.Starting.{run_after};
 ghost use Rattle.hd_world.specs.Truth.{IsTrueRun};
 ghost use Rattle.hd_world.specs.Once.{in_run, only, room_of};
-ghost use Rattle.hd_world.specs.Headline.{AnswersTruly};
+ghost use Rattle.hd_world.specs.Stops.{File, Anything};
+ghost use Rattle.hd_world.specs.World.{Running, StepsTo};
+ghost use Rattle.hd_world.specs.Sound.{IsSound};
+ghost use Rattle.hd_world.specs.Headline.{MovesSearch, AnswersTruly};
+ghost use Rattle.hd_schedule.specs.declared.moves.Move.{Move};
 ghost use Rattle.hd_once.specs.Owners.{IsOpenAtOwner, IsClosedAtOwner};
 
 /// Where a search goes on from entries that have no fault, no kid is lost and none is doubled: each one that the entries post, and that is
@@ -33,4 +37,11 @@ pub fn resumptions_lose_no_kid()
 /// plan of the bound is valid.
 pub fn answers_are_true()
     ensures { (t : Task) (r : Run) → IsTrueRun t r → AnswersTruly t r }
+{}
+
+/// Where a sound run goes on after a move, its search was moved as an abstract search may be moved: a flush, and a stop that falls in no call,
+/// change nothing of it.
+pub fn steps_move_the_search()
+    ensures { (t : Task) (digest : List ℕ) (f f' : File) (r r' : Run) (m : Move) → IsSound t f r
+        → StepsTo Anything t digest (Running f r) m (Running f' r') → MovesSearch t r m r' }
 {}
