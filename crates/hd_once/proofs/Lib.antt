@@ -1,0 +1,4 @@
+pub mod Answering
+pub mod Leading
+pub mod Owning
+pub mod Stepping

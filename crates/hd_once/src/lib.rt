@@ -1,0 +1,4 @@
+//! Laws of a running search: what it answers is true, and where it goes on from a journal's entries, no kid is lost.
+#![tactic(auto)]
+
+pub mod laws;
