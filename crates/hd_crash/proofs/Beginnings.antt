@@ -1,6 +1,5 @@
 -- Beginnings of the entries of a legal list.
-use Rattle.std.proofs.Common.{◌≡◌, ℕ, ◌≤◌, nat_le, Bool, true, not, ◌&&◌, Option, Some, None, is_some, List, [], ◌∷◌, ◌++◌, fold, take, drop, length, refl, sym, ap, ap₂, ◌∙◌, subst, arith}
-use Rattle.std.specs.Prelude.{unwrap_or}
+use Rattle.std.proofs.Common.{◌≡◌, ℕ, ◌≤◌, Bool, true, not, ◌&&◌, Option, Some, None, is_some, List, [], ◌∷◌, fold, take, drop, length, refl, sym, ap, ap₂, ◌∙◌, subst, arith}
 use Rattle.std.proofs.lemmas.Bool.{le-leb}
 use Rattle.std.proofs.lemmas.Option.{none-some}
 use Rattle.std.proofs.lemmas.List.{length-take, take_at, take-append-drop}
@@ -8,10 +7,9 @@ use Rattle.std.proofs.lemmas.List.Sums.{fold-append}
 use Rattle.hd_task.specs.declared.task.Task.{Task}
 use Rattle.hd_task.specs.declared.plan.Kid.{Kid}
 use Rattle.hd_task.specs.Entries.{plans_of, with_entry}
-use Rattle.hd_task.specs.Expansions.{IsLegal}
 use Rattle.hd_task.proofs.Growing.{legal_take}
 use Rattle.hd_image.specs.Image.{most_of}
-use Rattle.hd_entries.specs.Resuming.{first_fault, AreLegal}
+use Rattle.hd_entries.specs.Resuming.{AreLegal}
 use Rattle.hd_entries.proofs.Faultless.{no_faults}
 use Rattle.hd_entries.proofs.Naming.{length-plans_of}
 use Rattle.hd_entries.proofs.Walking.{goes_on}

@@ -1,5 +1,5 @@
 -- What a search goes on with behind stops, and that what they left is always opened.
-use Rattle.std.proofs.Common.{◌≡◌, ℕ, ◌≤◌, true, Option, Some, List, [], ◌∷◌, ◌++◌, take, length, refl, sym, ap, ◌∙◌, subst, arith}
+use Rattle.std.proofs.Common.{◌≡◌, ℕ, true, Option, Some, List, [], take, length, ap, ◌∙◌, arith}
 use Rattle.std.specs.Prelude.{unwrap_or}
 use Rattle.std.proofs.lemmas.List.{length-take}
 use Rattle.hd_task.specs.declared.task.Task.{Task}
@@ -20,8 +20,8 @@ use Rattle.hd_world.specs.Seats.{Run}
 use Rattle.hd_running.specs.Sound.{IsSound}
 use Rattle.hd_world.specs.Starting.{run_after}
 use Rattle.hd_world.specs.Stops.{File, Anything, Opens, entries_of}
-use Rattle.hd_world.specs.World.{World, Stopped, Running, is_recovered, StepsTo, Plays, Reaches}
-use Rattle.hd_crash.specs.Left.{Making, IsFoundAfter, first_file}
+use Rattle.hd_world.specs.World.{Stopped, Running, is_recovered, StepsTo, Plays, Reaches}
+use Rattle.hd_crash.specs.Left.{Making}
 use Rattle.hd_crash.specs.Lasting.{doing_in, IsRunAfter, IsResting}
 use Rattle.hd_crash.proofs.Beginnings.{named_take}
 use Rattle.hd_crash.proofs.Halting.{IsCut, run_found, run_goes_on, run_groups}

@@ -1,7 +1,5 @@
 -- What a stop leaves of a run, and what goes on from it.
-use Rattle.std.proofs.Common.{◌≡◌, inl, inr, ℕ, zero, suc, ◌+◌, ◌≤◌, Bool, true, false, Option, Some, None, List, [], ◌∷◌, ◌++◌, take, length, refl, sym, ap, ap₂, ◌∙◌, subst, arith, append-nil, if◌then◌else◌}
-use Rattle.std.specs.Prelude.{flat_map}
-use Rattle.std.proofs.lemmas.Option.{none-some, same_Some}
+use Rattle.std.proofs.Common.{◌≡◌, inl, inr, ℕ, zero, suc, ◌≤◌, Bool, true, false, Option, Some, None, List, [], ◌∷◌, ◌++◌, take, length, refl, sym, ap, ◌∙◌, subst, arith, append-nil, if◌then◌else◌}
 use Rattle.std.proofs.lemmas.List.Concat.{flat_map-append}
 use Rattle.hd_store.specs.Device.{Device}
 use Rattle.hd_store.proofs.Leaving.{at_rest as rests_there}
@@ -23,7 +21,7 @@ use Rattle.hd_running.specs.Sound.{IsSound}
 use Rattle.hd_world.specs.Stops.{File, entries_of, with_group, at_rest, appending, bytes_of, is_next, stopped_in}
 use Rattle.hd_running.proofs.Ordering.{between_joins}
 use Rattle.hd_running.proofs.Sounding.{group_ready}
-use Rattle.hd_crash.specs.Left.{Standing, Appending, HasGroups, IsLeft, IsFoundAfter, StopMayLeave}
+use Rattle.hd_crash.specs.Left.{Appending, HasGroups, IsLeft, IsFoundAfter, StopMayLeave}
 use Rattle.hd_crash.specs.Lasting.{doing_in, GoesOnFrom, IsResting}
 use Rattle.hd_crash.proofs.Beginnings.{beginning_recovered}
 use Rattle.hd_crash.proofs.Leaving.{append_stop}

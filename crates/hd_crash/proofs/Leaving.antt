@@ -1,21 +1,19 @@
 -- What a stop within a call leaves, while a group is appended and while a file is opened.
-use Rattle.std.proofs.Common.{◌≡◌, ◌≢◌, inl, inr, ℕ, ◌+◌, ◌==◌, Bool, true, false, List, [], ◌∷◌, ◌++◌, length, take, Ok, refl, sym, ap, ◌∙◌, subst, arith, if◌then◌else◌}
+use Rattle.std.proofs.Common.{◌≡◌, ◌≢◌, ℕ, ◌+◌, ◌==◌, Bool, true, false, List, [], ◌∷◌, ◌++◌, length, take, Ok, refl, sym, ap, ◌∙◌, subst, arith, if◌then◌else◌}
 use Rattle.std.specs.List.{flat_map, AllByRecursion}
 use Rattle.hd_task.specs.declared.plan.Kid.{Kid}
-use Rattle.hd_store.specs.declared.error.StoreError.{StoreError}
 use Rattle.hd_store.specs.Bytes.{IsPartOfCut}
 use Rattle.hd_store.specs.Device.{Device, content_of}
 use Rattle.hd_image.specs.declared.version.Version.{Version}
-use Rattle.hd_image.specs.declared.version.Version.TheVariants.{Two}
 use Rattle.hd_image.specs.declared.header.TheConstants.{FIRST_GATE, DIGEST_LEN}
 use Rattle.hd_image.specs.declared.contents.Found.{Found}
 use Rattle.hd_image.specs.Image.{IsGroup, opened, front}
 use Rattle.hd_image.specs.Reading.{IsFound}
-use Rattle.hd_image.specs.Stops.{IsClosed, IsBeforeOrAfter, IsMaking}
+use Rattle.hd_image.specs.Stops.{IsClosed, IsBeforeOrAfter}
 use Rattle.hd_image.proofs.Stopping.{length-front}
 use Rattle.hd_journal.specs.Calls.{Call, after_call, after_calls, RanThrough, surely}
 use Rattle.hd_journal.specs.Calls.Call.{Cutting, Syncing}
-use Rattle.hd_journal.specs.Journal.{append_calls, cut_calls, open_calls}
+use Rattle.hd_journal.specs.Journal.{append_calls, open_calls}
 use Rattle.hd_journal.specs.Moments.{LeavesSince, IsSettled}
 use Rattle.hd_journal.proofs.Again.{open_moments, making_moments}
 use Rattle.hd_journal.proofs.Appending.{append_moments}
@@ -23,7 +21,7 @@ use Rattle.hd_journal.proofs.Bytes.{cut_whole, cut_part}
 use Rattle.hd_journal.proofs.Opening.{stands_found}
 use Rattle.hd_journal.proofs.Passing.{sure_then, no_more}
 use Rattle.hd_world.specs.Stops.{File, at_rest, bytes_of, stopped_in, Opens}
-use Rattle.hd_crash.specs.Left.{Doing, Making, Standing, Appending, AreGroups, HasGroups, IsLeft, StopMayLeave}
+use Rattle.hd_crash.specs.Left.{Doing, Making, Standing, Appending, HasGroups, IsLeft, StopMayLeave}
 use Rattle.hd_crash.proofs.Within.{rest_ran, leaves_in}
 
 -- ---- while a group is appended

@@ -1,5 +1,6 @@
 pub mod Beginnings
 pub mod Clauses
+pub mod Fillings
 pub mod Halting
 pub mod Leaving
 pub mod Opened

@@ -1,5 +1,5 @@
 -- What stops left is opened, in one way; nothing is said against it; and what the calls that open it make of it.
-use Rattle.std.proofs.Common.{◌≡◌, ◌≢◌, ◌⊎◌, inl, inr, ℕ, List, [], ◌∷◌, ◌++◌, length, Ok, refl, sym, ap, ap₂, ◌∙◌, subst, arith}
+use Rattle.std.proofs.Common.{◌≡◌, ◌≢◌, inl, inr, ℕ, List, [], ◌∷◌, ◌++◌, length, refl, sym, ap, ap₂, ◌∙◌, subst, arith}
 use Rattle.std.specs.List.{AllByRecursion}
 use Rattle.hd_task.specs.declared.plan.Kid.{Kid}
 use Rattle.hd_store.specs.Device.{Device, content_of}
@@ -23,7 +23,7 @@ use Rattle.hd_journal.proofs.Appending.{behind_content}
 use Rattle.hd_journal.proofs.Opening.{found_one, opens}
 use Rattle.hd_journal.proofs.Standing.{stop_stands, stands_not_refused, making_not_refused}
 use Rattle.hd_world.specs.Stops.{File, at_rest, bytes_of, with_group, Opens}
-use Rattle.hd_crash.specs.Left.{Doing, Making, Standing, Appending, AreGroups, HasGroups, IsLeft, IsFoundAfter, first_file}
+use Rattle.hd_crash.specs.Left.{Doing, Making, Standing, Appending, HasGroups, IsLeft, IsFoundAfter, first_file}
 use Rattle.hd_crash.proofs.Placing.{groups_same}
 use Rattle.hd_crash.proofs.Within.{rest_ran}
 

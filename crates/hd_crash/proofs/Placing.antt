@@ -1,14 +1,12 @@
 -- Groups are told by their entries with their places.
-use Rattle.std.proofs.Common.{◌≡◌, ◌≢◌, ℕ, suc, ◌+◌, ◌*◌, ◌≤◌, List, [], ◌∷◌, ◌++◌, length, drop, refl, sym, ap, ap₂, ◌∙◌, arith}
+use Rattle.std.proofs.Common.{◌≡◌, ◌≢◌, ℕ, ◌+◌, ◌*◌, ◌≤◌, List, [], ◌∷◌, ◌++◌, length, drop, refl, sym, ap, ap₂, ◌∙◌, arith}
 use Rattle.std.proofs.Math.Nat.{mul-suc}
-use Rattle.std.specs.List.{flat_map, AllByRecursion}
+use Rattle.std.specs.List.{AllByRecursion}
 use Rattle.hd_task.specs.declared.plan.Kid.{Kid}
 use Rattle.hd_image.specs.declared.version.Version.{Version}
 use Rattle.hd_image.specs.declared.entry.Entry.{Entry}
-use Rattle.hd_image.specs.declared.header.TheConstants.{FIRST_GATE}
-use Rattle.hd_image.specs.Image.{IsGroup, counted, opened, entry_width, entries_of, entries_in}
+use Rattle.hd_image.specs.Image.{IsGroup, opened, entry_width, entries_of, entries_in}
 use Rattle.hd_image.proofs.Joining.{length-counted}
-use Rattle.hd_kids.specs.Kids.{root}
 use Rattle.hd_journal.specs.Journal.{kid_of}
 
 -- ---- parts of a list of entries
@@ -18,7 +16,7 @@ first_place [] = 0
 first_place (e ∷ entries) = e.at
 
 abbrev first_kid : List Entry → Kid
-first_kid [] = root
+first_kid [] = record { parent = 0; action = 0 }
 first_kid (e ∷ entries) = kid_of e
 
 none_some : {X : Type 0} (x : X) (xs : List X) → ◌≢◌ {A = List X} [] (x ∷ xs)

@@ -1,14 +1,10 @@
 -- Worlds that a schedule comes to: each is sound, and what resumptions make of what stops left.
-use Rattle.std.proofs.Common.{◌≡◌, ◌⊎◌, inl, inr, ℕ, ◌≤◌, Bool, true, false, not, ◌&&◌, nat_le, Option, Some, None, is_some, List, [], ◌∷◌, ◌++◌, length, refl, sym, ap, ◌∙◌, subst, arith, true≢false, if◌then◌else◌}
-use Rattle.std.specs.List.{AllByRecursion}
+use Rattle.std.proofs.Common.{◌≡◌, inl, inr, ℕ, ◌≤◌, Bool, true, false, not, nat_le, Option, Some, None, is_some, List, [], ◌∷◌, length, refl, sym, ap, ◌∙◌, subst, arith, true≢false, if◌then◌else◌}
 use Rattle.std.proofs.lemmas.Bool.{and_parts, leb-true}
 use Rattle.hd_base.proofs.Lists.{AllByRecursion-push}
 use Rattle.hd_task.specs.declared.task.Task.{Task}
-use Rattle.hd_image.specs.declared.error.ImageError.{ImageError}
 use Rattle.hd_image.specs.declared.header.TheConstants.{DIGEST_LEN}
 use Rattle.hd_image.specs.Image.{IsGroup, most_of}
-use Rattle.hd_image.specs.Stops.{IsMaking}
-use Rattle.hd_journal.specs.Calls.{Call}
 use Rattle.hd_journal.specs.Group.{GroupView}
 use Rattle.hd_entries.specs.declared.refusal.Refusal.{Refusal}
 use Rattle.hd_entries.specs.Resuming.{first_fault}
@@ -20,11 +16,11 @@ use Rattle.hd_world.specs.Headline.{AreResumptions}
 use Rattle.hd_world.specs.Seats.{Run}
 use Rattle.hd_running.specs.Sound.{IsSound}
 use Rattle.hd_world.specs.Starting.{run_after}
-use Rattle.hd_world.specs.Stops.{File, Anything, Opens, IsUnopened, entries_of, with_group, at_rest, bytes_of, is_next}
+use Rattle.hd_world.specs.Stops.{File, Anything, IsUnopened, entries_of, with_group, bytes_of, is_next}
 use Rattle.hd_world.specs.World.{World, Stopped, Running, flushed_to, StopsIn, Falls, IsNone, MayResume, is_recovered, recovered, ResumesTo, IsNot, IsRefused, IsStopped, IsOpened, GoesOn, StepsOn, StepsFrom, StepsTo, Plays, Reaches}
 use Rattle.hd_running.proofs.Sounding.{starts_sound, turns_sound, flush_sound}
-use Rattle.hd_crash.specs.Left.{Doing, Making, Standing, Appending, AreGroups, HasGroups, IsLeft, IsFoundAfter, first_file}
-use Rattle.hd_crash.specs.Lasting.{doing_in, GoesOnFrom, IsRunAfter, IsGoneOn, IsResting, IsSoundWorld}
+use Rattle.hd_crash.specs.Left.{Doing, Making, Standing, Appending, AreGroups, HasGroups, IsLeft, IsFoundAfter}
+use Rattle.hd_crash.specs.Lasting.{doing_in, GoesOnFrom, IsGoneOn, IsResting, IsSoundWorld}
 use Rattle.hd_crash.proofs.Halting.{whole_left, run_stopped, run_rests}
 use Rattle.hd_crash.proofs.Leaving.{open_stop}
 use Rattle.hd_crash.proofs.Opened.{left_found, left_not_refused}

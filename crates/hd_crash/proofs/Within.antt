@@ -1,7 +1,6 @@
 -- The disk that a stop within a call finds: what it may leave is what may be left at one moment of all calls.
-use Rattle.std.proofs.Common.{◌≡◌, inl, inr, ℕ, zero, suc, List, [], ◌∷◌, ◌++◌, length, refl, sym, ap, ◌∙◌, subst, append_assoc}
+use Rattle.std.proofs.Common.{◌≡◌, inl, ℕ, zero, suc, List, [], ◌∷◌, ◌++◌, refl, sym, ap, ◌∙◌, subst, append_assoc}
 use Rattle.std.proofs.lemmas.List.{append_cancel_right}
-use Rattle.hd_store.specs.declared.ahead.Ahead.{Ahead}
 use Rattle.hd_store.specs.declared.ahead.Ahead.TheVariants.{Unknown}
 use Rattle.hd_store.specs.Device.{Device, content_of}
 use Rattle.hd_store.specs.Past.{Step, step}

@@ -16,6 +16,7 @@ ghost use Rattle.hd_world.specs.Seats.{Run};
 ghost use Rattle.hd_running.specs.Sound.{IsSound};
 ghost use Rattle.hd_world.specs.Stops.{File, Anything, Opens, entries_of};
 ghost use Rattle.hd_world.specs.World.{World, Stopped, Running, is_recovered, Plays, Reaches, StepsTo};
+ghost use Rattle.hd_crash.specs.Filling.{Filled};
 ghost use Rattle.hd_crash.specs.Lasting.{IsSoundWorld};
 
 /// A search goes on from each beginning of the entries of a legal list, if the journal may have so many.
@@ -65,4 +66,13 @@ pub fn what_is_left_goes_on()
         (calls : List Call) (f : File) → length digest ≡ DIGEST_LEN
         → Reaches Anything t digest moves (Stopped content) → Opens digest content calls f
         → is_recovered t f ≡ true }
+{}
+
+/// What a schedule comes to where each stop leaves the bytes that are not sure as the schedule names them, it may come to where a stop may
+/// leave anything: so all laws of schedules hold of it.
+pub fn named_bytes_are_among_any()
+    ensures steps { (t : Task) (digest : List ℕ) (w after : World) (m : Move)
+        → StepsTo Filled t digest w m after → StepsTo Anything t digest w m after }
+    ensures plays { (t : Task) (digest : List ℕ) (moves : List Move) (w after : World)
+        → Plays Filled t digest w moves after → Plays Anything t digest w moves after }
 {}
