@@ -1,5 +1,5 @@
 -- What a step of the world makes of the search of a run, where a run goes on after it.
-use Rattle.std.proofs.Common.{◌≡◌, ℕ, Bool, true, false, cond, Option, Some, None, List, inl, inr, refl, sym, ap, ◌∙◌, subst, true≢false}
+use Rattle.std.proofs.Common.{◌≡◌, ℕ, Bool, true, false, cond, Option, Some, None, List, inl, inr, sym, ap, subst, true≢false}
 use Rattle.hd_task.specs.declared.task.Task.{Task}
 use Rattle.hd_journal.specs.Group.{GroupView}
 use Rattle.hd_schedule.specs.declared.moves.Move.{Move}
@@ -8,7 +8,7 @@ use Rattle.hd_schedule.specs.declared.moves.StopAt.{StopAt}
 use Rattle.hd_world.specs.Seats.{Run}
 use Rattle.hd_world.specs.Stops.{File, Anything, with_group, is_next}
 use Rattle.hd_world.specs.World.{World, Stopped, Running, flushed_to, StopsIn, Falls, IsNone, GoesOn, StepsTo}
-use Rattle.hd_world.specs.Search.{Search, search_of}
+use Rattle.hd_world.specs.Search.{search_of}
 use Rattle.hd_running.specs.Sound.{IsSound}
 use Rattle.hd_world.specs.Headline.{MovesSearch}
 use Rattle.hd_running.proofs.Searching.{turns_search}

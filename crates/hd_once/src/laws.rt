@@ -12,7 +12,7 @@ ghost use Rattle.hd_running.specs.Once.{in_run, only, room_of};
 ghost use Rattle.hd_world.specs.Stops.{File, Anything};
 ghost use Rattle.hd_world.specs.World.{Running, StepsTo};
 ghost use Rattle.hd_running.specs.Sound.{IsSound};
-ghost use Rattle.hd_world.specs.Headline.{MovesSearch, AnswersTruly};
+ghost use Rattle.hd_world.specs.Headline.{MovesSearch, AnswersTruly, Headline};
 ghost use Rattle.hd_schedule.specs.declared.moves.Move.{Move};
 ghost use Rattle.hd_once.specs.Owners.{IsOpenAtOwner, IsClosedAtOwner};
 
@@ -44,4 +44,10 @@ pub fn answers_are_true()
 pub fn steps_move_the_search()
     ensures { (t : Task) (digest : List ℕ) (f f' : File) (r r' : Run) (m : Move) → IsSound t f r
         → StepsTo Anything t digest (Running f r) m (Running f' r') → MovesSearch t r m r' }
+{}
+
+/// For each task, of every schedule, whatever its stops leave of the disk: the search moves as an abstract search may be moved, and what
+/// a resumption leaves is a beginning of it that has each acknowledged entry; nothing is refused for what it says; and what is answered is true.
+pub fn headline_holds()
+    ensures { (t : Task) → Headline t }
 {}
