@@ -1,0 +1,5 @@
+pub mod Answering
+pub mod Leading
+pub mod Owning
+pub mod Stepping
+pub mod Whole
