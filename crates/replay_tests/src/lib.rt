@@ -1,0 +1,7 @@
+//! Tests of schedules that are played.
+#![tactic(auto)]
+
+#[cfg(test)]
+mod rows;
+#[cfg(test)]
+mod schedules;
