@@ -12,7 +12,7 @@ use std::sync::ledger::Ledger;
 /// The group that is out is spent.
 fn end_out(out: Out) {
     match out {
-        Out::None => {}
+        Out::Nothing => {}
         Out::Pulled(group) => drop(group.parts()),
         Out::Flushed(flushed) => drop(flushed.parts()),
     }
@@ -27,8 +27,8 @@ fn end_seats<'t, L: Ledger>(book: &mut Book<'t, L>, seats: Vec<Seat<'t>>) {
     seats.destroy_empty();
 }
 
-/// All of a run is let go, but the disk.
-fn let_go<L: Ledger>(run: Run<'_, L>) -> MemoryDisk {
+/// All of a run is let go.
+fn let_go<L: Ledger>(run: Run<'_, L>) {
     let Run {
         mut book,
         share,
@@ -36,7 +36,6 @@ fn let_go<L: Ledger>(run: Run<'_, L>) -> MemoryDisk {
         seats,
         mailboxes,
         bound: _,
-        journal,
     } = run;
     book.halt();
     end_seats(&mut book, seats);
@@ -44,13 +43,12 @@ fn let_go<L: Ledger>(run: Run<'_, L>) -> MemoryDisk {
     drop(share);
     drop(lookup);
     drop(mailboxes);
-    journal.into_store()
 }
 
-/// A run ends: the disk is left.
-pub(crate) fn end<L: Ledger>(run: Run<'_, L>, out: Out) -> MemoryDisk {
+/// A run ends.
+pub(crate) fn end<L: Ledger>(run: Run<'_, L>, out: Out) {
     end_out(out);
-    let_go(run)
+    let_go(run);
 }
 
 /// A group is appended to the journal on a disk, and a stop falls in this call of it, counted from 1.
@@ -87,9 +85,11 @@ pub(crate) fn stop<L: Ledger>(
     digest: &[u8; DIGEST_LEN],
     run: Run<'_, L>,
     out: Out,
+    journal: Journal<MemoryDisk>,
     stop: StopAt,
 ) -> (MemoryDisk, Result<(), ReplayFault>) {
-    let disk = let_go(run);
+    let_go(run);
+    let disk = journal.into_store();
     let (mut disk, begun) = match out {
         Out::Pulled(group) if stop.call > 0 => {
             append_until(alloc, digest, disk, group, stop.call as u64)

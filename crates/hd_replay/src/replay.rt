@@ -1,14 +1,13 @@
 //! Schedules played.
 use crate::ending::{end, stop};
 use crate::fault::ReplayFault;
-use crate::moving::{commit, expand, load, offer, pop, push, redeem, take};
 use crate::report::{Report, Says};
 use crate::run::{Out, Run};
 use crate::starting::{Resumed, resume};
-use crate::writing::{ack, flush, pull};
+use crate::writing::flush;
 use hd_book::Book;
 use hd_entries::Verdict;
-use hd_journal::DIGEST_LEN;
+use hd_journal::{DIGEST_LEN, Journal};
 use hd_schedule::{Move, StopAt};
 use hd_store::MemoryDisk;
 use hd_task::Task;
@@ -31,14 +30,14 @@ struct Played {
 /// `Full` or `NoMemory`.
 fn work<L: Ledger>(run: &mut Run<'_, L>, next: Move) -> Result<(), ReplayFault> {
     match next {
-        Move::Pop { worker } => pop(run, worker as usize),
-        Move::Take { worker } => take(run, worker as usize)?,
-        Move::Expand { worker, place } => expand(run, worker as usize, place as usize)?,
-        Move::Commit { worker } => commit(run, worker as usize)?,
-        Move::Redeem { worker } => redeem(run, worker as usize),
-        Move::Push { worker } => push(run, worker as usize)?,
-        Move::Offer { worker } => offer(run, worker as usize),
-        Move::Load { worker } => load(run, worker as usize),
+        Move::Pop { worker } => run.pop(worker as usize),
+        Move::Take { worker } => run.take(worker as usize)?,
+        Move::Expand { worker, place } => run.expand(worker as usize, place as usize)?,
+        Move::Commit { worker } => run.commit(worker as usize)?,
+        Move::Redeem { worker } => run.redeem(worker as usize),
+        Move::Push { worker } => run.push(worker as usize)?,
+        Move::Offer { worker } => run.offer(worker as usize),
+        Move::Load { worker } => run.load(worker as usize),
         Move::Resume { .. } | Move::Pull | Move::Flush | Move::Ack | Move::Stop(_) => {}
     }
     Ok(())
@@ -48,11 +47,16 @@ fn work<L: Ledger>(run: &mut Run<'_, L>, next: Move) -> Result<(), ReplayFault> 
 ///
 /// # Errors
 /// `Full` or `NoMemory`, or a fault of the journal.
-fn step<L: Ledger>(run: &mut Run<'_, L>, out: Out, next: Move) -> (Out, Result<(), ReplayFault>) {
+fn step<L: Ledger>(
+    run: &mut Run<'_, L>,
+    journal: &mut Journal<MemoryDisk>,
+    out: Out,
+    next: Move,
+) -> (Out, Result<(), ReplayFault>) {
     match next {
-        Move::Pull => pull(run, out),
-        Move::Flush => flush(run, out),
-        Move::Ack => (ack(run, out), Ok(())),
+        Move::Pull => run.pull(out),
+        Move::Flush => flush(journal, out),
+        Move::Ack => (run.ack(out), Ok(())),
         next => (out, work(run, next)),
     }
 }
@@ -84,10 +88,15 @@ fn says_of<L: Ledger>(book: &Book<'_, L>) -> Result<Option<Says>, ReplayFault> {
 ///
 /// # Errors
 /// Beside the disk: `NoMemory` where there is no room for a plan.
-fn reported<L: Ledger>(run: Run<'_, L>, out: Out) -> (MemoryDisk, Result<Report, ReplayFault>) {
+fn reported<L: Ledger>(
+    run: Run<'_, L>,
+    out: Out,
+    journal: Journal<MemoryDisk>,
+) -> (MemoryDisk, Result<Report, ReplayFault>) {
     let counts = run.book.counts();
     let says = says_of(&run.book);
-    let disk = end(run, out);
+    end(run, out);
+    let disk = journal.into_store();
     let bytes = disk.bytes().len() as u64;
     let report = says.map(|verdict| Report {
         expansions: counts.entries,
@@ -103,31 +112,34 @@ fn play<L: Ledger>(
     alloc: Global,
     digest: &[u8; DIGEST_LEN],
     run: Run<'_, L>,
+    journal: Journal<MemoryDisk>,
     moves: &[Move],
 ) -> Played {
     let mut run = run;
-    let mut out = Out::None;
+    let mut journal = journal;
+    let mut out = Out::Nothing;
     for number in 0..moves.len() {
         let next = moves[number];
         if let Some(at) = stop_in(&out, next) {
-            let (disk, stopped) = stop(alloc, digest, run, out, at);
+            let (disk, stopped) = stop(alloc, digest, run, out, journal, at);
             return Played {
                 disk,
                 moves: number + 1,
                 report: stopped.map(|()| None),
             };
         }
-        let (then, said) = step(&mut run, out, next);
+        let (then, said) = step(&mut run, &mut journal, out, next);
         out = then;
         if let Err(fault) = said {
+            end(run, out);
             return Played {
-                disk: end(run, out),
+                disk: journal.into_store(),
                 moves: number + 1,
                 report: Err(fault),
             };
         }
     }
-    let (disk, report) = reported(run, out);
+    let (disk, report) = reported(run, out, journal);
     Played {
         disk,
         moves: moves.len(),
@@ -147,7 +159,7 @@ fn play_from<L: Ledger>(
     moves: &[Move],
 ) -> Played {
     match resume::<L>(blank, alloc, task, digest, disk, workers, until) {
-        Resumed::Running(run) => play(alloc, digest, run, moves),
+        Resumed::Running(run, journal) => play(alloc, digest, run, journal, moves),
         Resumed::Stopped(disk) => Played {
             disk,
             moves: 0,

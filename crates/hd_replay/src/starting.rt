@@ -17,8 +17,8 @@ use std::sync::ledger::{Blank, Ledger};
 /// What a resumption comes to.
 #[must_use]
 pub(crate) enum Resumed<'t, L: Ledger> {
-    /// The search runs.
-    Running(Run<'t, L>),
+    /// The search runs, over this journal.
+    Running(Run<'t, L>, Journal<MemoryDisk>),
     /// A stop fell in it, and the disk is settled.
     Stopped(MemoryDisk),
     /// It is refused, and this is the disk.
@@ -75,15 +75,17 @@ fn run_of<'t, L: Ledger>(
     let (lookup, mailboxes) = parts;
     let bound = recovered.book.bound();
     match seats_of(alloc, recovered.workers) {
-        Ok(seats) => Resumed::Running(Run {
-            book: recovered.book,
-            share: recovered.share,
-            lookup,
-            seats,
-            mailboxes,
-            bound,
-            journal,
-        }),
+        Ok(seats) => {
+            let run = Run {
+                book: recovered.book,
+                share: recovered.share,
+                lookup,
+                seats,
+                mailboxes,
+                bound,
+            };
+            Resumed::Running(run, journal)
+        }
         Err(_) => Resumed::Refused(journal.into_store(), ReplayFault::NoMemory),
     }
 }

@@ -2,6 +2,10 @@
 #![tactic(auto)]
 
 #[cfg(test)]
+mod chance;
+#[cfg(test)]
+mod cuts;
+#[cfg(test)]
 mod rows;
 #[cfg(test)]
 mod schedules;

@@ -1,5 +1,5 @@
 //! Schedules worked out by hand.
-use crate::schedules::{Row, assert_played};
+use crate::schedules::{Row, assert_rows};
 use hd_replay::Says;
 use std::alloc::Global;
 use text_tests::samples::{G, G_PROBLEM, L, L_PROBLEM, N, N_PROBLEM};
@@ -146,6 +146,55 @@ stop 3 01
 resume 2
 ";
 
+/// Two batches in one group, and a stop in the call that opens its gate.
+const TOGETHER: &str = "resume 1
+expand 0 0
+commit 0
+pull
+flush
+ack
+redeem 0
+expand 0 0
+commit 0
+expand 0 0
+commit 0
+pull
+stop 3 00
+resume 1
+";
+
+const TOGETHER_OTHER: &str = "resume 1
+expand 0 0
+commit 0
+pull
+flush
+ack
+redeem 0
+expand 0 0
+commit 0
+expand 0 0
+commit 0
+pull
+stop 3 37
+resume 1
+";
+
+const TOGETHER_OPEN: &str = "resume 1
+expand 0 0
+commit 0
+pull
+flush
+ack
+redeem 0
+expand 0 0
+commit 0
+expand 0 0
+commit 0
+pull
+stop 3 01
+resume 1
+";
+
 #[test]
 fn schedules_end_as_worked_out(rt: HostRuntime) {
     let gate = Row {
@@ -154,7 +203,13 @@ fn schedules_end_as_worked_out(rt: HostRuntime) {
         schedule: GATE,
         ends: (1, 1, 53, None),
     };
-    assert_played(
+    let together = Row {
+        domain: G,
+        problem: G_PROBLEM,
+        schedule: TOGETHER_OTHER,
+        ends: (1, 1, 53, None),
+    };
+    assert_rows(
         &rt,
         rt.alloc(),
         &[
@@ -174,6 +229,16 @@ fn schedules_end_as_worked_out(rt: HostRuntime) {
                 schedule: "",
                 ends: (0, 0, 39, None),
                 ..gate
+            },
+            Row {
+                schedule: TOGETHER,
+                ..together
+            },
+            together,
+            Row {
+                schedule: TOGETHER_OPEN,
+                ends: (3, 3, 76, None),
+                ..together
             },
         ],
     )

@@ -1,0 +1,105 @@
+-- What is handed to the worker that owns it, among all workers.
+use Rattle.std.proofs.Common.{◌≡◌, ℕ, ◌+◌, ◌%◌, ◌<◌, ◌≤◌, ◌==◌, Bool, true, false, cond, Option, Some, None, List, [], ◌∷◌, ◌++◌, map, filter, length, get_or, set, slice_get, flat_map, refl, sym, ap, ap₂, subst, ◌∙◌, arith, length-set, append-nil, append_assoc}
+use Rattle.std.specs.Prelude.{option_map, option_and_then}
+use Rattle.std.specs.List.{range_with_len, AllByRecursion}
+use Rattle.std.proofs.Math.Nat.{mod-lt}
+use Rattle.std.proofs.lemmas.Bool.{eq-eqb}
+use Rattle.std.proofs.lemmas.Option.{none-some}
+use Rattle.std.proofs.lemmas.Grind.{flat_map-append}
+use Rattle.std.proofs.lemmas.List.{length-map}
+use Rattle.std.proofs.lemmas.List.FromFn.{length-map-range_with_len, get_or-map-range_with_len}
+use Rattle.std.proofs.lemmas.Simd.{map-map}
+use Rattle.hd_base.proofs.Lists.{range_with_len_more}
+use Rattle.hd_task.specs.declared.task.Task.{Task}
+use Rattle.hd_task.specs.declared.state.State.{State}
+use Rattle.hd_task.specs.declared.plan.Kid.{Kid}
+use Rattle.hd_task.specs.Plans.{Node, exec, node, IsStateOf}
+use Rattle.hd_task.proofs.Runs as runs
+use Rattle.hd_zobrist.specs.Hash.{state_hash}
+use Rattle.hd_node.specs.Parcel.{ParcelView}
+use Rattle.hd_node.specs.declared.batch.By.TheVariants.{Entry}
+use Rattle.hd_entries.specs.Settling.{BookState, entry_node, node_of, expansions}
+use Rattle.hd_entries.specs.Holding.{Released, parcel_of, IsParcelOf}
+use Rattle.hd_entries.specs.Resuming.{open_kids, resumed_state, LeadsThere}
+use Rattle.hd_closed.specs.Closed.{Closed}
+use Rattle.hd_turns.specs.Worker.{WorkerView, is_own}
+use Rattle.hd_turns.specs.Calls.{with_parcel, after_closing}
+use Rattle.hd_recovery.proofs.Parts.{set_one, filter_in, filter_out}
+use Rattle.hd_recovery.specs.Recovered.{closed_as, closed_at, closed_in, open_as, open_at, open_in, is_own_closed, with_own, team}
+
+-- ---- one worker among all
+
+-- a worker that holds just this
+abbrev holding : Task → ℕ → ℕ → List Closed → List Released → WorkerView
+holding t n id closed waiting = record {
+  task = t;
+  id = id;
+  workers = n;
+  waiting = waiting;
+  closed = closed;
+  given = [];
+  outcomes = [];
+  outbox = [];
+  seen = None;
+  room = 0;
+  lent = false;
+}
+
+module _ (t : Task) (n : ℕ) (some : 1 ≤ n) where
+  -- the owner of a state is one of the workers
+  pub owner_within : (s : State) → state_hash s % n < n
+  owner_within s = mod-lt (state_hash s) n some
+
+  pub length-team : (closed : List Closed) (waiting : List Released) → length (team t n closed waiting) ≡ n
+  length-team closed waiting = length-map-range_with_len (with_own t n closed waiting) 0 n
+
+  -- the worker at a place
+  pub team_at : (closed : List Closed) (waiting : List Released) (i : ℕ) (d : WorkerView) → i < n → get_or (team t n closed waiting) i d ≡ with_own t n closed waiting i
+  team_at closed waiting i d lt = get_or-map-range_with_len (with_own t n closed waiting) 0 n i i d lt (omega arith)
+
+  pub closed_too : (closed : List Closed) (waiting : List Released) (m : ℕ) (s : State) (cost : ℕ) →
+      let o = state_hash s % n in
+      let c : Closed = record { by = Entry m; state = s; cost = cost } in
+      set (team t n closed waiting) o (after_closing m s cost (with_own t n closed waiting o)) ≡ team t n (closed ++ c ∷ []) waiting
+  closed_too closed waiting m s cost =
+      let o = state_hash s % n in
+      let c : Closed = record { by = Entry m; state = s; cost = cost } in
+      let its : after_closing m s cost (with_own t n closed waiting o) ≡ with_own t n (closed ++ c ∷ []) waiting o =
+      ap (λ cs. holding t n o cs (filter (is_own o n) waiting)) (sym (filter_in (is_own_closed o n) closed c (eq-eqb o o refl)))
+      in
+      ap (set (team t n closed waiting) o) its
+      ∙ set_one (with_own t n closed waiting) (with_own t n (closed ++ c ∷ []) waiting) n o (owner_within s)
+      (λ i e. ap (λ cs. holding t n i cs (filter (is_own i n) waiting)) (filter_out (is_own_closed i n) closed c e))
+
+  pub taken_too : (closed : List Closed) (waiting : List Released) (r : Released) →
+      let o = state_hash r.state % n in
+      set (team t n closed waiting) o (with_parcel r (with_own t n closed waiting o)) ≡ team t n closed (waiting ++ r ∷ [])
+  taken_too closed waiting r =
+      let o = state_hash r.state % n in
+      let its : with_parcel r (with_own t n closed waiting o) ≡ with_own t n closed (waiting ++ r ∷ []) o =
+      ap (λ rs. holding t n o (filter (is_own_closed o n) closed) rs) (sym (filter_in (is_own o n) waiting r (eq-eqb o o refl)))
+      in
+      ap (set (team t n closed waiting) o) its
+      ∙ set_one (with_own t n closed waiting) (with_own t n closed (waiting ++ r ∷ [])) n o (owner_within r.state)
+      (λ i e. ap (λ rs. holding t n i (filter (is_own_closed i n) closed) rs) (filter_out (is_own i n) waiting r e))
+
+-- ---- all entries, and all parcels
+
+-- one entry more
+pub closed_more : (b : BookState) (m : ℕ) → flat_map (closed_at b) (range_with_len 0 (m + 1)) ≡ flat_map (closed_at b) (range_with_len 0 m) ++ closed_at b m
+closed_more b m =
+    ap (flat_map (closed_at b)) (range_with_len_more 0 m m (omega arith))
+    ∙ (flat_map-append (closed_at b) (range_with_len 0 m) (m ∷ []) ∙ ap (λ cs. flat_map (closed_at b) (range_with_len 0 m) ++ cs) (append-nil (closed_at b m)))
+
+-- parcels that say of their kids where these lead
+pub all_open : (b : BookState) (parcels : List ParcelView) → AllByRecursion (LeadsThere b) parcels → map parcel_of parcels ≡ flat_map (open_at b) (map (λ (p : ParcelView). p.kid) parcels)
+all_open b [] lead = refl
+all_open b (p ∷ parcels) lead = ap₂ (λ (xs ys : List Released). xs ++ ys) (sym (ap (open_as p.kid) lead.0.leads)) (all_open b parcels lead.1)
+
+-- the state of an entry is one of the task
+pub state_there : (b : BookState) (m : ℕ) (r : Node) → entry_node b m ≡ Some r → IsStateOf b.task r.state
+state_there b m r e =
+    elim (slice_get (expansions b) m) as (λ o. option_and_then (exec b.task) o ≡ Some r → IsStateOf b.task r.state) [
+      | None ↦ λ e. absurd (none-some r e)
+      | Some p ↦ λ e. runs.exec-state b.task p r e
+    ] e

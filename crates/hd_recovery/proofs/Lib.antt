@@ -1,0 +1,3 @@
+mod Handing
+mod Parts
+mod Truth

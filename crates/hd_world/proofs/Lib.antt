@@ -1,0 +1,9 @@
+pub mod Committing
+pub mod Counting
+pub mod Going
+pub mod Lists
+pub mod Moving
+pub mod Quiet
+pub mod Same
+pub mod Staying
+pub mod Sums

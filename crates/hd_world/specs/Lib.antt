@@ -1,0 +1,11 @@
+pub mod Headline
+pub mod Moves
+pub mod Once
+pub mod Order
+pub mod Recovered
+pub mod Search
+pub mod Seats
+pub mod Starting
+pub mod Stops
+pub mod Truth
+pub mod World
