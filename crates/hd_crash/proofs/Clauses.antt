@@ -15,20 +15,21 @@ use Rattle.hd_entries.specs.Settling.{expansions}
 use Rattle.hd_entries.proofs.Naming.{length-plans_of}
 use Rattle.hd_schedule.specs.declared.moves.Move.{Move}
 use Rattle.hd_schedule.specs.declared.moves.Move.TheVariants.{Resume}
+use Rattle.hd_schedule.specs.declared.moves.StopAt.{StopAt}
 use Rattle.hd_zobrist.specs.declared.owners.TheConstants.{MAX_WORKERS}
-use Rattle.hd_world.specs.Headline.{IsResumed, Rests}
-use Rattle.hd_world.specs.Search.{IsCutTo, first_search, search_of}
+use Rattle.hd_world.specs.Headline.{IsResumed, IsFirst, Rests}
+use Rattle.hd_world.specs.Search.{IsCutTo, first_search, search_in, search_of}
 use Rattle.hd_world.specs.Seats.{Run}
 use Rattle.hd_running.specs.Sound.{IsSound}
 use Rattle.hd_world.specs.Starting.{run_after}
-use Rattle.hd_world.specs.Stops.{File, Anything, Opens, entries_of}
-use Rattle.hd_world.specs.World.{Stopped, Running, IsOpened, is_recovered, StepsTo, Reaches}
-use Rattle.hd_crash.specs.Left.{Making, IsLeft}
+use Rattle.hd_world.specs.Stops.{File, Anything, Opens, entries_of, bytes_of}
+use Rattle.hd_world.specs.World.{Stopped, Running, IsOpened, is_recovered, StepsTo, IsBeginning, IsEmpty, IsJournal, Reaches}
+use Rattle.hd_crash.specs.Left.{IsLeft}
 use Rattle.hd_crash.specs.Lasting.{doing_in, IsRunAfter, IsResting}
 use Rattle.hd_crash.proofs.Beginnings.{named_take}
 use Rattle.hd_crash.proofs.Halting.{IsCut, run_found, run_goes_on, run_groups}
 use Rattle.hd_crash.proofs.Opened.{left_opened, left_found, left_not_refused}
-use Rattle.hd_crash.proofs.Playing.{run_left, gone_on, reached_sound, recovered_is, empty_left, first_goes_on, rested}
+use Rattle.hd_crash.proofs.Playing.{run_left, gone_on, reached_sound, recovered_is, resumed_with, IsBegun, begun, rested}
 
 -- ---- behind a run
 
@@ -57,42 +58,63 @@ module _ (t : Task) (f : File) (r : Run) (x : IsSound t f r) (f' : File) (r' : R
         omega (arith, count, length-take c.left entries, c.among);
   }
 
-  pub is_resumed : IsResumed r t f' r'
-  is_resumed = record { left = c.left; workers = on.workers; some = on.some; most = on.most; cut = is_cut; may = c.may; is = goes_on }
+  pub is_resumed : IsResumed r t on.workers f' r'
+  is_resumed = record { left = c.left; some = on.some; most = on.most; cut = is_cut; may = c.may; is = goes_on }
 
 -- ---- of all schedules
 
-module _ (t : Task) (digest : List ℕ) (len : length digest ≡ DIGEST_LEN) where
-  -- where nothing has run yet
-  pub first_from : (content : List ℕ) (m : Move) (f : File) (r : Run) → IsLeft digest Making content
-      → StepsTo Anything t digest (Stopped content) m (Running f r) → search_of r ≡ first_search
-  first_from content m f r left step =
-      let on = gone_on t digest Making len tt (first_goes_on t digest len) content m (Running f r) left step in
-      ap search_of on.1.is ∙ ap (λ (g : File). search_of (run_after t (most_of g.version) on.1.workers (entries_of g))) on.0
+module _ (t : Task) (digest : List ℕ) (len : length digest ≡ DIGEST_LEN) (start : List ℕ) (earlier : File) (begins : IsBeginning t digest start earlier) where
+  abbrev b : IsBegun t digest len start earlier
+  b = begun t digest len start earlier begins
 
-  pub first : (moves : List Move) (content : List ℕ) (m : Move) (f : File) (r : Run) → Rests t digest [] moves content
-      → StepsTo Anything t digest (Stopped content) m (Running f r) → search_of r ≡ first_search
-  first moves content m f r rests step =
-      first_from content m f r (rested t digest Making len tt (first_goes_on t digest len) moves [] content (empty_left t digest len) rests) step
+  -- an empty disk holds the search at first
+  pub empty : start ≡ [] → search_in t earlier ≡ first_search
+  empty none = empty_of begins
+    where
+      empty_of : IsBeginning t digest start earlier → search_in t earlier ≡ first_search
+      empty_of (IsEmpty nothing first) = ap (search_in t) first
+      empty_of (IsJournal is groups on) = absurd (let some : bytes_of digest earlier ≡ [] = sym is ∙ none in cc)
+
+  -- where nothing has run yet
+  pub first_from : (content : List ℕ) (m : Move) (f : File) (r : Run) → IsLeft digest b.doing content
+      → StepsTo Anything t digest (Stopped content) m (Running f r) → search_of r ≡ search_in t earlier
+  first_from content m f r left step =
+      let on = gone_on t digest b.doing len b.groups b.on content m (Running f r) left step in
+      ap search_of on.1.is ∙ ap (λ (g : File). search_of (run_after t (most_of g.version) on.1.workers (entries_of g))) (b.found f on.0)
+
+  pub first : (moves : List Move) (content : List ℕ) (workers : ℕ) (stop : Option StopAt) (f : File) (r : Run) → Rests t digest start moves content
+      → StepsTo Anything t digest (Stopped content) (Resume workers stop) (Running f r) → IsFirst t earlier workers f r
+  first moves content workers stop f r rests step =
+      let left = rested t digest b.doing len b.groups b.on moves start content b.left rests in
+      let on = resumed_with t digest b.doing len b.groups b.on content workers stop f r left step in
+      let same = b.found f on.0 in
+      record {
+        file = same;
+        is = on.3 ∙ ap (λ (g : File). run_after t (most_of g.version) workers (entries_of g)) same;
+        search = first_from content (Resume workers stop) f r left step;
+      }
 
   -- where a sound run has ended
   pub goes_on_from : (f f' : File) (r r' : Run) (m : Move) (left : List ℕ) → IsSound t f r → IsLeft digest (doing_in f r.group) left
-      → StepsTo Anything t digest (Stopped left) m (Running f' r') → IsResumed r t f' r'
+      → StepsTo Anything t digest (Stopped left) m (Running f' r') → (workers : ℕ) × IsResumed r t workers f' r'
   goes_on_from f f' r r' m left x is step =
       let on = gone_on t digest (doing_in f r.group) len (run_groups t f r x) (run_goes_on t f r x) left m (Running f' r') is step in
-      is_resumed t f r x f' r' (run_found t f r x f' on.0) on.1
+      (on.1.workers, is_resumed t f r x f' r' (run_found t f r x f' on.0) on.1)
 
-  pub stops : (before between : List Move) (f f' : File) (r r' : Run) (m m' : Move) (content left : List ℕ)
-      → Reaches Anything t digest before (Running f r) → StepsTo Anything t digest (Running f r) m (Stopped content) → Rests t digest content between left
-      → StepsTo Anything t digest (Stopped left) m' (Running f' r') → IsResumed r t f' r'
-  stops before between f f' r r' m m' content left reaches step rests goes =
-      let x : IsSound t f r = reached_sound t digest len before (Running f r) reaches in
-      goes_on_from f f' r r' m' left x
-      (rested t digest (doing_in f r.group) len (run_groups t f r x) (run_goes_on t f r x) between content left (run_left t digest f r content m step) rests) goes
+  pub stops : (before between : List Move) (f f' : File) (r r' : Run) (m : Move) (workers : ℕ) (stop : Option StopAt) (content left : List ℕ)
+      → Reaches Anything t digest start before (Running f r) → StepsTo Anything t digest (Running f r) m (Stopped content) → Rests t digest content between left
+      → StepsTo Anything t digest (Stopped left) (Resume workers stop) (Running f' r') → IsResumed r t workers f' r'
+  stops before between f f' r r' m workers stop content left reaches step rests goes =
+      let x : IsSound t f r = reached_sound t digest len start earlier begins before (Running f r) reaches in
+      let groups = run_groups t f r x in
+      let goes_on = run_goes_on t f r x in
+      let is = rested t digest (doing_in f r.group) len groups goes_on between content left (run_left t digest f r content m step) rests in
+      let on = resumed_with t digest (doing_in f r.group) len groups goes_on left workers stop f' r' is goes in
+      is_resumed t f r x f' r' (run_found t f r x f' on.0) (record { workers = workers; some = on.1; most = on.2; is = on.3 })
 
-  module _ (moves : List Move) (content : List ℕ) (reaches : Reaches Anything t digest moves (Stopped content)) where
+  module _ (moves : List Move) (content : List ℕ) (reaches : Reaches Anything t digest start moves (Stopped content)) where
     rests : IsResting t digest content
-    rests = reached_sound t digest len moves (Stopped content) reaches
+    rests = reached_sound t digest len start earlier begins moves (Stopped content) reaches
 
     pub opens : (calls : List Call) × (f : File) × Opens digest content calls f
     opens = let o = left_opened digest rests.doing content len rests.groups rests.left in (o.calls, o.file, o.is)

@@ -22,8 +22,8 @@ use Rattle.hd_journal.proofs.Again.{open_settled}
 use Rattle.hd_journal.proofs.Appending.{behind_content}
 use Rattle.hd_journal.proofs.Opening.{found_one, opens}
 use Rattle.hd_journal.proofs.Standing.{stop_stands, stands_not_refused, making_not_refused}
-use Rattle.hd_world.specs.Stops.{File, at_rest, bytes_of, with_group, Opens}
-use Rattle.hd_crash.specs.Left.{Doing, Making, Standing, Appending, HasGroups, IsLeft, IsFoundAfter, first_file}
+use Rattle.hd_world.specs.Stops.{File, first_file, at_rest, bytes_of, with_group, Opens}
+use Rattle.hd_crash.specs.Left.{Doing, Making, Standing, Appending, HasGroups, IsLeft, IsFoundAfter}
 use Rattle.hd_crash.proofs.Placing.{groups_same}
 use Rattle.hd_crash.proofs.Within.{rest_ran}
 

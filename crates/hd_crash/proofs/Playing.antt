@@ -16,10 +16,10 @@ use Rattle.hd_world.specs.Headline.{Rests}
 use Rattle.hd_world.specs.Seats.{Run}
 use Rattle.hd_running.specs.Sound.{IsSound}
 use Rattle.hd_world.specs.Starting.{run_after}
-use Rattle.hd_world.specs.Stops.{File, Anything, IsUnopened, entries_of, with_group, bytes_of, is_next}
-use Rattle.hd_world.specs.World.{World, Stopped, Running, flushed_to, StopsIn, Falls, IsNone, MayResume, is_recovered, recovered, ResumesTo, IsNot, IsRefused, IsStopped, IsOpened, GoesOn, StepsOn, StepsFrom, StepsTo, Plays, Reaches}
+use Rattle.hd_world.specs.Stops.{File, Anything, AreGroups, IsUnopened, entries_of, with_group, bytes_of, is_next}
+use Rattle.hd_world.specs.World.{World, Stopped, Running, flushed_to, StopsIn, Falls, IsNone, MayResume, is_recovered, recovered, ResumesTo, IsNot, IsRefused, IsStopped, IsOpened, GoesOn, StepsOn, StepsFrom, StepsTo, Plays, IsBeginning, IsEmpty, IsJournal, Reaches}
 use Rattle.hd_running.proofs.Sounding.{starts_sound, turns_sound, flush_sound}
-use Rattle.hd_crash.specs.Left.{Doing, Making, Standing, Appending, AreGroups, HasGroups, IsLeft, IsFoundAfter}
+use Rattle.hd_crash.specs.Left.{Doing, Making, Standing, Appending, HasGroups, IsLeft, IsFoundAfter}
 use Rattle.hd_crash.specs.Lasting.{doing_in, GoesOnFrom, IsGoneOn, IsResting, IsSoundWorld}
 use Rattle.hd_crash.proofs.Halting.{whole_left, run_stopped, run_rests}
 use Rattle.hd_crash.proofs.Leaving.{open_stop}
@@ -30,6 +30,14 @@ use Rattle.hd_crash.proofs.Opened.{left_found, left_not_refused}
 abbrev content_in : World → List ℕ
 content_in (Stopped content) = content
 content_in (Running f r) = []
+
+abbrev file_in : File → World → File
+file_in other (Stopped content) = other
+file_in other (Running f r) = f
+
+abbrev run_in : Run → World → Run
+run_in other (Stopped content) = other
+run_in other (Running f r) = r
 
 not_running : (content : List ℕ) (f : File) (r : Run) → Stopped content ≡ Running f r → ⊥
 not_running content f r e = cc
@@ -119,6 +127,24 @@ module _ (t : Task) (digest : List ℕ) (doing : Doing) (len : length digest ≡
       let few = workers_some workers stop may in
       subst (IsGoneOn t digest doing) (sym (is ∙ recovered_is t digest workers f (on f found)))
       (found, record { workers = workers; some = few.0; most = few.1; is = refl })
+
+  -- so a search that goes on is the one after the entries of such a journal, with the workers of the resumption
+  pub resumed_with : (content : List ℕ) (workers : ℕ) (stop : Option StopAt) (f : File) (r : Run) → IsLeft digest doing content
+      → ResumesTo Anything t digest content workers stop (Running f r)
+      → IsFoundAfter doing f × (1 ≤ workers) × (workers ≤ MAX_WORKERS) × (r ≡ run_after t (most_of f.version) workers (entries_of f))
+  resumed_with content workers stop f r left (IsNot may is) = absurd (not_running content f r (sym is))
+  resumed_with content workers stop f r left (IsRefused may not is) = absurd (not_running content f r (sym is))
+  resumed_with content workers stop f r left (IsStopped calls g at after may o e within leaves is) = absurd (not_running after f r (sym is))
+  resumed_with content workers stop f r left (IsOpened calls g may o behind is) =
+      let found : IsFoundAfter doing g = left_found digest doing content calls g len groups left o in
+      let same = is ∙ recovered_is t digest workers g (on g found) in
+      let file : f ≡ g = ap (file_in f) same in
+      let few = workers_some workers stop may in (
+        subst (IsFoundAfter doing) (sym file) found,
+        few.0,
+        few.1,
+        ap (run_in r) same ∙ ap (λ (h : File). run_after t (most_of h.version) workers (entries_of h)) (sym file),
+      )
 
   -- a move while nothing runs
   pub gone_on : (content : List ℕ) (m : Move) (w : World) → IsLeft digest doing content → StepsTo Anything t digest (Stopped content) m w → IsGoneOn t digest doing w
@@ -216,16 +242,33 @@ module _ (t : Task) (digest : List ℕ) (len : length digest ≡ DIGEST_LEN) whe
   plays_sound [] w w' x plays = subst (IsSoundWorld t digest) (sym plays) x
   plays_sound (m ∷ moves) w w' x plays = plays_sound moves plays.0 w' (step_sound w plays.0 m x plays.1) plays.2
 
-  -- ---- from an empty disk
+  -- ---- from what a schedule begins with
 
-  pub empty_left : IsLeft digest Making []
-  empty_left = inl (omega arith)
+  -- what stops may have left of a search that was before, which is that of this journal alone
+  pub record IsBegun (start : List ℕ) (f : File) : Type 0 where
+    pub doing : Doing
+    pub groups : HasGroups doing
+    pub left : IsLeft digest doing start
+    pub on : GoesOnFrom t doing
+    pub found : (g : File) → IsFoundAfter doing g → g ≡ f
 
-  pub first_goes_on : GoesOnFrom t Making
-  first_goes_on f found = ap (is_recovered t) found
+  pub begun : (start : List ℕ) (f : File) → IsBeginning t digest start f → IsBegun start f
+  begun start f (IsEmpty none first) = record {
+    doing = Making;
+    groups = tt;
+    left = subst (IsLeft digest Making) (sym none) (inl (omega arith));
+    on = λ g found. ap (is_recovered t) found;
+    found = λ g found. found ∙ sym first;
+  }
+  begun start f (IsJournal is groups on) = record {
+    doing = Standing f;
+    groups = groups;
+    left = subst (IsLeft digest (Standing f)) (sym is) (whole_left digest f None);
+    on = λ g found. ap (is_recovered t) found ∙ on;
+    found = λ g found. found;
+  }
 
-  pub empty_rests : IsResting t digest []
-  empty_rests = record { doing = Making; groups = tt; left = empty_left; on = first_goes_on }
-
-  pub reached_sound : (moves : List Move) (w : World) → Reaches Anything t digest moves w → IsSoundWorld t digest w
-  reached_sound moves w reaches = plays_sound moves (Stopped []) w empty_rests reaches
+  pub reached_sound : (start : List ℕ) (f : File) → IsBeginning t digest start f → (moves : List Move) (w : World) → Reaches Anything t digest start moves w → IsSoundWorld t digest w
+  reached_sound start f begins moves w reaches =
+      let b = begun start f begins in
+      plays_sound moves (Stopped start) w (record { doing = b.doing; groups = b.groups; left = b.left; on = b.on }) reaches

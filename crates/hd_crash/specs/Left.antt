@@ -7,11 +7,7 @@ use Rattle.hd_store.specs.Stop.{MayLeave}
 use Rattle.hd_image.specs.declared.version.Version.TheVariants.{Two}
 use Rattle.hd_image.specs.Image.{IsGroup}
 use Rattle.hd_image.specs.Stops.{IsClosed, IsBeforeOrAfter, IsMaking}
-use Rattle.hd_world.specs.Stops.{File, with_group}
-
--- the groups of a journal are groups of its version
-abbrev pub AreGroups : File → Type 0
-AreGroups f = AllByRecursion (IsGroup f.version) f.groups
+use Rattle.hd_world.specs.Stops.{File, first_file, AreGroups, with_group}
 
 -- what was going on when the first of some stops fell: a journal was being made; or one stood there; or a group was being appended to it
 pub data Doing : Type 0 where
@@ -30,10 +26,6 @@ abbrev pub IsLeft : List ℕ → Doing → List ℕ → Type 0
 IsLeft digest Making content = IsMaking Two digest content
 IsLeft digest (Standing f) content = IsClosed f.version digest f.groups content
 IsLeft digest (Appending f next) content = IsBeforeOrAfter f.version digest f.groups next content
-
--- the journal that is made where none stands
-abbrev pub first_file : File
-first_file = record { version = Two; groups = [] }
 
 -- the journals that may be found then
 abbrev pub IsFoundAfter : Doing → File → Type 0

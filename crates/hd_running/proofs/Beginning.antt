@@ -30,8 +30,8 @@ use Rattle.hd_world.specs.Starting.{seat_after, run_after}
 use Rattle.hd_world.specs.Moves.{bound_in}
 use Rattle.hd_world.specs.Stops.{File, entries_of}
 use Rattle.hd_running.specs.Truth.{IsTrueSeat, IsTrueRun}
-use Rattle.hd_world.specs.Once.{total, in_parcels, in_seat, only, room_of, IsOnce}
-use Rattle.hd_running.specs.Order.{AreOut, times_in, AreTicketsOut, HasRoom, HaveRoom, NoneIsOut, InOrder}
+use Rattle.hd_world.specs.Once.{total, in_parcels, in_seat, only, room_of, IsOnce, times_in}
+use Rattle.hd_running.specs.Order.{AreOut, AreTicketsOut, HasRoom, HaveRoom, NoneIsOut, InOrder}
 use Rattle.hd_running.proofs.Sums.{one_if, total-append, total-map, total_none}
 use Rattle.hd_running.proofs.Moving.{bound_itself}
 use Rattle.hd_running.proofs.Committing.{posted_once}

@@ -212,14 +212,10 @@ module _ (f : File) (entries : List Kid) (most : ℕ) (q : QueueView) (halted : 
     pub ready : (g : GroupView) → group ≡ Some g → IsReady g
     ready g e = ready_by g e x.stands
 
-  -- ---- a group is acknowledged
+  -- ---- the group of the entries that are out is the one that is out
 
-  out_by : (g : GroupView) → flushed ≡ Some g → Stands f entries q group flushed
-      → ((b : BookView) → b.state.entries ≡ entries → b.batches.queue ≡ q → is_group_out b g ≡ true) × IsOrderly f entries most (without_group q) halted group None
-  out_by g e (NoneIsOut out none nothing is) = absurd (none-some g (sym nothing ∙ e))
-  out_by g e (IsPulled out near its nothing is) = absurd (none-some g (sym nothing ∙ e))
-  out_by g e (IsAppended out none its is) =
-      let same : group_in entries q ≡ g = same_Some (group_in entries q) g (sym its ∙ e) in
+  all_out : (g : GroupView) → 1 ≤ q.out → group_in entries q ≡ g → (b : BookView) → b.state.entries ≡ entries → b.batches.queue ≡ q → is_group_out b g ≡ true
+  all_out g out same b es qs =
       let count = length-between entries q.acknowledged (group_end q) end_above end_within in
       let end : q.acknowledged + length kids ≡ group_end q = omega (arith, count, end_above) in
       let all : is_out q q.acknowledged (q.acknowledged + length kids) ≡ true =
@@ -229,10 +225,28 @@ module _ (f : File) (entries : List Kid) (most : ℕ) (q : QueueView) (halted : 
       in
       let tested : (begins_with kids (drop q.acknowledged entries) && is_out q q.acknowledged (q.acknowledged + length kids)) ≡ true =
       and_from (begins_with kids (drop q.acknowledged entries)) (is_out q q.acknowledged (q.acknowledged + length kids)) (begins-take (group_end q - q.acknowledged) (drop q.acknowledged entries)) all
-      in (
-        (λ b es qs.
-            ap (is_group_out b) (sym same)
-            ∙ (ap₂ (λ (ks : List Kid) (v : QueueView). begins_with kids (drop q.acknowledged ks) && is_out v q.acknowledged (q.acknowledged + length kids)) es qs ∙ tested)),
+      in
+      ap (is_group_out b) (sym same)
+      ∙ (ap₂ (λ (ks : List Kid) (v : QueueView). begins_with kids (drop q.acknowledged ks) && is_out v q.acknowledged (q.acknowledged + length kids)) es qs ∙ tested)
+
+  pulled_by : (g : GroupView) → group ≡ Some g → Stands f entries q group flushed → (b : BookView) → b.state.entries ≡ entries → b.batches.queue ≡ q
+      → is_group_out b g ≡ true
+  pulled_by g e (NoneIsOut out none nothing is) = absurd (none-some g (sym none ∙ e))
+  pulled_by g e (IsAppended out none its is) = absurd (none-some g (sym none ∙ e))
+  pulled_by g e (IsPulled out near its nothing is) = all_out g out (same_Some (group_in entries q) g (sym its ∙ e))
+
+  pub is_pulled : (g : GroupView) → group ≡ Some g → (b : BookView) → b.state.entries ≡ entries → b.batches.queue ≡ q → is_group_out b g ≡ true
+  is_pulled g e = pulled_by g e x.stands
+
+  -- ---- a group is acknowledged
+
+  out_by : (g : GroupView) → flushed ≡ Some g → Stands f entries q group flushed
+      → ((b : BookView) → b.state.entries ≡ entries → b.batches.queue ≡ q → is_group_out b g ≡ true) × IsOrderly f entries most (without_group q) halted group None
+  out_by g e (NoneIsOut out none nothing is) = absurd (none-some g (sym nothing ∙ e))
+  out_by g e (IsPulled out near its nothing is) = absurd (none-some g (sym nothing ∙ e))
+  out_by g e (IsAppended out none its is) =
+      (
+        all_out g out (same_Some (group_in entries q) g (sym its ∙ e)),
         record {
           running = x.running;
           queue = record { batches = AreBatches-drop q.acknowledged q.ends q.out x.queue.batches; out = omega arith };

@@ -30,7 +30,8 @@ use Rattle.hd_schedule.specs.declared.moves.Move.{Move}
 use Rattle.hd_schedule.specs.declared.moves.Move.TheVariants as moves
 use Rattle.hd_world.specs.Seats.{Seat, Run}
 use Rattle.hd_world.specs.Moves.{bound_in, popped, taken, redeemed_by, redeemed_of, redeemed, pushed, offered, loaded, pulled_to, acked_of, may_commit, with_commit, with_drop, is_dropped, committed_by, committed, TurnsTo}
-use Rattle.hd_running.specs.Order.{AreOut, times_held, AreTicketsOut, released_count, coming, HasRoom, HaveRoom}
+use Rattle.hd_world.specs.Once.{times_held}
+use Rattle.hd_running.specs.Order.{AreOut, AreTicketsOut, released_count, coming, HasRoom, HaveRoom}
 use Rattle.hd_running.proofs.Lists.{AllByRecursion-set, AllByRecursion-from_map, slice_get-set_other}
 use Rattle.hd_running.proofs.Sums.{total-append}
 use Rattle.hd_running.proofs.Committing.{length-released}

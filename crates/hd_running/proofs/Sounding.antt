@@ -46,7 +46,7 @@ use Rattle.hd_running.proofs.Moving.{IsFree, is_free}
 use Rattle.hd_running.proofs.Quiet.{IsQuiet, pop_quiet, take_quiet, expand_quiet, push_quiet, offer_quiet, load_quiet}
 use Rattle.hd_running.proofs.Tickets.{quiet_tickets, tickets_by, seat_tickets, with_ticket, redeem_tickets}
 use Rattle.hd_running.proofs.Rooms.{turns_stay_roomy}
-use Rattle.hd_running.proofs.Ordering.{commit_orderly, pull_orderly, IsReady, ready, is_acked}
+use Rattle.hd_running.proofs.Ordering.{commit_orderly, pull_orderly, IsReady, ready, is_pulled, is_acked}
 use Rattle.hd_running.proofs.Writing.{kept_writable}
 use Rattle.hd_running.proofs.Going.{turns_stay_true, turns_stay_once}
 use Rattle.hd_running.proofs.Beginning.{starts_true, starts_once, starts_out, starts_roomy, starts_in_order}
@@ -283,6 +283,10 @@ module _ (t : Task) (f : File) (r : Run) (x : IsSound t f r) where
     rooms = x.rooms;
     order = (group_ready g e).after;
   }
+
+  pub pulled_out : (g : GroupView) → r.group ≡ Some g → is_group_out r.book g ≡ true
+  pulled_out g e =
+      is_pulled f r.book.state.entries r.book.most r.book.batches.queue r.book.batches.halted r.group r.flushed x.order g e r.book refl refl
 
   -- the group that was appended
   pub flushed_out : (g : GroupView) → r.flushed ≡ Some g → is_group_out r.book g ≡ true

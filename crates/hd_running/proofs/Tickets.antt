@@ -19,8 +19,8 @@ use Rattle.hd_book.specs.View.{BookView, ParcelsView}
 use Rattle.hd_turns.proofs.Lists.{AllByRecursion-map, AllByRecursion-weaker, slice_get-append_front}
 use Rattle.hd_world.specs.Seats.{Seat, Run}
 use Rattle.hd_world.specs.Moves.{with_seat, redeemed_by, redeemed_of, redeemed}
-use Rattle.hd_world.specs.Once.{total}
-use Rattle.hd_running.specs.Order.{AreOut, times_in, times_held, AreTicketsOut}
+use Rattle.hd_world.specs.Once.{total, times_in, times_held}
+use Rattle.hd_running.specs.Order.{AreOut, AreTicketsOut}
 use Rattle.hd_running.proofs.Lists.{AllByRecursion-set, AllByRecursion-from_map, slice_get-set_other}
 use Rattle.hd_running.proofs.Sums.{total-append, total-map, total-set}
 use Rattle.hd_running.proofs.Quiet.{IsQuiet, tickets_of}

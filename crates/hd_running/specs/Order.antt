@@ -1,5 +1,5 @@
 -- The tickets and the groups of a running search, and what stands in its journal. (Our own.)
-use Rattle.std.specs.Prelude.{◌≡◌, ℕ, ◌+◌, ◌≤◌, ◌==◌, Bool, true, false, if◌then◌else◌, List, length, take, Option, Some, None}
+use Rattle.std.specs.Prelude.{◌≡◌, ℕ, ◌+◌, ◌≤◌, Bool, true, false, List, length, take, Option, Some, None}
 use Rattle.std.specs.List.{AllByRecursion}
 use Rattle.hd_task.specs.declared.plan.Kid.{Kid}
 use Rattle.hd_image.specs.Image.{IsGroup, most_of}
@@ -13,7 +13,7 @@ use Rattle.hd_tickets.specs.Queue.{QueueView, group_end, IsQueue}
 use Rattle.hd_book.specs.View.{ParcelsView, BookView}
 use Rattle.hd_book.specs.Groups.{group_of}
 use Rattle.hd_world.specs.Seats.{Seat, Run}
-use Rattle.hd_world.specs.Once.{total}
+use Rattle.hd_world.specs.Once.{total, times_held}
 use Rattle.hd_world.specs.Stops.{File, entries_of}
 
 -- ---- tickets
@@ -21,14 +21,6 @@ use Rattle.hd_world.specs.Stops.{File, entries_of}
 -- each ticket of a worker is out
 abbrev pub AreOut : BookView → Seat → Type 0
 AreOut b s = AllByRecursion (λ (k : TicketView). is_ticket_out b.batches k ≡ true) s.tickets
-
--- how often a worker holds the ticket of a number
-abbrev pub times_in : ℕ → Seat → ℕ
-times_in n s = total (λ (k : TicketView). if k.number == n then 1 else 0) s.tickets
-
--- how often some workers do
-abbrev pub times_held : ℕ → List Seat → ℕ
-times_held n seats = total (times_in n) seats
 
 -- each ticket that a worker holds is out, and none is held twice
 pub record AreTicketsOut (r : Run) : Type 0 where

@@ -23,13 +23,14 @@ use Rattle.hd_book.specs.Groups.{is_group_out}
 use Rattle.hd_book.specs.Refusing.{refusal_to}
 use Rattle.hd_turns.specs.Calls.{batch_of}
 use Rattle.hd_schedule.specs.declared.moves.Move.{Move}
+use Rattle.hd_schedule.specs.declared.moves.StopAt.{StopAt}
 use Rattle.hd_schedule.specs.declared.moves.Move.TheVariants.{Resume, Pop, Take, Expand, Commit, Redeem, Push, Offer, Load, Pull, Flush, Ack, Stop}
 use Rattle.hd_world.specs.Seats.{Seat, Run}
-use Rattle.hd_world.specs.Once.{IsWhole, IsIdle}
+use Rattle.hd_world.specs.Once.{IsWhole, IsIdle, times_held}
 use Rattle.hd_world.specs.Starting.{run_after}
-use Rattle.hd_world.specs.Stops.{File, Anything, Opens, is_next}
-use Rattle.hd_world.specs.World.{Stopped, Running, is_recovered, StepsTo, Reaches}
-use Rattle.hd_world.specs.Search.{first_search, Extends, Acknowledges, IsCutTo, MayBecome, search_of}
+use Rattle.hd_world.specs.Stops.{File, Anything, Opens, entries_of, is_next}
+use Rattle.hd_world.specs.World.{Stopped, Running, is_recovered, StepsTo, IsBeginning, Reaches}
+use Rattle.hd_world.specs.Search.{first_search, search_in, Extends, Acknowledges, IsCutTo, MayBecome, search_of}
 
 -- ---- one run
 
@@ -74,12 +75,20 @@ pub record IsAdmissible (r : Run) (s : Seat) : Type 0 where
   pub batch : (refusal_to r.book (batch_of s.worker) ≡ None) ⊎ (refusal_to r.book (batch_of s.worker) ≡ Some (Refused Full))
   pub tickets : AllByRecursion (λ (k : TicketView). is_ticket_out r.book.batches k ≡ true) s.tickets
 
--- no batch is refused for what it says; and no ticket and no group is refused: each ticket is out, the group that was pulled may be appended,
--- and the one that was appended may be acknowledged
+-- how many entries stand in the journal: the acknowledged ones, and those of the group that was appended, if one was
+abbrev pub written_count : BookView → Option GroupView → ℕ
+written_count b None = b.batches.queue.acknowledged
+written_count b (Some g) = group_end b.batches.queue
+
+-- no batch is refused for what it says; and no ticket and no group is refused: each ticket is out, and held once; the group that was pulled may be
+-- appended, or handed back, and the one that was appended may be acknowledged; and the journal's entries are the book's first ones
 pub record AllIsAdmissible (f : File) (r : Run) : Type 0 where
   pub seats : AllByRecursion (IsAdmissible r) r.seats
   pub group : IfNext f r.group
+  pub pulled : IfOut r r.group
   pub flushed : IfOut r r.flushed
+  pub once : (n : ℕ) → times_held n r.seats ≤ 1
+  pub written : entries_of f ≡ take (written_count r.book r.flushed) r.book.state.entries
 
 -- what a run answers is true of all plans, or names the first departure that was recorded; the plan of the bound is valid, if there is one
 pub record AnswersTruly (t : Task) (r : Run) : Type 0 where
@@ -105,52 +114,60 @@ MayBeLeftBy b None None left = left ≡ b.batches.queue.acknowledged
 abbrev pub MayBeLeft : Run → ℕ → Type 0
 MayBeLeft r left = MayBeLeftBy r.book r.group r.flushed left
 
--- a search goes on, with any number of workers, from what was left of another: it is the search after a beginning that has all acknowledged
--- entries
-pub record IsResumed (r : Run) (t : Task) (f' : File) (r' : Run) : Type 0 where
+-- a search goes on, with so many workers, from what was left of another: it is the search after a beginning that has all acknowledged entries
+pub record IsResumed (r : Run) (t : Task) (workers : ℕ) (f' : File) (r' : Run) : Type 0 where
   pub left : ℕ
-  pub workers : ℕ
   pub some : 1 ≤ workers
   pub most : workers ≤ MAX_WORKERS
   pub cut : IsCutTo (search_of r) (search_of r') left
   pub may : MayBeLeft r left
   pub is : r' ≡ run_after t (most_of f'.version) workers (take left r.book.state.entries)
 
+-- a search goes on, with so many workers, from a journal that was there before
+pub record IsFirst (t : Task) (earlier : File) (workers : ℕ) (f : File) (r : Run) : Type 0 where
+  pub file : f ≡ earlier
+  pub is : r ≡ run_after t (most_of earlier.version) workers (entries_of earlier)
+  pub search : search_of r ≡ search_in t earlier
+
 -- ---- all of it
 
--- for a task and its digest
-pub record IsHeadline (t : Task) (digest : List ℕ) : Type 0 where
-  -- the first run is the search at first
+-- for a task, its digest, what the disk holds before the schedule, and the journal of the search that this is
+pub record IsHeadline (t : Task) (digest start : List ℕ) (earlier : File) : Type 0 where
+  -- on an empty disk that search is the one at first: nothing is expanded
+  pub empty : start ≡ [] → search_in t earlier ≡ first_search
+  -- the first run is that search, after the entries of the journal, with the workers of the resumption
   pub first :
-      (moves : List Move) (content : List ℕ) (m : Move) (f : File) (r : Run) → Rests t digest [] moves content
-      → StepsTo Anything t digest (Stopped content) m (Running f r) → search_of r ≡ first_search
+      (moves : List Move) (content : List ℕ) (workers : ℕ) (stop : Option StopAt) (f : File) (r : Run) → Rests t digest start moves content
+      → StepsTo Anything t digest (Stopped content) (Resume workers stop) (Running f r) → IsFirst t earlier workers f r
   -- each move of a run moves its search as an abstract search may be moved
   pub moves :
-      (moves : List Move) (f f' : File) (r r' : Run) (m : Move) → Reaches Anything t digest moves (Running f r)
+      (moves : List Move) (f f' : File) (r r' : Run) (m : Move) → Reaches Anything t digest start moves (Running f r)
       → StepsTo Anything t digest (Running f r) m (Running f' r') → MovesSearch t r m r'
   -- where a run ends, and after moves during which nothing runs one goes on, a beginning of the search is left that has all acknowledged entries
   pub stops :
-      (before between : List Move) (f f' : File) (r r' : Run) (m m' : Move) (content left : List ℕ) → Reaches Anything t digest before (Running f r)
-      → StepsTo Anything t digest (Running f r) m (Stopped content) → Rests t digest content between left
-      → StepsTo Anything t digest (Stopped left) m' (Running f' r') → IsResumed r t f' r'
-  -- so the search of each run is one that the search at first may become
-  pub runs : (moves : List Move) (f : File) (r : Run) → Reaches Anything t digest moves (Running f r) → MayBecome t first_search (search_of r)
+      (before between : List Move) (f f' : File) (r r' : Run) (m : Move) (workers : ℕ) (stop : Option StopAt) (content left : List ℕ)
+      → Reaches Anything t digest start before (Running f r) → StepsTo Anything t digest (Running f r) m (Stopped content)
+      → Rests t digest content between left → StepsTo Anything t digest (Stopped left) (Resume workers stop) (Running f' r')
+      → IsResumed r t workers f' r'
+  -- so the search of each run is one that the earlier search may become
+  pub runs : (moves : List Move) (f : File) (r : Run) → Reaches Anything t digest start moves (Running f r) → MayBecome t (search_in t earlier) (search_of r)
   -- no file that stops left is refused, and no entry of it is faulty
-  pub opens : (moves : List Move) (content : List ℕ) → Reaches Anything t digest moves (Stopped content) → (calls : List Call) × (f : File) × Opens digest content calls f
+  pub opens : (moves : List Move) (content : List ℕ) → Reaches Anything t digest start moves (Stopped content) → (calls : List Call) × (f : File) × Opens digest content calls f
   pub unrefused :
-      (moves : List Move) (content : List ℕ) (error : ImageError) → Reaches Anything t digest moves (Stopped content)
+      (moves : List Move) (content : List ℕ) (error : ImageError) → Reaches Anything t digest start moves (Stopped content)
       → IsRefused digest content error → error ≡ NoMemory
   pub recovers :
-      (moves : List Move) (content : List ℕ) (calls : List Call) (f : File) → Reaches Anything t digest moves (Stopped content)
+      (moves : List Move) (content : List ℕ) (calls : List Call) (f : File) → Reaches Anything t digest start moves (Stopped content)
       → Opens digest content calls f → is_recovered t f ≡ true
   -- no commit, no ticket and no group is refused for what it says
-  pub admissible : (moves : List Move) (f : File) (r : Run) → Reaches Anything t digest moves (Running f r) → AllIsAdmissible f r
+  pub admissible : (moves : List Move) (f : File) (r : Run) → Reaches Anything t digest start moves (Running f r) → AllIsAdmissible f r
   -- no kid is lost: each that is posted and not settled is in exactly one place; so where nothing is left to do, all is settled
-  pub whole : (moves : List Move) (f : File) (r : Run) → Reaches Anything t digest moves (Running f r) → IsWhole r
-  pub ends : (moves : List Move) (f : File) (r : Run) → Reaches Anything t digest moves (Running f r) → IsIdle r → is_over r.book.state ≡ true
+  pub whole : (moves : List Move) (f : File) (r : Run) → Reaches Anything t digest start moves (Running f r) → IsWhole r
+  pub ends : (moves : List Move) (f : File) (r : Run) → Reaches Anything t digest start moves (Running f r) → IsIdle r → is_over r.book.state ≡ true
   -- what is answered is true
-  pub answers : (moves : List Move) (f : File) (r : Run) → Reaches Anything t digest moves (Running f r) → AnswersTruly t r
+  pub answers : (moves : List Move) (f : File) (r : Run) → Reaches Anything t digest start moves (Running f r) → AnswersTruly t r
 
--- for each digest
+-- for each digest, and each disk that a schedule begins with
 abbrev pub Headline : Task → Type 0
-Headline t = (digest : List ℕ) → length digest ≡ DIGEST_LEN → IsHeadline t digest
+Headline t =
+    (digest start : List ℕ) (earlier : File) → length digest ≡ DIGEST_LEN → IsBeginning t digest start earlier → IsHeadline t digest start earlier

@@ -1,5 +1,5 @@
 -- In how many places of a running search a kid is. (Our own.)
-use Rattle.std.specs.Prelude.{◌≡◌, ℕ, ◌+◌, ◌≤◌, if◌then◌else◌, List, [], ◌∷◌, Option, Some, None}
+use Rattle.std.specs.Prelude.{◌≡◌, ℕ, ◌+◌, ◌≤◌, ◌==◌, if◌then◌else◌, List, [], ◌∷◌, Option, Some, None}
 use Rattle.hd_task.specs.declared.plan.Kid.{Kid}
 use Rattle.hd_kids.specs.Kids.{same_kid}
 use Rattle.hd_node.specs.declared.batch.Outcome.{Outcome}
@@ -7,6 +7,7 @@ use Rattle.hd_node.specs.Outcome.{kid_of}
 use Rattle.hd_entries.specs.Settling.{BookState, is_marked}
 use Rattle.hd_entries.specs.Holding.{Released}
 use Rattle.hd_tickets.specs.declared.outgoing.Outgoing.{Outgoing}
+use Rattle.hd_tickets.specs.Batches.{TicketView}
 use Rattle.hd_book.specs.View.{ParcelsView}
 use Rattle.hd_turns.specs.Worker.{WorkerView}
 use Rattle.hd_world.specs.Seats.{Seat, Run}
@@ -63,3 +64,13 @@ IsWhole r = (k : Kid) → in_run (only k) r ≡ room_of r.book.state k
 -- nothing is left to do: no kid is anywhere
 abbrev pub IsIdle : Run → Type 0
 IsIdle r = in_run (λ k. 1) r ≡ 0
+
+-- ---- tickets
+
+-- how often a worker holds the ticket of a number
+abbrev pub times_in : ℕ → Seat → ℕ
+times_in n s = total (λ (k : TicketView). if k.number == n then 1 else 0) s.tickets
+
+-- how often some workers do
+abbrev pub times_held : ℕ → List Seat → ℕ
+times_held n seats = total (times_in n) seats

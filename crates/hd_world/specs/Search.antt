@@ -3,7 +3,9 @@ use Rattle.std.specs.Prelude.{◌≡◌, ℕ, ◌≤◌, List, [], ◌∷◌, �
 use Rattle.hd_task.specs.declared.task.Task.{Task}
 use Rattle.hd_task.specs.Expansions.{IsLegal}
 use Rattle.hd_entries.specs.Settling.{expansions}
+use Rattle.hd_entries.specs.Resuming.{resumed_state}
 use Rattle.hd_world.specs.Seats.{Run}
+use Rattle.hd_world.specs.Stops.{File, entries_of}
 
 -- a search: the plans that are expanded, in order, and how many of them are acknowledged
 pub record Search : Type 0 where
@@ -13,6 +15,10 @@ pub record Search : Type 0 where
 -- at first nothing is expanded
 abbrev pub first_search : Search
 first_search = record { expanded = []; acknowledged = 0 }
+
+-- the search that a journal holds: that after its entries, all of which are acknowledged
+abbrev pub search_in : Task → File → Search
+search_in t f = record { expanded = expansions (resumed_state t (entries_of f)); acknowledged = length (entries_of f) }
 
 -- more plans are expanded behind the others, and the list stays legal
 pub record Extends (t : Task) (a b : Search) (more : List (List ℕ)) : Type 0 where

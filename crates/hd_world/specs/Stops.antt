@@ -6,6 +6,7 @@ use Rattle.hd_store.specs.declared.ahead.Ahead.TheVariants.{Unknown}
 use Rattle.hd_store.specs.Device.{Device}
 use Rattle.hd_store.specs.Stop.{MayLeave}
 use Rattle.hd_image.specs.declared.version.Version.{Version}
+use Rattle.hd_image.specs.declared.version.Version.TheVariants.{Two}
 use Rattle.hd_image.specs.declared.header.TheConstants.{FIRST_GATE}
 use Rattle.hd_image.specs.declared.contents.Found.{Found}
 use Rattle.hd_image.specs.declared.error.ImageError.{ImageError}
@@ -23,6 +24,14 @@ use Rattle.hd_journal.specs.Journal.{append_calls, open_calls, version_in, found
 pub record File : Type 0 where
   pub version : Version
   pub groups : List (List Kid)
+
+-- the journal that is made where none stands
+abbrev pub first_file : File
+first_file = record { version = Two; groups = [] }
+
+-- the groups of a journal are groups of its version
+abbrev pub AreGroups : File → Type 0
+AreGroups f = AllByRecursion (IsGroup f.version) f.groups
 
 -- the entries of a journal, in order
 abbrev pub entries_of : File → List Kid
@@ -81,7 +90,7 @@ pub record Opens (digest content : List ℕ) (calls : List Call) (f : File) : Ty
   pub is : IsFound digest content found
   pub mend : calls ≡ open_calls digest found
   pub version : f.version ≡ version_in found
-  pub sound : AllByRecursion (IsGroup f.version) f.groups
+  pub sound : AreGroups f
   pub entries : found_in found ≡ entries_in f.version FIRST_GATE f.groups
 
 -- a content is refused: something is said against it

@@ -1,5 +1,5 @@
 -- Schedules, and the world in which they are played: a search that runs over its journal, or nothing but a disk. (Our own.)
-use Rattle.std.specs.Prelude.{◌≡◌, ◌⊎◌, ℕ, ◌<◌, ◌≤◌, Bool, not, ◌&&◌, nat_le, if◌then◌else◌, List, [], ◌∷◌, length, Option, Some, None, is_some}
+use Rattle.std.specs.Prelude.{◌≡◌, ◌⊎◌, ℕ, ◌<◌, ◌≤◌, Bool, true, not, ◌&&◌, nat_le, if◌then◌else◌, List, [], ◌∷◌, length, Option, Some, None, is_some}
 use Rattle.hd_task.specs.declared.task.Task.{Task}
 use Rattle.hd_zobrist.specs.declared.owners.TheConstants.{MAX_WORKERS}
 use Rattle.hd_entries.specs.Resuming.{first_fault}
@@ -12,7 +12,7 @@ use Rattle.hd_schedule.specs.declared.moves.StopAt.{StopAt}
 use Rattle.hd_world.specs.Seats.{Run}
 use Rattle.hd_world.specs.Moves.{TurnsTo, EndsRun}
 use Rattle.hd_world.specs.Starting.{run_after}
-use Rattle.hd_world.specs.Stops.{File, entries_of, with_group, bytes_of, is_next, at_rest, stopped_in, Leaving, appending, Opens, IsUnopened}
+use Rattle.hd_world.specs.Stops.{File, first_file, AreGroups, entries_of, with_group, bytes_of, is_next, at_rest, stopped_in, Leaving, appending, Opens, IsUnopened}
 
 -- nothing runs, and the disk holds these bytes; or a search runs, over this journal
 pub data World : Type 0 where
@@ -120,6 +120,12 @@ abbrev pub Plays : Leaving → Task → List ℕ → World → List Move → Wor
 Plays leaves t digest w [] w' = w' ≡ w
 Plays leaves t digest w (m ∷ moves) w' = (v : World) × StepsTo leaves t digest w m v × Plays leaves t digest v moves w'
 
--- a schedule over an empty disk comes to this world
-abbrev pub Reaches : Leaving → Task → List ℕ → List Move → World → Type 0
-Reaches leaves t digest moves w = Plays leaves t digest (Stopped []) moves w
+-- What a schedule begins with: an empty disk, on which the first resumption makes a journal; or the journal of an earlier search of the task, of
+-- either version, from whose entries a search goes on. Both hold a search: that after the entries of the journal.
+pub data IsBeginning (t : Task) (digest content : List ℕ) (f : File) : Type 0 where
+  IsEmpty : content ≡ [] → f ≡ first_file → IsBeginning t digest content f
+  IsJournal : content ≡ bytes_of digest f → AreGroups f → is_recovered t f ≡ true → IsBeginning t digest content f
+
+-- a schedule over a disk that holds this comes to this world
+abbrev pub Reaches : Leaving → Task → List ℕ → List ℕ → List Move → World → Type 0
+Reaches leaves t digest start moves w = Plays leaves t digest (Stopped start) moves w

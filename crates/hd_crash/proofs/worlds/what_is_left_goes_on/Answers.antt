@@ -3,8 +3,10 @@ use Rattle.hd_crash.proofs.worlds.what_is_left_goes_on.Goals as goal
 
 pub returns : goal.returns
 returns c = record {
-  opens = λ t digest moves content len reaches. opens t digest len moves content reaches;
-  unrefused = λ t digest moves content error len reaches refused. unrefused t digest len moves content reaches error refused;
-  recovers = λ t digest moves content calls f len reaches o. recovers t digest len moves content reaches calls f o;
-  resumes = λ t digest moves content workers len some most reaches. resumes t digest len moves content reaches workers some most;
+  opens = λ t digest start earlier moves content len begins reaches. opens t digest len start earlier begins moves content reaches;
+  unrefused = λ t digest start earlier moves content error len begins reaches refused.
+      unrefused t digest len start earlier begins moves content reaches error refused;
+  recovers = λ t digest start earlier moves content calls f len begins reaches o. recovers t digest len start earlier begins moves content reaches calls f o;
+  resumes = λ t digest start earlier moves content workers len begins some most reaches.
+      resumes t digest len start earlier begins moves content reaches workers some most;
 }

@@ -5,6 +5,6 @@ use Rattle.hd_crash.proofs.worlds.worlds_are_sound.Goals as goal
 pub returns : goal.returns
 returns c = record {
   steps = λ t digest w after m len x step. step_sound t digest len w after m x step;
-  reached = λ t digest moves w len reaches. reached_sound t digest len moves w reaches;
-  running = λ t digest moves f r len reaches. reached_sound t digest len moves (Running f r) reaches;
+  reached = λ t digest start earlier moves w len begins reaches. reached_sound t digest len start earlier begins moves w reaches;
+  running = λ t digest start earlier moves f r len begins reaches. reached_sound t digest len start earlier begins moves (Running f r) reaches;
 }
