@@ -10,6 +10,7 @@ ghost use Rattle.hd_threads.specs.Ending.{is_reached, outcome_of, IsOutcomeOf, I
 
 use crate::SharedBook;
 use crate::committing::{Round, committer_round};
+use crate::gate::{Gate, Standing};
 use crate::pausing::Pause;
 use hd_book::{Counts, Verdict};
 use hd_desk::{Lock, Pass};
@@ -84,18 +85,42 @@ pub fn is_over<'t, L: Ledger, A: Ledger, R: Wait>(
     over
 }
 
+/// Tells the gate how the search stands, if it asks.
+fn tell<'t, L: Ledger, A: Ledger, R: Wait, G: Gate>(
+    rt: &R,
+    lock: &Lock<SharedBook<'t, L, A>>,
+    pass: &mut Pass<SharedBook<'t, L, A>>,
+    gate: &G,
+)
+    requires { IsOutside lock.now.place pass.old }
+    ensures pass { IsOutside lock.now.place pass.new }
+    ensures parts { (view pass.new).parts ≡ (view pass.old).parts }
+    ensures task { (view pass.new).seen.task ≡ (view pass.old).seen.task }
+    ensures grows { BeginsWith (view pass.new).seen.log (view pass.old).seen.log }
+{
+    if !gate.asks_committer() {
+        return;
+    }
+    let book = lock.enter(rt, pass);
+    let (counts, bound) = (book.counts(), book.bound());
+    lock.leave(rt, pass, book);
+    gate.hear_committer(Standing { counts, bound });
+}
+
 /// Takes rounds of the committer until the search is over and a further round finds nothing to append; it waits longer and longer while
-/// there is nothing. A book that is halted takes no more batches, so then all its entries are appended.
+/// there is nothing. A book that is halted takes no more batches, so then all its entries are appended. Before each round the gate is told
+/// how the search stands, if it asks.
 ///
 /// # Errors
 /// Those of a round.
-pub fn commit_all<'t, L: Ledger, A: Ledger, S: Store, R: Wait>(
+pub fn commit_all<'t, L: Ledger, A: Ledger, S: Store, R: Wait, G: Gate>(
     rt: &R,
     lock: &Lock<SharedBook<'t, L, A>>,
     pass: &mut Pass<SharedBook<'t, L, A>>,
     share: &mut Share<A>,
     journal: &mut Journal<S>,
     limit: Option<u64>,
+    gate: &G,
 ) -> Result<(), RunFault>
     requires pass { IsOutside lock.now.place pass.old }
     requires whole { share.old.parts ≡ A.parts }
@@ -116,6 +141,7 @@ pub fn commit_all<'t, L: Ledger, A: Ledger, S: Store, R: Wait>(
     let mut pause = Pause::new();
     let mut over = false;
     for _round in rt.forever() {
+        tell(rt, lock, pass, gate);
         match committer_round(rt, lock, pass, share, journal)? {
             Round::Flushed(_) => pause.reset(),
             Round::Idle => {

@@ -1,15 +1,42 @@
-//! What is called around each settling of a node.
+//! What threads tell of a search while it runs.
+use hd_book::Counts;
 use std::sync::Wait;
 
-/// What a worker calls before and after it settles a node, outside every lock. `nth` counts a worker's nodes from 1.
+/// How far a search has come, as its committer sees it.
+#[derive(Clone, Copy, Debug, PartialEq, Eq, Drop)]
+pub struct Standing {
+    /// Its entries and its kids. Those that are posted and not settled are open.
+    pub counts: Counts,
+    /// The cost of the best plan that was found, if one was.
+    pub bound: Option<u64>,
+}
+
+/// What the threads of a search call, outside every lock.
 ///
-/// A search has a gate that does nothing ([`OpenGate`]); a test has one of its own, which may wait.
+/// A search has a gate that does nothing ([`OpenGate`]), or one that tells a user how the search stands; a test has one of its own, which
+/// may wait.
 pub trait Gate {
-    /// The worker of this number is about to settle its `nth` node.
+    /// The worker of this number is about to settle its `nth` node, counted from 1.
     fn before<R: Wait>(&self, rt: &R, worker: usize, nth: u64);
 
     /// The worker of this number has settled its `nth` node, or had no room for it.
     fn after<R: Wait>(&self, rt: &R, worker: usize, nth: u64);
+
+    /// Whether the worker of this number is to tell how it stands; it is asked once a turn.
+    fn asks_worker(&self, _worker: usize) -> bool {
+        false
+    }
+
+    /// The worker of this number has open nodes of this least cost plus estimate; none where each estimate is infinite, or nothing is open.
+    fn hear_worker(&self, _worker: usize, _least: Option<u128>) {}
+
+    /// Whether the committer is to tell how the search stands; it is asked before each of its rounds.
+    fn asks_committer(&self) -> bool {
+        false
+    }
+
+    /// The search stands so.
+    fn hear_committer(&self, _standing: Standing) {}
 }
 
 /// A gate that does nothing.

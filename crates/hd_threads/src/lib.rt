@@ -17,7 +17,7 @@ mod working;
 
 pub use committing::{Round, committer_round};
 pub use ending::{Concluded, Outcome, answer, commit_all, is_over};
-pub use gate::{Gate, OpenGate};
+pub use gate::{Gate, OpenGate, Standing};
 pub use halting::{give_up, halt};
 pub use letter::Letter;
 pub use pausing::Pause;

@@ -106,6 +106,22 @@ pub(crate) fn has_open<'t, L: Ledger, A: Ledger>(
     Ok(best.is_some())
 }
 
+/// The least cost plus estimate of a worker's open nodes, as [`Worker::least`] tells it.
+///
+/// # Errors
+/// As there.
+pub(crate) fn least<'t, L: Ledger, A: Ledger>(
+    desk: &Desk<'t, L, A>,
+    place: &mut Workplace<'t, L, A>,
+) -> Result<Option<u128>, NoMemory>
+    requires at { IsAt desk.now place.old }
+    ensures at { IsAt desk.now place.new }
+    ensures still { IsStill place.old place.new }
+{
+    let _ = desk;
+    place.worker.least(&mut place.lookup)
+}
+
 /// Settles a worker's best open node, as [`settle_best`] does.
 ///
 /// # Errors

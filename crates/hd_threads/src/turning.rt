@@ -10,7 +10,7 @@ use crate::ending::is_over;
 use crate::gate::Gate;
 use crate::halting::halt;
 use crate::pausing::Pause;
-use crate::placing::{Desk, Workplace, commit, has_open, redeem, send, settle, take};
+use crate::placing::{Desk, Workplace, commit, has_open, least, redeem, send, settle, take};
 use crate::posting::Sending;
 use crate::progress::{MOST_TICKETS, Progress, end};
 use crate::working::{Committed, Redemption};
@@ -232,6 +232,27 @@ fn settle_some<'t, L: Ledger, A: Ledger, R: Wait, G: Gate>(
     Ok(together)
 }
 
+/// Tells the gate how a worker stands, if it asks.
+///
+/// # Errors
+/// `NoMemory` where there is no room for what is kept of estimates.
+fn tell<'t, L: Ledger, A: Ledger, G: Gate>(
+    desk: &Desk<'t, L, A>,
+    place: &mut Workplace<'t, L, A>,
+    id: usize,
+    gate: &G,
+) -> Result<(), NoMemory>
+    requires at { IsAt desk.now place.old }
+    ensures at { IsAt desk.now place.new }
+    ensures still { IsStill place.old place.new }
+{
+    if !gate.asks_worker(id) {
+        return Ok(());
+    }
+    gate.hear_worker(id, least(desk, place)?);
+    Ok(())
+}
+
 /// What a worker did without the lock.
 #[derive(Clone, Copy)]
 struct Worked {
@@ -241,7 +262,7 @@ struct Worked {
     open: bool,
 }
 
-/// What a worker does without the lock: it sends, takes, and settles.
+/// What a worker does without the lock: it sends, takes, settles, and tells how it stands where it is asked.
 ///
 /// # Errors
 /// `NoMemory` where there is no room for a parcel that came, or an outcome.
@@ -266,6 +287,7 @@ fn go_on<'t, L: Ledger, A: Ledger, R: Wait, G: Gate>(
     let sent = send_all(desk, place, workers);
     let taken = take_all(desk, place, id)?;
     let settled = settle_some(rt, desk, place, progress, id, together, gate)?;
+    tell(desk, place, id, gate)?;
     Ok(Worked {
         any: sent || taken || settled > 0,
         open: settled == together,
@@ -310,8 +332,8 @@ fn commit_some<'t, L: Ledger, A: Ledger, R: Wait>(
 }
 
 /// One turn of the worker of this number, of so many: it redeems its tickets from the oldest on, sends what is in its outbox, takes what
-/// came to it, settles its best open nodes, `together` of them, and commits its next batch, if it holds fewer than [`MOST_TICKETS`] tickets
-/// and has so many outcomes, or some and no node open. The book is locked while a ticket is redeemed and while a batch is committed, and at
+/// came to it, settles its best open nodes, `together` of them, tells the gate how it stands, if that asks, and commits its next batch, if it
+/// holds fewer than [`MOST_TICKETS`] tickets and has so many outcomes, or some and no node open. The book is locked while a ticket is redeemed and while a batch is committed, and at
 /// no other time; no batch is committed once the book has as many entries as the limit says.
 pub fn worker_turn<'t, L: Ledger, A: Ledger, R: Wait, G: Gate>(
     rt: &R,

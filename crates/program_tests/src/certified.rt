@@ -106,6 +106,51 @@ fn a_search_goes_on_in_its_version(rt: HostRuntime) -> Result<(), Fail> {
     Ok(())
 }
 
+/// A task whose costs depend on its state: its plan costs 3 and then 10.
+const COSTS: &str =
+    "(define (domain c) (:requirements :numeric-fluents) (:predicates (a) (b)) (:functions (x) (total-cost))
+  (:action raise :parameters () :precondition (not (a))
+    :effect (and (a) (increase (x) 2) (increase (total-cost) (x))))
+  (:action end :parameters () :precondition (a) :effect (and (b) (increase (total-cost) (* 2 (x))))))";
+
+const COSTS_PROBLEM: &str =
+    "(define (problem c1) (:domain c) (:init (= (x) 3) (= (total-cost) 0)) (:goal (b))
+  (:metric minimize (total-cost)))";
+
+/// The header of its journal in the first version.
+const COSTS_HEADER: [u8; 38] = [
+    0x01, 0x48, 0x44, 0x50, 0x4a, 0x01, 0x7e, 0xa7, 0x7f, 0x81, 0xdf, 0x94, 0x50, 0x86, 0x69, 0xe2,
+    0x2d, 0xc2, 0x83, 0x46, 0x04, 0x40, 0x1d, 0xd8, 0x59, 0x22, 0xf3, 0x92, 0x8b, 0x86, 0x87, 0xcc,
+    0xc3, 0xbf, 0x2d, 0x96, 0xb6, 0x0e,
+];
+
+/// The entries of its search are those of two actions, byte by byte.
+#[test]
+fn a_journal_of_the_first_version_is_read_with_its_costs(rt: HostRuntime) -> Result<(), Fail> {
+    let alloc = rt.alloc();
+    let whole = joined(alloc, &[&COSTS_HEADER, &GROUPS_OF_ONE[..39], &[0]])?;
+    let part = joined(alloc, &[&COSTS_HEADER, &GROUPS_OF_ONE[..26], &[0]])?;
+    for (command, journal, printed, left) in [
+        (
+            "certify",
+            whole.as_slice(),
+            b"0|certified optimal; cost = 13\n|".as_slice(),
+            &whole,
+        ),
+        ("certify", part.as_slice(), NOTHING, &part),
+        (
+            "resume",
+            part.as_slice(),
+            b"0|(raise)\n(end)\n; cost = 13\n|",
+            &whole,
+        ),
+    ] {
+        let found = kept(alloc, command, COSTS, COSTS_PROBLEM, Some(journal))?;
+        assert!(rt; is(&found, printed, left), "at {command}");
+    }
+    Ok(())
+}
+
 /// What is told of a file.
 #[derive(Clone, Copy)]
 enum Told {

@@ -1,0 +1,157 @@
+//! Who asks the threads of a search how it stands, and tells it.
+use crate::line::{Line, rate_of};
+use hd_threads::{Gate, Standing};
+use std::alloc::{AllocError, Global};
+use std::io::Eprint;
+use std::sync::Wait;
+use std::sync::atomic::{AtomicBool, AtomicU64, Ordering};
+use std::time::{Clock, Instant};
+
+/// How long after a line the workers are asked how they stand, in milliseconds.
+const ASKED_AFTER: u64 = 900;
+
+/// How long after a line the next one is told, in milliseconds.
+const TOLD_AFTER: u64 = 1000;
+
+/// The word of a worker without an open node of a finite estimate.
+const NOTHING: u64 = u64::MAX;
+
+/// What a worker has told.
+#[derive(Debug, Drop)]
+struct Word {
+    /// Whether it is asked.
+    asked: AtomicBool,
+    /// The least cost plus estimate of its open nodes when it was asked last, or `NOTHING`.
+    least: AtomicU64,
+}
+
+/// A gate of a search that tells how it stands on standard error, a line a second: the workers are asked for their least cost plus estimate a
+/// tenth of a second before, and who does not answer by then is told as of the last time.
+#[derive(Drop)]
+pub struct Watch<'r, R: Eprint + Clock> {
+    rt: &'r R,
+    began: Option<Instant>,
+    words: Vec<Word>,
+    /// When the last line was told, in milliseconds since the search began, and how many entries there were.
+    told_at: AtomicU64,
+    told_entries: AtomicU64,
+}
+
+impl<'r, R: Eprint + Clock> Watch<'r, R> {
+    /// That of a search that begins now, by so many workers. Where the clock can't be read, the last line alone is told.
+    ///
+    /// # Errors
+    /// `AllocError` where there is no room for what workers tell.
+    pub fn begin(rt: &'r R, alloc: Global, workers: usize) -> Result<Watch<'r, R>, AllocError> {
+        let mut words = Vec::with_capacity(alloc, workers)?;
+        for _worker in 0..workers {
+            words.push(Word {
+                asked: AtomicBool::new(false),
+                least: AtomicU64::new(NOTHING),
+            })?;
+        }
+        Ok(Watch {
+            rt,
+            began: Instant::now(rt).ok(),
+            words,
+            told_at: AtomicU64::new(0),
+            told_entries: AtomicU64::new(0),
+        })
+    }
+
+    /// How many milliseconds ago the search began.
+    fn milliseconds(&self) -> u64 {
+        match self.began {
+            Some(began) => match began.elapsed(self.rt) {
+                Ok(passed) => u64::try_from(passed.as_millis()).unwrap_or(u64::MAX),
+                Err(_) => 0,
+            },
+            None => 0,
+        }
+    }
+
+    /// The least of what the workers have told, where something is open.
+    fn least(&self, open: u64) -> Option<u64> {
+        if open == 0 {
+            return None;
+        }
+        let mut least = NOTHING;
+        for word in &self.words {
+            least = least.min(word.least.load(Ordering::Relaxed));
+        }
+        if least == NOTHING { None } else { Some(least) }
+    }
+
+    /// Asks each worker.
+    fn ask(&self) {
+        for word in &self.words {
+            word.asked.store(true, Ordering::Relaxed);
+        }
+    }
+
+    /// Tells how the search stands.
+    fn tell(&self, standing: Standing) {
+        let now = self.milliseconds();
+        let counts = standing.counts;
+        let open = counts.posted.saturating_sub(counts.settled);
+        let since = now.saturating_sub(self.told_at.load(Ordering::Relaxed));
+        let more = counts.entries.saturating_sub(self.told_entries.load(Ordering::Relaxed));
+        let line = Line {
+            entries: counts.entries,
+            rate: rate_of(more, since),
+            open,
+            bound: standing.bound,
+            least: self.least(open),
+            acknowledged: counts.acknowledged,
+        };
+        // A line that can't be told is no reason to end a search.
+        let _ = eprintln!(self.rt; "{line}");
+        self.told_at.store(now, Ordering::Relaxed);
+        self.told_entries.store(counts.entries, Ordering::Relaxed);
+    }
+
+    /// Tells how the search stood at its end.
+    pub fn end(&self, standing: Standing) {
+        self.tell(standing);
+    }
+}
+
+impl<'r, R: Eprint + Clock> Gate for Watch<'r, R> {
+    fn before<W: Wait>(&self, _rt: &W, _worker: usize, _nth: u64) {}
+
+    fn after<W: Wait>(&self, _rt: &W, _worker: usize, _nth: u64) {}
+
+    fn asks_worker(&self, worker: usize) -> bool {
+        match self.words.get(worker) {
+            Some(word) => word.asked.load(Ordering::Relaxed),
+            None => false,
+        }
+    }
+
+    fn hear_worker(&self, worker: usize, least: Option<u128>) {
+        if let Some(word) = self.words.get(worker) {
+            let least = match least {
+                Some(least) => u64::try_from(least).unwrap_or(NOTHING),
+                None => NOTHING,
+            };
+            word.least.store(least, Ordering::Relaxed);
+            word.asked.store(false, Ordering::Relaxed);
+        }
+    }
+
+    fn asks_committer(&self) -> bool {
+        let since = self.milliseconds().saturating_sub(self.told_at.load(Ordering::Relaxed));
+        if since < ASKED_AFTER {
+            return false;
+        }
+        if since < TOLD_AFTER {
+            self.ask();
+            return false;
+        }
+        true
+    }
+
+    fn hear_committer(&self, standing: Standing) {
+        self.tell(standing);
+    }
+}
