@@ -6,13 +6,14 @@ use Rattle.hd_threads.proofs.ending.commit_all.Goals as goal
 pub loop-round-preserved-in-Flushed : goal.loop-round-preserved-in-Flushed
 loop-round-preserved-in-Flushed g c =
     let was = c.loop-round.invariant in
+    let told = c.tell.ensures in
     let round = c.in_ok-committer_round.ensures in
     record {
       outside = round.pass;
-      parts = round.parts ∙ was.parts;
+      parts = round.parts ∙ (told.parts ∙ was.parts);
       share = round.share ∙ was.share;
-      task = round.task ∙ was.task;
-      grows = begins_along _ _ _ round.grows was.grows;
+      task = round.task ∙ (told.task ∙ was.task);
+      grows = begins_along _ _ _ round.grows (begins_along _ _ _ told.grows was.grows);
       begins = round.begins;
       counted = round.counted;
       journal = grows_through _ _ _ was.journal round.journal;
@@ -25,14 +26,15 @@ returns-then-over-clause-journal g c = grows_through _ _ _ c.loop-round.invarian
 pub loop-round-preserved-then-not-over : goal.loop-round-preserved-then-not-over
 loop-round-preserved-then-not-over g c =
     let was = c.loop-round.invariant in
+    let told = c.tell.ensures in
     let round = c.in_ok-committer_round.ensures in
     let look = c.is_over-over.ensures in
     record {
       outside = look.pass;
-      parts = look.parts ∙ (round.parts ∙ was.parts);
+      parts = look.parts ∙ (round.parts ∙ (told.parts ∙ was.parts));
       share = round.share ∙ was.share;
-      task = look.task ∙ (round.task ∙ was.task);
-      grows = begins_along _ _ _ look.grows (begins_along _ _ _ round.grows was.grows);
+      task = look.task ∙ (round.task ∙ (told.task ∙ was.task));
+      grows = begins_along _ _ _ look.grows (begins_along _ _ _ round.grows (begins_along _ _ _ told.grows was.grows));
       begins = begins_along _ _ _ look.grows round.begins;
       counted = round.counted;
       journal = grows_through _ _ _ was.journal round.journal;
@@ -42,14 +44,15 @@ loop-round-preserved-then-not-over g c =
 pub loop-round-preserved : goal.loop-round-preserved
 loop-round-preserved g c =
     let was = c.loop-round.invariant in
+    let told = c.tell.ensures in
     let round = c.in_ok-committer_round.ensures in
     let look = c.is_over-over.ensures in
     record {
       outside = look.pass;
-      parts = look.parts ∙ (round.parts ∙ was.parts);
+      parts = look.parts ∙ (round.parts ∙ (told.parts ∙ was.parts));
       share = round.share ∙ was.share;
-      task = look.task ∙ (round.task ∙ was.task);
-      grows = begins_along _ _ _ look.grows (begins_along _ _ _ round.grows was.grows);
+      task = look.task ∙ (round.task ∙ (told.task ∙ was.task));
+      grows = begins_along _ _ _ look.grows (begins_along _ _ _ round.grows (begins_along _ _ _ told.grows was.grows));
       begins = begins_along _ _ _ look.grows round.begins;
       counted = round.counted;
       journal = grows_through _ _ _ was.journal round.journal;
