@@ -95,7 +95,9 @@ impl<'r, R: Eprint + Clock> Watch<'r, R> {
         let counts = standing.counts;
         let open = counts.posted.saturating_sub(counts.settled);
         let since = now.saturating_sub(self.told_at.load(Ordering::Relaxed));
-        let more = counts.entries.saturating_sub(self.told_entries.load(Ordering::Relaxed));
+        let more = counts
+            .entries
+            .saturating_sub(self.told_entries.load(Ordering::Relaxed));
         let line = Line {
             entries: counts.entries,
             rate: rate_of(more, since),
@@ -140,7 +142,9 @@ impl<'r, R: Eprint + Clock> Gate for Watch<'r, R> {
     }
 
     fn asks_committer(&self) -> bool {
-        let since = self.milliseconds().saturating_sub(self.told_at.load(Ordering::Relaxed));
+        let since = self
+            .milliseconds()
+            .saturating_sub(self.told_at.load(Ordering::Relaxed));
         if since < ASKED_AFTER {
             return false;
         }

@@ -244,19 +244,18 @@ module _ (f : File) (entries : List Kid) (most : ℕ) (q : QueueView) (halted : 
       → ((b : BookView) → b.state.entries ≡ entries → b.batches.queue ≡ q → is_group_out b g ≡ true) × IsOrderly f entries most (without_group q) halted group None
   out_by g e (NoneIsOut out none nothing is) = absurd (none-some g (sym nothing ∙ e))
   out_by g e (IsPulled out near its nothing is) = absurd (none-some g (sym nothing ∙ e))
-  out_by g e (IsAppended out none its is) =
-      (
-        all_out g out (same_Some (group_in entries q) g (sym its ∙ e)),
-        record {
-          running = x.running;
-          queue = record { batches = AreBatches-drop q.acknowledged q.ends q.out x.queue.batches; out = omega arith };
-          counted = end_of_parts q.acknowledged q.ends q.out ∙ x.counted;
-          most_is = x.most_is;
-          few = x.few;
-          sound = x.sound;
-          stands = NoneIsOut refl none refl is;
-        },
-      )
+  out_by g e (IsAppended out none its is) = (
+    all_out g out (same_Some (group_in entries q) g (sym its ∙ e)),
+    record {
+      running = x.running;
+      queue = record { batches = AreBatches-drop q.acknowledged q.ends q.out x.queue.batches; out = omega arith };
+      counted = end_of_parts q.acknowledged q.ends q.out ∙ x.counted;
+      most_is = x.most_is;
+      few = x.few;
+      sound = x.sound;
+      stands = NoneIsOut refl none refl is;
+    },
+  )
 
   pub is_acked : (g : GroupView) → flushed ≡ Some g
       → ((b : BookView) → b.state.entries ≡ entries → b.batches.queue ≡ q → is_group_out b g ≡ true) × IsOrderly f entries most (without_group q) halted group None
