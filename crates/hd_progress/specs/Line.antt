@@ -7,11 +7,12 @@ abbrev pub cost_text : Option ℕ → List ℕ
 cost_text (Some cost) = decimal cost
 cost_text None = codes "none"
 
--- the line
+-- the line: how far the search has come, what is open, and what is least of that and in the journal
 abbrev pub line_text : Line → List ℕ
 line_text l =
-    codes "entries " ++ decimal l.entries ++ codes ", " ++ decimal l.rate ++ codes " a second, open " ++ decimal l.open ++ codes ", bound "
-    ++ cost_text l.bound ++ codes ", least " ++ cost_text l.least ++ codes ", acknowledged " ++ decimal l.acknowledged
+    (codes "entries " ++ decimal l.entries ++ codes ", " ++ decimal l.rate ++ codes " a second, ")
+    ++ (codes "open " ++ decimal l.open ++ codes ", bound " ++ cost_text l.bound ++ codes ", ")
+    ++ (codes "least " ++ cost_text l.least ++ codes ", acknowledged " ++ decimal l.acknowledged)
 
 -- so many in so many milliseconds, as so many a second, as far as 64 bits go; less than a millisecond counts as one
 abbrev pub rate : ℕ → ℕ → ℕ

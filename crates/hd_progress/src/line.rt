@@ -40,18 +40,13 @@ impl fmt::Display for Line {
     ghost output = { λ line. Some (line_text line) };
 
     fn fmt<W: fmt::Write>(&self, f: &mut fmt::Formatter<W>) -> fmt::Result {
-        let Line {
-            entries,
-            rate,
-            open,
-            bound,
-            least,
-            acknowledged,
-        } = *self;
-        let (bound, least) = (Cost(bound), Cost(least));
+        write!(f, "entries {}, {} a second, ", self.entries, self.rate)?;
+        write!(f, "open {}, bound {}, ", self.open, Cost(self.bound))?;
         write!(
             f,
-            "entries {entries}, {rate} a second, open {open}, bound {bound}, least {least}, acknowledged {acknowledged}"
+            "least {}, acknowledged {}",
+            Cost(self.least),
+            self.acknowledged
         )
     }
 }
