@@ -1,11 +1,10 @@
 //! How a search is opened for its threads.
-ghost use Rattle.std.specs.Prelude.{◌≡◌, ◌+◌, ◌<◌, ◌≤◌, length, IfOk, IfErr, OnOk};
+ghost use Rattle.std.specs.Prelude.{◌≡◌, ℕ, ◌+◌, ◌<◌, ◌≤◌, List, length, IfOk, IfErr, OnOk};
 ghost use Rattle.std.specs.List.{AllByRecursion};
+ghost use Rattle.hd_task.specs.declared.plan.Kid.{Kid as KidRecord};
 ghost use Rattle.hd_zobrist.specs.declared.owners.TheConstants.{MAX_WORKERS};
 ghost use Rattle.hd_image.specs.Image.{most_of};
 ghost use Rattle.hd_journal.specs.Journal.{kids_of};
-ghost use Rattle.hd_book.specs.Steps.{resumed_book};
-ghost use Rattle.hd_bound.specs.Bound.{SeatView};
 ghost use Rattle.hd_threads.specs.Placing.{IsAt};
 ghost use Rattle.hd_parallel.specs.Fault.{IsFaulty};
 ghost use Rattle.hd_parallel.specs.Opening.{IsFresh, HasRoom, AreAt, CanCommit};
@@ -65,9 +64,7 @@ fn letter_of<'t>(alloc: Global, task: &'t Task) -> Result<Letter<'t>, NoMemory>
         action: ROOT_ACTION,
     };
     let initial = task.initial.copied(alloc)?;
-    Ok(Letter::of(Parcel::of(
-        alloc, task, &words, root, initial, 0,
-    )?))
+    Ok(Letter::of(Parcel::of(alloc, task, &words, root, initial, 0)?))
 }
 
 /// What threads share of a book, with so many mailboxes; the whole of what a book's committer has; and the rest.
@@ -122,9 +119,11 @@ fn place_of<'t, L: Ledger, A: Ledger>(
     worker: Worker<'t>,
 ) -> Result<Workplace<'t, L, A>, NoMemory>
     requires fresh { IsFresh task.now worker }
-    requires room { (log : _) × (left : _) × HasRoom task.now log desk.now (left + 1) rest.old }
+    requires room { (log : List KidRecord) × (left : ℕ)
+        × HasRoom task.now log desk.now (left + 1) rest.old }
     ensures at { IfOk result (IsAt desk.now) }
-    ensures room { (log : _) (left : _) → HasRoom task.now log desk.now (left + 1) rest.old
+    ensures room { (log : List KidRecord) (left : ℕ)
+        → HasRoom task.now log desk.now (left + 1) rest.old
         → OnOk result (HasRoom task.now log desk.now left rest.new) }
 {
     let lookup = Lookup::of(alloc, task)?;
@@ -151,10 +150,12 @@ fn places_of<'t, L: Ledger, A: Ledger>(
     workers: Vec<Worker<'t>>,
 ) -> Result<Vec<Workplace<'t, L, A>>, NoMemory>
     requires fresh { AllByRecursion (IsFresh task.now) workers.items }
-    requires room { (log : _) × HasRoom task.now log desk.now (length workers.items) rest.old }
+    requires room { (log : List KidRecord)
+        × HasRoom task.now log desk.now (length workers.items) rest.old }
     ensures at { IfOk result (λ ps. AllByRecursion (IsAt desk.now) ps.items) }
     ensures count { IfOk result (λ ps. length ps.items ≡ length workers.entry.items) }
-    ensures room { (log : _) → HasRoom task.now log desk.now (length workers.entry.items) rest.old
+    ensures room { (log : List KidRecord)
+        → HasRoom task.now log desk.now (length workers.entry.items) rest.old
         → OnOk result (HasRoom task.now log desk.now 0 rest.new) }
 {
     let mut places = Vec::with_capacity(alloc, workers.len())?;
@@ -201,9 +202,7 @@ pub(crate) fn open_search<'t, L: Ledger, A: Ledger, S: Store, R: Wait>(
         workers,
     );
     match recovered {
-        Ok(recovered) => Ok(opened_from(
-            rt, alloc, flushes, task, recovered, workers,
-        )?),
+        Ok(recovered) => Ok(opened_from(rt, alloc, flushes, task, recovered, workers)?),
         Err(fault) => Err(of_recovery(fault)),
     }
 }
