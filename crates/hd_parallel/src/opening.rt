@@ -1,10 +1,11 @@
 //! How a search is opened for its threads.
-ghost use Rattle.std.specs.Prelude.{◌≡◌, ℕ, ◌+◌, ◌<◌, ◌≤◌, List, length, IfOk, IfErr, OnOk};
+ghost use Rattle.std.specs.Prelude.{◌≡◌, ℕ, ◌+◌, ◌<◌, ◌≤◌, List, map, length, IfOk, IfErr, OnOk};
 ghost use Rattle.std.specs.List.{AllByRecursion};
 ghost use Rattle.hd_task.specs.declared.plan.Kid.{Kid as KidRecord};
 ghost use Rattle.hd_zobrist.specs.declared.owners.TheConstants.{MAX_WORKERS};
 ghost use Rattle.hd_image.specs.Image.{most_of};
 ghost use Rattle.hd_journal.specs.Journal.{kids_of};
+ghost use Rattle.hd_recovery.specs.Recovered.{recovered_workers};
 ghost use Rattle.hd_threads.specs.Placing.{IsAt};
 ghost use Rattle.hd_parallel.specs.Fault.{IsFaulty};
 ghost use Rattle.hd_parallel.specs.Opening.{IsFresh, HasRoom, AreAt, CanCommit};
@@ -122,6 +123,7 @@ fn place_of<'t, L: Ledger, A: Ledger>(
     requires room { (log : List KidRecord) × (left : ℕ)
         × HasRoom task.now log desk.now (left + 1) rest.old }
     ensures at { IfOk result (IsAt desk.now) }
+    ensures worker { IfOk result (λ p. p.worker ≡ worker.entry) }
     ensures room { (log : List KidRecord) (left : ℕ)
         → HasRoom task.now log desk.now (left + 1) rest.old
         → OnOk result (HasRoom task.now log desk.now left rest.new) }
@@ -153,7 +155,7 @@ fn places_of<'t, L: Ledger, A: Ledger>(
     requires room { (log : List KidRecord)
         × HasRoom task.now log desk.now (length workers.items) rest.old }
     ensures at { IfOk result (λ ps. AllByRecursion (IsAt desk.now) ps.items) }
-    ensures count { IfOk result (λ ps. length ps.items ≡ length workers.entry.items) }
+    ensures workers { IfOk result (λ ps. map (λ p. p.worker) ps.items ≡ workers.entry.items) }
     ensures room { (log : List KidRecord)
         → HasRoom task.now log desk.now (length workers.entry.items) rest.old
         → OnOk result (HasRoom task.now log desk.now 0 rest.new) }
@@ -190,6 +192,8 @@ pub(crate) fn open_search<'t, L: Ledger, A: Ledger, S: Store, R: Wait>(
     ensures at { IfOk result (λ o. AreAt o.desk o.places.items) }
     ensures committer { IfOk result (λ o.
         CanCommit task.now A.parts o.desk o.place (kids_of journal.now)) }
+    ensures workers { IfOk result (λ o. map (λ p. p.worker) o.places.items
+        ≡ recovered_workers task.now (kids_of journal.now) workers) }
     ensures told { IfErr result
         (IsFaulty task.now (most_of journal.now.version) journal.now.entries.items) }
 {
@@ -225,13 +229,15 @@ fn opened_from<'t, L: Ledger, A: Ledger, R: Wait>(
     requires few { workers ≤ MAX_WORKERS }
     requires enough { workers < recovered.share.parts }
     requires task { recovered.book.state.task ≡ task.now }
-    requires fresh { AllByRecursion (IsFresh task.now) recovered.workers.items }
-    requires count { length recovered.workers.items ≡ workers }
+    requires workers { recovered.workers.items
+        ≡ recovered_workers task.now recovered.book.state.entries workers }
     requires acknowledged { recovered.book.batches.queue.acknowledged
         ≡ length recovered.book.state.entries }
     ensures at { IfOk result (λ o. AreAt o.desk o.places.items) }
     ensures committer { IfOk result (λ o.
         CanCommit task.now A.parts o.desk o.place recovered.entry.book.state.entries) }
+    ensures workers { IfOk result (λ o. map (λ p. p.worker) o.places.items
+        ≡ recovered_workers task.now recovered.entry.book.state.entries workers) }
 {
     let Recovered {
         book,
