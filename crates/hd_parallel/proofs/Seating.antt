@@ -50,3 +50,7 @@ module _ {L A : Type 0} (t : Task) (log : List Kid) (d : Desk L A) (left : ℕ) 
     parcels = ap (λ (h : HandsView Task ParcelView). h.of) hands ∙ room.parcels;
     many = subst (AllByRecursion (λ k. left < k)) (sym parts) (all_less left (parts_of r.hands) room.many);
   }
+
+-- there is room for as many places
+pub room_for : {L A : Type 0} (t : Task) (log : List Kid) (d : Desk L A) (n m : ℕ) (r : Rest L A) → n ≡ m → HasRoom t log d n r → HasRoom t log d m r
+room_for t log d n m r e room = subst (λ (k : ℕ). HasRoom t log d k r) e room

@@ -11,8 +11,10 @@ use Rattle.hd_journal.specs.Journal.{kids_of}
 use Rattle.hd_search.specs.declared.fault.RunFault.{RunFault}
 use Rattle.hd_search.specs.declared.fault.RunFault.TheVariants.{Full, Damaged, Device, Failed, NotOut, NoMemory}
 use Rattle.hd_search.specs.Searching.{Grows}
+use Rattle.hd_desk.specs.Views.{BeginsWith}
 use Rattle.hd_threads.specs.declared.placing.Desk.{Desk}
 use Rattle.hd_threads.specs.Committing.{StopsLater}
+use Rattle.hd_threads.proofs.Begins.{begins_along}
 use Rattle.hd_parallel.specs.declared.fault.ThreadsFault.{ThreadsFault}
 use Rattle.hd_parallel.specs.declared.fault.ThreadsFault.TheVariants.{Run, NoThread}
 use Rattle.hd_parallel.specs.declared.opening.CommitterPlace.{CommitterPlace}
@@ -79,3 +81,7 @@ can_run t parts d c journal can = record {
   begins = ([], can.seen.log ∙ sym (append-nil (kids_of journal)));
   counted = can.counted;
 }
+
+-- a log that begins with one that begins with another begins with that
+pub along : (a b c : List Kid) → BeginsWith a b → BeginsWith b c → BeginsWith a c
+along a b c p q = begins_along a b c p q

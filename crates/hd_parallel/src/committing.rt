@@ -49,6 +49,7 @@ pub(crate) struct Ended<'t, 'j, L: Ledger, A: Ledger, S: Store> {
 ///
 /// # Errors
 /// Those of a round.
+#[tactic(auto, using(crate::proofs::Stopping::along))]
 fn commit_beside<'t, L: Ledger, A: Ledger, S: Store, R: Wait>(
     rt: &R,
     desk: &Desk<'t, L, A>,

@@ -72,6 +72,7 @@ fn letter_of<'t>(alloc: Global, task: &'t Task) -> Result<Letter<'t>, NoMemory>
 ///
 /// # Errors
 /// `NoMemory` where there is no room for it.
+#[tactic(auto, using(crate::proofs::Parts::all_many))]
 fn desk_of<'t, L: Ledger, A: Ledger, R: Wait>(
     rt: &R,
     alloc: Global,
@@ -112,6 +113,7 @@ fn desk_of<'t, L: Ledger, A: Ledger, R: Wait>(
 ///
 /// # Errors
 /// `NoMemory` where there is no room for it.
+#[tactic(auto, using(crate::proofs::Parts::all_shareable, crate::proofs::Seating::at_place, crate::proofs::Seating::room_after))]
 fn place_of<'t, L: Ledger, A: Ledger>(
     alloc: Global,
     task: &'t Task,
@@ -215,6 +217,7 @@ pub(crate) fn open_search<'t, L: Ledger, A: Ledger, S: Store, R: Wait>(
 ///
 /// # Errors
 /// `NoMemory` where there is no room for what they share.
+#[tactic(auto, using(crate::proofs::Places::fresh_all, crate::proofs::Places::length_all, crate::proofs::Places::opened_at))]
 fn opened_from<'t, L: Ledger, A: Ledger, R: Wait>(
     rt: &R,
     alloc: Global,

@@ -36,6 +36,7 @@ fn take_back<T>(_journal: &mut T)
 ///
 /// # Errors
 /// The committer's fault, else that of the least worker; `NoThread` where a thread does not start.
+#[tactic(auto, using(crate::proofs::Stopping::first_stops, crate::proofs::Stopping::first_grows))]
 fn run_threads<
     't,
     L: Ledger + Send + Sync,
@@ -94,6 +95,7 @@ fn run_threads<
 ///
 /// # Errors
 /// Those of the threads; `NotOut` where the book and the journal do not fit together; `NoMemory` where there is no room for a plan.
+#[tactic(auto, using(crate::proofs::Stopping::can_run, crate::proofs::Stopping::answer_stops))]
 fn run_opened<
     't,
     L: Ledger + Send + Sync,
@@ -139,6 +141,7 @@ fn run_opened<
 }
 
 /// The same as [`run`], where the commits are counted in one ledger, and the entries that are acknowledged in another.
+#[tactic(auto, using(crate::proofs::Stopping::tells_later, crate::proofs::Stopping::tells_faulty))]
 fn run_as<
     L: Ledger + Send + Sync,
     A: Ledger + Send + Sync,
