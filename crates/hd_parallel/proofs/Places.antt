@@ -62,3 +62,7 @@ module _ {L A : Type 0} where
         boxes = count ∙ sym boxes;
         few = omega (arith, count, few);
       }
+
+  -- the same places have the same numbers
+  pub numbered_same : (from workers : ℕ) (places others : List (Workplace L A)) → places ≡ others → AreNumbered from workers places → AreNumbered from workers others
+  numbered_same from workers places others e numbered = subst (AreNumbered from workers) e numbered
