@@ -1,1 +1,3 @@
 pub mod Tasks
+pub mod Nodes
+pub mod Lists

@@ -1,19 +1,26 @@
 //! Scratch.
 #![tactic(auto)]
 
-use hd_task::{Task, Action, Condition};
+use hd_task::Task;
+use hd_hmax::Hmax;
+use hd_node::{Outcome, Parcel};
+use hd_successors::Successors;
+use hd_entries::Entries;
+use hd_closed::ClosedList;
 
 fn shared<T: Sync>(_x: &T) {}
 
-pub fn condition_is_shared(x: &Condition) {
-    shared(x)
-}
+fn sent<T: Send>(_x: &T) {}
 
-pub fn action_is_shared(x: &Action) {
-    shared(x)
-}
-
-#[tactic(auto, using(crate::proofs::Tasks::task_sync))]
 pub fn task_is_shared(x: &Task) {
     shared(x)
+}
+
+pub fn all_are_sent(x: &Parcel<'_>, y: &Hmax<'_>, z: &Successors<'_>, o: &Outcome<'_>, c: &ClosedList<'_>, e: &Entries<'_>) {
+    sent(x);
+    sent(y);
+    sent(z);
+    sent(o);
+    sent(c);
+    sent(e);
 }
