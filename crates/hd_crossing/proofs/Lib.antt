@@ -1,3 +1,5 @@
 pub mod Tasks
 pub mod Nodes
 pub mod Lists
+pub mod Workers
+pub mod Books

@@ -13,7 +13,6 @@ use Rattle.hd_chunks.proofs.chunks.Chunks.TheSendSync as chunks
 use Rattle.hd_kids.proofs.table.KidTable.TheSendSync as kids
 use Rattle.hd_task.proofs.departure.Departure.TheSendSync as departure
 use Rattle.hd_zobrist.proofs.words.Words.TheSendSync as words
-use Rattle.std.proofs.option.Option.TheSendSync as option
 use Rattle.std.proofs.alloc.Global.TheSendSync as global
 use Rattle.hd_crossing.proofs.Tasks.{task_sync}
 
@@ -21,4 +20,4 @@ pub closed_send : (t : NamedLft) → IsSend (closed.the_row t)
 closed_send t = search (sendable, crosses, maps.crosses, task_sync, note.the_send, shut.the_send) depth 20
 
 pub entries_send : (t : NamedLft) → IsSend (entries.the_row t)
-entries_send t = search (sendable, crosses, task_sync, kids.the_send, words.the_send, chunks.the_send, entry.the_send, best.the_field_send, departure.the_field_send, option.the_send, global.the_field_send) depth 30
+entries_send t = search (sendable, crosses, task_sync, kids.the_send, words.the_send, chunks.the_send, entry.the_send, best.the_field_send, departure.the_field_send, global.the_field_send) depth 30

@@ -2,25 +2,14 @@
 #![tactic(auto)]
 
 use hd_task::Task;
-use hd_hmax::Hmax;
-use hd_node::{Outcome, Parcel};
-use hd_successors::Successors;
-use hd_entries::Entries;
-use hd_closed::ClosedList;
-
-fn shared<T: Sync>(_x: &T) {}
+use hd_worker::{Lookup, Worker};
+use hd_book::Book;
+use std::sync::ledger::Ledger;
 
 fn sent<T: Send>(_x: &T) {}
 
-pub fn task_is_shared(x: &Task) {
-    shared(x)
-}
-
-pub fn all_are_sent(x: &Parcel<'_>, y: &Hmax<'_>, z: &Successors<'_>, o: &Outcome<'_>, c: &ClosedList<'_>, e: &Entries<'_>) {
+pub fn all_are_sent<L: Ledger>(x: &Worker<'_>, y: &Lookup<'_>, z: &Book<'_, L>) {
     sent(x);
     sent(y);
     sent(z);
-    sent(o);
-    sent(c);
-    sent(e);
 }
