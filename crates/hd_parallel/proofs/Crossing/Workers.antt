@@ -9,9 +9,9 @@ use Rattle.hd_worker.specs.contracts.frontier.Frontier as frontier
 use Rattle.hd_worker.specs.contracts.lookup.Lookup as lookup
 use Rattle.hd_worker.specs.contracts.node.Node as node
 use Rattle.hd_worker.specs.contracts.worker.Worker as worker
-use Rattle.hd_crossing.proofs.Lists.{closed_send}
-use Rattle.hd_crossing.proofs.Nodes.{parcel_send, outcome_send, hmax_send, successors_send}
-use Rattle.hd_crossing.proofs.Tasks.{task_sync}
+use Rattle.hd_parallel.proofs.Crossing.Lists.{closed_send}
+use Rattle.hd_parallel.proofs.Crossing.Nodes.{parcel_send, outcome_send, hmax_send, successors_send}
+use Rattle.hd_parallel.proofs.Crossing.Tasks.{task_sync}
 
 node_send : (t : NamedLft) → IsSend (node.the_row t)
 node_send t = search (sendable, parcel_send) depth 20

@@ -14,7 +14,7 @@ use Rattle.hd_kids.proofs.table.KidTable.TheSendSync as kids
 use Rattle.hd_task.proofs.departure.Departure.TheSendSync as departure
 use Rattle.hd_zobrist.proofs.words.Words.TheSendSync as words
 use Rattle.std.proofs.alloc.Global.TheSendSync as global
-use Rattle.hd_crossing.proofs.Tasks.{task_sync}
+use Rattle.hd_parallel.proofs.Crossing.Tasks.{task_sync}
 
 pub closed_send : (t : NamedLft) → IsSend (closed.the_row t)
 closed_send t = search (sendable, crosses, maps.crosses, task_sync, note.the_send, shut.the_send) depth 20

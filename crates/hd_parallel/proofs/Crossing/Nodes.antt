@@ -20,7 +20,7 @@ use Rattle.hd_node.proofs.hashed.Hashed.TheSendSync as hashed
 use Rattle.hd_node.specs.contracts.batch.Outcome as outcome
 use Rattle.hd_node.specs.contracts.expansion.Expansion as expansion
 use Rattle.hd_node.specs.contracts.parcel.Parcel as parcel
-use Rattle.hd_crossing.proofs.Tasks.{task_sync}
+use Rattle.hd_parallel.proofs.Crossing.Tasks.{task_sync}
 
 pub parcel_send : (t : NamedLft) → IsSend (parcel.the_row t)
 parcel_send t = search (sendable, task_sync, kid.the_field_send, hashed.the_send) depth 20

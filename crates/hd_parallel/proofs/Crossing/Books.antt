@@ -11,9 +11,9 @@ use Rattle.hd_tickets.proofs.tickets.Tickets.TheSendSync as tickets
 use Rattle.hd_book.specs.contracts.book.Book as book
 use Rattle.hd_book.specs.contracts.content.Content as content
 use Rattle.hd_book.specs.contracts.parcels.Parcels as parcels
-use Rattle.hd_crossing.proofs.Lists.{entries_send}
-use Rattle.hd_crossing.proofs.Nodes.{parcel_send}
-use Rattle.hd_crossing.proofs.Tasks.{task_sync}
+use Rattle.hd_parallel.proofs.Crossing.Lists.{entries_send}
+use Rattle.hd_parallel.proofs.Crossing.Nodes.{parcel_send}
+use Rattle.hd_parallel.proofs.Crossing.Tasks.{task_sync}
 
 parcels_send : (t : NamedLft) → IsSend (parcels.the_row t)
 parcels_send t = search (sendable, task_sync, sequence.the_send, parcel_send) depth 20
