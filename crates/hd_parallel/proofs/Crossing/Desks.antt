@@ -2,6 +2,7 @@
 use denote.RattleType.{RattleType}
 use denote.Ref.{NamedLft}
 use denote.Param.Send.{IsSend, IsSync, sendable}
+use denote.Param.SendFields.{declared_send, declared_sync, FieldsHave}
 use Rattle.std.proofs.Crossing.{crosses}
 use Rattle.std.specs.declared.sync.ledger.Ledger as ledger
 use Rattle.std.proofs.sync.ledger.Book.TheSendSync as made
@@ -12,6 +13,7 @@ use Rattle.hd_bound.proofs.word.BoundWord.TheSendSync as bound
 use Rattle.hd_desk.proofs.lock.Lock.TheSendSync as lock
 use Rattle.hd_desk.proofs.mail.Hands.TheSendSync as hands
 use Rattle.hd_desk.proofs.mail.Mailboxes.TheSendSync as boxes
+use Rattle.hd_task.specs.contracts.task.Task as task
 use Rattle.hd_threads.specs.contracts.letter.Letter as letter
 use Rattle.hd_threads.specs.contracts.placing.Desk as desk
 use Rattle.hd_threads.specs.contracts.placing.Workplace as workplace
@@ -28,8 +30,17 @@ module _ (t : NamedLft) (L A : RattleType) (g : ledger.Ghosts L.Denot) (h : ledg
   shared_send : IsSend (shared.the_row t L A g h)
   shared_send = search (sendable, book_send, made.the_send) depth 20
 
+  desk_parts : FieldsHave IsSync (desk.the_type t L A g h).parts
+  desk_parts = (lock.the_sync _ _ _ _ shared_send, (boxes.the_sync task.the_row (letter.the_row t) _ (letter_send t), (bound.the_sync, tt)))
+
   pub desk_sync : IsSync (desk.the_row t L A g h)
-  desk_sync = search (sendable, lock.the_sync, boxes.the_sync, bound.the_sync, shared_send, letter_send, task_sync) depth 20
+  desk_sync = declared_sync (desk.the_type t L A g h) desk_parts
+
+  workplace_parts : FieldsHave IsSend (workplace.the_type t L A g h).parts
+  workplace_parts = (
+    search (sendable, pass.the_send, shared_send) depth 10,
+    (search (sendable, share.the_send) depth 10, (search (sendable, seat.the_send) depth 10, (search (sendable, hands.the_send, letter_send, task_sync) depth 10, (worker_send t, (lookup_send t, tt))))),
+  )
 
   pub workplace_send : IsSend (workplace.the_row t L A g h)
-  workplace_send = search (sendable, pass.the_send, share.the_send, seat.the_send, hands.the_send, shared_send, letter_send, task_sync, worker_send, lookup_send) depth 20
+  workplace_send = declared_send (workplace.the_type t L A g h) workplace_parts
