@@ -4,3 +4,4 @@ pub mod Lists
 pub mod Nodes
 pub mod Tasks
 pub mod Workers
+pub mod Jobs

@@ -66,7 +66,6 @@ fn work_by<'s, 't, L: Ledger, A: Ledger, G: Gate, R: Wait>(
 }
 
 /// Starts the thread of a worker, if the system does.
-#[tactic(auto, using(crate::proofs::Crossing::Desks::desk_sync, crate::proofs::Crossing::Desks::workplace_send))]
 fn start<
     's,
     'e: 's,
@@ -155,6 +154,3 @@ pub(crate) fn join_all<R: Threads>(rt: &R, threads: Vec<Working>) -> Option<RunF
     }
     first
 }
-
-#[tactic(auto, using(crate::proofs::Crossing::Desks::desk_sync, crate::proofs::Crossing::Desks::workplace_send))]
-fn nothing() {}
