@@ -1,5 +1,5 @@
 -- A place at a desk, and what is left for others.
-use Rattle.std.proofs.Common.{◌≡◌, ℕ, ◌+◌, ◌-◌, ◌<◌, Some, List, map, length, refl, sym, ap, subst, ◌∙◌, arith}
+use Rattle.std.proofs.Common.{◌≡◌, ℕ, ◌+◌, ◌-◌, ◌<◌, Some, List, map, refl, sym, ap, subst, ◌∙◌, arith}
 use Rattle.std.specs.List.{AllByRecursion}
 use Rattle.crossbeam_queue.specs.Passes.{view}
 use Rattle.hd_task.specs.declared.task.Task.{Task}
@@ -14,9 +14,8 @@ use Rattle.hd_worker.specs.Lookup.{IsLookupOf}
 use Rattle.hd_threads.specs.declared.placing.Desk.{Desk}
 use Rattle.hd_threads.specs.declared.placing.Workplace.{Workplace}
 use Rattle.hd_threads.specs.Placing.{IsAt}
-use Rattle.hd_parallel.specs.declared.opening.CommitterPlace.{CommitterPlace}
 use Rattle.hd_parallel.specs.declared.opening.Rest.{Rest}
-use Rattle.hd_parallel.specs.Opening.{IsFresh, HasSeen, HasRoom, CanCommit}
+use Rattle.hd_parallel.specs.Opening.{IsFresh, HasSeen, HasRoom}
 use Rattle.hd_parallel.proofs.Parts.{all_less}
 
 module _ {L A : Type 0} (t : Task) (log : List Kid) (d : Desk L A) (left : ℕ) (r : Rest L A) (room : HasRoom t log d (left + 1) r) where
@@ -55,16 +54,3 @@ module _ {L A : Type 0} (t : Task) (log : List Kid) (d : Desk L A) (left : ℕ) 
 -- there is room for as many places
 pub room_for : {L A : Type 0} (t : Task) (log : List Kid) (d : Desk L A) (n m : ℕ) (r : Rest L A) → n ≡ m → HasRoom t log d n r → HasRoom t log d m r
 room_for t log d n m r e room = subst (λ (k : ℕ). HasRoom t log d k r) e room
-
--- where all places are given, the committer has the rest
-pub can_commit : {L A : Type 0} (t : Task) (log : List Kid) (parts : ℕ) (d : Desk L A) (left : ℕ) (r : Rest L A) (c : CommitterPlace L A) → HasRoom t log d left r → c.pass ≡ r.pass → c.share.parts ≡ parts → 0 < parts → c.share.amount ≡ length log → CanCommit t parts d c log
-can_commit {L} {A} t log parts d left r c room pass whole some counted = record {
-  outside = subst (IsOutside d.lock.place) (sym pass) room.outside;
-  seen = record {
-    task = ap (λ p. (view p).seen.task) pass ∙ room.seen.task;
-    log = ap (λ p. (view p).seen.log) pass ∙ room.seen.log;
-  };
-  whole = whole;
-  some = some;
-  counted = counted;
-}
