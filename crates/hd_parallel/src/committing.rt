@@ -6,7 +6,7 @@ use crate::opening::CommitterPlace;
 use hd_journal::Journal;
 use hd_search::RunFault;
 use hd_store::Store;
-use hd_threads::{Desk, commit_all, halt};
+use hd_threads::{Desk, Gate, commit_all, halt};
 use std::sync::Wait;
 use std::sync::ledger::Ledger;
 
@@ -27,14 +27,15 @@ pub(crate) trait Beside {
         ensures { run_gives self result };
 }
 
-/// The committer, with the journal.
+/// The committer, with the journal, and the gate that is told how the search stands.
 #[derive(Drop)]
-pub(crate) struct Committer<'d, 't, 'j, L: Ledger, A: Ledger, S: Store, R: Wait> {
+pub(crate) struct Committer<'d, 't, 'j, L: Ledger, A: Ledger, S: Store, G: Gate, R: Wait> {
     pub(crate) rt: &'d R,
     pub(crate) desk: &'d Desk<'t, L, A>,
     pub(crate) place: CommitterPlace<'t, L, A>,
     pub(crate) journal: &'j mut Journal<S>,
     pub(crate) limit: Option<u64>,
+    pub(crate) gate: &'d G,
 }
 
 /// What the committer gives back when it has ended.
@@ -50,12 +51,13 @@ pub(crate) struct Ended<'t, 'j, L: Ledger, A: Ledger, S: Store> {
 /// # Errors
 /// Those of a round.
 #[tactic(auto, using(crate::proofs::Stopping::along))]
-fn commit_beside<'t, L: Ledger, A: Ledger, S: Store, R: Wait>(
+fn commit_beside<'t, L: Ledger, A: Ledger, S: Store, G: Gate, R: Wait>(
     rt: &R,
     desk: &Desk<'t, L, A>,
     place: &mut CommitterPlace<'t, L, A>,
     journal: &mut Journal<S>,
     limit: Option<u64>,
+    gate: &G,
     started: bool,
 ) -> Result<(), RunFault>
     requires { CanRun A.parts desk.now place.old journal.old }
@@ -71,11 +73,12 @@ fn commit_beside<'t, L: Ledger, A: Ledger, S: Store, R: Wait>(
         &mut place.share,
         journal,
         limit,
+        gate,
     )
 }
 
-impl<'d, 't, 'j, L: Ledger, A: Ledger, S: Store, R: Wait> Beside
-    for Committer<'d, 't, 'j, L, A, S, R> {
+impl<'d, 't, 'j, L: Ledger, A: Ledger, S: Store, G: Gate, R: Wait> Beside
+    for Committer<'d, 't, 'j, L, A, S, G, R> {
     type Output = Ended<'t, 'j, L, A, S>;
 
     ghost can_run = { λ c. CanRun A.parts c.desk.now c.place c.journal.now };
@@ -90,9 +93,10 @@ impl<'d, 't, 'j, L: Ledger, A: Ledger, S: Store, R: Wait> Beside
             place,
             journal,
             limit,
+            gate,
         } = self;
         let mut place = place;
-        let done = commit_beside(rt, desk, &mut place, journal, limit, started);
+        let done = commit_beside(rt, desk, &mut place, journal, limit, gate, started);
         Ended {
             journal,
             place,

@@ -70,6 +70,7 @@ fn run_threads<
         place,
         journal,
         limit,
+        gate,
     };
     let search = Search {
         rt,
