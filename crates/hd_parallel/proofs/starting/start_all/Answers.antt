@@ -19,7 +19,7 @@ loop-place-init g c =
     }
 
 pub start-requires-clause-job : goal.start-requires-clause-job
-start-requires-clause-job g c =
+start-requires-clause-job g c κs within =
     let steps = c.in-Some.ensures.steps in
     let was = c.loop-place.invariant in
     let numbered = numbered_same _ _ _ _ _ refl steps.0 was.numbered in
