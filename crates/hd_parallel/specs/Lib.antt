@@ -1,0 +1,3 @@
+pub mod Committing
+pub mod Fault
+pub mod Opening

@@ -1,0 +1,68 @@
+//! Why a search by threads ends without an answer.
+ghost use Rattle.std.specs.Prelude.{◌≡◌, ℕ, List, Some};
+ghost use Rattle.hd_task.specs.declared.task.Task.{Task};
+ghost use Rattle.hd_image.specs.declared.entry.Entry.{Entry};
+ghost use Rattle.hd_recovery.specs.Fault.{IsRefusal};
+ghost use Rattle.hd_search.specs.declared.fault.RunFault.TheVariants as faults;
+ghost use Rattle.hd_parallel.specs.Fault.{text_of, IsFaulty, IsOfWorker};
+ghost use Rattle.hd_parallel.specs.declared.fault.ThreadsFault.TheVariants.{Run};
+
+use hd_recovery::RecoverFault;
+use hd_search::RunFault;
+use std::alloc::AllocError;
+use std::fmt;
+use thiserror::Error;
+
+/// Why a search by threads ends without an answer.
+#[derive(Clone, Copy, Debug, PartialEq, Eq, Error)]
+pub enum ThreadsFault {
+    /// As a search on one thread.
+    Run(RunFault),
+    /// The system starts no thread.
+    NoThread,
+}
+
+impl fmt::Display for ThreadsFault {
+    ghost output = { λ fault. Some (text_of fault) };
+
+    fn fmt<W: fmt::Write>(&self, f: &mut fmt::Formatter<W>) -> fmt::Result {
+        match self {
+            ThreadsFault::Run(fault) => write!(f, "{fault}"),
+            ThreadsFault::NoThread => write!(f, "NoThread"),
+        }
+    }
+}
+
+impl From<AllocError> for ThreadsFault {
+    ghost from_gives = { λ _ fault. fault ≡ Run faults.NoMemory };
+
+    fn from(_error: AllocError) -> ThreadsFault {
+        ThreadsFault::Run(RunFault::NoMemory)
+    }
+}
+
+/// What is told of why no search goes on from entries.
+pub(crate) fn of_recovery(fault: RecoverFault) -> RunFault
+    ensures { (t : Task) (most : ℕ) (entries : List Entry) → IsRefusal t most entries fault
+        → IsFaulty t most entries result }
+{
+    match fault {
+        RecoverFault::Full => RunFault::Full,
+        RecoverFault::Damaged(at) => RunFault::Damaged(at),
+        RecoverFault::NoMemory => RunFault::NoMemory,
+    }
+}
+
+/// What is told of a worker's fault. No worker reads or writes the journal.
+pub(crate) fn of_worker(fault: RunFault) -> RunFault
+    ensures of_worker { IsOfWorker result }
+    ensures same { IsOfWorker fault → result ≡ fault }
+{
+    match fault {
+        RunFault::Full => RunFault::Full,
+        RunFault::NoMemory => RunFault::NoMemory,
+        RunFault::NotOut | RunFault::Damaged(_) | RunFault::Device | RunFault::Failed => {
+            RunFault::NotOut
+        }
+    }
+}

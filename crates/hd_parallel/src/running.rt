@@ -1,0 +1,194 @@
+//! A search by threads, from a journal's entries to the answer.
+ghost use Rattle.std.specs.Prelude.{◌≡◌, ◌<◌, ◌≤◌, IfOk, IfErr, OnOk};
+ghost use Rattle.hd_zobrist.specs.declared.owners.TheConstants.{MAX_WORKERS};
+ghost use Rattle.hd_journal.specs.Journal.{kids_of};
+ghost use Rattle.hd_entries.specs.Holding.{BeginsWith};
+ghost use Rattle.hd_search.specs.Searching.{Grows};
+ghost use Rattle.hd_threads.specs.Ending.{IsOutcomeOf, IsTrueOutcome, IsCountedBy};
+ghost use Rattle.hd_parallel.specs.Fault.{Stops, Tells};
+ghost use Rattle.hd_parallel.specs.Opening.{AreAt, CanCommit};
+
+use crate::ThreadsFault;
+use crate::committing::{Committer, Ended};
+use crate::opening::{CommitterPlace, Opened, open_search};
+use crate::scoping::{Search, run_in_scope};
+use hd_journal::Journal;
+use hd_store::Store;
+use hd_task::Task;
+use hd_threads::{Concluded, Desk, Gate, Workplace, answer};
+use std::alloc::Global;
+use std::marker::Brand;
+use std::sync::Wait;
+use std::sync::ledger::{Blank, Ledger};
+use std::thread::Threads;
+
+/// Does nothing. With it, what is written through a reference that came back is known of the one that was lent.
+fn take_back<T>(_journal: &mut T)
+    ensures { _journal.new ≡ _journal.old }
+{}
+
+/// Runs an opened search to its end: a thread for each place, and the committer in this one; then what the book says.
+///
+/// # Errors
+/// The committer's fault, else that of the least worker; `NoThread` where a thread does not start; `NotOut` where the book and the journal do not
+/// fit together; `NoMemory` where there is no room for a plan.
+fn run_opened<
+    't,
+    L: Ledger + Send + Sync,
+    A: Ledger + Send + Sync,
+    S: Store,
+    G: Gate + Sync,
+    R: Threads + Wait + Sync,
+>(
+    rt: &R,
+    alloc: Global,
+    task: &'t Task,
+    desk: &Desk<'t, L, A>,
+    place: CommitterPlace<'t, L, A>,
+    places: Vec<Workplace<'t, L, A>>,
+    journal: &mut Journal<S>,
+    together: usize,
+    limit: Option<u64>,
+    gate: &G,
+) -> Result<Concluded, ThreadsFault>
+    requires at { AreAt desk.now places.items }
+    requires committer { CanCommit task.now A.parts desk.now place (kids_of journal.old) }
+    ensures answer { IfOk result (λ e.
+        IsOutcomeOf task.now limit (kids_of journal.new) e.outcome) }
+    ensures truth { IfOk result (λ e. IsTrueOutcome task.now e.outcome) }
+    ensures counts { IfOk result (λ e. IsCountedBy (kids_of journal.new) e.outcome e.counts) }
+    ensures grows { OnOk result (Grows journal.old journal.new) }
+    ensures begins { BeginsWith (kids_of journal.new) (kids_of journal.old) }
+    ensures told { IfErr result (Stops journal.old journal.new) }
+{
+    let beside = Committer {
+        rt,
+        desk,
+        place,
+        journal,
+        limit,
+    };
+    let search = Search {
+        rt,
+        alloc,
+        desk,
+        places,
+        together,
+        limit,
+        gate,
+        beside,
+    };
+    let (ended, joined) = run_in_scope(rt, search);
+    let Ended {
+        journal,
+        place,
+        done,
+    } = ended;
+    take_back(journal);
+    if let Err(fault) = done {
+        return Err(ThreadsFault::Run(fault));
+    }
+    joined?;
+    let mut place = place;
+    match answer(rt, &desk.lock, &mut place.pass, journal, limit) {
+        Ok(concluded) => Ok(concluded),
+        Err(fault) => Err(ThreadsFault::Run(fault)),
+    }
+}
+
+/// The same as [`run`], where the commits are counted in one ledger, and the entries that are acknowledged in another.
+fn run_as<
+    L: Ledger + Send + Sync,
+    A: Ledger + Send + Sync,
+    S: Store,
+    G: Gate + Sync,
+    R: Threads + Wait + Sync,
+>(
+    rt: &R,
+    alloc: Global,
+    commits: Blank,
+    flushes: Blank,
+    task: &Task,
+    journal: &mut Journal<S>,
+    workers: usize,
+    together: usize,
+    limit: Option<u64>,
+    gate: &G,
+) -> Result<Concluded, ThreadsFault>
+    requires name { commits.name ≡ L.name }
+    requires parts { commits.parts ≡ L.parts }
+    requires enough { workers < L.parts }
+    requires flushes_name { flushes.name ≡ A.name }
+    requires flushes_parts { flushes.parts ≡ A.parts }
+    requires flushes_some { 0 < A.parts }
+    requires some { 1 ≤ workers }
+    requires few { workers ≤ MAX_WORKERS }
+    ensures answer { IfOk result (λ e.
+        IsOutcomeOf task.now limit (kids_of journal.new) e.outcome) }
+    ensures truth { IfOk result (λ e. IsTrueOutcome task.now e.outcome) }
+    ensures counts { IfOk result (λ e. IsCountedBy (kids_of journal.new) e.outcome e.counts) }
+    ensures grows { OnOk result (Grows journal.old journal.new) }
+    ensures begins { BeginsWith (kids_of journal.new) (kids_of journal.old) }
+    ensures told { IfErr result (Tells task.now journal.old journal.new) }
+{
+    match open_search::<L, A, S, R>(rt, alloc, commits, flushes, task, journal, workers) {
+        Ok(search) => {
+            let Opened {
+                desk,
+                place,
+                places,
+            } = search;
+            run_opened(
+                rt, alloc, task, &desk, place, places, journal, together, limit, gate,
+            )
+        }
+        Err(fault) => Err(ThreadsFault::Run(fault)),
+    }
+}
+
+/// Searches a task to the end by so many workers, each in a thread of its own, over a journal: the search goes on from the entries that the
+/// journal has, from the root where it has none. This thread appends the entries of the workers' batches to the journal, and what these
+/// lead to is open only then. Each worker has the states that it owns by their hashes, and sends what leads to others to their owners; it settles
+/// its best open nodes, `together` of them, before it commits their outcomes; the gate is called around each.
+///
+/// With a limit no batch is committed any more once there are so many entries, those that the journal had among them.
+///
+/// # Errors
+/// `Damaged` of the first entry of the journal that makes no legal list with those before it, and nothing is written then; `Full` where
+/// there are more entries than the journal may have, or would be; `NoThread` where the system starts no thread; the journal's own faults;
+/// `NoMemory`. The committer's fault is told before those of workers, and that of the least worker first. The journal has the
+/// entries that it had, and maybe more behind them: a later search goes on from there.
+pub fn run<S: Store, G: Gate + Sync, R: Threads + Wait + Sync>(
+    rt: &R,
+    alloc: Global,
+    task: &Task,
+    journal: &mut Journal<S>,
+    workers: usize,
+    together: usize,
+    limit: Option<u64>,
+    gate: &G,
+) -> Result<Concluded, ThreadsFault>
+    requires some { 1 ≤ workers }
+    requires few { workers ≤ MAX_WORKERS }
+    ensures answer { IfOk result (λ e.
+        IsOutcomeOf task.now limit (kids_of journal.new) e.outcome) }
+    ensures truth { IfOk result (λ e. IsTrueOutcome task.now e.outcome) }
+    ensures counts { IfOk result (λ e. IsCountedBy (kids_of journal.new) e.outcome e.counts) }
+    ensures grows { OnOk result (Grows journal.old journal.new) }
+    ensures begins { BeginsWith (kids_of journal.new) (kids_of journal.old) }
+    ensures told { IfErr result (Tells task.now journal.old journal.new) }
+{
+    let commits = Blank::new(workers as u64 + 1);
+    run_as::<Brand, Brand, S, G, R>(
+        rt,
+        alloc,
+        commits,
+        Blank::new(1),
+        task,
+        journal,
+        workers,
+        together,
+        limit,
+        gate,
+    )
+}

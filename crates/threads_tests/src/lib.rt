@@ -1,0 +1,11 @@
+//! Tests of searches by threads: hd_parallel, over hd_threads and hd_recovery.
+#![tactic(auto)]
+
+#[cfg(test)]
+mod devices;
+#[cfg(test)]
+mod gates;
+#[cfg(test)]
+mod rows;
+#[cfg(test)]
+mod tasks;
