@@ -2,37 +2,34 @@
 use crate::running::{cut_short, cut_short_by, grounded, run, solved, validated};
 use std::io;
 use std::test::Fail;
-use text_tests::samples::{G, G_PROBLEM, L, L_PROBLEM, U};
+use text_tests::samples::{G, G_PROBLEM, L, L_PROBLEM, N, N_PROBLEM, U};
 
 #[test]
 fn plans_are_printed(rt: HostRuntime) -> Result<(), Fail> {
     let alloc = rt.alloc();
-    let plan = solved(&rt, alloc, L, L_PROBLEM)?;
-    assert_eq!(rt;
-        plan.as_slice(),
-        b"0|(set-a)\n(set-b)\n; cost = 2\n|".as_slice()
-    );
-    let empty = solved(
-        &rt,
-        alloc,
-        L,
-        "(define (problem l1) (:domain l) (:init) (:goal (and)))",
-    )?;
-    assert_eq!(rt; empty.as_slice(), b"0|; cost = 0\n|".as_slice());
+    let without_set_a = "(define (domain l) (:predicates (a) (b))
+  (:action set-b :parameters () :precondition (a) :effect (b)))";
+    for (domain, problem, want) in [
+        (L, L_PROBLEM, "0|(set-a)\n(set-b)\n; cost = 2\n|"),
+        (
+            L,
+            "(define (problem l1) (:domain l) (:init) (:goal (and)))",
+            "0|; cost = 0\n|",
+        ),
+        (without_set_a, L_PROBLEM, "10||no plan\n"),
+        (
+            U,
+            "(define (problem u1) (:domain u) (:init (= (x) 1000000000000001)) (:goal (b)))",
+            "1||hplan: problem: 18 InitOutOfRange(47)\n",
+        ),
+    ] {
+        let found = solved(&rt, alloc, domain, problem)?;
+        assert_eq!(rt; found.as_slice(), want.as_bytes());
+    }
     let plan = solved(&rt, alloc, G, G_PROBLEM)?;
     let one_way = b"0|(put-a)\n(put-b)\n; cost = 2\n|".as_slice();
     let other_way = b"0|(put-b)\n(put-a)\n; cost = 2\n|".as_slice();
     assert!(rt; plan.as_slice() == one_way || plan.as_slice() == other_way);
-    Ok(())
-}
-
-#[test]
-fn no_plan_is_told(rt: HostRuntime) -> Result<(), Fail> {
-    let alloc = rt.alloc();
-    let domain = "(define (domain l) (:predicates (a) (b))
-  (:action set-b :parameters () :precondition (a) :effect (b)))";
-    let none = solved(&rt, alloc, domain, L_PROBLEM)?;
-    assert_eq!(rt; none.as_slice(), b"10||no plan\n".as_slice());
     Ok(())
 }
 
@@ -121,17 +118,6 @@ fn faults_of_the_problem_are_told(rt: HostRuntime) -> Result<(), Fail> {
 }
 
 #[test]
-fn first_values_are_checked_before_the_search(rt: HostRuntime) -> Result<(), Fail> {
-    let problem = "(define (problem u1) (:domain u) (:init (= (x) 1000000000000001)) (:goal (b)))";
-    let run = solved(&rt, rt.alloc(), U, problem)?;
-    assert_eq!(rt;
-        run.as_slice(),
-        b"1||hplan: problem: 18 InitOutOfRange(47)\n".as_slice()
-    );
-    Ok(())
-}
-
-#[test]
 fn faults_come_in_order(rt: HostRuntime) -> Result<(), Fail> {
     let alloc = rt.alloc();
     let twice = "(define (domain l) (:predicates (a) (a)) (:action s :parameters () :effect (c)))";
@@ -165,6 +151,22 @@ fn command_lines_are_tested(rt: HostRuntime) -> Result<(), Fail> {
         (
             ["solve", "d", "p", "--workers", "65"].as_slice(),
             "2||error: invalid value '65' for '--workers <N>': 65 is not in 1..=64\n",
+        ),
+        (
+            ["solve", "d", "p", "--limit", "0"].as_slice(),
+            "2||error: invalid value '0' for '--limit <N>': 0 is not in 1..=1099511627774\n",
+        ),
+        (
+            [
+                "resume",
+                "d",
+                "p",
+                "--journal",
+                "j",
+                "--limit=1099511627775",
+            ]
+            .as_slice(),
+            "2||error: invalid value '1099511627775' for '--limit <N>': 1099511627775 is not in 1..=",
         ),
         (["--version"].as_slice(), "0|hplan 0.1.0\n|"),
         (
@@ -237,10 +239,15 @@ fn an_output_without_memory_is_no_device_fault(rt: HostRuntime) -> Result<(), Fa
 /// Where a growth is refused, `NoMemory` is told, and else the answer: `rt try --test --fail-alloc N` refuses the N-th one.
 #[test]
 fn a_refused_growth_changes_no_answer(rt: HostRuntime) {
-    let undisturbed = b"0|(set-a)\n(set-b)\n; cost = 2\n|".as_slice();
     let refused = b"1||hplan: NoMemory\n".as_slice();
-    if let Ok(found) = solved(&rt, rt.alloc(), L, L_PROBLEM) {
-        assert!(rt; found.as_slice() == undisturbed || found.as_slice() == refused);
+    for (domain, problem, undisturbed) in [
+        (L, L_PROBLEM, "0|(set-a)\n(set-b)\n; cost = 2\n|"),
+        (N, N_PROBLEM, "0|(near)\n(join)\n(fin)\n; cost = 3\n|"),
+    ] {
+        if let Ok(found) = solved(&rt, rt.alloc(), domain, problem) {
+            let found = found.as_slice();
+            assert!(rt; found == undisturbed.as_bytes() || found == refused);
+        }
     }
 }
 

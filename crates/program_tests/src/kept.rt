@@ -137,9 +137,49 @@ fn a_file_that_is_not_empty_is_not_taken(rt: HostRuntime) -> Result<(), Fail> {
     Ok(())
 }
 
+/// Whether a search of so many workers stops at its limit behind the root's entry, and goes on from there with as many.
+fn stops_and_goes_on<R: Threads + Wait + Sync>(
+    rt: &R,
+    alloc: Global,
+    workers: &str,
+) -> Result<bool, AllocError> {
+    let files = [("d", L.as_bytes()), ("p", L_PROBLEM.as_bytes())];
+    let mut shelf = shelf_of(alloc, &files)?;
+    let [solve, domain, problem, journal, name] = BEGIN;
+    let words = [
+        solve,
+        domain,
+        problem,
+        journal,
+        name,
+        "--workers",
+        workers,
+        "--limit",
+        "1",
+    ];
+    let first = run_over(rt, alloc, &words, &mut shelf)?;
+    let root = joined(alloc, &[&WHOLE[..52], &[0]])?;
+    let stopped = (first, journal_on(alloc, &mut shelf));
+    let words = [
+        "resume",
+        domain,
+        problem,
+        journal,
+        name,
+        "--workers",
+        workers,
+    ];
+    let then = run_over(rt, alloc, &words, &mut shelf)?;
+    let whole = (then, journal_on(alloc, &mut shelf));
+    Ok(is(&stopped, b"12||stopped at the limit\n", &root) && is(&whole, PLAN, &WHOLE))
+}
+
 #[test]
-fn a_whole_journal_is_answered_again(rt: HostRuntime) -> Result<(), Fail> {
-    assert!(rt; is(&resumed(&rt, rt.alloc(), &WHOLE)?, PLAN, &WHOLE));
+fn a_search_that_stopped_at_its_limit_goes_on(rt: HostRuntime) -> Result<(), Fail> {
+    let alloc = rt.alloc();
+    for workers in ["1", "2", "64"] {
+        assert!(rt; stops_and_goes_on(&rt, alloc, workers)?, "at {workers}");
+    }
     Ok(())
 }
 
@@ -182,7 +222,9 @@ fn of_a_group_that_was_being_written_nothing_is_left(rt: HostRuntime) -> Result<
 }
 
 #[test]
-fn a_header_that_was_begun_is_made_again(rt: HostRuntime) -> Result<(), Fail> {
+fn a_header_that_was_begun_is_made_again_and_a_whole_journal_answered(
+    rt: HostRuntime,
+) -> Result<(), Fail> {
     let alloc = rt.alloc();
     for left in [
         b"".as_slice(),
@@ -190,6 +232,7 @@ fn a_header_that_was_begun_is_made_again(rt: HostRuntime) -> Result<(), Fail> {
         &[0x37],
         &[0, 0x48],
         &[0, 9, 9, 9, 9, 9, 9],
+        &WHOLE,
     ] {
         assert!(rt; is(&resumed(&rt, alloc, left)?, PLAN, &WHOLE));
     }

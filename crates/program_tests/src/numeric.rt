@@ -1,5 +1,5 @@
 //! What `solve` prints of tasks with types, objects and numbers. The answers were worked out by hand.
-use crate::running::solved;
+use crate::running::{run, solved};
 use std::alloc::{AllocError, Global};
 use std::sync::Wait;
 use std::test::Fail;
@@ -67,13 +67,32 @@ fn a_cost_may_depend_on_the_state(rt: HostRuntime) -> Result<(), Fail> {
     Ok(())
 }
 
+/// A search that stops at its limit prints the plan that it has found, which here is the shortest, and dearer.
 #[test]
 fn the_cheapest_way_is_not_the_shortest(rt: HostRuntime) -> Result<(), Fail> {
-    let run = solved(&rt, rt.alloc(), N, N_PROBLEM)?;
-    assert_eq!(rt;
-        run.as_slice(),
-        b"0|(near)\n(join)\n(fin)\n; cost = 3\n|".as_slice()
-    );
+    let alloc = rt.alloc();
+    let files = [("d", N.as_bytes()), ("p", N_PROBLEM.as_bytes())];
+    for (words, want) in [
+        (
+            ["solve", "d", "p"].as_slice(),
+            "0|(near)\n(join)\n(fin)\n; cost = 3\n|",
+        ),
+        (
+            ["solve", "d", "p", "--workers", "3"].as_slice(),
+            "0|(near)\n(join)\n(fin)\n; cost = 3\n|",
+        ),
+        (
+            ["solve", "d", "p", "--workers", "1", "--limit", "4"].as_slice(),
+            "12|(dear)\n(fin)\n; cost = 6\n|stopped at the limit\n",
+        ),
+        (
+            ["solve", "d", "p", "--limit", "4294967294"].as_slice(),
+            "0|(near)\n(join)\n(fin)\n; cost = 3\n|",
+        ),
+    ] {
+        let found = run(&rt, alloc, words, &files)?;
+        assert_eq!(rt; found.as_slice(), want.as_bytes());
+    }
     Ok(())
 }
 
