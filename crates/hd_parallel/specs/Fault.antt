@@ -1,5 +1,5 @@
 -- What the faults of a search by threads tell, and how they are printed. (Our own.)
-use Rattle.std.specs.Prelude.{◌≡◌, ◌⊎◌, ℕ, ◌<◌, ◌≤◌, true, false, List, length, codes}
+use Rattle.std.specs.Prelude.{◌≡◌, ◌⊎◌, ℕ, ◌<◌, ◌≤◌, true, false, List, length, codes, Result, Ok, Err}
 use Rattle.hd_task.specs.declared.task.Task.{Task}
 use Rattle.hd_store.specs.declared.store.Store.{Ghosts}
 use Rattle.hd_image.specs.declared.entry.Entry.{Entry}
@@ -10,6 +10,7 @@ use Rattle.hd_certify.specs.Error.{IsDamagedAt}
 use Rattle.hd_search.specs.declared.fault.RunFault.{RunFault}
 use Rattle.hd_search.specs.declared.fault.RunFault.TheVariants.{Full, Damaged, Device, Failed, NotOut, NoMemory}
 use Rattle.hd_search.specs.Fault as search
+use Rattle.hd_search.specs.Searching.{Grows}
 use Rattle.hd_parallel.specs.declared.fault.ThreadsFault.{ThreadsFault}
 use Rattle.hd_parallel.specs.declared.fault.ThreadsFault.TheVariants.{Run, NoThread}
 
@@ -41,20 +42,36 @@ abbrev pub IsOfThreads : ThreadsFault → Type 0
 IsOfThreads (Run fault) = IsOfWorker fault
 IsOfThreads NoThread = Unit {0}
 
--- what a fault tells by which a search stops whose threads run, of the journal before it and of the journal afterwards
+-- what is told of how the committer ended and of how the threads of workers did: the committer's fault, if it ended by one
+abbrev pub first_of : Result (Unit {0}) RunFault → Result (Unit {0}) ThreadsFault → Result (Unit {0}) ThreadsFault
+first_of (Ok done) threads = threads
+first_of (Err fault) threads = Err (Run fault)
+
+-- why a book has no answer, once all threads have ended: it is not at its end, or there is no memory for a plan
+abbrev pub IsOfAnswer : RunFault → Type 0
+IsOfAnswer Full = ⊥
+IsOfAnswer (Damaged at) = ⊥
+IsOfAnswer Device = ⊥
+IsOfAnswer Failed = ⊥
+IsOfAnswer NotOut = Unit {0}
+IsOfAnswer NoMemory = Unit {0}
+
+-- what a fault tells by which a search stops whose threads run, of the journal before it and of the journal afterwards. That there are too many
+-- entries is told by a worker alone, and only where the committer has ended without a fault
 abbrev pub StopsRunning : {S : Type 0} {G : Ghosts S} → Journal S G → Journal S G → RunFault → Type 0
-StopsRunning old new Full = Unit {0}
+StopsRunning old new Full = Grows old new
 StopsRunning old new (Damaged at) = ⊥
 StopsRunning old new Device = (old.failed ≡ false) × (new.failed ≡ true)
 StopsRunning old new Failed = (old.failed ≡ true) × (kids_of new ≡ kids_of old)
 StopsRunning old new NotOut = Unit {0}
 StopsRunning old new NoMemory = Unit {0}
 
+-- the same of each fault; that a thread does not start is told only where the committer has ended without a fault
 abbrev pub Stops : {S : Type 0} {G : Ghosts S} → Journal S G → Journal S G → ThreadsFault → Type 0
 Stops old new (Run fault) = StopsRunning old new fault
-Stops old new NoThread = Unit {0}
+Stops old new NoThread = Grows old new
 
 -- what a fault tells of a search by threads over a journal: it can't go on from the journal's entries, and nothing is written; or it stops later
 abbrev pub Tells : {S : Type 0} {G : Ghosts S} → Task → Journal S G → Journal S G → ThreadsFault → Type 0
 Tells t old new (Run fault) = ((new ≡ old) × IsFaulty t (most_of old.version) old.entries.items fault) ⊎ StopsRunning old new fault
-Tells t old new NoThread = Unit {0}
+Tells t old new NoThread = Grows old new

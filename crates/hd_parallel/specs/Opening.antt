@@ -1,5 +1,5 @@
 -- A search that is opened for its threads. (Our own; the search is HDA*, Kishimoto, Fukunaga and Botea 2013.)
-use Rattle.std.specs.Prelude.{◌≡◌, ℕ, ◌<◌, ◌≤◌, List, [], length, Some}
+use Rattle.std.specs.Prelude.{◌≡◌, ℕ, ◌+◌, ◌<◌, ◌≤◌, List, [], ◌∷◌, length, Some}
 use Rattle.std.specs.List.{AllByRecursion}
 use Rattle.crossbeam_queue.specs.Passes.{view}
 use Rattle.hd_task.specs.declared.task.Task.{Task}
@@ -37,15 +37,23 @@ pub record HasRoom {L A : Type 0} (t : Task) (log : List Kid) (d : Desk L A) (le
   pub parcels : r.hands.of ≡ t
   pub many : AllByRecursion (λ n. left < n) (parts_of r.hands)
 
--- each place is at the desk, and there is a mailbox for each, of as many as there may be
+-- the workers at places are those of so many whose numbers begin with this one, in order
+abbrev pub AreNumbered : {L A : Type 0} → ℕ → ℕ → List (Workplace L A) → Type 0
+AreNumbered from workers [] = Unit {0}
+AreNumbered from workers (p ∷ places) = (p.worker.id ≡ from) × (p.worker.workers ≡ workers) × AreNumbered (from + 1) workers places
+
+-- each place is at the desk, of the worker of its number, and there is a mailbox for each, of as many as there may be
 pub record AreAt {L A : Type 0} (d : Desk L A) (places : List (Workplace L A)) : Type 0 where
   pub each : AllByRecursion (IsAt d) places
+  pub numbered : AreNumbered 0 (length places) places
   pub boxes : length places ≡ length d.boxes
   pub few : length places ≤ MAX_WORKERS
 
--- a worker's place is at the desk, which has a mailbox for each of so many workers, of whom this is one
+-- a place is at the desk, which has a mailbox for each of so many workers, of whom the place's has this number
 pub record IsJob {L A : Type 0} (d : Desk L A) (p : Workplace L A) (id workers : ℕ) : Type 0 where
   pub at : IsAt d p
+  pub own : p.worker.id ≡ id
+  pub of : p.worker.workers ≡ workers
   pub there : id < workers
   pub few : workers ≤ MAX_WORKERS
   pub boxes : workers ≤ length d.boxes

@@ -49,6 +49,7 @@ pub(crate) struct Ended<'t, 'j, L: Ledger, A: Ledger, S: Store> {
 ///
 /// # Errors
 /// Those of a round.
+#[tactic(auto, using(crate::proofs::Stopping::along))]
 fn commit_beside<'t, L: Ledger, A: Ledger, S: Store, R: Wait>(
     rt: &R,
     desk: &Desk<'t, L, A>,
@@ -74,8 +75,7 @@ fn commit_beside<'t, L: Ledger, A: Ledger, S: Store, R: Wait>(
 }
 
 impl<'d, 't, 'j, L: Ledger, A: Ledger, S: Store, R: Wait> Beside
-    for Committer<'d, 't, 'j, L, A, S, R>
-{
+    for Committer<'d, 't, 'j, L, A, S, R> {
     type Output = Ended<'t, 'j, L, A, S>;
 
     ghost can_run = { λ c. CanRun A.parts c.desk.now c.place c.journal.now };

@@ -4,7 +4,7 @@ ghost use Rattle.hd_task.specs.declared.task.Task.{Task};
 ghost use Rattle.hd_image.specs.declared.entry.Entry.{Entry};
 ghost use Rattle.hd_recovery.specs.Fault.{IsRefusal};
 ghost use Rattle.hd_search.specs.declared.fault.RunFault.TheVariants as faults;
-ghost use Rattle.hd_parallel.specs.Fault.{text_of, IsFaulty, IsOfWorker};
+ghost use Rattle.hd_parallel.specs.Fault.{text_of, first_of, IsFaulty, IsOfWorker, IsOfAnswer};
 ghost use Rattle.hd_parallel.specs.declared.fault.ThreadsFault.TheVariants.{Run};
 
 use hd_recovery::RecoverFault;
@@ -64,5 +64,33 @@ pub(crate) fn of_worker(fault: RunFault) -> RunFault
         RunFault::NotOut | RunFault::Damaged(_) | RunFault::Device | RunFault::Failed => {
             RunFault::NotOut
         }
+    }
+}
+
+/// What is told of why a book has no answer, once all threads have ended. Nothing is written then.
+pub(crate) fn of_answer(fault: RunFault) -> RunFault
+    ensures of_answer { IsOfAnswer result }
+    ensures same { IsOfAnswer fault → result ≡ fault }
+{
+    match fault {
+        RunFault::NoMemory => RunFault::NoMemory,
+        RunFault::NotOut
+        | RunFault::Full
+        | RunFault::Damaged(_)
+        | RunFault::Device
+        | RunFault::Failed => RunFault::NotOut,
+    }
+}
+
+/// What is told first, of how the committer ended and of how the workers' threads did: the committer's fault.
+pub(crate) fn first_of(
+    committer: Result<(), RunFault>,
+    threads: Result<(), ThreadsFault>,
+) -> Result<(), ThreadsFault>
+    ensures { result ≡ first_of committer threads }
+{
+    match committer {
+        Ok(()) => threads,
+        Err(fault) => Err(ThreadsFault::Run(fault)),
     }
 }

@@ -1,11 +1,11 @@
 //! How a search is opened for its threads.
-ghost use Rattle.std.specs.Prelude.{◌≡◌, ◌+◌, ◌<◌, ◌≤◌, length, IfOk, IfErr, OnOk};
+ghost use Rattle.std.specs.Prelude.{◌≡◌, ℕ, ◌+◌, ◌<◌, ◌≤◌, List, map, length, IfOk, IfErr, OnOk};
 ghost use Rattle.std.specs.List.{AllByRecursion};
+ghost use Rattle.hd_task.specs.declared.plan.Kid.{Kid as KidRecord};
 ghost use Rattle.hd_zobrist.specs.declared.owners.TheConstants.{MAX_WORKERS};
 ghost use Rattle.hd_image.specs.Image.{most_of};
 ghost use Rattle.hd_journal.specs.Journal.{kids_of};
-ghost use Rattle.hd_book.specs.Steps.{resumed_book};
-ghost use Rattle.hd_bound.specs.Bound.{SeatView};
+ghost use Rattle.hd_recovery.specs.Recovered.{recovered_workers};
 ghost use Rattle.hd_threads.specs.Placing.{IsAt};
 ghost use Rattle.hd_parallel.specs.Fault.{IsFaulty};
 ghost use Rattle.hd_parallel.specs.Opening.{IsFresh, HasRoom, AreAt, CanCommit};
@@ -65,15 +65,14 @@ fn letter_of<'t>(alloc: Global, task: &'t Task) -> Result<Letter<'t>, NoMemory>
         action: ROOT_ACTION,
     };
     let initial = task.initial.copied(alloc)?;
-    Ok(Letter::of(Parcel::of(
-        alloc, task, &words, root, initial, 0,
-    )?))
+    Ok(Letter::of(Parcel::of(alloc, task, &words, root, initial, 0)?))
 }
 
 /// What threads share of a book, with so many mailboxes; the whole of what a book's committer has; and the rest.
 ///
 /// # Errors
 /// `NoMemory` where there is no room for it.
+#[tactic(auto, using(crate::proofs::Parts::all_many))]
 fn desk_of<'t, L: Ledger, A: Ledger, R: Wait>(
     rt: &R,
     alloc: Global,
@@ -114,6 +113,7 @@ fn desk_of<'t, L: Ledger, A: Ledger, R: Wait>(
 ///
 /// # Errors
 /// `NoMemory` where there is no room for it.
+#[tactic(auto, using(crate::proofs::Parts::all_shareable, crate::proofs::Seating::at_place, crate::proofs::Seating::room_after))]
 fn place_of<'t, L: Ledger, A: Ledger>(
     alloc: Global,
     task: &'t Task,
@@ -122,9 +122,12 @@ fn place_of<'t, L: Ledger, A: Ledger>(
     worker: Worker<'t>,
 ) -> Result<Workplace<'t, L, A>, NoMemory>
     requires fresh { IsFresh task.now worker }
-    requires room { (log : _) × (left : _) × HasRoom task.now log desk.now (left + 1) rest.old }
+    requires room { (log : List KidRecord) × (left : ℕ)
+        × HasRoom task.now log desk.now (left + 1) rest.old }
     ensures at { IfOk result (IsAt desk.now) }
-    ensures room { (log : _) (left : _) → HasRoom task.now log desk.now (left + 1) rest.old
+    ensures worker { IfOk result (λ p. p.worker ≡ worker.entry) }
+    ensures room { (log : List KidRecord) (left : ℕ)
+        → HasRoom task.now log desk.now (left + 1) rest.old
         → OnOk result (HasRoom task.now log desk.now left rest.new) }
 {
     let lookup = Lookup::of(alloc, task)?;
@@ -151,10 +154,12 @@ fn places_of<'t, L: Ledger, A: Ledger>(
     workers: Vec<Worker<'t>>,
 ) -> Result<Vec<Workplace<'t, L, A>>, NoMemory>
     requires fresh { AllByRecursion (IsFresh task.now) workers.items }
-    requires room { (log : _) × HasRoom task.now log desk.now (length workers.items) rest.old }
+    requires room { (log : List KidRecord)
+        × HasRoom task.now log desk.now (length workers.items) rest.old }
     ensures at { IfOk result (λ ps. AllByRecursion (IsAt desk.now) ps.items) }
-    ensures count { IfOk result (λ ps. length ps.items ≡ length workers.entry.items) }
-    ensures room { (log : _) → HasRoom task.now log desk.now (length workers.entry.items) rest.old
+    ensures workers { IfOk result (λ ps. map (λ p. p.worker) ps.items ≡ workers.entry.items) }
+    ensures room { (log : List KidRecord)
+        → HasRoom task.now log desk.now (length workers.entry.items) rest.old
         → OnOk result (HasRoom task.now log desk.now 0 rest.new) }
 {
     let mut places = Vec::with_capacity(alloc, workers.len())?;
@@ -189,6 +194,8 @@ pub(crate) fn open_search<'t, L: Ledger, A: Ledger, S: Store, R: Wait>(
     ensures at { IfOk result (λ o. AreAt o.desk o.places.items) }
     ensures committer { IfOk result (λ o.
         CanCommit task.now A.parts o.desk o.place (kids_of journal.now)) }
+    ensures workers { IfOk result (λ o. map (λ p. p.worker) o.places.items
+        ≡ recovered_workers task.now (kids_of journal.now) workers) }
     ensures told { IfErr result
         (IsFaulty task.now (most_of journal.now.version) journal.now.entries.items) }
 {
@@ -201,9 +208,7 @@ pub(crate) fn open_search<'t, L: Ledger, A: Ledger, S: Store, R: Wait>(
         workers,
     );
     match recovered {
-        Ok(recovered) => Ok(opened_from(
-            rt, alloc, flushes, task, recovered, workers,
-        )?),
+        Ok(recovered) => Ok(opened_from(rt, alloc, flushes, task, recovered, workers)?),
         Err(fault) => Err(of_recovery(fault)),
     }
 }
@@ -212,6 +217,7 @@ pub(crate) fn open_search<'t, L: Ledger, A: Ledger, S: Store, R: Wait>(
 ///
 /// # Errors
 /// `NoMemory` where there is no room for what they share.
+#[tactic(auto, using(crate::proofs::Places::fresh_all, crate::proofs::Places::length_all, crate::proofs::Places::opened_at))]
 fn opened_from<'t, L: Ledger, A: Ledger, R: Wait>(
     rt: &R,
     alloc: Global,
@@ -226,13 +232,15 @@ fn opened_from<'t, L: Ledger, A: Ledger, R: Wait>(
     requires few { workers ≤ MAX_WORKERS }
     requires enough { workers < recovered.share.parts }
     requires task { recovered.book.state.task ≡ task.now }
-    requires fresh { AllByRecursion (IsFresh task.now) recovered.workers.items }
-    requires count { length recovered.workers.items ≡ workers }
+    requires workers { recovered.workers.items
+        ≡ recovered_workers task.now recovered.book.state.entries workers }
     requires acknowledged { recovered.book.batches.queue.acknowledged
         ≡ length recovered.book.state.entries }
     ensures at { IfOk result (λ o. AreAt o.desk o.places.items) }
     ensures committer { IfOk result (λ o.
         CanCommit task.now A.parts o.desk o.place recovered.entry.book.state.entries) }
+    ensures workers { IfOk result (λ o. map (λ p. p.worker) o.places.items
+        ≡ recovered_workers task.now recovered.entry.book.state.entries workers) }
 {
     let Recovered {
         book,

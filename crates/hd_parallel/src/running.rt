@@ -1,15 +1,19 @@
 //! A search by threads, from a journal's entries to the answer.
 ghost use Rattle.std.specs.Prelude.{◌≡◌, ◌<◌, ◌≤◌, IfOk, IfErr, OnOk};
 ghost use Rattle.hd_zobrist.specs.declared.owners.TheConstants.{MAX_WORKERS};
+ghost use Rattle.crossbeam_queue.specs.Passes.{view};
+ghost use Rattle.hd_desk.specs.Passes.{IsOutside};
 ghost use Rattle.hd_journal.specs.Journal.{kids_of};
-ghost use Rattle.hd_entries.specs.Holding.{BeginsWith};
+ghost use Rattle.hd_desk.specs.Views.{BeginsWith};
 ghost use Rattle.hd_search.specs.Searching.{Grows};
 ghost use Rattle.hd_threads.specs.Ending.{IsOutcomeOf, IsTrueOutcome, IsCountedBy};
+ghost use Rattle.hd_parallel.specs.Committing.{CanRun};
 ghost use Rattle.hd_parallel.specs.Fault.{Stops, Tells};
 ghost use Rattle.hd_parallel.specs.Opening.{AreAt, CanCommit};
 
 use crate::ThreadsFault;
 use crate::committing::{Committer, Ended};
+use crate::fault::{first_of, of_answer};
 use crate::opening::{CommitterPlace, Opened, open_search};
 use crate::scoping::{Search, run_in_scope};
 use hd_journal::Journal;
@@ -27,12 +31,13 @@ fn take_back<T>(_journal: &mut T)
     ensures { _journal.new ≡ _journal.old }
 {}
 
-/// Runs an opened search to its end: a thread for each place, and the committer in this one; then what the book says.
+/// Runs an opened search until all its threads have ended: a thread for each place, and the committer in this one. With the committer's place
+/// comes what is told first of how they ended.
 ///
 /// # Errors
-/// The committer's fault, else that of the least worker; `NoThread` where a thread does not start; `NotOut` where the book and the journal do not
-/// fit together; `NoMemory` where there is no room for a plan.
-fn run_opened<
+/// The committer's fault, else that of the least worker; `NoThread` where a thread does not start.
+#[tactic(auto, using(crate::proofs::Stopping::first_stops, crate::proofs::Stopping::first_grows))]
+fn run_threads<
     't,
     L: Ledger + Send + Sync,
     A: Ledger + Send + Sync,
@@ -42,7 +47,6 @@ fn run_opened<
 >(
     rt: &R,
     alloc: Global,
-    task: &'t Task,
     desk: &Desk<'t, L, A>,
     place: CommitterPlace<'t, L, A>,
     places: Vec<Workplace<'t, L, A>>,
@@ -50,16 +54,15 @@ fn run_opened<
     together: usize,
     limit: Option<u64>,
     gate: &G,
-) -> Result<Concluded, ThreadsFault>
+) -> (CommitterPlace<'t, L, A>, Result<(), ThreadsFault>)
     requires at { AreAt desk.now places.items }
-    requires committer { CanCommit task.now A.parts desk.now place (kids_of journal.old) }
-    ensures answer { IfOk result (λ e.
-        IsOutcomeOf task.now limit (kids_of journal.new) e.outcome) }
-    ensures truth { IfOk result (λ e. IsTrueOutcome task.now e.outcome) }
-    ensures counts { IfOk result (λ e. IsCountedBy (kids_of journal.new) e.outcome e.counts) }
-    ensures grows { OnOk result (Grows journal.old journal.new) }
+    requires can { CanRun A.parts desk.now place journal.old }
+    ensures outside { IsOutside desk.now.lock.place result.0.pass }
+    ensures task { (view result.0.pass).seen.task ≡ (view place.entry.pass).seen.task }
+    ensures log { BeginsWith (view result.0.pass).seen.log (kids_of journal.new) }
     ensures begins { BeginsWith (kids_of journal.new) (kids_of journal.old) }
-    ensures told { IfErr result (Stops journal.old journal.new) }
+    ensures grows { OnOk result.1 (Grows journal.old journal.new) }
+    ensures told { IfErr result.1 (Stops journal.old journal.new) }
 {
     let beside = Committer {
         rt,
@@ -85,18 +88,60 @@ fn run_opened<
         done,
     } = ended;
     take_back(journal);
-    if let Err(fault) = done {
-        return Err(ThreadsFault::Run(fault));
-    }
-    joined?;
+    (place, first_of(done, joined))
+}
+
+/// Runs an opened search to its end; then says what the book says.
+///
+/// # Errors
+/// Those of the threads; `NotOut` where the book and the journal do not fit together; `NoMemory` where there is no room for a plan.
+#[tactic(auto, using(crate::proofs::Stopping::can_run, crate::proofs::Stopping::answer_stops))]
+fn run_opened<
+    't,
+    L: Ledger + Send + Sync,
+    A: Ledger + Send + Sync,
+    S: Store,
+    G: Gate + Sync,
+    R: Threads + Wait + Sync,
+>(
+    rt: &R,
+    alloc: Global,
+    task: &'t Task,
+    search: Opened<'t, L, A>,
+    journal: &mut Journal<S>,
+    together: usize,
+    limit: Option<u64>,
+    gate: &G,
+) -> Result<Concluded, ThreadsFault>
+    requires at { AreAt search.desk search.places.items }
+    requires committer { CanCommit task.now A.parts search.desk search.place (kids_of journal.old) }
+    ensures answer { IfOk result (λ e.
+        IsOutcomeOf task.now limit (kids_of journal.new) e.outcome) }
+    ensures truth { IfOk result (λ e. IsTrueOutcome task.now e.outcome) }
+    ensures counts { IfOk result (λ e. IsCountedBy (kids_of journal.new) e.outcome e.counts) }
+    ensures grows { OnOk result (Grows journal.old journal.new) }
+    ensures begins { BeginsWith (kids_of journal.new) (kids_of journal.old) }
+    ensures told { IfErr result (Stops journal.old journal.new) }
+{
+    let _ = task;
+    let Opened {
+        desk,
+        place,
+        places,
+    } = search;
+    let (place, done) = run_threads(
+        rt, alloc, &desk, place, places, journal, together, limit, gate,
+    );
+    done?;
     let mut place = place;
     match answer(rt, &desk.lock, &mut place.pass, journal, limit) {
         Ok(concluded) => Ok(concluded),
-        Err(fault) => Err(ThreadsFault::Run(fault)),
+        Err(fault) => Err(ThreadsFault::Run(of_answer(fault))),
     }
 }
 
 /// The same as [`run`], where the commits are counted in one ledger, and the entries that are acknowledged in another.
+#[tactic(auto, using(crate::proofs::Stopping::tells_later, crate::proofs::Stopping::tells_faulty))]
 fn run_as<
     L: Ledger + Send + Sync,
     A: Ledger + Send + Sync,
@@ -132,16 +177,7 @@ fn run_as<
     ensures told { IfErr result (Tells task.now journal.old journal.new) }
 {
     match open_search::<L, A, S, R>(rt, alloc, commits, flushes, task, journal, workers) {
-        Ok(search) => {
-            let Opened {
-                desk,
-                place,
-                places,
-            } = search;
-            run_opened(
-                rt, alloc, task, &desk, place, places, journal, together, limit, gate,
-            )
-        }
+        Ok(search) => run_opened(rt, alloc, task, search, journal, together, limit, gate),
         Err(fault) => Err(ThreadsFault::Run(fault)),
     }
 }

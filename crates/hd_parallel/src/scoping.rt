@@ -80,10 +80,7 @@ pub(crate) fn run_in_scope<
     R: Threads + Wait + Sync,
     W: Beside<Output = T> + Drop,
     T,
->(
-    rt: &R,
-    search: Search<'d, 't, L, A, G, R, W>,
-) -> (T, Result<(), ThreadsFault>)
+>(rt: &R, search: Search<'d, 't, L, A, G, R, W>) -> (T, Result<(), ThreadsFault>)
     requires can { W.can_run search.beside }
     requires at { AreAt search.desk.now search.places.items }
     ensures gives { W.run_gives search.entry.beside result.0 }

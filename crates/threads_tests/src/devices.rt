@@ -4,7 +4,7 @@ ghost use Rattle.std.specs.Prelude.{◌≤◌, ◌<◌};
 use crate::rows::{Says, said};
 use crate::tasks::{DIGEST, task};
 use hd_journal::{Journal, JournalError};
-use hd_parallel::{OpenGate, Outcome, ThreadsFault, run};
+use hd_parallel::{OpenGate, ThreadsFault, run};
 use hd_search::RunFault;
 use hd_store::MemoryDisk;
 use hd_task::Task;
@@ -44,31 +44,63 @@ fn go_on<R: Threads + Wait + Sync>(
     }
 }
 
+/// What happens in a call of the device.
+#[derive(Clone, Copy)]
+enum Event {
+    /// It fails, and the next one does not.
+    Failure,
+    /// The machine stops, and each byte that is not sure reads this afterwards.
+    Stop(u8),
+}
+
+const EVENTS: [Event; 4] = [
+    Event::Failure,
+    Event::Stop(0),
+    Event::Stop(1),
+    Event::Stop(0x37),
+];
+
+/// A search by two workers in whose n-th write, cut or sync this happens; what is left when it is used again, and whether it happened.
+fn broken_off<R: Threads + Wait + Sync>(
+    rt: &R,
+    alloc: Global,
+    task: &Task,
+    event: Event,
+    n: u64,
+) -> Result<(MemoryDisk, bool), Fail>
+    requires { 0 < n }
+{
+    let mut disk = MemoryDisk::new(alloc);
+    match event {
+        Event::Failure => disk.fail_at(n),
+        Event::Stop(_) => disk.stop_at(n),
+    }
+    let (disk, says) = go_on(rt, alloc, task, disk, 2)?;
+    let mut disk = disk;
+    if let Event::Stop(fill) = event {
+        disk.settle(fill)?;
+    }
+    Ok((disk, says.is_none()))
+}
+
+/// More calls than the device has in any search of the task: a journal is made by six, and a group takes four.
+const CALLS: u64 = 40;
+
 #[test]
 fn searches_go_on_behind_each_failing_call(rt: HostRuntime) -> Result<(), Fail> {
     let alloc = rt.alloc();
     let task = task(&rt, alloc, N, N_PROBLEM);
-    let mut failed = 0u64;
-    for fill in [0u8, 1, 0x37] {
-        for n in 1..60u64 {
-            let mut disk = MemoryDisk::new(alloc);
-            if fill == 0x37 {
-                disk.fail_at(n);
-            } else {
-                disk.stop_at(n);
-            }
-            let (disk, says) = go_on(&rt, alloc, &task, disk, 2)?;
-            if says.is_none() {
-                failed = failed.wrapping_add(1);
-            }
-            let mut disk = disk;
-            if fill != 0x37 {
-                disk.settle(fill)?;
+    for event in EVENTS {
+        let mut broken = 0u64;
+        for n in 1..=CALLS {
+            let (disk, happened) = broken_off(&rt, alloc, &task, event, n)?;
+            if happened {
+                broken = broken.wrapping_add(1);
             }
             let (_, says) = go_on(&rt, alloc, &task, disk, 3)?;
             assert!(rt; says == Some(Says::Optimal(3)), "at {n}");
         }
+        assert!(rt; 10 <= broken && broken < CALLS);
     }
-    assert!(rt; failed > 20);
     Ok(())
 }

@@ -5,7 +5,6 @@ use crate::rows::{Says, said};
 use crate::tasks::{journal_on, task};
 use hd_parallel::{Gate, run};
 use hd_store::MemoryDisk;
-use hd_zobrist::Words;
 use std::sync::Wait;
 use std::sync::atomic::{AtomicU64, Ordering};
 use std::test::Fail;
@@ -99,7 +98,11 @@ impl Gate for Counting {
         if self.inside[worker].fetch_add(1, Ordering::SeqCst) != 0 {
             self.faults.fetch_add(1, Ordering::SeqCst);
         }
-        if self.calls[worker].fetch_add(1, Ordering::SeqCst).wrapping_add(1) != nth {
+        if self.calls[worker]
+            .fetch_add(1, Ordering::SeqCst)
+            .wrapping_add(1)
+            != nth
+        {
             self.faults.fetch_add(1, Ordering::SeqCst);
         }
         if nth == 1 {

@@ -6,7 +6,6 @@ use hd_parallel::{Concluded, OpenGate, Outcome, ThreadsFault, run};
 use hd_store::MemoryDisk;
 use hd_task::Task;
 use std::alloc::Global;
-use std::process::Abort;
 use std::sync::Wait;
 use std::test::Fail;
 use std::thread::Threads;
@@ -59,7 +58,14 @@ pub fn searched<R: Threads + Wait + Sync>(
 {
     let mut journal = journal_on(alloc, disk)?;
     let came = run(
-        rt, alloc, task, &mut journal, workers, together, limit, &OpenGate,
+        rt,
+        alloc,
+        task,
+        &mut journal,
+        workers,
+        together,
+        limit,
+        &OpenGate,
     );
     Ok((journal.into_store(), came))
 }

@@ -1,0 +1,87 @@
+-- What is told where a search by threads stops.
+use Rattle.std.proofs.Common.{◌≡◌, ◌⊎◌, inl, inr, ℕ, List, [], ◌++◌, Result, Ok, Err, refl, sym, ap, subst, ◌∙◌, append-nil}
+use Rattle.std.specs.Prelude.{OnOk, IfErr}
+use Rattle.crossbeam_queue.specs.Passes.{view}
+use Rattle.hd_task.specs.declared.task.Task.{Task}
+use Rattle.hd_task.specs.declared.plan.Kid.{Kid}
+use Rattle.hd_store.specs.declared.store.Store.{Ghosts}
+use Rattle.hd_image.specs.Image.{most_of}
+use Rattle.hd_journal.specs.declared.journal.Journal.{Journal}
+use Rattle.hd_journal.specs.Journal.{kids_of}
+use Rattle.hd_search.specs.declared.fault.RunFault.{RunFault}
+use Rattle.hd_search.specs.declared.fault.RunFault.TheVariants.{Full, Damaged, Device, Failed, NotOut, NoMemory}
+use Rattle.hd_search.specs.Searching.{Grows}
+use Rattle.hd_desk.specs.Views.{BeginsWith}
+use Rattle.hd_threads.specs.declared.placing.Desk.{Desk}
+use Rattle.hd_threads.specs.Committing.{StopsLater}
+use Rattle.hd_threads.proofs.Begins.{begins_along}
+use Rattle.hd_parallel.specs.declared.fault.ThreadsFault.{ThreadsFault}
+use Rattle.hd_parallel.specs.declared.fault.ThreadsFault.TheVariants.{Run, NoThread}
+use Rattle.hd_parallel.specs.declared.opening.CommitterPlace.{CommitterPlace}
+use Rattle.hd_parallel.specs.Committing.{CanRun}
+use Rattle.hd_parallel.specs.Fault.{first_of, IsFaulty, IsOfThreads, IsOfAnswer, StopsRunning, Stops, Tells}
+use Rattle.hd_parallel.specs.Opening.{CanCommit}
+
+module _ {S : Type 0} {G : Ghosts S} (old new : Journal S G) where
+  -- a committer's fault
+  committer_stops : (fault : RunFault) → StopsLater old new fault → StopsRunning old new fault
+  committer_stops Full told = absurd told
+  committer_stops (Damaged at) told = told
+  committer_stops Device told = told
+  committer_stops Failed told = told
+  committer_stops NotOut told = tt
+  committer_stops NoMemory told = tt
+
+  -- a fault of the threads, where the committer has ended without one
+  threads_stop : (fault : ThreadsFault) → Grows old new → IsOfThreads fault → Stops old new fault
+  threads_stop NoThread grows told = grows
+  threads_stop (Run Full) grows told = grows
+  threads_stop (Run (Damaged at)) grows told = told
+  threads_stop (Run Device) grows told = absurd told
+  threads_stop (Run Failed) grows told = absurd told
+  threads_stop (Run NotOut) grows told = tt
+  threads_stop (Run NoMemory) grows told = tt
+
+  -- what is told first stands
+  pub first_stops : (done : Result (Unit {0}) RunFault) (joined : Result (Unit {0}) ThreadsFault) → OnOk done (Grows old new) → IfErr done (StopsLater old new) → IfErr joined IsOfThreads → IfErr (first_of done joined) (Stops old new)
+  first_stops (Ok d) (Ok j) grows told threads = tt
+  first_stops (Ok d) (Err fault) grows told threads = threads_stop fault grows threads
+  first_stops (Err fault) joined grows told threads = committer_stops fault told
+
+  -- where nothing is told the committer has ended without a fault
+  pub first_grows : (done : Result (Unit {0}) RunFault) (joined : Result (Unit {0}) ThreadsFault) → OnOk done (Grows old new) → OnOk (first_of done joined) (Grows old new)
+  first_grows (Ok d) (Ok j) grows = grows
+  first_grows (Ok d) (Err fault) grows = tt
+  first_grows (Err fault) joined grows = tt
+
+  -- a book has no answer
+  pub answer_stops : (fault : RunFault) → IsOfAnswer fault → StopsRunning old new fault
+  answer_stops Full told = absurd told
+  answer_stops (Damaged at) told = told
+  answer_stops Device told = absurd told
+  answer_stops Failed told = absurd told
+  answer_stops NotOut told = tt
+  answer_stops NoMemory told = tt
+
+  -- a search stops later
+  pub tells_later : (t : Task) (fault : ThreadsFault) → Stops old new fault → Tells t old new fault
+  tells_later t NoThread told = told
+  tells_later t (Run fault) told = inr told
+
+-- a search can't go on from entries, and nothing is written
+pub tells_faulty : {S : Type 0} {G : Ghosts S} (journal : Journal S G) (t : Task) (fault : RunFault) → IsFaulty t (most_of journal.version) journal.entries.items fault → Tells t journal journal (Run fault)
+tells_faulty journal t fault told = inl (refl, told)
+
+-- the committer of a search that is opened from a journal's entries can run
+pub can_run : {L A S : Type 0} {G : Ghosts S} (t : Task) (parts : ℕ) (d : Desk L A) (c : CommitterPlace L A) (journal : Journal S G) → CanCommit t parts d c (kids_of journal) → CanRun parts d c journal
+can_run t parts d c journal can = record {
+  outside = can.outside;
+  whole = can.whole;
+  some = can.some;
+  begins = ([], can.seen.log ∙ sym (append-nil (kids_of journal)));
+  counted = can.counted;
+}
+
+-- a log that begins with one that begins with another begins with that
+pub along : (a b c : List Kid) → BeginsWith a b → BeginsWith b c → BeginsWith a c
+along a b c p q = begins_along a b c p q
