@@ -20,7 +20,7 @@ unlent store.Failed of = of
 
 unsolved : (start : Start) (t : Task) (digest before after : List ℕ) (f : Fault) → HasNoSolution start t digest before after f → ¬ IsOfTexts f
 unsolved start t digest before after f OfMemory of = of
-unsolved start t digest before after f OfThreads of = of
+unsolved start t digest before after f (OfThreads kept) of = of
 unsolved start t digest before after f (OfFile error told) of = of
 unsolved start t digest before after f (OfEntry at faulty) of = of
 unsolved start t digest before after f (OfSearch fault told) of = of

@@ -1,7 +1,7 @@
 -- From what is told of a journal to what is told of the file that holds it.
 use Rattle.std.proofs.Common.{◌≡◌, inl, inr, ℕ, ◌+◌, true, false, Ok, Err, Option, List, [], ◌∷◌, ◌++◌, map, length, refl, sym, ap, ◌∙◌, subst, IfSome}
 use Rattle.std.specs.Prelude.{Result, IfOk, IfErr, OnOk}
-use Rattle.std.proofs.lemmas.List.{map-append}
+use Rattle.std.proofs.lemmas.List.{append-nil, map-append}
 use Rattle.std.proofs.lemmas.Option.{none-some}
 use Rattle.hd_task.specs.declared.task.Task.{Task}
 use Rattle.hd_task.specs.declared.plan.Kid.{Kid}
@@ -10,7 +10,7 @@ use Rattle.hd_store.specs.Device.{Device, content_of}
 use Rattle.hd_image.specs.declared.version.Version.{Version}
 use Rattle.hd_image.specs.declared.entry.Entry.{Entry}
 use Rattle.hd_image.specs.declared.header.TheConstants.{FIRST_GATE}
-use Rattle.hd_image.specs.Image.{opened, entry_width, entries_of, entries_in}
+use Rattle.hd_image.specs.Image.{most_of, opened, entry_width, entries_of, entries_in}
 use Rattle.hd_journal.specs.declared.error.JournalError.{JournalError}
 use Rattle.hd_journal.specs.declared.error.JournalError.TheVariants as journal
 use Rattle.hd_journal.specs.declared.journal.Journal as of
@@ -32,7 +32,7 @@ use Rattle.hplan.specs.Fault.{journal_in, run_in, search_in}
 use Rattle.hplan.specs.declared.told.Told.{Told}
 use Rattle.hplan.specs.Answer.{IsSolution, IsKeptSolution}
 use Rattle.hplan.specs.PlanText.{printed}
-use Rattle.hplan.specs.Kept.{FailsIn, InMemory, InFile, IsJournalOf, IsKept, TellsOfFile, StandThere, HasFaultyEntry, TellsOfSearch, HasNoSolution, OfMemory, OfThreads, OfFile, OfEntry, OfSearch, IsBegun, IsRefusedRun}
+use Rattle.hplan.specs.Kept.{FailsIn, InMemory, InFile, IsJournalOf, IsKept, AreKept, TellsOfFile, StandThere, HasFaultyEntry, TellsOfSearch, HasNoSolution, OfMemory, OfThreads, OfFile, OfEntry, OfSearch, IsBegun, IsRefusedRun}
 
 -- ---- a journal that is not begun
 
@@ -118,10 +118,26 @@ module _ {S : Type 0} {G : Ghosts S} where
       let stays : content_of (device_of old) ≡ after = subst (λ (j : of.Journal S G). content_of (device_of j) ≡ after) same left in
       (old.entries.items, there, faulty, subst (IsJournalOf digest (kids_of old)) stays (journal_by digest begun.0.0 old begun.0.1))
 
+  -- the entries that a journal has then are kept
+  are_kept : (start : Start) (digest before after : List ℕ) (old new : of.Journal S G) → IsBegun start digest before old → Grows old new
+      → content_of (device_of new) ≡ after → AreKept start digest before after
+  are_kept start digest before after old new begun grows left =
+      (kids_of new, subst (IsKept start digest (kids_of new) before) left (is_kept start digest before old new begun grows))
+
+  stays : (old new : of.Journal S G) → new ≡ old → Grows old new
+  stays old new same = subst (Grows old) (sym same) (record {
+    version = refl;
+    begins = ([], sym (append-nil (kids_of old)));
+    failed = refl;
+    stuck = λ _. refl;
+    groups = λ digest groups is. ([], subst (λ (gs : List (List Kid)). IsOf digest gs old) (sym (append-nil groups)) is);
+  })
+
   refused_first : (start : Start) (t : Task) (digest before after : List ℕ) (old new : of.Journal S G) (why : RunFault)
       → IsBegun start digest before old → new ≡ old → content_of (device_of new) ≡ after → IsFaulty t (most_of old.version) old.entries.items why
       → HasNoSolution start t digest before after (run_in why)
-  refused_first start t digest before after old new searching.Full begun same left k = OfSearch searching.Full tt
+  refused_first start t digest before after old new searching.Full begun same left k =
+      OfSearch searching.Full (are_kept start digest before after old new begun (stays old new same) left)
   refused_first start t digest before after old new (searching.Damaged at) begun same left k =
       OfEntry at (faulty_entry start t digest before after old new at begun same left k.1)
   refused_first start t digest before after old new searching.Device begun same left k = absurd (k)
@@ -129,23 +145,25 @@ module _ {S : Type 0} {G : Ghosts S} where
   refused_first start t digest before after old new searching.NotOut begun same left k = absurd (k)
   refused_first start t digest before after old new searching.NoMemory begun same left k = OfMemory
 
-  stopped : (start : Start) (t : Task) (digest before after : List ℕ) (old new : of.Journal S G) (why : RunFault) → old.failed ≡ false
-      → StopsRunning old new why → HasNoSolution start t digest before after (run_in why)
-  stopped start t digest before after old new searching.Full running k = OfSearch searching.Full tt
-  stopped start t digest before after old new (searching.Damaged at) running k = absurd (k)
-  stopped start t digest before after old new searching.Device running k = OfSearch searching.Device tt
-  stopped start t digest before after old new searching.Failed running k = let no : false ≡ true = sym running ∙ k.0 in absurd (cc)
-  stopped start t digest before after old new searching.NotOut running k = OfSearch searching.NotOut tt
-  stopped start t digest before after old new searching.NoMemory running k = OfMemory
+  stopped : (start : Start) (t : Task) (digest before after : List ℕ) (old new : of.Journal S G) (why : RunFault)
+      → IsBegun start digest before old → content_of (device_of new) ≡ after → StopsRunning old new why
+      → HasNoSolution start t digest before after (run_in why)
+  stopped start t digest before after old new searching.Full begun left k =
+      OfSearch searching.Full (are_kept start digest before after old new begun k left)
+  stopped start t digest before after old new (searching.Damaged at) begun left k = absurd (k)
+  stopped start t digest before after old new searching.Device begun left k = OfSearch searching.Device tt
+  stopped start t digest before after old new searching.Failed begun left k =
+      let no : false ≡ true = sym (runs_on start digest before old begun) ∙ k.0 in absurd (cc)
+  stopped start t digest before after old new searching.NotOut begun left k = OfSearch searching.NotOut tt
+  stopped start t digest before after old new searching.NoMemory begun left k = OfMemory
 
   told_by : (start : Start) (t : Task) (digest before after : List ℕ) (old new : of.Journal S G) (why : ThreadsFault)
       → IsBegun start digest before old → content_of (device_of new) ≡ after → Tells t old new why
       → HasNoSolution start t digest before after (search_in why)
   told_by start t digest before after old new (threads.Run why) begun left (inl k) =
       refused_first start t digest before after old new why begun k.0 left k.1
-  told_by start t digest before after old new (threads.Run why) begun left (inr k) =
-      stopped start t digest before after old new why (runs_on start digest before old begun) k
-  told_by start t digest before after old new threads.NoThread begun left k = OfThreads
+  told_by start t digest before after old new (threads.Run why) begun left (inr k) = stopped start t digest before after old new why begun left k
+  told_by start t digest before after old new threads.NoThread begun left k = OfThreads (are_kept start digest before after old new begun k left)
 
   pub refused_run : (start : Start) (t : Task) (digest before after : List ℕ) (old new : of.Journal S G) (f : Fault)
       → IsBegun start digest before old → content_of (device_of new) ≡ after → IsRefusedRun t old new f

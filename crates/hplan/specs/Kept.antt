@@ -82,24 +82,28 @@ HasFaultyEntry New t digest before after at = ⊥
 HasFaultyEntry Kept t digest before after at =
     (entries : List Entry) × StandThere digest before entries × IsDamagedAt t entries at × IsJournalOf digest (map kid_of entries) after
 
--- what a fault of the search itself may be: the journal has no room for the entries of one batch more; the device failed; or what the
--- threads share did not fit together. No other is told
-abbrev pub TellsOfSearch : RunFault → Type 0
-TellsOfSearch searching.Full = Unit {0}
-TellsOfSearch (searching.Damaged at) = ⊥
-TellsOfSearch searching.Device = Unit {0}
-TellsOfSearch searching.Failed = ⊥
-TellsOfSearch searching.NotOut = Unit {0}
-TellsOfSearch searching.NoMemory = ⊥
+-- some entries are kept in a file
+abbrev pub AreKept : Start → List ℕ → List ℕ → List ℕ → Type 0
+AreKept start digest before after = (kids : List Kid) × IsKept start digest kids before after
 
--- why the search of a task over a file has no answer: memory ran out; a thread did not start; or what is told of the file, of an entry in
--- it, or of the search
+-- what a fault of the search itself may be: the journal has no room for the entries of one batch more, and those that it has are kept; the
+-- device failed; or what the threads share did not fit together. No other is told
+abbrev pub TellsOfSearch : Start → List ℕ → List ℕ → List ℕ → RunFault → Type 0
+TellsOfSearch start digest before after searching.Full = AreKept start digest before after
+TellsOfSearch start digest before after (searching.Damaged at) = ⊥
+TellsOfSearch start digest before after searching.Device = Unit {0}
+TellsOfSearch start digest before after searching.Failed = ⊥
+TellsOfSearch start digest before after searching.NotOut = Unit {0}
+TellsOfSearch start digest before after searching.NoMemory = ⊥
+
+-- why the search of a task over a file has no answer: memory ran out; a thread did not start, and the entries that there are are kept; or
+-- what is told of the file, of an entry in it, or of the search
 pub data HasNoSolution (start : Start) (t : Task) (digest before after : List ℕ) : Fault → Type 0 where
   OfMemory : HasNoSolution start t digest before after NoMemory
-  OfThreads : HasNoSolution start t digest before after NoThread
+  OfThreads : AreKept start digest before after → HasNoSolution start t digest before after NoThread
   OfFile : (error : JournalError) → TellsOfFile start digest before after error → HasNoSolution start t digest before after (Journal error)
   OfEntry : (at : ℕ) → HasFaultyEntry start t digest before after at → HasNoSolution start t digest before after (Search (searching.Damaged at))
-  OfSearch : (fault : RunFault) → TellsOfSearch fault → HasNoSolution start t digest before after (Search fault)
+  OfSearch : (fault : RunFault) → TellsOfSearch start digest before after fault → HasNoSolution start t digest before after (Search fault)
 
 -- ---- where a search is kept
 
