@@ -1,20 +1,30 @@
 -- What a request keeps. (Our own.)
-use Rattle.std.specs.Prelude.{ℕ, ◌≤◌}
+use Rattle.std.specs.Prelude.{ℕ, ◌≤◌, IfSome}
 use Rattle.hd_words.specs.declared.request.Request.{Request}
 use Rattle.hd_words.specs.declared.request.Request.TheVariants.{Solve, Resume, Certify, Migrate, Inspect, Survey, Ground, Validate}
-use Rattle.hd_words.specs.declared.request.TheConstants.{MAX_WORKERS}
+use Rattle.hd_words.specs.declared.request.Search.{Search}
+use Rattle.hd_words.specs.declared.request.TheConstants.{MAX_WORKERS, MAX_LIMIT}
 
 -- a number of workers
 abbrev pub IsWorkers : ℕ → Type 0
 IsWorkers workers = (1 ≤ workers) × (workers ≤ MAX_WORKERS)
 
--- the number of workers of a search is one of 1 to 64; nothing else has workers
-abbrev pub HasWorkers : Request → Type 0
-HasWorkers (Solve domain problem journal workers) = IsWorkers workers
-HasWorkers (Resume domain problem journal workers) = IsWorkers workers
-HasWorkers (Certify domain problem journal) = Unit {0}
-HasWorkers (Migrate domain problem journal to) = Unit {0}
-HasWorkers (Inspect journal) = Unit {0}
-HasWorkers (Survey domain problem journal) = Unit {0}
-HasWorkers (Ground domain problem) = Unit {0}
-HasWorkers (Validate domain problem plan explain) = Unit {0}
+-- a number of expansions that a search stops at
+abbrev pub IsLimit : ℕ → Type 0
+IsLimit limit = (1 ≤ limit) × (limit ≤ MAX_LIMIT)
+
+-- a search has 1 to 64 workers, and where it has a limit, one of 1 to 2^40 - 2
+pub record IsSearchOf (s : Search) : Type 0 where
+  pub workers : IsWorkers s.workers
+  pub limit : IfSome s.limit IsLimit
+
+-- a request to solve or to resume is of such a search; no other has one
+abbrev pub IsWithin : Request → Type 0
+IsWithin (Solve domain problem journal search) = IsSearchOf search
+IsWithin (Resume domain problem journal search) = IsSearchOf search
+IsWithin (Certify domain problem journal) = Unit {0}
+IsWithin (Migrate domain problem journal to) = Unit {0}
+IsWithin (Inspect journal) = Unit {0}
+IsWithin (Survey domain problem journal) = Unit {0}
+IsWithin (Ground domain problem) = Unit {0}
+IsWithin (Validate domain problem plan explain) = Unit {0}

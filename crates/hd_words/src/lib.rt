@@ -6,4 +6,4 @@ mod line;
 mod request;
 
 pub use error::WordsError;
-pub use request::{MAX_WORKERS, Request, read_words};
+pub use request::{MAX_LIMIT, MAX_WORKERS, Request, Search, read_words};

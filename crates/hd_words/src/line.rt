@@ -16,6 +16,7 @@ Exit status: 0 a plan of least cost is printed: it is valid, and no valid plan c
   10 `no plan` is told: there is none, of any length;
   11 a number left the range from -10^15 to 10^15, and where it did is told: a plan that is printed is valid, but nothing is
      said of other plans, so one of them may cost less;
+  12 `stopped at the limit`: a plan that is printed is valid, but nothing is said of other plans; `resume` goes on with a journal;
   1 a refusal, told on one line: nothing is printed, or a beginning of the plan where the output fails;
   2 the command line is at fault.";
 
@@ -23,7 +24,7 @@ Exit status: 0 a plan of least cost is printed: it is valid, and no valid plan c
 const RESUME_HELP: &str = "\
 Goes on with the search of the same two files that `solve --journal` began, from what its journal holds, and answers as `solve`
 does. Of what was being written when it stopped nothing is left, or the whole. A journal that is whole is answered at once.
-Exit status: 0, 10 and 11 as of `solve`;
+Exit status: 0, 10, 11 and 12 as of `solve`;
   1 a refusal, told on one line: the journal is not there, or is one of other files, or damaged, or in use; or as of `solve`;
   2 the command line is at fault.";
 
@@ -85,9 +86,20 @@ fn workers<'a>(alloc: Global) -> Arg<'a> {
     Arg::new(alloc, "workers")
         .long("workers")
         .value_name("N")
-        .help("How many threads may search, 1 to 64; so far one does, whatever N is")
+        .help("How many threads search, 1 to 64")
         .value_parser(clap::value_parser!(u32).range(1..=64))
         .default_value("4")
+}
+
+/// The number of expansions that the search stops at; none where it is not given.
+fn limit<'a>(alloc: Global) -> Arg<'a> {
+    Arg::new(alloc, "limit")
+        .long("limit")
+        .value_name("N")
+        .help(
+            "Stops once the journal has N expansions, those before a `resume` counted; by default not",
+        )
+        .value_parser(clap::value_parser!(u64).range(1..=1_099_511_627_774))
 }
 
 /// A command that reads a domain and a problem.
@@ -106,7 +118,7 @@ fn journal<'a>(alloc: Global, help: &'a str, required: bool) -> Arg<'a> {
         .required(required)
 }
 
-/// `solve DOMAIN PROBLEM [--journal FILE] [--workers N]`.
+/// `solve DOMAIN PROBLEM [--journal FILE] [--workers N] [--limit N]`.
 fn solve<'a>(alloc: Global) -> Result<Command<'a>, AllocError> {
     of_task(alloc, "solve")?
         .about("Prints a plan of least cost")
@@ -116,16 +128,18 @@ fn solve<'a>(alloc: Global) -> Result<Command<'a>, AllocError> {
             "The file to keep the search in; in memory if not given",
             false,
         ))?
-        .arg(workers(alloc))
+        .arg(workers(alloc))?
+        .arg(limit(alloc))
 }
 
-/// `resume DOMAIN PROBLEM --journal FILE [--workers N]`.
+/// `resume DOMAIN PROBLEM --journal FILE [--workers N] [--limit N]`.
 fn resume<'a>(alloc: Global) -> Result<Command<'a>, AllocError> {
     of_task(alloc, "resume")?
         .about("Goes on with a search that was stopped")
         .after_help(RESUME_HELP)
         .arg(journal(alloc, "The file that the search is kept in", true))?
-        .arg(workers(alloc))
+        .arg(workers(alloc))?
+        .arg(limit(alloc))
 }
 
 /// `certify DOMAIN PROBLEM --journal FILE`.

@@ -1,6 +1,6 @@
 //! What a command line asks for.
 ghost use Rattle.std.specs.Prelude.{◌≤◌, IfOk, IfSome};
-ghost use Rattle.hd_words.specs.Request.{HasWorkers, IsWorkers};
+ghost use Rattle.hd_words.specs.Request.{IsSearchOf, IsWithin, IsWorkers};
 
 use crate::error::WordsError;
 use crate::line::command_line;
@@ -10,6 +10,18 @@ use std::alloc::{AllocError, Global};
 
 /// The greatest number of workers.
 pub const MAX_WORKERS: u32 = 64;
+
+/// The greatest number of expansions that a search may be asked to stop at.
+pub const MAX_LIMIT: u64 = 1_099_511_627_774;
+
+/// How a search goes: by how many workers, and at how many expansions it stops, if at any.
+#[derive(Clone, Copy, Debug, PartialEq, Eq)]
+pub struct Search {
+    /// From 1 to [`MAX_WORKERS`].
+    pub workers: u32,
+    /// From 1 to [`MAX_LIMIT`].
+    pub limit: Option<u64>,
+}
 
 /// What a command line asks for.
 #[derive(Debug, PartialEq, Eq, Drop)]
@@ -22,8 +34,8 @@ pub enum Request {
         problem: String,
         /// The name of the file to keep the search in; in memory if none.
         journal: Option<String>,
-        /// From 1 to [`MAX_WORKERS`].
-        workers: u32,
+        /// How it goes.
+        search: Search,
     },
     /// To go on with a search that was stopped.
     Resume {
@@ -33,8 +45,8 @@ pub enum Request {
         problem: String,
         /// The name of the file that the search is kept in.
         journal: String,
-        /// From 1 to [`MAX_WORKERS`].
-        workers: u32,
+        /// How it goes.
+        search: Search,
     },
     /// To tell what a journal shows by itself.
     Certify {
@@ -113,6 +125,24 @@ fn workers_in(found: &ArgMatches<'_>) -> Option<u32>
     Some(workers)
 }
 
+/// How a search is to go, if its number of workers is one of 1 to 64, and its limit, where it has one, one of 1 to [`MAX_LIMIT`].
+fn search_in(found: &ArgMatches<'_>) -> Option<Search>
+    ensures { IfSome result IsSearchOf }
+{
+    let workers = workers_in(found)?;
+    match found.get_one::<u64>("limit") {
+        None => Some(Search {
+            workers,
+            limit: None,
+        }),
+        Some(limit) if limit < 1 || limit > MAX_LIMIT => None,
+        Some(limit) => Some(Search {
+            workers,
+            limit: Some(limit),
+        }),
+    }
+}
+
 /// A text that may be there, as one of its own.
 fn owned(alloc: Global, text: Option<&str>) -> Result<Option<String>, AllocError> {
     match text {
@@ -128,16 +158,16 @@ fn solve_request(
     problem: &str,
     found: &ArgMatches<'_>,
 ) -> Result<Option<Request>, AllocError>
-    ensures { IfOk result (λ found. IfSome found HasWorkers) }
+    ensures { IfOk result (λ found. IfSome found IsWithin) }
 {
-    let Some(workers) = workers_in(found) else {
+    let Some(search) = search_in(found) else {
         return Ok(None);
     };
     Ok(Some(Request::Solve {
         domain: String::from_str(alloc, domain)?,
         problem: String::from_str(alloc, problem)?,
         journal: owned(alloc, found.get_str("journal"))?,
-        workers,
+        search,
     }))
 }
 
@@ -148,16 +178,16 @@ fn resume_request(
     problem: &str,
     found: &ArgMatches<'_>,
 ) -> Result<Option<Request>, AllocError>
-    ensures { IfOk result (λ found. IfSome found HasWorkers) }
+    ensures { IfOk result (λ found. IfSome found IsWithin) }
 {
-    let (Some(journal), Some(workers)) = (found.get_str("journal"), workers_in(found)) else {
+    let (Some(journal), Some(search)) = (found.get_str("journal"), search_in(found)) else {
         return Ok(None);
     };
     Ok(Some(Request::Resume {
         domain: String::from_str(alloc, domain)?,
         problem: String::from_str(alloc, problem)?,
         journal: String::from_str(alloc, journal)?,
-        workers,
+        search,
     }))
 }
 
@@ -168,7 +198,7 @@ fn certify_request(
     problem: &str,
     journal: Option<&str>,
 ) -> Result<Option<Request>, AllocError>
-    ensures { IfOk result (λ found. IfSome found HasWorkers) }
+    ensures { IfOk result (λ found. IfSome found IsWithin) }
 {
     let Some(journal) = journal else {
         return Ok(None);
@@ -187,7 +217,7 @@ fn migrate_request(
     problem: &str,
     found: &ArgMatches<'_>,
 ) -> Result<Option<Request>, AllocError>
-    ensures { IfOk result (λ found. IfSome found HasWorkers) }
+    ensures { IfOk result (λ found. IfSome found IsWithin) }
 {
     let (Some(journal), Some(to)) = (found.get_str("journal"), found.get_str("to")) else {
         return Ok(None);
@@ -208,7 +238,7 @@ fn validate_request(
     plan: Option<&str>,
     explain: bool,
 ) -> Result<Option<Request>, AllocError>
-    ensures { IfOk result (λ found. IfSome found HasWorkers) }
+    ensures { IfOk result (λ found. IfSome found IsWithin) }
 {
     let Some(plan) = plan else {
         return Ok(None);
@@ -223,7 +253,7 @@ fn validate_request(
 
 /// The request to inspect, if its journal is named, and both files of a task or neither.
 fn inspect_request(alloc: Global, found: &ArgMatches<'_>) -> Result<Option<Request>, AllocError>
-    ensures { IfOk result (λ found. IfSome found HasWorkers) }
+    ensures { IfOk result (λ found. IfSome found IsWithin) }
 {
     let Some(journal) = owned(alloc, found.get_str("journal"))? else {
         return Ok(None);
@@ -245,7 +275,7 @@ fn named_request(
     name: &str,
     found: &ArgMatches<'_>,
 ) -> Result<Option<Request>, AllocError>
-    ensures { IfOk result (λ found. IfSome found HasWorkers) }
+    ensures { IfOk result (λ found. IfSome found IsWithin) }
 {
     if name == "inspect" {
         return inspect_request(alloc, found);
@@ -272,7 +302,7 @@ fn named_request(
 
 /// The request that `clap`'s matches are, if they are one.
 fn request_of(alloc: Global, matches: &ArgMatches<'_>) -> Result<Option<Request>, AllocError>
-    ensures { IfOk result (λ found. IfSome found HasWorkers) }
+    ensures { IfOk result (λ found. IfSome found IsWithin) }
 {
     match matches.subcommand() {
         Some((name, below)) => named_request(alloc, name, below),
@@ -286,7 +316,7 @@ fn request_of(alloc: Global, matches: &ArgMatches<'_>) -> Result<Option<Request>
 /// The text to show, where the words ask for help or the version; the text of the fault, where they are no request; or
 /// `NoMemory`.
 pub fn read_words<'a>(alloc: Global, words: &'a [String]) -> Result<Request, WordsError>
-    ensures { IfOk result HasWorkers }
+    ensures { IfOk result IsWithin }
 {
     let command = command_line(alloc)?;
     match command.try_get_matches_from(words) {
@@ -294,7 +324,7 @@ pub fn read_words<'a>(alloc: Global, words: &'a [String]) -> Result<Request, Wor
             Some(request) => Ok(request),
             None => Err(WordsError::Fault(String::from_str(
                 alloc,
-                "error: the files of the command, and 1 to 64 workers, are wanted\n",
+                "error: the files of the command, 1 to 64 workers, and a limit of 1 at least are wanted\n",
             )?)),
         },
         Err(error) => Err(refusal_of(alloc, error)),

@@ -1,15 +1,15 @@
 -- What is written of an answer is a file of a valid plan.
-use Rattle.std.proofs.Common.{◌≡◌, ◌⊎◌, inl, inr, ℕ, List, [], Some, None, sym, ap, ◌∙◌, subst}
+use Rattle.std.proofs.Common.{◌≡◌, ◌⊎◌, inl, inr, ℕ, List, [], Option, Some, None, sym, ap, ◌∙◌, subst}
 use Rattle.hd_lifted.specs.declared.task.LiftedTask.{LiftedTask}
 use Rattle.hd_lifted.specs.Plans as plans
 use Rattle.hd_plan.specs.Text.{ReadsAs}
 use Rattle.hd_plan.proofs.Written.{plan_text_reads}
 use Rattle.hd_task.specs.declared.task.Task.{Task}
 use Rattle.hd_task.specs.Plans.{start}
-use Rattle.hd_entries.specs.declared.verdict.Verdict.{Verdict}
-use Rattle.hd_entries.specs.declared.verdict.Verdict.TheVariants.{Optimal, NoPlan, RangeLeft}
+use Rattle.hd_threads.specs.declared.ending.Outcome.{Outcome}
+use Rattle.hd_threads.specs.declared.ending.Outcome.TheVariants.{Optimal, NoPlan, RangeLeft, Stopped}
+use Rattle.hd_threads.specs.Ending.{IsOutcomeOf}
 use Rattle.hd_task.specs.declared.plan.Kid.{Kid}
-use Rattle.hd_search.specs.Answer.{IsAnswerOf}
 use Rattle.hd_texts.specs.Tasks.{IsTaskOf}
 use Rattle.hd_transfer.specs.Instances.{plan_of}
 use Rattle.hd_transfer.proofs.Runs.{all_named, valid_there}
@@ -78,51 +78,58 @@ record IsOfSound (t : Task) (text : List ℕ) : Type 0 where
   sound : IsSound t plan
   is : text ≡ plan_text t plan
 
-sound_in : (t : Task) (kids : List Kid) (v : Verdict) (text : List ℕ) → IsAnswerOf t kids v → text ≡ written_of t v → (text ≡ []) ⊎ IsOfSound t text
-sound_in t kids (Optimal p) text a is = inr (record { plan = p; sound = bound_plan_sound t a.expanded p a.answer.legal a.answer.answers.1; is = is })
-sound_in t kids NoPlan text a is = inl is
-sound_in t kids (RangeLeft d None) text a is = inl is
-sound_in t kids (RangeLeft d (Some p)) text a is = inr (record { plan = p; sound = bound_plan_sound t a.expanded p a.answer.legal a.answer.answers.1; is = is })
+sound_in : (t : Task) (limit : Option ℕ) (kids : List Kid) (o : Outcome) (text : List ℕ) → IsOutcomeOf t limit kids o → text ≡ written_of t o
+    → (text ≡ []) ⊎ IsOfSound t text
+sound_in t limit kids (Optimal p) text a is =
+    inr (record { plan = p; sound = bound_plan_sound t a.expanded p a.answer.legal a.answer.answers.1; is = is })
+sound_in t limit kids NoPlan text a is = inl is
+sound_in t limit kids (RangeLeft d None) text a is = inl is
+sound_in t limit kids (RangeLeft d (Some p)) text a is =
+    inr (record { plan = p; sound = bound_plan_sound t a.expanded p a.answer.legal a.answer.answers.1; is = is })
+sound_in t limit kids (Stopped None) text a is = inl is
+sound_in t limit kids (Stopped (Some p)) text a is =
+    inr (record { plan = p; sound = bound_plan_sound t a.expanded p a.legal a.plan; is = is })
 
 -- where the answer ends with an optimal plan
 record IsOfBest (l : LiftedTask) (t : Task) (text : List ℕ) : Type 0 where
   of : IsOfSound t text
   best : plans.IsOptimal l (plan_of t of.plan)
 
-best_in : (l : LiftedTask) (t : Task) (kids : List Kid) (v : Verdict) (text : List ℕ) → IsAnswerOf t kids v → IsTrueOfDomain l t v → text ≡ written_of t v
-    → Ending.Optimal ≡ ending_of t v → IsOfBest l t text
-best_in l t kids (Optimal p) text a best is ends = record {
+best_in : (l : LiftedTask) (t : Task) (limit : Option ℕ) (kids : List Kid) (o : Outcome) (text : List ℕ) → IsOutcomeOf t limit kids o
+    → IsTrueOfDomain l t o → text ≡ written_of t o → Ending.Optimal ≡ ending_of t o → IsOfBest l t text
+best_in l t limit kids (Optimal p) text a best is ends = record {
   of = record { plan = p; sound = bound_plan_sound t a.expanded p a.answer.legal a.answer.answers.1; is = is };
   best = best;
 }
-best_in l t kids NoPlan text a best is ends = absurd (cc)
-best_in l t kids (RangeLeft d p) text a best is ends = absurd (cc)
+best_in l t limit kids NoPlan text a best is ends = absurd (cc)
+best_in l t limit kids (RangeLeft d p) text a best is ends = absurd (cc)
+best_in l t limit kids (Stopped p) text a best is ends = absurd (cc)
 
-module _ (domain problem text : List ℕ) where
-  of_answer : (P : List ℕ → Type 0) (ending : Ending) (s : IsSolved domain problem ending text)
+module _ (limit : Option ℕ) (domain problem text : List ℕ) where
+  of_answer : (P : List ℕ → Type 0) (ending : Ending) (s : IsSolved limit domain problem ending text)
       → ((p : List ℕ) → IsSound s.task p → P (plan_text s.task p)) → (text ≡ []) ⊎ P text
   of_answer P ending s holds =
-      elim (sound_in s.task s.kids s.solution.verdict text s.solution.is_answer s.solution.text) [
+      elim (sound_in s.task limit s.kids s.solution.outcome text s.solution.is_outcome s.solution.text) [
         | inl none ↦ inl none
         | inr k ↦ inr (subst P (sym k.is) (holds k.plan k.sound))
       ]
 
-  pub answer_validated : (ending : Ending) → IsSolved domain problem ending text → (text ≡ []) ⊎ IsValidatedFile domain problem text
+  pub answer_validated : (ending : Ending) → IsSolved limit domain problem ending text → (text ≡ []) ⊎ IsValidatedFile domain problem text
   answer_validated ending s = of_answer (IsValidatedFile domain problem) ending s (validated_file domain problem s.task s.is_task)
 
-  pub answer_valid : (ending : Ending) → IsSolved domain problem ending text → (text ≡ []) ⊎ IsFileOfValid domain problem text
+  pub answer_valid : (ending : Ending) → IsSolved limit domain problem ending text → (text ≡ []) ⊎ IsFileOfValid domain problem text
   answer_valid ending s = of_answer (IsFileOfValid domain problem) ending s (valid_file domain problem s.task s.is_task)
 
-  best_of : (s : IsSolved domain problem Ending.Optimal text) → IsOfBest s.is_task.lifted s.task text
+  best_of : (s : IsSolved limit domain problem Ending.Optimal text) → IsOfBest s.is_task.lifted s.task text
   best_of s =
-      best_in s.is_task.lifted s.task s.kids s.solution.verdict text s.solution.is_answer s.is_true_of_domain s.solution.text s.solution.ends
+      best_in s.is_task.lifted s.task limit s.kids s.solution.outcome text s.solution.is_outcome s.is_true_of_domain s.solution.text s.solution.ends
 
-  pub optimal_validated : IsSolved domain problem Ending.Optimal text → IsValidatedFile domain problem text
+  pub optimal_validated : IsSolved limit domain problem Ending.Optimal text → IsValidatedFile domain problem text
   optimal_validated s =
       let k = best_of s in
       subst (IsValidatedFile domain problem) (sym k.of.is) (validated_file domain problem s.task s.is_task k.of.plan k.of.sound)
 
-  pub optimal_valid : IsSolved domain problem Ending.Optimal text → IsFileOfOptimal domain problem text
+  pub optimal_valid : IsSolved limit domain problem Ending.Optimal text → IsFileOfOptimal domain problem text
   optimal_valid s =
       let k = best_of s in
       subst (IsFileOfOptimal domain problem) (sym k.of.is) (optimal_file domain problem s.task s.is_task k.of.plan k.of.sound k.best)

@@ -1,7 +1,7 @@
 -- From what is told of a journal to what is told of the file that holds it.
-use Rattle.std.proofs.Common.{◌≡◌, inl, inr, ℕ, ◌+◌, true, false, Ok, Err, Option, List, [], ◌∷◌, ◌++◌, map, length, refl, sym, ap, ◌∙◌, subst, IfSome, arith, ◌<◌}
+use Rattle.std.proofs.Common.{◌≡◌, inl, inr, ℕ, ◌+◌, true, false, Ok, Err, Option, List, [], ◌∷◌, ◌++◌, map, length, refl, sym, ap, ◌∙◌, subst, IfSome}
 use Rattle.std.specs.Prelude.{Result, IfOk, IfErr, OnOk}
-use Rattle.std.proofs.lemmas.List.{map-append, length-map}
+use Rattle.std.proofs.lemmas.List.{append-nil, map-append}
 use Rattle.std.proofs.lemmas.Option.{none-some}
 use Rattle.hd_task.specs.declared.task.Task.{Task}
 use Rattle.hd_task.specs.declared.plan.Kid.{Kid}
@@ -20,16 +20,19 @@ use Rattle.hd_migrate.specs.Copy.{kids_in}
 use Rattle.hd_entries.specs.Holding.{BeginsWith}
 use Rattle.hd_search.specs.declared.fault.RunFault.{RunFault}
 use Rattle.hd_search.specs.declared.fault.RunFault.TheVariants as searching
-use Rattle.hd_search.specs.Fault.{IsDamagedAt, IsFaulty, Stops, Tells}
+use Rattle.hd_certify.specs.Error.{IsDamagedAt}
+use Rattle.hd_parallel.specs.declared.fault.ThreadsFault.{ThreadsFault}
+use Rattle.hd_parallel.specs.declared.fault.ThreadsFault.TheVariants as threads
+use Rattle.hd_parallel.specs.Fault.{IsFaulty, StopsRunning, Tells}
 use Rattle.hd_search.specs.Searching.{Grows}
 use Rattle.hplan.specs.declared.fault.Fault.{Fault}
 use Rattle.hplan.specs.declared.kept.Start.{Start}
 use Rattle.hplan.specs.declared.kept.Start.TheVariants.{New, Kept}
-use Rattle.hplan.specs.Fault.{journal_in, search_in}
+use Rattle.hplan.specs.Fault.{journal_in, run_in, search_in}
 use Rattle.hplan.specs.declared.told.Told.{Told}
 use Rattle.hplan.specs.Answer.{IsSolution, IsKeptSolution}
 use Rattle.hplan.specs.PlanText.{printed}
-use Rattle.hplan.specs.Kept.{FailsIn, InMemory, InFile, IsJournalOf, IsKept, TellsOfFile, StandThere, HasFaultyEntry, TellsOfSearch, HasNoSolution, OfMemory, OfFile, OfEntry, OfSearch, IsBegun, IsRefusedRun}
+use Rattle.hplan.specs.Kept.{FailsIn, InMemory, InFile, IsJournalOf, IsKept, AreKept, TellsOfFile, StandThere, HasFaultyEntry, TellsOfSearch, HasNoSolution, OfMemory, OfThreads, OfFile, OfEntry, OfSearch, IsBegun, IsRefusedRun}
 
 -- ---- a journal that is not begun
 
@@ -61,7 +64,7 @@ kids_of_groups v gate (kids ∷ groups) =
 
 -- no entries, no faulty one
 none_faulty : (t : Task) (entries : List Entry) (at : ℕ) → entries ≡ [] → ¬ IsDamagedAt t entries at
-none_faulty t [] at is k = none-some (k.number, k.why) k.first
+none_faulty t [] at is k = none-some at k.place
 none_faulty t (entry ∷ entries) at is k = absurd (cc)
 
 module _ {S : Type 0} {G : Ghosts S} where
@@ -115,39 +118,52 @@ module _ {S : Type 0} {G : Ghosts S} where
       let stays : content_of (device_of old) ≡ after = subst (λ (j : of.Journal S G). content_of (device_of j) ≡ after) same left in
       (old.entries.items, there, faulty, subst (IsJournalOf digest (kids_of old)) stays (journal_by digest begun.0.0 old begun.0.1))
 
-  -- a journal that has too many entries has no room for a batch more
-  too_many : (old : of.Journal S G) → most_of old.version < length old.entries.items → TellsOfSearch searching.Full
-  too_many old many =
-      let same : length (kids_of old) ≡ length old.entries.items = length-map old.entries.items kid_of in
-      (old.version, kids_of old, omega (arith, many, same))
+  -- the entries that a journal has then are kept
+  are_kept : (start : Start) (digest before after : List ℕ) (old new : of.Journal S G) → IsBegun start digest before old → Grows old new
+      → content_of (device_of new) ≡ after → AreKept start digest before after
+  are_kept start digest before after old new begun grows left =
+      (kids_of new, subst (IsKept start digest (kids_of new) before) left (is_kept start digest before old new begun grows))
+
+  stays : (old new : of.Journal S G) → new ≡ old → Grows old new
+  stays old new same = subst (Grows old) (sym same) (record {
+    version = refl;
+    begins = ([], sym (append-nil (kids_of old)));
+    failed = refl;
+    stuck = λ _. refl;
+    groups = λ digest groups is. ([], subst (λ (gs : List (List Kid)). IsOf digest gs old) (sym (append-nil groups)) is);
+  })
 
   refused_first : (start : Start) (t : Task) (digest before after : List ℕ) (old new : of.Journal S G) (why : RunFault)
       → IsBegun start digest before old → new ≡ old → content_of (device_of new) ≡ after → IsFaulty t (most_of old.version) old.entries.items why
-      → HasNoSolution start t digest before after (search_in why)
-  refused_first start t digest before after old new searching.Full begun same left k = OfSearch searching.Full (too_many old k)
+      → HasNoSolution start t digest before after (run_in why)
+  refused_first start t digest before after old new searching.Full begun same left k =
+      OfSearch searching.Full (are_kept start digest before after old new begun (stays old new same) left)
   refused_first start t digest before after old new (searching.Damaged at) begun same left k =
-      OfEntry at (faulty_entry start t digest before after old new at begun same left k)
+      OfEntry at (faulty_entry start t digest before after old new at begun same left k.1)
   refused_first start t digest before after old new searching.Device begun same left k = absurd (k)
   refused_first start t digest before after old new searching.Failed begun same left k = absurd (k)
   refused_first start t digest before after old new searching.NotOut begun same left k = absurd (k)
   refused_first start t digest before after old new searching.NoMemory begun same left k = OfMemory
 
-  stopped : (start : Start) (t : Task) (digest before after : List ℕ) (old new : of.Journal S G) (why : RunFault) → old.failed ≡ false
-      → Stops old new why → HasNoSolution start t digest before after (search_in why)
-  stopped start t digest before after old new searching.Full running k = OfSearch searching.Full (new.version, kids_of new, k)
-  stopped start t digest before after old new (searching.Damaged at) running k = absurd (k)
-  stopped start t digest before after old new searching.Device running k = OfSearch searching.Device tt
-  stopped start t digest before after old new searching.Failed running k = let no : false ≡ true = sym running ∙ k.0 in absurd (cc)
-  stopped start t digest before after old new searching.NotOut running k = absurd (k)
-  stopped start t digest before after old new searching.NoMemory running k = OfMemory
+  stopped : (start : Start) (t : Task) (digest before after : List ℕ) (old new : of.Journal S G) (why : RunFault)
+      → IsBegun start digest before old → content_of (device_of new) ≡ after → StopsRunning old new why
+      → HasNoSolution start t digest before after (run_in why)
+  stopped start t digest before after old new searching.Full begun left k =
+      OfSearch searching.Full (are_kept start digest before after old new begun k left)
+  stopped start t digest before after old new (searching.Damaged at) begun left k = absurd (k)
+  stopped start t digest before after old new searching.Device begun left k = OfSearch searching.Device tt
+  stopped start t digest before after old new searching.Failed begun left k =
+      let no : false ≡ true = sym (runs_on start digest before old begun) ∙ k.0 in absurd (cc)
+  stopped start t digest before after old new searching.NotOut begun left k = OfSearch searching.NotOut tt
+  stopped start t digest before after old new searching.NoMemory begun left k = OfMemory
 
-  told_by : (start : Start) (t : Task) (digest before after : List ℕ) (old new : of.Journal S G) (why : RunFault)
+  told_by : (start : Start) (t : Task) (digest before after : List ℕ) (old new : of.Journal S G) (why : ThreadsFault)
       → IsBegun start digest before old → content_of (device_of new) ≡ after → Tells t old new why
       → HasNoSolution start t digest before after (search_in why)
-  told_by start t digest before after old new why begun left (inl k) =
+  told_by start t digest before after old new (threads.Run why) begun left (inl k) =
       refused_first start t digest before after old new why begun k.0 left k.1
-  told_by start t digest before after old new why begun left (inr k) =
-      stopped start t digest before after old new why (runs_on start digest before old begun) k
+  told_by start t digest before after old new (threads.Run why) begun left (inr k) = stopped start t digest before after old new why begun left k
+  told_by start t digest before after old new threads.NoThread begun left k = OfThreads (are_kept start digest before after old new begun k left)
 
   pub refused_run : (start : Start) (t : Task) (digest before after : List ℕ) (old new : of.Journal S G) (f : Fault)
       → IsBegun start digest before old → content_of (device_of new) ≡ after → IsRefusedRun t old new f
@@ -169,13 +185,13 @@ module _ {S : Type 0} {G : Ghosts S} where
 
   -- ---- what is answered over a journal
 
-  pub solved_on : (start : Start) (t : Task) (digest before after : List ℕ) (old new : of.Journal S G) (r : Result Told Fault)
+  pub solved_on : (start : Start) (limit : Option ℕ) (t : Task) (digest before after : List ℕ) (old new : of.Journal S G) (r : Result Told Fault)
       → IsBegun start digest before old → content_of (device_of new) ≡ after
-      → IfOk r (λ told. IsSolution t (kids_of new) told.ending (printed told.plan)) → OnOk r (Grows old new)
-      → IfOk r (λ told. (kids : List Kid) × IsSolution t kids told.ending (printed told.plan) × IsKept start digest kids before after)
-  solved_on start t digest before after old new (Ok told) begun left solution grows =
+      → IfOk r (λ told. IsSolution limit t (kids_of new) told.ending (printed told.plan)) → OnOk r (Grows old new)
+      → IfOk r (λ told. (kids : List Kid) × IsSolution limit t kids told.ending (printed told.plan) × IsKept start digest kids before after)
+  solved_on start limit t digest before after old new (Ok told) begun left solution grows =
       (kids_of new, solution, subst (IsKept start digest (kids_of new) before) left (is_kept start digest before old new begun grows))
-  solved_on start t digest before after old new (Err f) begun left solution grows = tt
+  solved_on start limit t digest before after old new (Err f) begun left solution grows = tt
 
   pub unsolved_on : (start : Start) (t : Task) (digest before after : List ℕ) (old new : of.Journal S G) (r : Result Told Fault)
       → IsBegun start digest before old → content_of (device_of new) ≡ after → IfErr r (IsRefusedRun t old new)
@@ -186,15 +202,15 @@ module _ {S : Type 0} {G : Ghosts S} where
 
 -- ---- in memory
 
-pub solved_in_memory : (t : Task) (digest before after : List ℕ) (r : Result Told Fault) → before ≡ []
-    → IfOk r (λ told. (kids : List Kid) × IsSolution t kids told.ending (printed told.plan) × IsKept New digest kids before after)
-    → IfOk r (λ told. IsKeptSolution InMemory t digest told.ending (printed told.plan))
-solved_in_memory t digest before after (Ok told) empty s = record {
+pub solved_in_memory : (limit : Option ℕ) (t : Task) (digest before after : List ℕ) (r : Result Told Fault) → before ≡ []
+    → IfOk r (λ told. (kids : List Kid) × IsSolution limit t kids told.ending (printed told.plan) × IsKept New digest kids before after)
+    → IfOk r (λ told. IsKeptSolution InMemory limit t digest told.ending (printed told.plan))
+solved_in_memory limit t digest before after (Ok told) empty s = record {
   kids = s.0;
   solution = s.1;
   kept = (after, subst (λ (b : List ℕ). IsKept New digest s.0 b after) empty s.2);
 }
-solved_in_memory t digest before after (Err f) empty s = tt
+solved_in_memory limit t digest before after (Err f) empty s = tt
 
 pub unsolved_in_memory : (t : Task) (digest before after : List ℕ) (r : Result Told Fault) → before ≡ []
     → IfErr r (HasNoSolution New t digest before after) → IfErr r (FailsIn InMemory t digest)
@@ -203,16 +219,16 @@ unsolved_in_memory t digest before after (Err f) empty s = (after, subst (λ (b 
 
 -- ---- in a file
 
-pub solved_in_file : (start : Start) (old new : Option (List ℕ)) (t : Task) (digest before after : List ℕ) (r : Result Told Fault)
+pub solved_in_file : (start : Start) (limit : Option ℕ) (old new : Option (List ℕ)) (t : Task) (digest before after : List ℕ) (r : Result Told Fault)
     → IfSome old (λ bytes. before ≡ bytes) → IfSome new (λ bytes. after ≡ bytes)
-    → IfOk r (λ told. (kids : List Kid) × IsSolution t kids told.ending (printed told.plan) × IsKept start digest kids before after)
-    → IfOk r (λ told. IsKeptSolution (InFile start old new) t digest told.ending (printed told.plan))
-solved_in_file start old new t digest before after (Ok told) was is s = record {
+    → IfOk r (λ told. (kids : List Kid) × IsSolution limit t kids told.ending (printed told.plan) × IsKept start digest kids before after)
+    → IfOk r (λ told. IsKeptSolution (InFile start old new) limit t digest told.ending (printed told.plan))
+solved_in_file start limit old new t digest before after (Ok told) was is s = record {
   kids = s.0;
   solution = s.1;
   kept = record { before = before; after = after; known_before = was; known_after = is; holds = s.2 };
 }
-solved_in_file start old new t digest before after (Err f) was is s = tt
+solved_in_file start limit old new t digest before after (Err f) was is s = tt
 
 pub unsolved_in_file : (start : Start) (old new : Option (List ℕ)) (t : Task) (digest before after : List ℕ) (r : Result Told Fault)
     → IfSome old (λ bytes. before ≡ bytes) → IfSome new (λ bytes. after ≡ bytes)

@@ -4,14 +4,14 @@ use Rattle.std.specs.Prelude.{Result, IfOk, IfErr, OnOk, OnErr}
 use Rattle.std.specs.Io.KnownBytes.{Appends}
 use Rattle.hplan.specs.declared.told.Told.{Told}
 use Rattle.hplan.specs.PlanText.{goes_through, printed}
-use Rattle.hd_entries.specs.declared.verdict.Verdict.TheVariants.{Optimal, NoPlan, RangeLeft}
+use Rattle.hd_threads.specs.declared.ending.Outcome.{Outcome}
+use Rattle.hd_threads.specs.declared.ending.Outcome.TheVariants.{Optimal, NoPlan, RangeLeft, Stopped}
 use Rattle.hplan.proofs.Going.{bound_plan_goes}
 use Rattle.hd_task.specs.declared.task.Task.{Task}
-use Rattle.hd_entries.specs.declared.verdict.Verdict.{Verdict}
 use Rattle.hplan.specs.declared.fault.Fault.{Fault}
 use Rattle.hplan.specs.declared.told.Ending.{Ending}
 use Rattle.hd_task.specs.declared.plan.Kid.{Kid}
-use Rattle.hd_search.specs.Answer.{IsAnswerOf}
+use Rattle.hd_threads.specs.Ending.{IsOutcomeOf, IsTrueOutcome}
 use Rattle.std.specs.declared.io.ErrorKind.{ErrorKind}
 use Rattle.hd_plan.specs.declared.output.WriteError.{WriteError}
 use Rattle.hd_plan.specs.declared.output.WriteError.TheVariants as unwritten
@@ -20,30 +20,37 @@ use Rattle.hd_texts.specs.declared.fault.TaskFault.{TaskFault}
 use Rattle.hd_texts.specs.declared.fault.TaskFault.TheVariants as texts
 use Rattle.hd_texts.specs.Tasks.{IsTaskOf, Explains, Unlifted, Memory}
 use Rattle.hplan.specs.Fault.{task_in, TellsUnwritten}
-use Rattle.hplan.specs.Answer.{plan_in, IsTrueOfDomain, IsKeptSolution, IsKeptAnswer, IsAnswerText, IsUnwritten, Writes, HasNoAnswer, HasNoAnswerYet, OfTexts, OfSearch, OfOutput}
+use Rattle.hplan.specs.Answer.{plan_in, IsValidInDomain, IsTrueOfDomain, IsKeptSolution, IsKeptAnswer, IsAnswerText, IsUnwritten, Writes, HasNoAnswer, HasNoAnswerYet, OfTexts, OfSearch, OfOutput}
 use Rattle.hplan.specs.Kept.{Keeping, FailsIn}
 use Rattle.hplan.specs.Written.{WritesFrontOfA}
 use Rattle.hd_texts.specs.Digest.{digest_of}
 use Rattle.hplan.proofs.Writing.{untouched, failed}
-use Rattle.hd_entries.specs.Answers.{IsTrueAnswer}
+use Rattle.hd_entries.specs.Answers.{IsValidPlan}
 use Rattle.hd_lifted.specs.declared.task.LiftedTask.{LiftedTask}
 use Rattle.hd_grounding.specs.Grounding.{IsGrounding}
 use Rattle.hd_transfer.proofs.Runs.{valid_there}
 use Rattle.hd_transfer.proofs.Telling.{optimal_there, none_there}
 
 -- the plan of an answer goes through, if there is one
-pub answer_goes : (t : Task) (kids : List Kid) (v : Verdict) → IsAnswerOf t kids v → IfSome (plan_in v) (λ p. goes_through t p ≡ true)
-answer_goes t kids (Optimal p) a = bound_plan_goes t a.expanded p a.answer.legal a.answer.answers.1
-answer_goes t kids NoPlan a = tt
-answer_goes t kids (RangeLeft d None) a = tt
-answer_goes t kids (RangeLeft d (Some p)) a = bound_plan_goes t a.expanded p a.answer.legal a.answer.answers.1
+pub answer_goes : (t : Task) (limit : Option ℕ) (kids : List Kid) (o : Outcome) → IsOutcomeOf t limit kids o
+    → IfSome (plan_in o) (λ p. goes_through t p ≡ true)
+answer_goes t limit kids (Optimal p) a = bound_plan_goes t a.expanded p a.answer.legal a.answer.answers.1
+answer_goes t limit kids NoPlan a = tt
+answer_goes t limit kids (RangeLeft d None) a = tt
+answer_goes t limit kids (RangeLeft d (Some p)) a = bound_plan_goes t a.expanded p a.answer.legal a.answer.answers.1
+answer_goes t limit kids (Stopped None) a = tt
+answer_goes t limit kids (Stopped (Some p)) a = bound_plan_goes t a.expanded p a.legal a.plan
 
 -- a true answer of the grounding is true of the domain
-true_of_domain : (l : LiftedTask) (t : Task) (v : Verdict) → IsGrounding l t → IsTrueAnswer t v → IsTrueOfDomain l t v
+valid_in_domain : (l : LiftedTask) (t : Task) (p : Option (List ℕ)) → IsGrounding l t → IsValidPlan t p → IsValidInDomain l t p
+valid_in_domain l t None made valid = tt
+valid_in_domain l t (Some p) made valid = (valid.0, valid_there l t made p valid.0 valid.1)
+
+true_of_domain : (l : LiftedTask) (t : Task) (o : Outcome) → IsGrounding l t → IsTrueOutcome t o → IsTrueOfDomain l t o
 true_of_domain l t (Optimal p) made truth = optimal_there l t made p truth
 true_of_domain l t NoPlan made truth = none_there l t made truth
-true_of_domain l t (RangeLeft d None) made truth = tt
-true_of_domain l t (RangeLeft d (Some p)) made truth = (truth.0, valid_there l t made p truth.0 truth.1)
+true_of_domain l t (RangeLeft d p) made truth = valid_in_domain l t p made truth
+true_of_domain l t (Stopped p) made truth = valid_in_domain l t p made truth
 
 -- what holds of an answer, or of an error, where more does
 ok_weaker : {A E : Type 0} {P Q : A → Type 0} (r : Result A E) → ((x : A) → P x → Q x) → IfOk r P → IfOk r Q
@@ -56,53 +63,53 @@ err_weaker (Err e) f p = f e p
 
 -- ---- no answer
 
-pub task_unanswered : (k : Keeping) (domain problem : List ℕ) (f : TaskFault) (fault : Fault) → fault ≡ task_in f → Explains domain problem f
-    → HasNoAnswerYet k domain problem fault
-task_unanswered k domain problem f fault is told bytes noted =
-    subst (HasNoAnswer k domain problem bytes bytes noted noted) (sym is) (OfTexts (untouched bytes noted) f told)
+pub task_unanswered : (k : Keeping) (limit : Option ℕ) (domain problem : List ℕ) (f : TaskFault) (fault : Fault) → fault ≡ task_in f → Explains domain problem f
+    → HasNoAnswerYet k limit domain problem fault
+task_unanswered k limit domain problem f fault is told bytes noted =
+    subst (HasNoAnswer k limit domain problem bytes bytes noted noted) (sym is) (OfTexts (untouched bytes noted) f told)
 
 -- the answer of the search of a task is the answer of the texts that say it
-answered : (k : Keeping) (domain problem : List ℕ) (t : Task) (task : IsTaskOf domain problem t) (ending : Ending) (text : List ℕ)
-    → IsKeptSolution k t (digest_of domain problem) ending text → IsKeptAnswer k domain problem ending text
-answered k domain problem t task ending text s = record {
+answered : (k : Keeping) (limit : Option ℕ) (domain problem : List ℕ) (t : Task) (task : IsTaskOf domain problem t) (ending : Ending) (text : List ℕ)
+    → IsKeptSolution k limit t (digest_of domain problem) ending text → IsKeptAnswer k limit domain problem ending text
+answered k limit domain problem t task ending text s = record {
   solved = record {
     task = t;
     is_task = task;
     kids = s.kids;
     solution = s.solution;
-    is_true_of_domain = true_of_domain task.lifted t s.solution.verdict task.made s.solution.is_true;
+    is_true_of_domain = true_of_domain task.lifted t s.solution.outcome task.made s.solution.is_true;
   };
   kept = s.kept;
 }
 
-unsolved : (k : Keeping) (domain problem : List ℕ) (t : Task) (task : IsTaskOf domain problem t) (f : Fault)
-    → FailsIn k t (digest_of domain problem) f → HasNoAnswerYet k domain problem f
-unsolved k domain problem t task f fails bytes noted = OfSearch (untouched bytes noted) t f task fails
+unsolved : (k : Keeping) (limit : Option ℕ) (domain problem : List ℕ) (t : Task) (task : IsTaskOf domain problem t) (f : Fault)
+    → FailsIn k t (digest_of domain problem) f → HasNoAnswerYet k limit domain problem f
+unsolved k limit domain problem t task f fails bytes noted = OfSearch (untouched bytes noted) t f task fails
 
 -- why an answer is not written: memory ran out, or the writer has answered an error
-unwritten_by : (k : Keeping) (domain problem : List ℕ) (ending : Ending) (text : List ℕ) (old new : Option (List ℕ)) (before noted : Option ErrorKind)
+unwritten_by : (k : Keeping) (limit : Option ℕ) (domain problem : List ℕ) (ending : Ending) (text : List ℕ) (old new : Option (List ℕ)) (before noted : Option ErrorKind)
     (error : WriteError) (f : Fault)
-    → IsKeptAnswer k domain problem ending text → AppendsShort old new text → KeepsFor old new error → IsNoted before noted error
-    → TellsUnwritten error f → HasNoAnswer k domain problem old new before noted f
-unwritten_by k domain problem ending text old new before noted unwritten.NoMemory f s short kept same told =
-    subst (HasNoAnswer k domain problem old new before noted) (sym told)
+    → IsKeptAnswer k limit domain problem ending text → AppendsShort old new text → KeepsFor old new error → IsNoted before noted error
+    → TellsUnwritten error f → HasNoAnswer k limit domain problem old new before noted f
+unwritten_by k limit domain problem ending text old new before noted unwritten.NoMemory f s short kept same told =
+    subst (HasNoAnswer k limit domain problem old new before noted) (sym told)
     (OfTexts (record { bytes = kept; fault = same }) texts.NoMemory (Unlifted texts.NoMemory Memory))
-unwritten_by k domain problem ending text old new before noted (unwritten.Device kind) f s short kept same told =
+unwritten_by k limit domain problem ending text old new before noted (unwritten.Device kind) f s short kept same told =
     OfOutput f
-    (failed (IsAnswerText k domain problem) text old new noted f (record { ending = ending; answer = s }) short
+    (failed (IsAnswerText k limit domain problem) text old new noted f (record { ending = ending; answer = s }) short
     (record { kind = kind; is_noted = same; told = told }))
 
-answer_unwritten : (k : Keeping) (domain problem : List ℕ) (ending : Ending) (text : List ℕ) (old new : Option (List ℕ)) (before noted : Option ErrorKind)
+answer_unwritten : (k : Keeping) (limit : Option ℕ) (domain problem : List ℕ) (ending : Ending) (text : List ℕ) (old new : Option (List ℕ)) (before noted : Option ErrorKind)
     (f : Fault)
-    → IsKeptAnswer k domain problem ending text → IsUnwritten text old new before noted f → HasNoAnswer k domain problem old new before noted f
-answer_unwritten k domain problem ending text old new before noted f s u =
-    unwritten_by k domain problem ending text old new before noted u.error f s u.short u.memory u.answered u.told
+    → IsKeptAnswer k limit domain problem ending text → IsUnwritten text old new before noted f → HasNoAnswer k limit domain problem old new before noted f
+answer_unwritten k limit domain problem ending text old new before noted f s u =
+    unwritten_by k limit domain problem ending text old new before noted u.error f s u.short u.memory u.answered u.told
 
 -- a beginning of the answer's text is written then
-front_unwritten : (k : Keeping) (domain problem : List ℕ) (ending : Ending) (text : List ℕ) (old new : Option (List ℕ)) (before noted : Option ErrorKind)
+front_unwritten : (k : Keeping) (limit : Option ℕ) (domain problem : List ℕ) (ending : Ending) (text : List ℕ) (old new : Option (List ℕ)) (before noted : Option ErrorKind)
     (f : Fault)
-    → IsKeptAnswer k domain problem ending text → IsUnwritten text old new before noted f → WritesFrontOfA (IsAnswerText k domain problem) old new
-front_unwritten k domain problem ending text old new before noted f s u = record {
+    → IsKeptAnswer k limit domain problem ending text → IsUnwritten text old new before noted f → WritesFrontOfA (IsAnswerText k limit domain problem) old new
+front_unwritten k limit domain problem ending text old new before noted f s u = record {
   text = text;
   count = u.short.0;
   within = u.short.1;
@@ -112,38 +119,38 @@ front_unwritten k domain problem ending text old new before noted f s u = record
 
 -- ---- what is written, by what is answered
 
-pub all_written : (k : Keeping) (domain problem : List ℕ) (told : Told) (old new : Option (List ℕ)) (r : Result Ending Fault)
-    → IsKeptAnswer k domain problem told.ending (printed told.plan) → IfOk r (λ ending. ending ≡ told.ending)
-    → OnOk r (Appends old new (printed told.plan)) → IfOk r (Writes k domain problem old new)
-all_written k domain problem told old new (Ok ending) answer ends bytes =
-    subst (Writes k domain problem old new) (sym ends) (record { text = printed told.plan; answer = answer; bytes = bytes })
-all_written k domain problem told old new (Err f) answer ends bytes = tt
+pub all_written : (k : Keeping) (limit : Option ℕ) (domain problem : List ℕ) (told : Told) (old new : Option (List ℕ)) (r : Result Ending Fault)
+    → IsKeptAnswer k limit domain problem told.ending (printed told.plan) → IfOk r (λ ending. ending ≡ told.ending)
+    → OnOk r (Appends old new (printed told.plan)) → IfOk r (Writes k limit domain problem old new)
+all_written k limit domain problem told old new (Ok ending) answer ends bytes =
+    subst (Writes k limit domain problem old new) (sym ends) (record { text = printed told.plan; answer = answer; bytes = bytes })
+all_written k limit domain problem told old new (Err f) answer ends bytes = tt
 
-pub front_written : (k : Keeping) (domain problem : List ℕ) (told : Told) (old new : Option (List ℕ)) (before noted : Option ErrorKind)
+pub front_written : (k : Keeping) (limit : Option ℕ) (domain problem : List ℕ) (told : Told) (old new : Option (List ℕ)) (before noted : Option ErrorKind)
     (r : Result Ending Fault)
-    → IsKeptAnswer k domain problem told.ending (printed told.plan) → IfErr r (IsUnwritten (printed told.plan) old new before noted)
-    → OnErr r ((new ≡ old) ⊎ WritesFrontOfA (IsAnswerText k domain problem) old new)
-front_written k domain problem told old new before noted (Ok ending) answer u = tt
-front_written k domain problem told old new before noted (Err f) answer u =
-    inr (front_unwritten k domain problem told.ending (printed told.plan) old new before noted f answer u)
+    → IsKeptAnswer k limit domain problem told.ending (printed told.plan) → IfErr r (IsUnwritten (printed told.plan) old new before noted)
+    → OnErr r ((new ≡ old) ⊎ WritesFrontOfA (IsAnswerText k limit domain problem) old new)
+front_written k limit domain problem told old new before noted (Ok ending) answer u = tt
+front_written k limit domain problem told old new before noted (Err f) answer u =
+    inr (front_unwritten k limit domain problem told.ending (printed told.plan) old new before noted f answer u)
 
-pub not_written : (k : Keeping) (domain problem : List ℕ) (told : Told) (old new : Option (List ℕ)) (before noted : Option ErrorKind)
+pub not_written : (k : Keeping) (limit : Option ℕ) (domain problem : List ℕ) (told : Told) (old new : Option (List ℕ)) (before noted : Option ErrorKind)
     (r : Result Ending Fault)
-    → IsKeptAnswer k domain problem told.ending (printed told.plan) → IfErr r (IsUnwritten (printed told.plan) old new before noted)
-    → IfErr r (HasNoAnswer k domain problem old new before noted)
-not_written k domain problem told old new before noted (Ok ending) answer u = tt
-not_written k domain problem told old new before noted (Err f) answer u =
-    answer_unwritten k domain problem told.ending (printed told.plan) old new before noted f answer u
+    → IsKeptAnswer k limit domain problem told.ending (printed told.plan) → IfErr r (IsUnwritten (printed told.plan) old new before noted)
+    → IfErr r (HasNoAnswer k limit domain problem old new before noted)
+not_written k limit domain problem told old new before noted (Ok ending) answer u = tt
+not_written k limit domain problem told old new before noted (Err f) answer u =
+    answer_unwritten k limit domain problem told.ending (printed told.plan) old new before noted f answer u
 
 -- the same of answers
-pub all_answered : (k : Keeping) (domain problem : List ℕ) (t : Task) (task : IsTaskOf domain problem t) (digest : List ℕ) (r : Result Told Fault)
-    → digest ≡ digest_of domain problem → IfOk r (λ told. IsKeptSolution k t digest told.ending (printed told.plan))
-    → IfOk r (λ told. IsKeptAnswer k domain problem told.ending (printed told.plan))
-all_answered k domain problem t task digest r is s =
-    ok_weaker r (λ told. answered k domain problem t task told.ending (printed told.plan))
-    (subst (λ (d : List ℕ). IfOk r (λ told. IsKeptSolution k t d told.ending (printed told.plan))) is s)
+pub all_answered : (k : Keeping) (limit : Option ℕ) (domain problem : List ℕ) (t : Task) (task : IsTaskOf domain problem t) (digest : List ℕ) (r : Result Told Fault)
+    → digest ≡ digest_of domain problem → IfOk r (λ told. IsKeptSolution k limit t digest told.ending (printed told.plan))
+    → IfOk r (λ told. IsKeptAnswer k limit domain problem told.ending (printed told.plan))
+all_answered k limit domain problem t task digest r is s =
+    ok_weaker r (λ told. answered k limit domain problem t task told.ending (printed told.plan))
+    (subst (λ (d : List ℕ). IfOk r (λ told. IsKeptSolution k limit t d told.ending (printed told.plan))) is s)
 
-pub none_answered : (k : Keeping) (domain problem : List ℕ) (t : Task) (task : IsTaskOf domain problem t) (digest : List ℕ) (r : Result Told Fault)
-    → digest ≡ digest_of domain problem → IfErr r (FailsIn k t digest) → IfErr r (HasNoAnswerYet k domain problem)
-none_answered k domain problem t task digest r is s =
-    err_weaker r (unsolved k domain problem t task) (subst (λ (d : List ℕ). IfErr r (FailsIn k t d)) is s)
+pub none_answered : (k : Keeping) (limit : Option ℕ) (domain problem : List ℕ) (t : Task) (task : IsTaskOf domain problem t) (digest : List ℕ) (r : Result Told Fault)
+    → digest ≡ digest_of domain problem → IfErr r (FailsIn k t digest) → IfErr r (HasNoAnswerYet k limit domain problem)
+none_answered k limit domain problem t task digest r is s =
+    err_weaker r (unsolved k limit domain problem t task) (subst (λ (d : List ℕ). IfErr r (FailsIn k t d)) is s)

@@ -6,13 +6,12 @@ use Rattle.hd_lifted.specs.declared.task.LiftedTask.{LiftedTask}
 use Rattle.hd_lifted.specs.Plans as plans
 use Rattle.hd_transfer.specs.Instances.{plan_of}
 use Rattle.hd_task.specs.declared.task.Task.{Task}
-use Rattle.hd_entries.specs.declared.verdict.Verdict.{Verdict}
-use Rattle.hd_entries.specs.declared.verdict.Verdict.TheVariants.{Optimal, NoPlan, RangeLeft}
-use Rattle.hd_entries.specs.Answers as entries
 use Rattle.hd_task.specs.declared.plan.Kid.{Kid}
 use Rattle.hplan.specs.declared.told.Ending.{Ending}
 use Rattle.hplan.specs.declared.fault.Fault.{Fault}
-use Rattle.hd_search.specs.Answer.{IsAnswerOf}
+use Rattle.hd_threads.specs.declared.ending.Outcome.{Outcome}
+use Rattle.hd_threads.specs.declared.ending.Outcome.TheVariants.{Optimal, NoPlan, RangeLeft, Stopped}
+use Rattle.hd_threads.specs.Ending.{IsOutcomeOf, IsTrueOutcome}
 use Rattle.hd_texts.specs.Digest.{digest_of}
 use Rattle.hd_texts.specs.declared.fault.TaskFault.{TaskFault}
 use Rattle.hd_texts.specs.Tasks.{IsTaskOf, Explains}
@@ -30,84 +29,89 @@ IsValidInDomain l t None = Unit {0}
 IsValidInDomain l t (Some p) = (cost : ℕ) × plans.IsValidAt l (plan_of t p) (pos cost)
 
 -- what an answer says is true of all plans of the domain, which its task is the grounding of: the instances of an optimal plan are
--- an optimal plan of the domain, where there is no plan the domain has none, and the plan beside a departure is valid in the domain
-abbrev pub IsTrueOfDomain : LiftedTask → Task → Verdict → Type 0
+-- an optimal plan of the domain, where there is no plan the domain has none, and the plan beside a departure, or of a search that stopped,
+-- is valid in the domain
+abbrev pub IsTrueOfDomain : LiftedTask → Task → Outcome → Type 0
 IsTrueOfDomain l t (Optimal p) = plans.IsOptimal l (plan_of t p)
 IsTrueOfDomain l t NoPlan = plans.HasNoPlan l
 IsTrueOfDomain l t (RangeLeft d p) = IsValidInDomain l t p
+IsTrueOfDomain l t (Stopped p) = IsValidInDomain l t p
 
--- the plan of a verdict, if it has one
-abbrev pub plan_in : Verdict → Option (List ℕ)
+-- the plan of an answer, if it has one
+abbrev pub plan_in : Outcome → Option (List ℕ)
 plan_in (Optimal p) = Some p
 plan_in NoPlan = None
 plan_in (RangeLeft d p) = p
+plan_in (Stopped p) = p
 
 -- the text of a plan that may be there
 abbrev pub text_if : Task → Option (List ℕ) → List ℕ
 text_if t None = []
 text_if t (Some p) = plan_text t p
 
--- what is written of a verdict: the text of its plan, if it has one
-abbrev pub written_of : Task → Verdict → List ℕ
-written_of t v = text_if t (plan_in v)
+-- what is written of an answer: the text of its plan, if it has one
+abbrev pub written_of : Task → Outcome → List ℕ
+written_of t o = text_if t (plan_in o)
 
 -- how the answer ends
-abbrev pub ending_of : Task → Verdict → Ending
+abbrev pub ending_of : Task → Outcome → Ending
 ending_of t (Optimal p) = Ending.Optimal
 ending_of t NoPlan = Ending.NoPlan
 ending_of t (RangeLeft d p) = Ending.RangeLeft (departure_text t d)
+ending_of t (Stopped p) = Ending.Stopped
 
--- the search of a task that has these entries has this answer, which ends so and is written so
-pub record IsSolution (task : Task) (kids : List Kid) (ending : Ending) (written : List ℕ) : Type 0 where
-  pub verdict : Verdict
-  pub is_answer : IsAnswerOf task kids verdict
-  pub is_true : entries.IsTrueAnswer task verdict
-  pub ends : ending ≡ ending_of task verdict
-  pub text : written ≡ written_of task verdict
+-- the search of a task with a limit, if there is one, that has these entries has this answer, which ends so and is written so
+pub record IsSolution (limit : Option ℕ) (task : Task) (kids : List Kid) (ending : Ending) (written : List ℕ) : Type 0 where
+  pub outcome : Outcome
+  pub is_outcome : IsOutcomeOf task limit kids outcome
+  pub is_true : IsTrueOutcome task outcome
+  pub ends : ending ≡ ending_of task outcome
+  pub text : written ≡ written_of task outcome
 
 -- the search of a task has this answer, and its entries are kept there
-pub record IsKeptSolution (k : Keeping) (task : Task) (digest : List ℕ) (ending : Ending) (written : List ℕ) : Type 0 where
+pub record IsKeptSolution (k : Keeping) (limit : Option ℕ) (task : Task) (digest : List ℕ) (ending : Ending) (written : List ℕ) : Type 0 where
   pub kids : List Kid
-  pub solution : IsSolution task kids ending written
+  pub solution : IsSolution limit task kids ending written
   pub kept : IsKeptIn k digest kids
 
 -- two texts have this answer: that of the search of the task that they say, and it is true of the lifted task that they say
-pub record IsSolved (domain problem : List ℕ) (ending : Ending) (written : List ℕ) : Type 0 where
+pub record IsSolved (limit : Option ℕ) (domain problem : List ℕ) (ending : Ending) (written : List ℕ) : Type 0 where
   pub task : Task
   pub is_task : IsTaskOf domain problem task
   pub kids : List Kid
-  pub solution : IsSolution task kids ending written
-  pub is_true_of_domain : IsTrueOfDomain is_task.lifted task solution.verdict
+  pub solution : IsSolution limit task kids ending written
+  pub is_true_of_domain : IsTrueOfDomain is_task.lifted task solution.outcome
 
 -- the same, and the entries of the search are kept there
-pub record IsKeptAnswer (k : Keeping) (domain problem : List ℕ) (ending : Ending) (written : List ℕ) : Type 0 where
-  pub solved : IsSolved domain problem ending written
+pub record IsKeptAnswer (k : Keeping) (limit : Option ℕ) (domain problem : List ℕ) (ending : Ending) (written : List ℕ) : Type 0 where
+  pub solved : IsSolved limit domain problem ending written
   pub kept : IsKeptIn k (digest_of domain problem) solved.kids
 
 -- the text of the answer is written, whole
-pub record Writes (k : Keeping) (domain problem : List ℕ) (old new : Option (List ℕ)) (ending : Ending) : Type 0 where
+pub record Writes (k : Keeping) (limit : Option ℕ) (domain problem : List ℕ) (old new : Option (List ℕ)) (ending : Ending) : Type 0 where
   pub text : List ℕ
-  pub answer : IsKeptAnswer k domain problem ending text
+  pub answer : IsKeptAnswer k limit domain problem ending text
   pub bytes : Appends old new text
 
 -- a text is all that is to be written of the answer to two texts, however that ends
-pub record IsAnswerText (k : Keeping) (domain problem : List ℕ) (text : List ℕ) : Type 0 where
+pub record IsAnswerText (k : Keeping) (limit : Option ℕ) (domain problem : List ℕ) (text : List ℕ) : Type 0 where
   pub ending : Ending
-  pub answer : IsKeptAnswer k domain problem ending text
+  pub answer : IsKeptAnswer k limit domain problem ending text
 
 -- why two texts have no answer: what is told of the texts; or they say a task, and its search has none; or they have one, of whose text a
 -- beginning is written, and what is told of the error that the writer has answered. The writer is untouched where it is not to blame
-pub data HasNoAnswer (k : Keeping) (domain problem : List ℕ) (old new : Option (List ℕ)) (before noted : Option ErrorKind) : Fault → Type 0 where
+pub data HasNoAnswer (k : Keeping) (limit : Option ℕ) (domain problem : List ℕ) (old new : Option (List ℕ)) (before noted : Option ErrorKind) : Fault → Type 0 where
   OfTexts : IsUntouched old new before noted → (f : TaskFault) → Explains domain problem f
-      → HasNoAnswer k domain problem old new before noted (task_in f)
+      → HasNoAnswer k limit domain problem old new before noted (task_in f)
   OfSearch : IsUntouched old new before noted → (t : Task) (f : Fault) → IsTaskOf domain problem t → FailsIn k t (digest_of domain problem) f
-      → HasNoAnswer k domain problem old new before noted f
-  OfOutput : (f : Fault) → FailsToWrite (IsAnswerText k domain problem) old new noted f → HasNoAnswer k domain problem old new before noted f
+      → HasNoAnswer k limit domain problem old new before noted f
+  OfOutput : (f : Fault) → FailsToWrite (IsAnswerText k limit domain problem) old new noted f
+      → HasNoAnswer k limit domain problem old new before noted f
 
 -- the same, where nothing was to be written yet: whatever a writer holds, and is noted of it
-abbrev pub HasNoAnswerYet : Keeping → List ℕ → List ℕ → Fault → Type 0
-HasNoAnswerYet k domain problem f =
-    (bytes : Option (List ℕ)) (noted : Option ErrorKind) → HasNoAnswer k domain problem bytes bytes noted noted f
+abbrev pub HasNoAnswerYet : Keeping → Option ℕ → List ℕ → List ℕ → Fault → Type 0
+HasNoAnswerYet k limit domain problem f =
+    (bytes : Option (List ℕ)) (noted : Option ErrorKind) → HasNoAnswer k limit domain problem bytes bytes noted noted f
 
 -- a text is not written, or not all of it: memory ran out, and nothing is written; or a beginning is, which is not all of it, and the writer
 -- has answered an error. This is told of it

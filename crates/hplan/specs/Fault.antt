@@ -10,6 +10,9 @@ use Rattle.hd_journal.specs.Error as journal
 use Rattle.hd_search.specs.declared.fault.RunFault.{RunFault}
 use Rattle.hd_search.specs.declared.fault.RunFault.TheVariants as searching
 use Rattle.hd_search.specs.Fault as search
+use Rattle.hd_parallel.specs.declared.fault.ThreadsFault.{ThreadsFault}
+use Rattle.hd_parallel.specs.declared.fault.ThreadsFault.TheVariants.{Run}
+use Rattle.hd_parallel.specs.declared.fault.ThreadsFault.TheVariants as threads
 use Rattle.hd_certify.specs.declared.error.CertifyError.{CertifyError}
 use Rattle.hd_certify.specs.declared.error.CertifyError.TheVariants as certifying
 use Rattle.hd_plan.specs.declared.error.PlanTextError.{PlanTextError}
@@ -24,7 +27,7 @@ use Rattle.hd_texts.specs.declared.fault.TaskFault.TheVariants as texts
 use Rattle.hd_texts.specs.Fault as task
 use Rattle.hd_validate.specs.Error as validator
 use Rattle.hplan.specs.declared.fault.Fault.{Fault}
-use Rattle.hplan.specs.declared.fault.Fault.TheVariants.{Task, PlanText, Plan, Device, Journal, Search, NoMemory}
+use Rattle.hplan.specs.declared.fault.Fault.TheVariants.{Task, PlanText, Plan, Device, Journal, Search, NoThread, NoMemory}
 
 -- the printed form: that of the crate whose fault it is
 abbrev pub text_of : Fault → List ℕ
@@ -34,6 +37,7 @@ text_of (Plan error) = validator.text_of error
 text_of Device = codes "35 Device"
 text_of (Journal error) = journal.text_of error
 text_of (Search fault) = search.text_of fault
+text_of NoThread = codes "NoThread"
 text_of NoMemory = codes "NoMemory"
 
 -- a fault of the domain's and the problem's texts; want of memory is no fault of theirs
@@ -51,6 +55,7 @@ IsOfTexts (Plan error) = ⊥
 IsOfTexts Device = ⊥
 IsOfTexts (Journal error) = ⊥
 IsOfTexts (Search fault) = ⊥
+IsOfTexts NoThread = ⊥
 IsOfTexts NoMemory = ⊥
 
 -- an error of a plan's text
@@ -79,14 +84,19 @@ journal_in journaling.JournalExists = Journal journaling.JournalExists
 journal_in journaling.NotOut = Journal journaling.NotOut
 journal_in journaling.NoMemory = NoMemory
 
--- why a search has ended without an answer; want of memory is no fault of it
-abbrev pub search_in : RunFault → Fault
-search_in searching.Full = Search searching.Full
-search_in (searching.Damaged at) = Search (searching.Damaged at)
-search_in searching.Device = Search searching.Device
-search_in searching.Failed = Search searching.Failed
-search_in searching.NotOut = Search searching.NotOut
-search_in searching.NoMemory = NoMemory
+-- why a search that has its threads has ended without an answer; want of memory is no fault of it
+abbrev pub run_in : RunFault → Fault
+run_in searching.Full = Search searching.Full
+run_in (searching.Damaged at) = Search (searching.Damaged at)
+run_in searching.Device = Search searching.Device
+run_in searching.Failed = Search searching.Failed
+run_in searching.NotOut = Search searching.NotOut
+run_in searching.NoMemory = NoMemory
+
+-- the same, where a thread may not have started
+abbrev pub search_in : ThreadsFault → Fault
+search_in (Run fault) = run_in fault
+search_in threads.NoThread = NoThread
 
 -- why the entries of a journal show nothing; want of memory is no fault of theirs
 abbrev pub certify_in : CertifyError → Fault

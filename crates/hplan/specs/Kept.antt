@@ -1,16 +1,15 @@
 -- Where a search is kept, and what a file holds of it before and afterwards. (Our own.)
-use Rattle.std.specs.Prelude.{◌≡◌, ◌≢◌, ◌⊎◌, ℕ, ◌+◌, ◌<◌, List, [], map, length, Option, IfSome}
+use Rattle.std.specs.Prelude.{◌≡◌, ◌≢◌, ◌⊎◌, ℕ, List, [], map, Option, IfSome}
 use Rattle.std.specs.List.{AllByRecursion}
 use Rattle.hd_task.specs.declared.task.Task.{Task}
 use Rattle.hd_task.specs.declared.plan.Kid.{Kid}
-use Rattle.hd_node.specs.declared.batch.TheConstants.{MAX_OUTCOMES}
 use Rattle.hd_store.specs.declared.store.Store.{Ghosts}
 use Rattle.hd_store.specs.declared.error.StoreError.{StoreError}
 use Rattle.hd_image.specs.declared.version.Version.{Version}
 use Rattle.hd_image.specs.declared.entry.Entry.{Entry}
 use Rattle.hd_image.specs.declared.header.TheConstants.{FIRST_GATE}
 use Rattle.hd_image.specs.declared.error.ImageError.TheVariants as image
-use Rattle.hd_image.specs.Image.{IsGroup, entries_in, image, most_of}
+use Rattle.hd_image.specs.Image.{IsGroup, entries_in, image}
 use Rattle.hd_image.specs.Reading.{IsRefused}
 use Rattle.hd_journal.specs.declared.error.JournalError.{JournalError}
 use Rattle.hd_journal.specs.declared.error.JournalError.TheVariants as journal
@@ -21,9 +20,11 @@ use Rattle.hd_migrate.specs.Copy.{kids_in}
 use Rattle.hd_entries.specs.Holding.{BeginsWith}
 use Rattle.hd_search.specs.declared.fault.RunFault.{RunFault}
 use Rattle.hd_search.specs.declared.fault.RunFault.TheVariants as searching
-use Rattle.hd_search.specs.Fault.{IsDamagedAt, Tells}
+use Rattle.hd_certify.specs.Error.{IsDamagedAt}
+use Rattle.hd_parallel.specs.declared.fault.ThreadsFault.{ThreadsFault}
+use Rattle.hd_parallel.specs.Fault.{Tells}
 use Rattle.hplan.specs.declared.fault.Fault.{Fault}
-use Rattle.hplan.specs.declared.fault.Fault.TheVariants.{Journal, Search, NoMemory}
+use Rattle.hplan.specs.declared.fault.Fault.TheVariants.{Journal, Search, NoThread, NoMemory}
 use Rattle.hplan.specs.declared.kept.Start.{Start}
 use Rattle.hplan.specs.declared.kept.Start.TheVariants.{New, Kept}
 use Rattle.hplan.specs.Fault.{search_in, store_in}
@@ -81,22 +82,28 @@ HasFaultyEntry New t digest before after at = ⊥
 HasFaultyEntry Kept t digest before after at =
     (entries : List Entry) × StandThere digest before entries × IsDamagedAt t entries at × IsJournalOf digest (map kid_of entries) after
 
--- what a fault of the search itself tells: that a journal has no room for the entries of one batch more, or that the device failed. No
--- other is told
-abbrev pub TellsOfSearch : RunFault → Type 0
-TellsOfSearch searching.Full = (v : Version) × (kids : List Kid) × (most_of v < length kids + MAX_OUTCOMES)
-TellsOfSearch (searching.Damaged at) = ⊥
-TellsOfSearch searching.Device = Unit {0}
-TellsOfSearch searching.Failed = ⊥
-TellsOfSearch searching.NotOut = ⊥
-TellsOfSearch searching.NoMemory = ⊥
+-- some entries are kept in a file
+abbrev pub AreKept : Start → List ℕ → List ℕ → List ℕ → Type 0
+AreKept start digest before after = (kids : List Kid) × IsKept start digest kids before after
 
--- why the search of a task over a file has no answer: memory ran out; or what is told of the file, of an entry in it, or of the search
+-- what a fault of the search itself may be: the journal has no room for the entries of one batch more, and those that it has are kept; the
+-- device failed; or what the threads share did not fit together. No other is told
+abbrev pub TellsOfSearch : Start → List ℕ → List ℕ → List ℕ → RunFault → Type 0
+TellsOfSearch start digest before after searching.Full = AreKept start digest before after
+TellsOfSearch start digest before after (searching.Damaged at) = ⊥
+TellsOfSearch start digest before after searching.Device = Unit {0}
+TellsOfSearch start digest before after searching.Failed = ⊥
+TellsOfSearch start digest before after searching.NotOut = Unit {0}
+TellsOfSearch start digest before after searching.NoMemory = ⊥
+
+-- why the search of a task over a file has no answer: memory ran out; a thread did not start, and the entries that there are are kept; or
+-- what is told of the file, of an entry in it, or of the search
 pub data HasNoSolution (start : Start) (t : Task) (digest before after : List ℕ) : Fault → Type 0 where
   OfMemory : HasNoSolution start t digest before after NoMemory
+  OfThreads : AreKept start digest before after → HasNoSolution start t digest before after NoThread
   OfFile : (error : JournalError) → TellsOfFile start digest before after error → HasNoSolution start t digest before after (Journal error)
   OfEntry : (at : ℕ) → HasFaultyEntry start t digest before after at → HasNoSolution start t digest before after (Search (searching.Damaged at))
-  OfSearch : (fault : RunFault) → TellsOfSearch fault → HasNoSolution start t digest before after (Search fault)
+  OfSearch : (fault : RunFault) → TellsOfSearch start digest before after fault → HasNoSolution start t digest before after (Search fault)
 
 -- ---- where a search is kept
 
@@ -138,4 +145,4 @@ IsBegun Kept digest before begun =
 
 -- a search over a journal has no answer: memory ran out, or this is told of the fault by which it ended
 abbrev pub IsRefusedRun : {S : Type 0} {G : Ghosts S} → Task → of.Journal S G → of.Journal S G → Fault → Type 0
-IsRefusedRun t old new fault = (fault ≡ NoMemory) ⊎ ((why : RunFault) × (fault ≡ search_in why) × Tells t old new why)
+IsRefusedRun t old new fault = (fault ≡ NoMemory) ⊎ ((why : ThreadsFault) × (fault ≡ search_in why) × Tells t old new why)

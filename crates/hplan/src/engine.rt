@@ -7,6 +7,7 @@ ghost use Rattle.hplan.specs.Fault.{IsOfTexts};
 ghost use Rattle.hplan.specs.Kept.{InMemory, InFile};
 ghost use Rattle.hplan.specs.PlanText.{printed};
 ghost use Rattle.hplan.specs.Written.{WritesFrontOfA};
+ghost use Rattle.hd_words.specs.Request.{IsWorkers};
 
 use crate::fault::{Fault, unwritten};
 use crate::kept::{Start, solution_in_file, solution_in_memory};
@@ -15,18 +16,29 @@ use crate::places::Places;
 use crate::told::{Ending, Told};
 use hd_plan::{Watched, WriteError, write_plan};
 use hd_texts::{digest_of, task_of};
+use hd_words::Search;
 use std::alloc::Global;
 use std::io::Write;
+use std::sync::Wait;
+use std::thread::Threads;
 
 /// The answer to two texts; its search is kept in memory.
-fn answer_in_memory(alloc: Global, domain: &[u8], problem: &[u8]) -> Result<Told, Fault>
-    ensures found { IfOk result (λ told. IsKeptAnswer InMemory domain.now problem.now
+fn answer_in_memory<R: Threads + Wait + Sync>(
+    rt: &R,
+    alloc: Global,
+    domain: &[u8],
+    problem: &[u8],
+    how: Search,
+) -> Result<Told, Fault>
+    requires { IsWorkers how.workers }
+    ensures found { IfOk result (λ told. IsKeptAnswer InMemory how.limit domain.now problem.now
         told.ending (printed told.plan)) }
-    ensures refusal { IfErr result (HasNoAnswerYet InMemory domain.now problem.now) }
+    ensures refusal { IfErr result (HasNoAnswerYet InMemory how.limit domain.now problem.now) }
 {
     match task_of(alloc, domain, problem) {
         Ok(task) => {
-            let answer = solution_in_memory(alloc, &task, &digest_of(domain, problem));
+            let digest = digest_of(domain, problem);
+            let answer = solution_in_memory(rt, alloc, &task, &digest, how);
             drop(task);
             answer
         }
@@ -35,26 +47,29 @@ fn answer_in_memory(alloc: Global, domain: &[u8], problem: &[u8]) -> Result<Told
 }
 
 /// The answer to two texts; its search is kept in a file.
-fn answer_in_file<P: Places>(
+fn answer_in_file<P: Places, R: Threads + Wait + Sync>(
+    rt: &R,
     alloc: Global,
     places: &mut P,
     name: &str,
     start: Start,
     domain: &[u8],
     problem: &[u8],
+    how: Search,
 ) -> Result<Told, Fault>
+    requires { IsWorkers how.workers }
     ensures found { IfOk result (λ told. IsKeptAnswer
         (InFile start (P.file_of places.old name.now) (P.file_of places.new name.now))
-        domain.now problem.now told.ending (printed told.plan)) }
+        how.limit domain.now problem.now told.ending (printed told.plan)) }
     ensures refusal { IfErr result (HasNoAnswerYet
         (InFile start (P.file_of places.old name.now) (P.file_of places.new name.now))
-        domain.now problem.now) }
+        how.limit domain.now problem.now) }
     ensures untouched { IfErr result (λ f. IsOfTexts f → places.new ≡ places.old) }
 {
     match task_of(alloc, domain, problem) {
         Ok(task) => {
             let digest = digest_of(domain, problem);
-            let answer = solution_in_file(alloc, places, name, start, &task, &digest);
+            let answer = solution_in_file(rt, alloc, places, name, start, &task, &digest, how);
             drop(task);
             answer
         }
@@ -108,33 +123,37 @@ fn write_told<W: Write>(
     }
 }
 
-/// Answers the task that two texts say, and writes the text of its plan, if it has one. The search is kept in memory.
+/// Answers the task that two texts say, and writes the text of its plan, if it has one. It is searched by so many threads as there are to be
+/// workers, until as many plans are expanded as its limit says, if it has one. The search is kept in memory.
 ///
 /// # Errors
 /// The first fault of the texts, or why the search fails, or what is told of the error that the writer has answered. A beginning of
 /// the text has then been written, and not all of it, and else nothing.
-pub fn solve<W: Write>(
+pub fn solve<W: Write, R: Threads + Wait + Sync>(
+    rt: &R,
     alloc: Global,
     domain: &[u8],
     problem: &[u8],
+    how: Search,
     out: &mut Watched<'_, W>,
 ) -> Result<Ending, Fault>
+    requires { IsWorkers how.workers }
     // The text is exactly that of the plan that the search of the task answers.
-    ensures whole { IfOk result (Writes InMemory domain.now problem.now
+    ensures whole { IfOk result (Writes InMemory how.limit domain.now problem.now
         (W.contents out.old.writer.now) (W.contents out.new.writer.now)) }
     ensures front { OnErr result
         ((W.contents out.new.writer.now ≡ W.contents out.old.writer.now)
-        ⊎ WritesFrontOfA (IsAnswerText InMemory domain.now problem.now)
+        ⊎ WritesFrontOfA (IsAnswerText InMemory how.limit domain.now problem.now)
         (W.contents out.old.writer.now) (W.contents out.new.writer.now)) }
 
     // Why there is no answer, and what is written then. `Device` is told only of an error that the writer has answered, after which a
     // beginning of the answer's text is written; none that it answers is passed over.
-    ensures refusal { IfErr result (HasNoAnswer InMemory domain.now problem.now
+    ensures refusal { IfErr result (HasNoAnswer InMemory how.limit domain.now problem.now
         (W.contents out.old.writer.now) (W.contents out.new.writer.now)
         out.old.fault out.new.fault) }
     ensures no_fault { OnOk result (out.new.fault ≡ out.old.fault) }
 {
-    let told = answer_in_memory(alloc, domain, problem)?;
+    let told = answer_in_memory(rt, alloc, domain, problem, how)?;
     write_told(alloc, told, out)
 }
 
@@ -144,35 +163,38 @@ pub fn solve<W: Write>(
 ///
 /// # Errors
 /// The same, and, behind the faults of the texts, that the file can't be had, begun or gone on with.
-pub fn solve_kept<P: Places, W: Write>(
+pub fn solve_kept<P: Places, W: Write, R: Threads + Wait + Sync>(
+    rt: &R,
     alloc: Global,
     places: &mut P,
     name: &str,
     start: Start,
     domain: &[u8],
     problem: &[u8],
+    how: Search,
     out: &mut Watched<'_, W>,
 ) -> Result<Ending, Fault>
+    requires { IsWorkers how.workers }
     // The text is that of the plan that the entries answer which the file has at the end; they begin with those that it had.
     ensures whole { IfOk result (Writes
         (InFile start (P.file_of places.old name.now) (P.file_of places.new name.now))
-        domain.now problem.now
+        how.limit domain.now problem.now
         (W.contents out.old.writer.now) (W.contents out.new.writer.now)) }
     ensures front { OnErr result
         ((W.contents out.new.writer.now ≡ W.contents out.old.writer.now)
         ⊎ WritesFrontOfA (IsAnswerText
         (InFile start (P.file_of places.old name.now) (P.file_of places.new name.now))
-        domain.now problem.now)
+        how.limit domain.now problem.now)
         (W.contents out.old.writer.now) (W.contents out.new.writer.now)) }
     ensures refusal { IfErr result (HasNoAnswer
         (InFile start (P.file_of places.old name.now) (P.file_of places.new name.now))
-        domain.now problem.now
+        how.limit domain.now problem.now
         (W.contents out.old.writer.now) (W.contents out.new.writer.now)
         out.old.fault out.new.fault) }
     ensures no_fault { OnOk result (out.new.fault ≡ out.old.fault) }
     // Texts at fault begin no journal.
     ensures untouched { IfErr result (λ f. IsOfTexts f → places.new ≡ places.old) }
 {
-    let told = answer_in_file(alloc, places, name, start, domain, problem)?;
+    let told = answer_in_file(rt, alloc, places, name, start, domain, problem, how)?;
     write_told(alloc, told, out)
 }

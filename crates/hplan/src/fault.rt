@@ -1,11 +1,12 @@
 //! Why there is no answer.
 ghost use Rattle.std.specs.IoError.{error_kind};
 ghost use Rattle.std.specs.Prelude.{◌≡◌, Some};
-ghost use Rattle.hplan.specs.Fault.{text_of, task_in, plan_read_in, judged_in, journal_in, search_in, certify_in, store_in, TellsKind, TellsUnwritten};
+ghost use Rattle.hplan.specs.Fault.{text_of, task_in, plan_read_in, judged_in, journal_in, run_in, search_in, certify_in, store_in, TellsKind, TellsUnwritten};
 ghost use Rattle.hplan.specs.declared.fault.Fault.TheVariants as faults;
 
 use hd_certify::CertifyError;
 use hd_journal::JournalError;
+use hd_parallel::ThreadsFault;
 use hd_plan::{PlanTextError, WriteError};
 use hd_search::RunFault;
 use hd_store::StoreError;
@@ -30,6 +31,8 @@ pub enum Fault {
     Journal(JournalError),
     /// The search has ended without an answer.
     Search(RunFault),
+    /// The system has started no thread for a worker of the search.
+    NoThread,
     /// Memory ran out.
     NoMemory,
 }
@@ -45,6 +48,7 @@ impl fmt::Display for Fault {
             Fault::Device => write!(f, "35 Device"),
             Fault::Journal(error) => write!(f, "{error}"),
             Fault::Search(fault) => write!(f, "{fault}"),
+            Fault::NoThread => write!(f, "NoThread"),
             Fault::NoMemory => write!(f, "NoMemory"),
         }
     }
@@ -120,9 +124,9 @@ pub fn journal_in(error: JournalError) -> Fault
     }
 }
 
-/// Why a search has ended without an answer.
-pub fn search_in(fault: RunFault) -> Fault
-    ensures { result ≡ search_in fault }
+/// Why a search that has its threads has ended without an answer.
+fn run_in(fault: RunFault) -> Fault
+    ensures { result ≡ run_in fault }
 {
     match fault {
         RunFault::NoMemory => Fault::NoMemory,
@@ -131,6 +135,16 @@ pub fn search_in(fault: RunFault) -> Fault
         | RunFault::Device
         | RunFault::Failed
         | RunFault::NotOut => Fault::Search(fault),
+    }
+}
+
+/// Why a search has ended without an answer.
+pub fn search_in(fault: ThreadsFault) -> Fault
+    ensures { result ≡ search_in fault }
+{
+    match fault {
+        ThreadsFault::Run(fault) => run_in(fault),
+        ThreadsFault::NoThread => Fault::NoThread,
     }
 }
 

@@ -1,10 +1,11 @@
-//! The search of a task over a journal, in memory or in a file.
+//! The search of a task by threads over a journal, in memory or in a file.
 ghost use Rattle.std.specs.Prelude.{◌≡◌, List, IfOk, IfErr, OnOk};
 ghost use Rattle.hd_task.specs.declared.plan.Kid.{Kid};
 ghost use Rattle.hd_store.specs.Device.{content_of};
 ghost use Rattle.hd_journal.specs.Journal.{kids_of};
-ghost use Rattle.hd_search.specs.Fault.{Tells};
 ghost use Rattle.hd_search.specs.Searching.{Grows};
+ghost use Rattle.hd_parallel.specs.Fault.{Tells};
+ghost use Rattle.hd_words.specs.Request.{IsWorkers};
 ghost use Rattle.hplan.specs.declared.fault.Fault.TheVariants as faults;
 ghost use Rattle.hplan.specs.Answer.{IsSolution, IsKeptSolution};
 ghost use Rattle.hplan.specs.Kept.{IsBegun, IsKept, TellsOfFile, HasNoSolution, FailsIn, IsRefusedRun, InMemory, InFile};
@@ -14,10 +15,16 @@ use crate::fault::{Fault, journal_in, search_in, store_in};
 use crate::places::Places;
 use crate::told::{Told, told_of};
 use hd_journal::{DIGEST_LEN, Journal, JournalError};
-use hd_search::{ALONE, TOGETHER, run};
+use hd_parallel::{OpenGate, run};
 use hd_store::{MemoryDisk, Store};
 use hd_task::Task;
+use hd_words::Search;
 use std::alloc::Global;
+use std::sync::Wait;
+use std::thread::Threads;
+
+/// How many open nodes a worker settles before their outcomes are committed, or fewer, where no more are open.
+const TOGETHER: usize = 64;
 
 /// What a search that is kept in a file begins with.
 #[derive(Clone, Copy, Debug, PartialEq, Eq)]
@@ -29,22 +36,28 @@ pub enum Start {
 }
 
 /// What the search of a task answers over a journal.
-fn solution_of<S: Store>(
+fn solution_of<S: Store, R: Threads + Wait + Sync>(
+    rt: &R,
     alloc: Global,
     task: &Task,
     journal: &mut Journal<S>,
-    together: usize,
+    how: Search,
 ) -> Result<Told, Fault>
-    ensures found { IfOk result (λ told.
-        IsSolution task.now (kids_of journal.new) told.ending (printed told.plan)) }
+    requires { IsWorkers how.workers }
+    ensures found { IfOk result (λ told. IsSolution how.limit task.now (kids_of journal.new)
+        told.ending (printed told.plan)) }
     ensures grows { OnOk result (Grows journal.old journal.new) }
     ensures refusal { IfErr result (IsRefusedRun task.now journal.old journal.new) }
 {
-    let ended = match run(alloc, task, journal, together) {
-        Ok(ended) => ended,
+    let workers = how.workers as usize;
+    let ended = run(
+        rt, alloc, task, journal, workers, TOGETHER, how.limit, &OpenGate,
+    );
+    let concluded = match ended {
+        Ok(concluded) => concluded,
         Err(fault) => return Err(search_in(fault)),
     };
-    match told_of(alloc, task, &ended.verdict) {
+    match told_of(alloc, task, &concluded.outcome) {
         Ok(told) => Ok(told),
         Err(_) => Err(Fault::NoMemory),
     }
@@ -68,16 +81,18 @@ fn journal_on<S: Store>(
 }
 
 /// What the search of a task answers over a journal on a store, and the store as it is then.
-fn solution_on<S: Store>(
+fn solution_on<S: Store, R: Threads + Wait + Sync>(
+    rt: &R,
     alloc: Global,
     task: &Task,
     start: Start,
     digest: &[u8; DIGEST_LEN],
-    together: usize,
+    how: Search,
     store: S,
 ) -> (S, Result<Told, Fault>)
+    requires { IsWorkers how.workers }
     ensures found { IfOk result.1 (λ told. (kids : List Kid)
-        × IsSolution task.now kids told.ending (printed told.plan)
+        × IsSolution how.limit task.now kids told.ending (printed told.plan)
         × IsKept start digest.now kids (content_of (S.device store))
         (content_of (S.device result.0))) }
     ensures refusal { IfErr result.1 (HasNoSolution start task.now digest.now
@@ -86,7 +101,7 @@ fn solution_on<S: Store>(
     match journal_on(alloc, start, digest, store) {
         Ok(journal) => {
             let mut journal = journal;
-            let found = solution_of(alloc, task, &mut journal, together);
+            let found = solution_of(rt, alloc, task, &mut journal, how);
             (journal.into_store(), found)
         }
         Err((store, error)) => (store, Err(journal_in(error))),
@@ -94,33 +109,39 @@ fn solution_on<S: Store>(
 }
 
 /// What the search of a task answers over a journal in memory.
-pub fn solution_in_memory(
+pub fn solution_in_memory<R: Threads + Wait + Sync>(
+    rt: &R,
     alloc: Global,
     task: &Task,
     digest: &[u8; DIGEST_LEN],
+    how: Search,
 ) -> Result<Told, Fault>
-    ensures found { IfOk result (λ told. IsKeptSolution InMemory task.now digest.now
+    requires { IsWorkers how.workers }
+    ensures found { IfOk result (λ told. IsKeptSolution InMemory how.limit task.now digest.now
         told.ending (printed told.plan)) }
     ensures refusal { IfErr result (FailsIn InMemory task.now digest.now) }
 {
     let disk = MemoryDisk::new(alloc);
-    let (disk, found) = solution_on(alloc, task, Start::New, digest, ALONE, disk);
+    let (disk, found) = solution_on(rt, alloc, task, Start::New, digest, how, disk);
     drop(disk);
     found
 }
 
 /// What the search of a task answers over a journal in a file.
-pub fn solution_in_file<P: Places>(
+pub fn solution_in_file<P: Places, R: Threads + Wait + Sync>(
+    rt: &R,
     alloc: Global,
     places: &mut P,
     name: &str,
     start: Start,
     task: &Task,
     digest: &[u8; DIGEST_LEN],
+    how: Search,
 ) -> Result<Told, Fault>
+    requires { IsWorkers how.workers }
     ensures found { IfOk result (λ told. IsKeptSolution
         (InFile start (P.file_of places.old name.now) (P.file_of places.new name.now))
-        task.now digest.now told.ending (printed told.plan)) }
+        how.limit task.now digest.now told.ending (printed told.plan)) }
     ensures refusal { IfErr result (FailsIn
         (InFile start (P.file_of places.old name.now) (P.file_of places.new name.now))
         task.now digest.now) }
@@ -130,7 +151,7 @@ pub fn solution_in_file<P: Places>(
         Ok(disk) => disk,
         Err(error) => return Err(store_in(error)),
     };
-    let (disk, found) = solution_on(alloc, task, start, digest, TOGETHER, disk);
+    let (disk, found) = solution_on(rt, alloc, task, start, digest, how, disk);
     places.give_back(name, disk);
     found
 }

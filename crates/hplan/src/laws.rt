@@ -1,5 +1,5 @@
 //! Laws over the definitions. Each function does nothing: its contract is the law.
-ghost use Rattle.std.specs.Prelude.{◌≡◌, ◌⊎◌, ℕ, List, []};
+ghost use Rattle.std.specs.Prelude.{◌≡◌, ◌⊎◌, ℕ, List, [], Option};
 ghost use Rattle.hd_plan.specs.PlanText.{step_text};
 ghost use Rattle.hd_task.specs.FormText.{form_text};
 ghost use Rattle.hd_task.specs.declared.form.GroundForm.{GroundForm};
@@ -19,19 +19,19 @@ pub fn steps_are_printed_as_ground_forms()
 /// What is written of an answer is a plan file: it is valid in the task of the same two texts, as `validate` judges it, at the cost that stands
 /// in it. Nothing is written only where there is no plan, and so not of an answer that ends with an optimal one.
 pub fn answers_are_validated()
-    ensures optimal { (domain problem text : List ℕ) → IsSolved domain problem Optimal text
-        → IsValidatedFile domain problem text }
-    ensures given { (domain problem text : List ℕ) (ending : Ending)
-        → IsSolved domain problem ending text
+    ensures optimal { (limit : Option ℕ) (domain problem text : List ℕ)
+        → IsSolved limit domain problem Optimal text → IsValidatedFile domain problem text }
+    ensures given { (limit : Option ℕ) (domain problem text : List ℕ) (ending : Ending)
+        → IsSolved limit domain problem ending text
         → (text ≡ []) ⊎ IsValidatedFile domain problem text }
 {}
 
 /// The steps that such a file says, read back, name the instances of a plan that is valid in the domain and problem, at that cost; where the
 /// answer ends with an optimal plan, no valid plan costs less.
 pub fn written_plans_are_valid()
-    ensures optimal { (domain problem text : List ℕ) → IsSolved domain problem Optimal text
-        → IsFileOfOptimal domain problem text }
-    ensures given { (domain problem text : List ℕ) (ending : Ending)
-        → IsSolved domain problem ending text
+    ensures optimal { (limit : Option ℕ) (domain problem text : List ℕ)
+        → IsSolved limit domain problem Optimal text → IsFileOfOptimal domain problem text }
+    ensures given { (limit : Option ℕ) (domain problem text : List ℕ) (ending : Ending)
+        → IsSolved limit domain problem ending text
         → (text ≡ []) ⊎ IsFileOfValid domain problem text }
 {}

@@ -27,6 +27,7 @@ pub use engine::{solve, solve_kept};
 pub use fault::Fault;
 pub use grounding::ground;
 pub use hd_texts::{Source, TaskFault};
+pub use hd_words::Search;
 pub use inspecting::inspect;
 pub use kept::Start;
 pub use migrating::migrate;

@@ -1,5 +1,6 @@
 //! The program: from the words of a command line to an exit status.
 ghost use Rattle.std.specs.Prelude.{◌≡◌, MatchResult};
+ghost use Rattle.hd_words.specs.Request.{IsWithin, IsWorkers};
 ghost use Rattle.hplan.specs.Status.{status_of_ending, status_of_certificate};
 ghost use Rattle.hplan.specs.declared.program.TheConstants.{DONE, REFUSED};
 
@@ -17,11 +18,13 @@ use crate::surveying::survey;
 use crate::told::Ending;
 use crate::validating::validate;
 use hd_plan::{Watched, put};
-use hd_words::{Request, WordsError, read_words};
+use hd_words::{Request, Search, WordsError, read_words};
 use std::alloc::Global;
 use std::fs::File;
 use std::io::Write;
 use std::rt::{Env, Files};
+use std::sync::Wait;
+use std::thread::Threads;
 use std::{env, io};
 
 /// The exit status of an answer, and of help.
@@ -38,6 +41,9 @@ const NO_PLAN: u8 = 10;
 
 /// The exit status where a number left the range.
 const RANGE_LEFT: u8 = 11;
+
+/// The exit status where the search has stopped at its limit.
+const STOPPED: u8 = 12;
 
 /// Tells a fault, on one line.
 fn refuse<E: Write>(err: &mut E, fault: &Fault) -> u8
@@ -61,6 +67,10 @@ fn tell<E: Write>(err: &mut E, ending: &Ending) -> u8
             let _ = put(err, text.as_slice());
             let _ = put(err, b"\n");
             RANGE_LEFT
+        }
+        Ending::Stopped => {
+            let _ = put(err, b"stopped at the limit\n");
+            STOPPED
         }
     }
 }
@@ -88,20 +98,25 @@ fn read<P: Places>(alloc: Global, places: &mut P, name: &str) -> Result<Vec<u8>,
 }
 
 /// Reads two files, and writes the plan of their task. The search is kept in the file of a journal, if one is named.
-fn solve_files<P: Places, O: Write>(
+fn solve_files<P: Places, O: Write, R: Threads + Wait + Sync>(
+    rt: &R,
     alloc: Global,
     places: &mut P,
-    domain: &str,
-    problem: &str,
+    texts: (&str, &str),
     journal: Option<(&str, Start)>,
+    how: Search,
     out: &mut O,
-) -> Result<Ending, Fault> {
-    let domain = read(alloc, places, domain)?;
-    let problem = read(alloc, places, problem)?;
+) -> Result<Ending, Fault>
+    requires { IsWorkers how.workers }
+{
+    let domain = read(alloc, places, texts.0)?;
+    let problem = read(alloc, places, texts.1)?;
     let watched = &mut Watched::of(&mut *out);
     let ended = match journal {
-        Some((name, start)) => solve_kept(alloc, places, name, start, &domain, &problem, watched),
-        None => solve(alloc, &domain, &problem, watched),
+        Some((name, start)) => solve_kept(
+            rt, alloc, places, name, start, &domain, &problem, how, watched,
+        ),
+        None => solve(rt, alloc, &domain, &problem, how, watched),
     };
     let ending = ended?;
     flush(out)?;
@@ -271,37 +286,40 @@ fn judge_files<O: Write, E: Write>(
 }
 
 /// Does what a request asks.
-fn answer<P: Places, O: Write, E: Write>(
+fn answer<P: Places, O: Write, E: Write, R: Threads + Wait + Sync>(
+    rt: &R,
     alloc: Global,
     request: &Request,
     places: &mut P,
     out: &mut O,
     err: &mut E,
-) -> u8 {
+) -> u8
+    requires { IsWithin request.now }
+{
     match request {
         Request::Solve {
             domain,
             problem,
             journal,
-            ..
+            search,
         } => {
             let journal = match journal {
                 Some(name) => Some((name.as_str(), Start::New)),
                 None => None,
             };
             let names = (domain.as_str(), problem.as_str());
-            let ended = solve_files(alloc, places, names.0, names.1, journal, out);
+            let ended = solve_files(rt, alloc, places, names, journal, *search, out);
             status_of_search(err, ended)
         }
         Request::Resume {
             domain,
             problem,
             journal,
-            ..
+            search,
         } => {
             let journal = Some((journal.as_str(), Start::Kept));
             let names = (domain.as_str(), problem.as_str());
-            let ended = solve_files(alloc, places, names.0, names.1, journal, out);
+            let ended = solve_files(rt, alloc, places, names, journal, *search, out);
             status_of_search(err, ended)
         }
         Request::Certify {
@@ -358,12 +376,14 @@ fn answer<P: Places, O: Write, E: Write>(
 /// Runs the words of a command line, of which the first is the program's name, and answers the exit status.
 ///
 /// The status is 0 for a plan, the actions of a task, a valid plan, a journal that shows a verdict or was migrated, the help and the version, 1 for a fault and
-/// a journal that shows no verdict, 2 for a faulty command line, 10 where there is no plan and 11 where a number left the range.
+/// a journal that shows no verdict, 2 for a faulty command line, 10 where there is no plan, 11 where a number left the range and 12 where the search has
+/// stopped at its limit.
 ///
 /// What was asked for goes to `out`, and everything else to `err`. Faults are looked for in this order: the command line;
 /// the domain's file, the problem's, the plan's; the domain's text, the problem's; their names, types and metric; the grounding (not to
 /// validate); the plan's text; the journal; the work itself.
-pub fn command<P: Places, O: Write, E: Write>(
+pub fn command<P: Places, O: Write, E: Write, R: Threads + Wait + Sync>(
+    rt: &R,
     alloc: Global,
     words: &[String],
     places: &mut P,
@@ -371,7 +391,7 @@ pub fn command<P: Places, O: Write, E: Write>(
     err: &mut E,
 ) -> u8 {
     match read_words(alloc, words) {
-        Ok(request) => answer(alloc, &request, places, out, err),
+        Ok(request) => answer(rt, alloc, &request, places, out, err),
         Err(WordsError::Shown(text)) => status_of(err, show(out, text.as_str())),
         Err(WordsError::Fault(text)) => {
             let _ = put(err, text.as_bytes());
@@ -387,13 +407,13 @@ fn words_of<R: Env + AllocGlobal>(rt: &R) -> io::Result<Vec<String>> {
 }
 
 /// Runs the program with the system's words and files, and answers the exit status.
-pub fn start<R: Env + Files<File = File> + AllocGlobal, O: Write, E: Write>(
+pub fn start<R: Env + Files<File = File> + Threads + Wait + Sync + AllocGlobal, O: Write, E: Write>(
     rt: &R,
     out: &mut O,
     err: &mut E,
 ) -> u8 {
     match words_of(rt) {
-        Ok(words) => command(rt.alloc(), &words, &mut SystemFiles::new(rt), out, err),
+        Ok(words) => command(rt, rt.alloc(), &words, &mut SystemFiles::new(rt), out, err),
         Err(error) if error.kind() == io::ErrorKind::InvalidData => {
             let _ = put(err, b"error: the command line is not text\n");
             MISUSED

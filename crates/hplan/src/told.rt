@@ -1,13 +1,13 @@
 //! How the answer of a search is told.
 ghost use Rattle.std.specs.Prelude.{◌≡◌, true, IfOk, IfSome};
 ghost use Rattle.hd_plan.specs.PlanText as plans;
-ghost use Rattle.hplan.specs.Answer.{plan_in, written_of, ending_of};
+ghost use Rattle.hplan.specs.Answer.{plan_in, text_if, written_of, ending_of};
 ghost use Rattle.hplan.specs.PlanText.{printed, plan_text, goes_through};
 
 use crate::naming::{NamedPlan, named_plan};
 use crate::text::departure_text;
 use hd_base::{NoMemory, Sequence};
-use hd_entries::Verdict;
+use hd_parallel::Outcome;
 use hd_task::{Plan, Task};
 use std::alloc::Global;
 
@@ -20,6 +20,8 @@ pub enum Ending {
     NoPlan,
     /// A number left the range: where, as it is told.
     RangeLeft(Sequence<u8>),
+    /// The search has stopped at its limit.
+    Stopped,
 }
 
 /// How an answer ends, and the plan that is written, if there is one.
@@ -29,7 +31,7 @@ pub struct Told {
     pub plan: Option<NamedPlan>,
 }
 
-/// A verdict's plan by its names.
+/// An answer's plan by its names.
 fn plan_of(alloc: Global, task: &Task, plan: &Plan) -> Result<NamedPlan, NoMemory>
     requires { goes_through task.now plan.now ≡ true }
     ensures { IfOk result (λ named.
@@ -41,31 +43,46 @@ fn plan_of(alloc: Global, task: &Task, plan: &Plan) -> Result<NamedPlan, NoMemor
     }
 }
 
-/// How a verdict ends, and its plan, if it has one.
-pub fn told_of(alloc: Global, task: &Task, verdict: &Verdict) -> Result<Told, NoMemory>
-    requires { IfSome (plan_in verdict.now) (λ p. goes_through task.now p ≡ true) }
-    ensures ends { IfOk result (λ told. told.ending ≡ ending_of task.now verdict.now) }
-    ensures text { IfOk result (λ told. printed told.plan ≡ written_of task.now verdict.now) }
+/// The plan, by its names, that an answer may have beside.
+fn plan_beside(
+    alloc: Global,
+    task: &Task,
+    plan: &Option<Plan>,
+) -> Result<Option<NamedPlan>, NoMemory>
+    requires { IfSome plan.now (λ p. goes_through task.now p ≡ true) }
+    ensures { IfOk result (λ named. printed named ≡ text_if task.now plan.now) }
 {
-    match verdict {
-        Verdict::Optimal(plan) => Ok(Told {
+    match plan {
+        Some(plan) => Ok(Some(plan_of(alloc, task, plan)?)),
+        None => Ok(None),
+    }
+}
+
+/// How an answer ends, and its plan, if it has one.
+pub fn told_of(alloc: Global, task: &Task, outcome: &Outcome) -> Result<Told, NoMemory>
+    requires { IfSome (plan_in outcome.now) (λ p. goes_through task.now p ≡ true) }
+    ensures ends { IfOk result (λ told. told.ending ≡ ending_of task.now outcome.now) }
+    ensures text { IfOk result (λ told. printed told.plan ≡ written_of task.now outcome.now) }
+{
+    match outcome {
+        Outcome::Optimal(plan) => Ok(Told {
             ending: Ending::Optimal,
             plan: Some(plan_of(alloc, task, plan)?),
         }),
-        Verdict::NoPlan => Ok(Told {
+        Outcome::NoPlan => Ok(Told {
             ending: Ending::NoPlan,
             plan: None,
         }),
-        Verdict::RangeLeft(departure, plan) => {
+        Outcome::RangeLeft(departure, plan) => {
             let text = departure_text(alloc, task, *departure)?;
-            let plan = match plan {
-                Some(plan) => Some(plan_of(alloc, task, plan)?),
-                None => None,
-            };
             Ok(Told {
                 ending: Ending::RangeLeft(Sequence::from_vec(text)),
-                plan,
+                plan: plan_beside(alloc, task, plan)?,
             })
         }
+        Outcome::Stopped(plan) => Ok(Told {
+            ending: Ending::Stopped,
+            plan: plan_beside(alloc, task, plan)?,
+        }),
     }
 }

@@ -2,7 +2,9 @@
 use crate::kept::{Kept, WHOLE, is, joined, kept};
 use crate::running::{run, run_over, shelf_of};
 use std::alloc::{AllocError, Global};
+use std::sync::Wait;
 use std::test::Fail;
+use std::thread::Threads;
 use text_tests::samples::{L, L_PROBLEM, N, N_PROBLEM, U};
 
 /// What a run prints of a journal that shows nothing.
@@ -16,8 +18,12 @@ pub const GROUPS_OF_ONE: [u8; 40] = [
 ];
 
 /// The run of `certify` on the task of two actions.
-fn certified(alloc: Global, journal: &[u8]) -> Result<Kept, AllocError> {
-    kept(alloc, "certify", L, L_PROBLEM, Some(journal))
+fn certified<R: Threads + Wait + Sync>(
+    rt: &R,
+    alloc: Global,
+    journal: &[u8],
+) -> Result<Kept, AllocError> {
+    kept(rt, alloc, "certify", L, L_PROBLEM, Some(journal))
 }
 
 /// The journal of two actions in the first version, up to so many bytes of its groups, and a closed gate.
@@ -26,11 +32,26 @@ pub fn in_version_one(alloc: Global, bytes: &[u8]) -> Result<Vec<u8>, AllocError
 }
 
 /// What `certify` prints of the journal that `solve` has made of two texts.
-fn certified_behind(alloc: Global, domain: &str, problem: &str) -> Result<Vec<u8>, AllocError> {
+fn certified_behind<R: Threads + Wait + Sync>(
+    rt: &R,
+    alloc: Global,
+    domain: &str,
+    problem: &str,
+) -> Result<Vec<u8>, AllocError> {
     let files = [("d", domain.as_bytes()), ("p", problem.as_bytes())];
     let mut shelf = shelf_of(alloc, &files)?;
-    run_over(alloc, &["solve", "d", "p", "--journal", "j"], &mut shelf)?;
-    run_over(alloc, &["certify", "d", "p", "--journal", "j"], &mut shelf)
+    run_over(
+        rt,
+        alloc,
+        &["solve", "d", "p", "--journal", "j"],
+        &mut shelf,
+    )?;
+    run_over(
+        rt,
+        alloc,
+        &["certify", "d", "p", "--journal", "j"],
+        &mut shelf,
+    )
 }
 
 #[test]
@@ -49,7 +70,7 @@ fn a_journal_shows_what_its_entries_show(rt: HostRuntime) -> Result<(), Fail> {
         (none.as_slice(), NOTHING),
         (b"".as_slice(), NOTHING),
     ] {
-        assert!(rt; is(&certified(alloc, journal)?, want, journal));
+        assert!(rt; is(&certified(&rt, alloc, journal)?, want, journal));
     }
     Ok(())
 }
@@ -67,7 +88,7 @@ fn what_a_search_has_ended_with_is_certified(rt: HostRuntime) -> Result<(), Fail
         (no_way, L_PROBLEM, b"0|certified no plan\n|"),
         (U, end, NOTHING),
     ] {
-        let run = certified_behind(alloc, domain, problem)?;
+        let run = certified_behind(&rt, alloc, domain, problem)?;
         assert_eq!(rt; run.as_slice(), want);
     }
     Ok(())
@@ -85,10 +106,10 @@ fn what_is_no_journal_of_the_task_is_told(rt: HostRuntime) -> Result<(), Fail> {
         (other.as_str(), &WHOLE[..], "1||hplan: 33 OtherTask\n"),
         (")", &WHOLE[..], "1||hplan: problem: 4 Unbalanced(0)\n"),
     ] {
-        let found = kept(alloc, "certify", L, problem, Some(journal))?;
+        let found = kept(&rt, alloc, "certify", L, problem, Some(journal))?;
         assert!(rt; is(&found, want.as_bytes(), journal), "at {want}");
     }
-    let (run, bytes) = kept(alloc, "certify", L, L_PROBLEM, None)?;
+    let (run, bytes) = kept(&rt, alloc, "certify", L, L_PROBLEM, None)?;
     assert_eq!(rt; run.as_slice(), b"1||hplan: 35 Device\n".as_slice());
     assert!(rt; bytes.is_none());
     Ok(())
@@ -100,7 +121,7 @@ fn a_search_goes_on_in_its_version(rt: HostRuntime) -> Result<(), Fail> {
     let alloc = rt.alloc();
     let part = in_version_one(alloc, &GROUPS_OF_ONE[..26])?;
     let whole = in_version_one(alloc, &GROUPS_OF_ONE[..39])?;
-    let found = kept(alloc, "resume", L, L_PROBLEM, Some(&part))?;
+    let found = kept(&rt, alloc, "resume", L, L_PROBLEM, Some(&part))?;
     assert!(rt; is(&found, b"0|(set-a)\n(set-b)\n; cost = 2\n|", &whole));
     assert_eq!(rt; whole.len(), 78);
     Ok(())
@@ -161,7 +182,11 @@ enum Told {
 }
 
 /// What `inspect` prints of a file of which this is told.
-fn inspected(alloc: Global, told: &Told) -> Result<String, AllocError> {
+fn inspected<R: Threads + Wait + Sync>(
+    rt: &R,
+    alloc: Global,
+    told: &Told,
+) -> Result<String, AllocError> {
     match told {
         Told::Journal(version, entries, behind) => {
             let digest = "22ae9a8672dd7539c657f4b82019be004135c67817c0a93187f758ec88ddacc4";
@@ -174,9 +199,14 @@ fn inspected(alloc: Global, told: &Told) -> Result<String, AllocError> {
 }
 
 /// Whether this is told of a file.
-fn is_inspected(alloc: Global, journal: &[u8], told: &Told) -> Result<bool, AllocError> {
-    let want = inspected(alloc, told)?;
-    let found = run(alloc, &["inspect", "--journal", "j"], &[("j", journal)])?;
+fn is_inspected<R: Threads + Wait + Sync>(
+    rt: &R,
+    alloc: Global,
+    journal: &[u8],
+    told: &Told,
+) -> Result<bool, AllocError> {
+    let want = inspected(rt, alloc, told)?;
+    let found = run(rt, alloc, &["inspect", "--journal", "j"], &[("j", journal)])?;
     Ok(found.as_slice() == want.as_bytes())
 }
 
@@ -194,9 +224,9 @@ fn a_journal_is_told_of_without_its_texts(rt: HostRuntime) -> Result<(), Fail> {
         (&WHOLE[..60], Told::Run("1||hplan: 34 Damaged(52)\n")),
         (b"mine", Told::Run("1||hplan: 32 NotAJournal\n")),
     ] {
-        assert!(rt; is_inspected(alloc, journal, &told)?);
+        assert!(rt; is_inspected(&rt, alloc, journal, &told)?);
     }
-    let run = run(alloc, &["inspect", "--journal", "j"], &[])?;
+    let run = run(&rt, alloc, &["inspect", "--journal", "j"], &[])?;
     assert_eq!(rt; run.as_slice(), b"1||hplan: 35 Device\n".as_slice());
     Ok(())
 }

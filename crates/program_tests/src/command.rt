@@ -2,36 +2,34 @@
 use crate::running::{cut_short, cut_short_by, grounded, run, solved, validated};
 use std::io;
 use std::test::Fail;
-use text_tests::samples::{G, G_PROBLEM, L, L_PROBLEM, U};
+use text_tests::samples::{G, G_PROBLEM, L, L_PROBLEM, N, N_PROBLEM, U};
 
 #[test]
 fn plans_are_printed(rt: HostRuntime) -> Result<(), Fail> {
     let alloc = rt.alloc();
-    let plan = solved(alloc, L, L_PROBLEM)?;
-    assert_eq!(rt;
-        plan.as_slice(),
-        b"0|(set-a)\n(set-b)\n; cost = 2\n|".as_slice()
-    );
-    let empty = solved(
-        alloc,
-        L,
-        "(define (problem l1) (:domain l) (:init) (:goal (and)))",
-    )?;
-    assert_eq!(rt; empty.as_slice(), b"0|; cost = 0\n|".as_slice());
-    let plan = solved(alloc, G, G_PROBLEM)?;
+    let without_set_a = "(define (domain l) (:predicates (a) (b))
+  (:action set-b :parameters () :precondition (a) :effect (b)))";
+    for (domain, problem, want) in [
+        (L, L_PROBLEM, "0|(set-a)\n(set-b)\n; cost = 2\n|"),
+        (
+            L,
+            "(define (problem l1) (:domain l) (:init) (:goal (and)))",
+            "0|; cost = 0\n|",
+        ),
+        (without_set_a, L_PROBLEM, "10||no plan\n"),
+        (
+            U,
+            "(define (problem u1) (:domain u) (:init (= (x) 1000000000000001)) (:goal (b)))",
+            "1||hplan: problem: 18 InitOutOfRange(47)\n",
+        ),
+    ] {
+        let found = solved(&rt, alloc, domain, problem)?;
+        assert_eq!(rt; found.as_slice(), want.as_bytes());
+    }
+    let plan = solved(&rt, alloc, G, G_PROBLEM)?;
     let one_way = b"0|(put-a)\n(put-b)\n; cost = 2\n|".as_slice();
     let other_way = b"0|(put-b)\n(put-a)\n; cost = 2\n|".as_slice();
     assert!(rt; plan.as_slice() == one_way || plan.as_slice() == other_way);
-    Ok(())
-}
-
-#[test]
-fn no_plan_is_told(rt: HostRuntime) -> Result<(), Fail> {
-    let alloc = rt.alloc();
-    let domain = "(define (domain l) (:predicates (a) (b))
-  (:action set-b :parameters () :precondition (a) :effect (b)))";
-    let none = solved(alloc, domain, L_PROBLEM)?;
-    assert_eq!(rt; none.as_slice(), b"10||no plan\n".as_slice());
     Ok(())
 }
 
@@ -68,7 +66,7 @@ fn faults_of_the_domain_are_told(rt: HostRuntime) -> Result<(), Fail> {
         ),
     ] {
         assert_eq!(rt;
-            solved(alloc, domain, L_PROBLEM)?.as_slice(),
+            solved(&rt, alloc, domain, L_PROBLEM)?.as_slice(),
             want.as_bytes()
         );
     }
@@ -86,7 +84,7 @@ fn long_and_deep_domains_are_refused(rt: HostRuntime) -> Result<(), Fail> {
         (b"( \xFF )".as_slice(), "1||hplan: domain: 1 BadByte(2)\n"),
     ] {
         let files = [("d", domain), ("p", b"".as_slice())];
-        let found = run(alloc, &["solve", "d", "p"], &files)?;
+        let found = run(&rt, alloc, &["solve", "d", "p"], &files)?;
         assert_eq!(rt; found.as_slice(), want.as_bytes());
     }
     Ok(())
@@ -114,19 +112,8 @@ fn faults_of_the_problem_are_told(rt: HostRuntime) -> Result<(), Fail> {
             "1||hplan: problem: 10 WrongArity(b, 49)\n",
         ),
     ] {
-        assert_eq!(rt; solved(alloc, L, problem)?.as_slice(), want.as_bytes());
+        assert_eq!(rt; solved(&rt, alloc, L, problem)?.as_slice(), want.as_bytes());
     }
-    Ok(())
-}
-
-#[test]
-fn first_values_are_checked_before_the_search(rt: HostRuntime) -> Result<(), Fail> {
-    let problem = "(define (problem u1) (:domain u) (:init (= (x) 1000000000000001)) (:goal (b)))";
-    let run = solved(rt.alloc(), U, problem)?;
-    assert_eq!(rt;
-        run.as_slice(),
-        b"1||hplan: problem: 18 InitOutOfRange(47)\n".as_slice()
-    );
     Ok(())
 }
 
@@ -141,7 +128,10 @@ fn faults_come_in_order(rt: HostRuntime) -> Result<(), Fail> {
         (twice, other, "1||hplan: problem: 14 DomainMismatch(30)\n"),
         (twice, L_PROBLEM, "1||hplan: domain: 9 Duplicate(a, 37)\n"),
     ] {
-        assert_eq!(rt; solved(alloc, domain, problem)?.as_slice(), want.as_bytes());
+        assert_eq!(rt;
+            solved(&rt, alloc, domain, problem)?.as_slice(),
+            want.as_bytes()
+        );
     }
     Ok(())
 }
@@ -162,6 +152,22 @@ fn command_lines_are_tested(rt: HostRuntime) -> Result<(), Fail> {
             ["solve", "d", "p", "--workers", "65"].as_slice(),
             "2||error: invalid value '65' for '--workers <N>': 65 is not in 1..=64\n",
         ),
+        (
+            ["solve", "d", "p", "--limit", "0"].as_slice(),
+            "2||error: invalid value '0' for '--limit <N>': 0 is not in 1..=1099511627774\n",
+        ),
+        (
+            [
+                "resume",
+                "d",
+                "p",
+                "--journal",
+                "j",
+                "--limit=1099511627775",
+            ]
+            .as_slice(),
+            "2||error: invalid value '1099511627775' for '--limit <N>': 1099511627775 is not in 1..=",
+        ),
         (["--version"].as_slice(), "0|hplan 0.1.0\n|"),
         (
             ["--help"].as_slice(),
@@ -173,7 +179,7 @@ fn command_lines_are_tested(rt: HostRuntime) -> Result<(), Fail> {
         (["ground", "d", "x"].as_slice(), "1||hplan: 35 Device\n"),
     ] {
         let files = [("d", b"(".as_slice()), ("p", b"(".as_slice())];
-        let found = run(alloc, words, &files)?;
+        let found = run(&rt, alloc, words, &files)?;
         assert!(rt; found.as_slice().starts_with(want.as_bytes()), "at {want}");
     }
     Ok(())
@@ -199,7 +205,7 @@ fn an_output_that_cannot_be_written_is_a_fault(rt: HostRuntime) -> Result<(), Fa
             "0|actions 2\natoms 2\nfluents 0\n0 (set-a)\n1 (set-b)\n|",
         ),
     ] {
-        let found = cut_short(alloc, &[name, "d", "p"], &files, room)?;
+        let found = cut_short(&rt, alloc, &[name, "d", "p"], &files, room)?;
         assert_eq!(rt; found.as_slice(), want.as_bytes());
     }
     Ok(())
@@ -224,7 +230,7 @@ fn an_output_without_memory_is_no_device_fault(rt: HostRuntime) -> Result<(), Fa
         ),
         (["--version"].as_slice(), 2, "1|hp|hplan: NoMemory\n"),
     ] {
-        let found = cut_short_by(alloc, words, &files, room, io::ErrorKind::OutOfMemory)?;
+        let found = cut_short_by(&rt, alloc, words, &files, room, io::ErrorKind::OutOfMemory)?;
         assert_eq!(rt; found.as_slice(), want.as_bytes());
     }
     Ok(())
@@ -233,10 +239,15 @@ fn an_output_without_memory_is_no_device_fault(rt: HostRuntime) -> Result<(), Fa
 /// Where a growth is refused, `NoMemory` is told, and else the answer: `rt try --test --fail-alloc N` refuses the N-th one.
 #[test]
 fn a_refused_growth_changes_no_answer(rt: HostRuntime) {
-    let undisturbed = b"0|(set-a)\n(set-b)\n; cost = 2\n|".as_slice();
     let refused = b"1||hplan: NoMemory\n".as_slice();
-    if let Ok(found) = solved(rt.alloc(), L, L_PROBLEM) {
-        assert!(rt; found.as_slice() == undisturbed || found.as_slice() == refused);
+    for (domain, problem, undisturbed) in [
+        (L, L_PROBLEM, "0|(set-a)\n(set-b)\n; cost = 2\n|"),
+        (N, N_PROBLEM, "0|(near)\n(join)\n(fin)\n; cost = 3\n|"),
+    ] {
+        if let Ok(found) = solved(&rt, rt.alloc(), domain, problem) {
+            let found = found.as_slice();
+            assert!(rt; found == undisturbed.as_bytes() || found == refused);
+        }
     }
 }
 
@@ -245,7 +256,7 @@ fn a_refused_growth_changes_no_answer(rt: HostRuntime) {
 fn a_refused_growth_changes_no_list_of_actions(rt: HostRuntime) {
     let undisturbed = b"0|actions 2\natoms 2\nfluents 0\n0 (set-a)\n1 (set-b)\n|".as_slice();
     let refused = b"1||hplan: NoMemory\n".as_slice();
-    if let Ok(found) = grounded(rt.alloc(), L, L_PROBLEM) {
+    if let Ok(found) = grounded(&rt, rt.alloc(), L, L_PROBLEM) {
         assert!(rt; found.as_slice() == undisturbed || found.as_slice() == refused);
     }
 }
@@ -258,7 +269,7 @@ fn a_refused_growth_changes_no_verdict(rt: HostRuntime) {
         ("(set-a)\n(set-b)\n", "0|valid; cost = 2\n|"),
         ("(set-b)\n", "1||hplan: 21 NotApplicable(1)\n"),
     ] {
-        if let Ok(found) = validated(rt.alloc(), L, L_PROBLEM, plan.as_bytes()) {
+        if let Ok(found) = validated(&rt, rt.alloc(), L, L_PROBLEM, plan.as_bytes()) {
             let found = found.as_slice();
             assert!(rt; found == undisturbed.as_bytes() || found == refused);
         }

@@ -2,21 +2,23 @@
 use crate::running::{explained, validated};
 use std::alloc::Global;
 use std::process::Abort;
+use std::sync::Wait;
 use std::test::Fail;
+use std::thread::Threads;
 use text_tests::samples::{L, L_PROBLEM, U, U_PROBLEM, V, V_PROBLEM};
 
 /// Asserts that a plan is told so, and that its reason is told behind that where it is asked for; without a reason it is empty.
 fn assert_told(
-    rt: &impl Abort,
+    rt: &(impl Abort + Threads + Wait + Sync),
     alloc: Global,
     texts: (&str, &str),
     plan: &str,
     told: &str,
     reason: &str,
 ) -> Result<(), Fail> {
-    let plain = validated(alloc, texts.0, texts.1, plan.as_bytes())?;
+    let plain = validated(rt, alloc, texts.0, texts.1, plan.as_bytes())?;
     assert_eq!(rt; plain.as_slice(), told.as_bytes());
-    let found = explained(alloc, texts.0, texts.1, plan.as_bytes())?;
+    let found = explained(rt, alloc, texts.0, texts.1, plan.as_bytes())?;
     let want = format!(in alloc; "{told}{reason}")?;
     assert_eq!(rt; found.as_slice(), want.as_bytes());
     Ok(())
@@ -128,7 +130,7 @@ fn a_refused_growth_changes_no_reason(rt: HostRuntime) {
     let fault = b"1||hplan: 21 NotApplicable(1)\n".as_slice();
     let whole = b"1||hplan: 21 NotApplicable(1)\n(a) does not hold\n".as_slice();
     let refused = b"1||hplan: NoMemory\n".as_slice();
-    if let Ok(found) = explained(rt.alloc(), L, L_PROBLEM, b"(set-b)\n") {
+    if let Ok(found) = explained(&rt, rt.alloc(), L, L_PROBLEM, b"(set-b)\n") {
         let found = found.as_slice();
         assert!(rt; found == whole || found == fault || found == refused);
     }

@@ -31,7 +31,7 @@ fn actions_are_printed_by_number(rt: HostRuntime) -> Result<(), Fail> {
         ),
     ] {
         assert_eq!(rt;
-            grounded(alloc, domain, problem)?.as_slice(),
+            grounded(&rt, alloc, domain, problem)?.as_slice(),
             want.as_bytes()
         );
     }
@@ -71,7 +71,7 @@ fn a_task_that_has_no_actions_to_print_is_refused(rt: HostRuntime) -> Result<(),
         ),
     ] {
         assert_eq!(rt;
-            grounded(alloc, domain, problem)?.as_slice(),
+            grounded(&rt, alloc, domain, problem)?.as_slice(),
             want.as_bytes()
         );
     }

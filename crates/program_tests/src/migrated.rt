@@ -4,7 +4,9 @@ use crate::kept::{WHOLE, joined};
 use crate::running::{run_over, shelf_of};
 use hplan::{Places, Shelf};
 use std::alloc::{AllocError, Global};
+use std::sync::Wait;
 use std::test::Fail;
+use std::thread::Threads;
 use text_tests::samples::{L, L_PROBLEM};
 
 /// The words of a run that migrates, and of one that goes on from what it has written.
@@ -40,8 +42,13 @@ fn files_of(
 }
 
 /// A run of these words on files, and what becomes of these.
-fn run_on(alloc: Global, words: &[&str], shelf: &mut Shelf) -> Result<Moved, AllocError> {
-    let run = run_over(alloc, words, shelf)?;
+fn run_on<R: Threads + Wait + Sync>(
+    rt: &R,
+    alloc: Global,
+    words: &[&str],
+    shelf: &mut Shelf,
+) -> Result<Moved, AllocError> {
+    let run = run_over(rt, alloc, words, shelf)?;
     let old = shelf.read(alloc, "j").ok();
     let new = shelf.read(alloc, "n").ok();
     Ok((run, old, new))
@@ -57,7 +64,8 @@ fn holds(found: &Option<Vec<u8>>, wanted: Option<&[u8]>) -> bool {
 }
 
 /// Whether a run of `migrate` on a journal and another file prints this, leaves the journal, and leaves this of the other file.
-fn migrates(
+fn migrates<R: Threads + Wait + Sync>(
+    rt: &R,
     alloc: Global,
     problem: &str,
     old: Option<&[u8]>,
@@ -66,7 +74,7 @@ fn migrates(
     left: Option<&[u8]>,
 ) -> Result<bool, AllocError> {
     let mut shelf = files_of(alloc, problem, old, new)?;
-    let (run, old_left, new_left) = run_on(alloc, &MIGRATE, &mut shelf)?;
+    let (run, old_left, new_left) = run_on(rt, alloc, &MIGRATE, &mut shelf)?;
     Ok(run.as_slice() == printed.as_bytes() && holds(&old_left, old) && holds(&new_left, left))
 }
 
@@ -91,12 +99,12 @@ fn entries_are_written_as_one_group(rt: HostRuntime) -> Result<(), Fail> {
         (b"", None, "0|migrated 0\n|", &none),
         (&[0, 9], None, "0|migrated 0\n|", &none),
     ] {
-        let done = migrates(alloc, L_PROBLEM, Some(old), new, printed, Some(left))?;
+        let done = migrates(&rt, alloc, L_PROBLEM, Some(old), new, printed, Some(left))?;
         assert!(rt; done, "at {printed}");
     }
     let mut shelf = files_of(alloc, L_PROBLEM, Some(&part), None)?;
-    run_over(alloc, &MIGRATE, &mut shelf)?;
-    let (run, _, left) = run_on(alloc, &GO_ON, &mut shelf)?;
+    run_over(&rt, alloc, &MIGRATE, &mut shelf)?;
+    let (run, _, left) = run_on(&rt, alloc, &GO_ON, &mut shelf)?;
     assert_eq!(rt;
         run.as_slice(),
         b"0|(set-a)\n(set-b)\n; cost = 2\n|".as_slice()
@@ -162,14 +170,14 @@ fn what_is_not_migrated_is_told(rt: HostRuntime) -> Result<(), Fail> {
         ),
     ] {
         assert!(rt;
-            migrates(alloc, problem, old, new, printed, new)?,
+            migrates(&rt, alloc, problem, old, new, printed, new)?,
             "at {printed}"
         );
     }
     let same = ["migrate", "d", "p", "--journal", "j", "--to", "j"];
     for old in [&WHOLE[..], b""] {
         let mut shelf = files_of(alloc, L_PROBLEM, Some(old), None)?;
-        let (run, left, _) = run_on(alloc, &same, &mut shelf)?;
+        let (run, left, _) = run_on(&rt, alloc, &same, &mut shelf)?;
         assert_eq!(rt; run.as_slice(), b"1||hplan: 37 JournalExists\n".as_slice());
         assert!(rt; holds(&left, Some(old)));
     }

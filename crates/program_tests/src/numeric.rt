@@ -1,18 +1,21 @@
 //! What `solve` prints of tasks with types, objects and numbers. The answers were worked out by hand.
-use crate::running::solved;
+use crate::running::{run, solved};
 use std::alloc::{AllocError, Global};
+use std::sync::Wait;
 use std::test::Fail;
+use std::thread::Threads;
 use text_tests::samples::{N, N_PROBLEM, U, U_PROBLEM, V, V_PROBLEM};
 
 /// The run on V, with the second text of each pair in place of the first: of a pair in the domain, and of one in the problem.
-fn changed(
+fn changed<R: Threads + Wait + Sync>(
+    rt: &R,
     alloc: Global,
     domain: (&str, &str),
     problem: (&str, &str),
 ) -> Result<Vec<u8>, AllocError> {
     let domain = V.replace(alloc, domain.0, domain.1)?;
     let problem = V_PROBLEM.replace(alloc, problem.0, problem.1)?;
-    solved(alloc, domain.as_str(), problem.as_str())
+    solved(rt, alloc, domain.as_str(), problem.as_str())
 }
 
 /// What is in each text once, and stays.
@@ -33,7 +36,7 @@ fn a_drive_takes_fuel(rt: HostRuntime) -> Result<(), Fail> {
             "1||hplan: 16 NegativeCost((go a b))\n",
         ),
     ] {
-        let run = changed(alloc, SAME, problem)?;
+        let run = changed(&rt, alloc, SAME, problem)?;
         assert_eq!(rt; run.as_slice(), want.as_bytes());
     }
     Ok(())
@@ -58,19 +61,38 @@ fn a_cost_may_depend_on_the_state(rt: HostRuntime) -> Result<(), Fail> {
             "1||hplan: domain: 13 BadMetric(411)\n",
         ),
     ] {
-        let run = changed(alloc, (paid, amount), SAME)?;
+        let run = changed(&rt, alloc, (paid, amount), SAME)?;
         assert_eq!(rt; run.as_slice(), want.as_bytes());
     }
     Ok(())
 }
 
+/// A search that stops at its limit prints the plan that it has found, which here is the shortest, and dearer.
 #[test]
 fn the_cheapest_way_is_not_the_shortest(rt: HostRuntime) -> Result<(), Fail> {
-    let run = solved(rt.alloc(), N, N_PROBLEM)?;
-    assert_eq!(rt;
-        run.as_slice(),
-        b"0|(near)\n(join)\n(fin)\n; cost = 3\n|".as_slice()
-    );
+    let alloc = rt.alloc();
+    let files = [("d", N.as_bytes()), ("p", N_PROBLEM.as_bytes())];
+    for (words, want) in [
+        (
+            ["solve", "d", "p"].as_slice(),
+            "0|(near)\n(join)\n(fin)\n; cost = 3\n|",
+        ),
+        (
+            ["solve", "d", "p", "--workers", "3"].as_slice(),
+            "0|(near)\n(join)\n(fin)\n; cost = 3\n|",
+        ),
+        (
+            ["solve", "d", "p", "--workers", "1", "--limit", "4"].as_slice(),
+            "12|(dear)\n(fin)\n; cost = 6\n|stopped at the limit\n",
+        ),
+        (
+            ["solve", "d", "p", "--limit", "4294967294"].as_slice(),
+            "0|(near)\n(join)\n(fin)\n; cost = 3\n|",
+        ),
+    ] {
+        let found = run(&rt, alloc, words, &files)?;
+        assert_eq!(rt; found.as_slice(), want.as_bytes());
+    }
     Ok(())
 }
 
@@ -93,7 +115,7 @@ fn a_number_that_leaves_the_range_is_told(rt: HostRuntime) -> Result<(), Fail> {
     ] {
         let problem = U_PROBLEM.replace(alloc, "-999999999999999", value)?;
         let problem = problem.as_str().replace(alloc, "(b)", goal)?;
-        let run = solved(alloc, U, problem.as_str())?;
+        let run = solved(&rt, alloc, U, problem.as_str())?;
         assert_eq!(rt; run.as_slice(), want.as_bytes());
     }
     Ok(())
@@ -125,7 +147,7 @@ fn a_plan_beside_a_departure_is_printed(rt: HostRuntime) -> Result<(), Fail> {
         let problem = format!(in alloc;
             "(define (problem u1) (:domain u) (:init (= (x) 1000000000000000)) (:goal {goal}))"
         )?;
-        let run = solved(alloc, domain, problem.as_str())?;
+        let run = solved(&rt, alloc, domain, problem.as_str())?;
         assert_eq!(rt; run.as_slice(), want.as_bytes());
     }
     Ok(())
@@ -152,7 +174,7 @@ fn effects_are_taken_together(rt: HostRuntime) -> Result<(), Fail> {
             "(define (problem e1) (:domain e)
   (:init (= (x) {x}) (= (y) 2)) (:goal {goal}))"
         )?;
-        let run = solved(alloc, domain, problem.as_str())?;
+        let run = solved(&rt, alloc, domain, problem.as_str())?;
         assert_eq!(rt; run.as_slice(), want.as_bytes());
     }
     Ok(())
@@ -164,7 +186,7 @@ fn too_many_actions_are_told(rt: HostRuntime) -> Result<(), Fail> {
     let domain = "(define (domain m) (:action pick :parameters (?a ?b ?c ?d ?e)))";
     let problem = "(define (problem m1) (:domain m)
   (:objects a b c d e f g h i j k l m n o p q) (:init) (:goal (and)))";
-    let run = solved(rt.alloc(), domain, problem)?;
+    let run = solved(&rt, rt.alloc(), domain, problem)?;
     assert_eq!(rt; run.as_slice(), b"1||hplan: 17 TooMany\n".as_slice());
     Ok(())
 }
@@ -196,7 +218,10 @@ fn what_is_not_used_changes_no_answer(rt: HostRuntime) -> Result<(), Fail> {
             "0|(s k)\n; cost = 1\n|",
         ),
     ] {
-        assert_eq!(rt; solved(alloc, domain, problem)?.as_slice(), want.as_bytes());
+        assert_eq!(rt;
+            solved(&rt, alloc, domain, problem)?.as_slice(),
+            want.as_bytes()
+        );
     }
     Ok(())
 }

@@ -4,6 +4,8 @@ use crate::line::line_of;
 use hplan::{Shelf, command};
 use std::alloc::{AllocError, Global};
 use std::io::{self, Write};
+use std::sync::Wait;
+use std::thread::Threads;
 
 /// A run as bytes.
 fn shown(alloc: Global, status: u8, out: &[u8], err: &[u8]) -> Result<Vec<u8>, AllocError> {
@@ -25,18 +27,28 @@ pub fn shelf_of(alloc: Global, files: &[(&str, &[u8])]) -> Result<Shelf, AllocEr
 }
 
 /// A run of these words over the files of a shelf.
-pub fn run_over(alloc: Global, words: &[&str], shelf: &mut Shelf) -> Result<Vec<u8>, AllocError> {
+pub fn run_over<R: Threads + Wait + Sync>(
+    rt: &R,
+    alloc: Global,
+    words: &[&str],
+    shelf: &mut Shelf,
+) -> Result<Vec<u8>, AllocError> {
     let words = line_of(alloc, words)?;
     let mut out = Vec::new(alloc);
     let mut err = Vec::new(alloc);
-    let status = command(alloc, &words, &mut *shelf, &mut out, &mut err);
+    let status = command(rt, alloc, &words, &mut *shelf, &mut out, &mut err);
     shown(alloc, status, &out, &err)
 }
 
 /// A run of these words over files of these names.
-pub fn run(alloc: Global, words: &[&str], files: &[(&str, &[u8])]) -> Result<Vec<u8>, AllocError> {
+pub fn run<R: Threads + Wait + Sync>(
+    rt: &R,
+    alloc: Global,
+    words: &[&str],
+    files: &[(&str, &[u8])],
+) -> Result<Vec<u8>, AllocError> {
     let mut shelf = shelf_of(alloc, files)?;
-    run_over(alloc, words, &mut shelf)
+    run_over(rt, alloc, words, &mut shelf)
 }
 
 /// What stands between the first and the second bar of a run of status 0, whose standard error is empty.
@@ -48,19 +60,30 @@ pub fn output_in(run: &[u8]) -> &[u8] {
 }
 
 /// The run of `solve` on two texts.
-pub fn solved(alloc: Global, domain: &str, problem: &str) -> Result<Vec<u8>, AllocError> {
+pub fn solved<R: Threads + Wait + Sync>(
+    rt: &R,
+    alloc: Global,
+    domain: &str,
+    problem: &str,
+) -> Result<Vec<u8>, AllocError> {
     let files = [("d", domain.as_bytes()), ("p", problem.as_bytes())];
-    run(alloc, &["solve", "d", "p", "--workers", "2"], &files)
+    run(rt, alloc, &["solve", "d", "p", "--workers", "2"], &files)
 }
 
 /// The run of `ground` on two texts.
-pub fn grounded(alloc: Global, domain: &str, problem: &str) -> Result<Vec<u8>, AllocError> {
+pub fn grounded<R: Threads + Wait + Sync>(
+    rt: &R,
+    alloc: Global,
+    domain: &str,
+    problem: &str,
+) -> Result<Vec<u8>, AllocError> {
     let files = [("d", domain.as_bytes()), ("p", problem.as_bytes())];
-    run(alloc, &["ground", "d", "p"], &files)
+    run(rt, alloc, &["ground", "d", "p"], &files)
 }
 
 /// The run of `validate` on three texts, with these options.
-fn judged(
+fn judged<R: Threads + Wait + Sync>(
+    rt: &R,
     alloc: Global,
     domain: &str,
     problem: &str,
@@ -72,29 +95,31 @@ fn judged(
         ("p", problem.as_bytes()),
         ("s", plan),
     ];
-    run(alloc, words, &files)
+    run(rt, alloc, words, &files)
 }
 
 /// The run of `validate` on three texts.
-pub fn validated(
+pub fn validated<R: Threads + Wait + Sync>(
+    rt: &R,
     alloc: Global,
     domain: &str,
     problem: &str,
     plan: &[u8],
 ) -> Result<Vec<u8>, AllocError> {
     let words = ["validate", "d", "p", "s"];
-    judged(alloc, domain, problem, plan, words.as_slice())
+    judged(rt, alloc, domain, problem, plan, words.as_slice())
 }
 
 /// The run of `validate --explain` on three texts.
-pub fn explained(
+pub fn explained<R: Threads + Wait + Sync>(
+    rt: &R,
     alloc: Global,
     domain: &str,
     problem: &str,
     plan: &[u8],
 ) -> Result<Vec<u8>, AllocError> {
     let words = ["validate", "--explain", "d", "p", "s"];
-    judged(alloc, domain, problem, plan, words.as_slice())
+    judged(rt, alloc, domain, problem, plan, words.as_slice())
 }
 
 /// A writer that takes some bytes, and then fails.
@@ -126,7 +151,8 @@ impl Write for Short {
 }
 
 /// A run of these words over these files, with an output that takes so many bytes, and then fails so.
-pub fn cut_short_by(
+pub fn cut_short_by<R: Threads + Wait + Sync>(
+    rt: &R,
     alloc: Global,
     words: &[&str],
     files: &[(&str, &[u8])],
@@ -141,16 +167,17 @@ pub fn cut_short_by(
         fault,
     };
     let mut err = Vec::new(alloc);
-    let status = command(alloc, &words, &mut shelf, &mut out, &mut err);
+    let status = command(rt, alloc, &words, &mut shelf, &mut out, &mut err);
     shown(alloc, status, &out.taken, &err)
 }
 
 /// A run of these words over these files, with an output that takes so many bytes, and is then full.
-pub fn cut_short(
+pub fn cut_short<R: Threads + Wait + Sync>(
+    rt: &R,
     alloc: Global,
     words: &[&str],
     files: &[(&str, &[u8])],
     room: usize,
 ) -> Result<Vec<u8>, AllocError> {
-    cut_short_by(alloc, words, files, room, io::ErrorKind::StorageFull)
+    cut_short_by(rt, alloc, words, files, room, io::ErrorKind::StorageFull)
 }

@@ -2,7 +2,9 @@
 use crate::kept::{WHOLE, is, joined, kept};
 use crate::running::{run_over, shelf_of};
 use std::alloc::{AllocError, Global};
+use std::sync::Wait;
 use std::test::Fail;
+use std::thread::Threads;
 use text_tests::samples::{L, L_PROBLEM, U};
 
 /// What is told of the search of two actions, behind what its journal is.
@@ -22,7 +24,8 @@ const NONE: &str = "posted 1\nsettled 0\nno bound\nnothing left the range\n";
 
 /// Whether `inspect` prints this of the journal of the task of two actions with so many entries, each in its group, and so many bytes behind
 /// them, and leaves the file.
-fn is_surveyed(
+fn is_surveyed<R: Threads + Wait + Sync>(
+    rt: &R,
     alloc: Global,
     journal: &[u8],
     entries: u64,
@@ -33,16 +36,31 @@ fn is_surveyed(
     let want = format!(in alloc;
         "0|version 2\ndigest {digest}\nentries {entries}\ngroups {entries}\nbytes behind {behind}\n{told}|"
     )?;
-    let found = kept(alloc, "inspect", L, L_PROBLEM, Some(journal))?;
+    let found = kept(rt, alloc, "inspect", L, L_PROBLEM, Some(journal))?;
     Ok(is(&found, want.as_bytes(), journal))
 }
 
 /// What `inspect` prints behind the journal's lines, of the journal that `solve` has made of two texts.
-fn surveyed_behind(alloc: Global, domain: &str, problem: &str) -> Result<Vec<u8>, AllocError> {
+fn surveyed_behind<R: Threads + Wait + Sync>(
+    rt: &R,
+    alloc: Global,
+    domain: &str,
+    problem: &str,
+) -> Result<Vec<u8>, AllocError> {
     let files = [("d", domain.as_bytes()), ("p", problem.as_bytes())];
     let mut shelf = shelf_of(alloc, &files)?;
-    run_over(alloc, &["solve", "d", "p", "--journal", "j"], &mut shelf)?;
-    run_over(alloc, &["inspect", "d", "p", "--journal", "j"], &mut shelf)
+    run_over(
+        rt,
+        alloc,
+        &["solve", "d", "p", "--journal", "j"],
+        &mut shelf,
+    )?;
+    run_over(
+        rt,
+        alloc,
+        &["inspect", "d", "p", "--journal", "j"],
+        &mut shelf,
+    )
 }
 
 #[test]
@@ -58,26 +76,26 @@ fn a_search_is_told_of_by_its_entries(rt: HostRuntime) -> Result<(), Fail> {
         (none.as_slice(), 0, 0, NONE),
     ] {
         assert!(rt;
-            is_surveyed(alloc, journal, entries, behind, told)?,
+            is_surveyed(&rt, alloc, journal, entries, behind, told)?,
             "at {entries}"
         );
     }
     let unmade = format!(in alloc; "0|no header yet\n{NONE}|")?;
     assert!(rt;
         is(
-            &kept(alloc, "inspect", L, L_PROBLEM, Some(b"".as_slice()))?,
+            &kept(&rt, alloc, "inspect", L, L_PROBLEM, Some(b"".as_slice()))?,
             unmade.as_bytes(),
             b""
         )
     );
     let end = "(define (problem u1) (:domain u) (:init (= (x) 1000000000000000)) (:goal (b)))";
     let left = "posted 1\nsettled 1\nno bound\nrange left: entry 0, (up)\ndepth 0: 1\ncost 0: 1\n|";
-    assert!(rt; surveyed_behind(alloc, U, end)?.ends_with(left.as_bytes()));
+    assert!(rt; surveyed_behind(&rt, alloc, U, end)?.ends_with(left.as_bytes()));
     let no_way = "(define (domain l) (:predicates (a) (b))
   (:action set-b :parameters () :precondition (a) :effect (b)))";
     let dead =
         "entries 0\ngroups 0\nbytes behind 0\nposted 1\nsettled 1\nno bound\nnothing left the range\n|";
-    assert!(rt; surveyed_behind(alloc, no_way, L_PROBLEM)?.ends_with(dead.as_bytes()));
+    assert!(rt; surveyed_behind(&rt, alloc, no_way, L_PROBLEM)?.ends_with(dead.as_bytes()));
     Ok(())
 }
 
@@ -93,10 +111,10 @@ fn what_is_no_journal_of_the_texts_is_told(rt: HostRuntime) -> Result<(), Fail> 
         (other.as_str(), &WHOLE[..], "1||hplan: 33 OtherTask\n"),
         (")", &WHOLE[..], "1||hplan: problem: 4 Unbalanced(0)\n"),
     ] {
-        let found = kept(alloc, "inspect", L, problem, Some(journal))?;
+        let found = kept(&rt, alloc, "inspect", L, problem, Some(journal))?;
         assert!(rt; is(&found, want.as_bytes(), journal), "at {want}");
     }
-    let (run, bytes) = kept(alloc, "inspect", L, L_PROBLEM, None)?;
+    let (run, bytes) = kept(&rt, alloc, "inspect", L, L_PROBLEM, None)?;
     assert_eq!(rt; run.as_slice(), b"1||hplan: 35 Device\n".as_slice());
     assert!(rt; bytes.is_none());
     Ok(())

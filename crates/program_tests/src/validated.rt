@@ -1,7 +1,9 @@
 //! What `validate` prints of plans in a third file. The answers were worked out by hand.
 use crate::running::{cut_short, output_in, run, solved, validated};
 use std::alloc::{AllocError, Global};
+use std::sync::Wait;
 use std::test::Fail;
+use std::thread::Threads;
 use text_tests::samples::{L, L_PROBLEM, N, N_PROBLEM, U, U_PROBLEM, V, V_PROBLEM};
 
 #[test]
@@ -24,17 +26,23 @@ fn each_line_of_a_plan_is_judged(rt: HostRuntime) -> Result<(), Fail> {
         ("(set-b)\n(set-a", "1||hplan: 19 BadLine(2)\n"),
         ("0: (set-a) [1]\n", "1||hplan: 19 BadLine(1)\n"),
     ] {
-        let found = validated(alloc, L, L_PROBLEM, plan.as_bytes())?;
+        let found = validated(&rt, alloc, L, L_PROBLEM, plan.as_bytes())?;
         assert_eq!(rt; found.as_slice(), want.as_bytes());
     }
     Ok(())
 }
 
 /// The run on V and its plan, with the second text of a pair in place of the first, in the domain or else in the problem.
-fn changed(alloc: Global, old: &str, new: &str) -> Result<Vec<u8>, AllocError> {
+fn changed<R: Threads + Wait + Sync>(
+    rt: &R,
+    alloc: Global,
+    old: &str,
+    new: &str,
+) -> Result<Vec<u8>, AllocError> {
     let domain = V.replace(alloc, old, new)?;
     let problem = V_PROBLEM.replace(alloc, old, new)?;
     validated(
+        rt,
         alloc,
         domain.as_str(),
         problem.as_str(),
@@ -69,7 +77,7 @@ fn a_plan_is_judged_by_its_numbers(rt: HostRuntime) -> Result<(), Fail> {
             "1||hplan: 22 Departs(1)\n",
         ),
     ] {
-        let found = changed(alloc, old, new)?;
+        let found = changed(&rt, alloc, old, new)?;
         assert_eq!(rt; found.as_slice(), want.as_bytes());
     }
     Ok(())
@@ -96,7 +104,7 @@ fn limits_of_tasks_do_not_matter_and_those_of_numbers_do(rt: HostRuntime) -> Res
         (U, most.as_str(), "(up)\n", "1||hplan: 22 Departs(1)\n"),
         (U, almost.as_str(), "(up)\n", "0|valid; cost = 1\n|"),
     ] {
-        let found = validated(alloc, domain, problem, plan.as_bytes())?;
+        let found = validated(&rt, alloc, domain, problem, plan.as_bytes())?;
         assert_eq!(rt; found.as_slice(), want.as_bytes());
     }
     Ok(())
@@ -116,11 +124,11 @@ fn texts_are_looked_at_in_order(rt: HostRuntime) -> Result<(), Fail> {
         ),
         (L, L_PROBLEM, "(fly)\n)", "1||hplan: 19 BadLine(2)\n"),
     ] {
-        let found = validated(alloc, domain, problem, plan.as_bytes())?;
+        let found = validated(&rt, alloc, domain, problem, plan.as_bytes())?;
         assert_eq!(rt; found.as_slice(), want.as_bytes());
     }
     let files = [("d", b")".as_slice()), ("p", b")".as_slice())];
-    let found = run(alloc, &["validate", "d", "p", "s"], &files)?;
+    let found = run(&rt, alloc, &["validate", "d", "p", "s"], &files)?;
     assert_eq!(rt; found.as_slice(), b"1||hplan: 35 Device\n".as_slice());
     Ok(())
 }
@@ -133,8 +141,8 @@ fn a_printed_plan_is_valid_at_its_cost(rt: HostRuntime) -> Result<(), Fail> {
         (N, N_PROBLEM, "0|valid; cost = 3\n|"),
         (V, V_PROBLEM, "0|valid; cost = 9\n|"),
     ] {
-        let printed = solved(alloc, domain, problem)?;
-        let found = validated(alloc, domain, problem, output_in(&printed))?;
+        let printed = solved(&rt, alloc, domain, problem)?;
+        let found = validated(&rt, alloc, domain, problem, output_in(&printed))?;
         assert_eq!(rt; found.as_slice(), want.as_bytes());
     }
     Ok(())
@@ -152,7 +160,7 @@ fn a_verdict_that_cannot_be_written_is_a_fault(rt: HostRuntime) -> Result<(), Fa
         (5, "1|valid|hplan: 35 Device\n"),
         (16, "0|valid; cost = 2\n|"),
     ] {
-        let found = cut_short(alloc, &["validate", "d", "p", "s"], &files, room)?;
+        let found = cut_short(&rt, alloc, &["validate", "d", "p", "s"], &files, room)?;
         assert_eq!(rt; found.as_slice(), want.as_bytes());
     }
     Ok(())

@@ -1,8 +1,17 @@
 //! What each form of command line is read as.
 use crate::line::{line_by, line_of};
-use hd_words::{Request, WordsError, read_words};
+use hd_words::{Request, Search, WordsError, read_words};
 use std::alloc::{AllocError, Global};
 use std::test::Fail;
+
+/// How a search is to go.
+fn how_of(alloc: Global, search: &Search) -> Result<String, AllocError> {
+    let workers = search.workers;
+    match search.limit {
+        Some(limit) => format!(in alloc; "{workers} to {limit}"),
+        None => format!(in alloc; "{workers}"),
+    }
+}
 
 /// How a command line is read: as a request, or where its text goes, and the text.
 fn read_line(alloc: Global, line: &[String]) -> Result<String, AllocError> {
@@ -12,20 +21,26 @@ fn read_line(alloc: Global, line: &[String]) -> Result<String, AllocError> {
                 domain,
                 problem,
                 journal,
-                workers,
+                search,
             },
-        ) => match journal {
-            Some(journal) => format!(in alloc; "solve {domain} {problem} in {journal} {workers}"),
-            None => format!(in alloc; "solve {domain} {problem} {workers}"),
-        },
+        ) => {
+            let how = how_of(alloc, &search)?;
+            match journal {
+                Some(journal) => format!(in alloc; "solve {domain} {problem} in {journal} {how}"),
+                None => format!(in alloc; "solve {domain} {problem} {how}"),
+            }
+        }
         Ok(
             Request::Resume {
                 domain,
                 problem,
                 journal,
-                workers,
+                search,
             },
-        ) => format!(in alloc; "resume {domain} {problem} in {journal} {workers}"),
+        ) => {
+            let how = how_of(alloc, &search)?;
+            format!(in alloc; "resume {domain} {problem} in {journal} {how}")
+        }
         Ok(
             Request::Certify {
                 domain,
@@ -76,7 +91,7 @@ fn read(alloc: Global, words: &[&str]) -> Result<String, AllocError> {
 }
 
 #[test]
-fn commands_take_files_and_a_number_of_workers(rt: HostRuntime) -> Result<(), Fail> {
+fn commands_take_files_and_how_a_search_goes(rt: HostRuntime) -> Result<(), Fail> {
     let alloc = rt.alloc();
     for (words, want) in [
         (["solve", "d", "p"].as_slice(), "solve d p 4"),
@@ -95,6 +110,14 @@ fn commands_take_files_and_a_number_of_workers(rt: HostRuntime) -> Result<(), Fa
         (
             ["resume", "--journal=j", "d", "p", "--workers", "2"].as_slice(),
             "resume d p in j 2",
+        ),
+        (
+            ["solve", "d", "p", "--limit", "1"].as_slice(),
+            "solve d p 4 to 1",
+        ),
+        (
+            ["resume", "d", "p", "--journal=j", "--limit=1099511627774"].as_slice(),
+            "resume d p in j 4 to 1099511627774",
         ),
         (
             ["certify", "d", "p", "--journal", "j"].as_slice(),
@@ -136,6 +159,23 @@ fn other_words_are_faults(rt: HostRuntime) -> Result<(), Fail> {
         (
             ["solve", "d", "p", "--workers", "65"].as_slice(),
             "fault: error: invalid value '65' for '--workers <N>': 65 is not in 1..=64",
+        ),
+        (
+            ["solve", "d", "p", "--limit", "0"].as_slice(),
+            "fault: error: invalid value '0' for '--limit <N>': 0 is not in 1..=1099511627774",
+        ),
+        (
+            [
+                "resume",
+                "d",
+                "p",
+                "--journal",
+                "j",
+                "--limit",
+                "1099511627775",
+            ]
+            .as_slice(),
+            "fault: error: invalid value '1099511627775' for '--limit <N>': 1099511627775 is not in 1..=1099511627774",
         ),
         (
             ["resume", "d", "p"].as_slice(),
@@ -212,15 +252,15 @@ fn help_and_version_are_shown(rt: HostRuntime) -> Result<(), Fail> {
         (
             ["solve", "--help"].as_slice(),
             "shown: Prints a plan of least cost",
-            ["--workers <N>", "Exit status: 0 a plan", "11 a number left"],
+            ["--workers <N>", "--limit <N>", "12 `stopped at the limit`"],
         ),
         (
             ["resume", "--help"].as_slice(),
             "shown: Goes on with a search that was stopped",
             [
                 "--journal <FILE>",
-                "--workers <N>",
-                "Exit status: 0, 10 and 11",
+                "--limit <N>",
+                "Exit status: 0, 10, 11 and 12",
             ],
         ),
         (
@@ -330,7 +370,7 @@ fn each_status_says_what_it_promises(rt: HostRuntime) -> Result<(), Fail> {
         "0 a plan of least cost is printed: it is valid, and no valid plan costs less;",
         "10 `no plan` is told: there is none",
         "a plan that is printed is valid, but nothing is\n     said of other plans",
-        "so far one does, whatever N is",
+        "How many threads search, 1 to 64",
     ] {
         assert!(rt; help.contains(part), "at {part}");
     }

@@ -6,21 +6,23 @@ use crate::tasks::{
 use program_tests::running::{output_in, solved, validated};
 use std::alloc::Global;
 use std::process::Abort;
+use std::sync::Wait;
 use std::test::Fail;
+use std::thread::Threads;
 use text_tests::samples::{COUNTERS, COUNTERS_PROBLEM, HANOI, HANOI_PROBLEM};
 
 /// Asserts that a plan of this cost is printed, and that it is valid at this cost.
 fn assert_solved(
-    rt: &impl Abort,
+    rt: &(impl Abort + Threads + Wait + Sync),
     alloc: Global,
     (domain, problem): (&str, &str),
     cost: &str,
 ) -> Result<(), Fail> {
-    let printed = solved(alloc, domain, problem)?;
+    let printed = solved(rt, alloc, domain, problem)?;
     let end = format!(in alloc; ")\n; cost = {cost}\n|")?;
     assert!(rt; printed.starts_with(b"0|("), "at {cost}");
     assert!(rt; printed.ends_with(end.as_bytes()), "at {cost}");
-    let found = validated(alloc, domain, problem, output_in(&printed))?;
+    let found = validated(rt, alloc, domain, problem, output_in(&printed))?;
     let want = format!(in alloc; "0|valid; cost = {cost}\n|")?;
     assert_eq!(rt; found.as_slice(), want.as_bytes());
     Ok(())

@@ -28,7 +28,7 @@ fn an_equality_is_part_of_the_goal(rt: HostRuntime) -> Result<(), Fail> {
         ("(and (not (= q q)) (b))", "10||no plan\n"),
     ] {
         let problem = problem_of(alloc, goal)?;
-        let run = solved(alloc, DOMAIN, problem.as_str())?;
+        let run = solved(&rt, alloc, DOMAIN, problem.as_str())?;
         assert_eq!(rt; run.as_slice(), want.as_bytes(), "at {goal}");
     }
     Ok(())
@@ -51,7 +51,7 @@ fn an_equality_is_asked_before_comparisons(rt: HostRuntime) -> Result<(), Fail> 
         ),
     ] {
         let problem = problem_of(alloc, goal)?;
-        let run = solved(alloc, DOMAIN, problem.as_str())?;
+        let run = solved(&rt, alloc, DOMAIN, problem.as_str())?;
         assert_eq!(rt; run.as_slice(), want.as_bytes(), "at {goal}");
     }
     Ok(())
@@ -75,7 +75,7 @@ fn a_plan_is_judged_in_the_same_order(rt: HostRuntime) -> Result<(), Fail> {
         ),
     ] {
         let problem = problem_of(alloc, goal)?;
-        let run = validated(alloc, DOMAIN, problem.as_str(), plan.as_bytes())?;
+        let run = validated(&rt, alloc, DOMAIN, problem.as_str(), plan.as_bytes())?;
         assert_eq!(rt; run.as_slice(), want.as_bytes(), "at {goal}");
     }
     Ok(())

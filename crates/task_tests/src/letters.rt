@@ -14,12 +14,12 @@ const PROBLEM: &str = "(DEFINE (Problem V1) (:Domain VAN) (:OBJECTS Farm MILL - 
 #[test]
 fn texts_are_read_in_lower_case(rt: HostRuntime) -> Result<(), Fail> {
     let alloc = rt.alloc();
-    let run = solved(alloc, DOMAIN, PROBLEM)?;
+    let run = solved(&rt, alloc, DOMAIN, PROBLEM)?;
     assert_eq!(rt;
         run.as_slice(),
         b"0|(go farm mill)\n; cost = 1\n|".as_slice()
     );
-    let run = grounded(alloc, DOMAIN, PROBLEM)?;
+    let run = grounded(&rt, alloc, DOMAIN, PROBLEM)?;
     let want = "0|actions 1\natoms 3\nfluents 1\n0 (go farm mill)\n|";
     assert_eq!(rt; run.as_slice(), want.as_bytes());
     Ok(())
@@ -34,7 +34,7 @@ fn plans_are_read_in_lower_case(rt: HostRuntime) -> Result<(), Fail> {
         ("(Go MILL Farm)", "1||hplan: 21 NotApplicable(1)\n"),
         ("(Go Farm Town)", "1||hplan: 20 NoSuchAction(1)\n"),
     ] {
-        let run = validated(alloc, DOMAIN, PROBLEM, plan.as_bytes())?;
+        let run = validated(&rt, alloc, DOMAIN, PROBLEM, plan.as_bytes())?;
         assert_eq!(rt; run.as_slice(), want.as_bytes(), "at {plan}");
     }
     Ok(())
@@ -62,7 +62,7 @@ fn faults_name_words_in_lower_case(rt: HostRuntime) -> Result<(), Fail> {
         ),
     ] {
         let problem = PROBLEM.replace(alloc, old, new)?;
-        let run = solved(alloc, DOMAIN, problem.as_str())?;
+        let run = solved(&rt, alloc, DOMAIN, problem.as_str())?;
         assert_eq!(rt; run.as_slice(), want.as_bytes(), "at {new}");
     }
     Ok(())

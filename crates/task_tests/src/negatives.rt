@@ -21,7 +21,7 @@ fn an_atom_is_made_false(rt: HostRuntime) -> Result<(), Fail> {
         (Z, "0|(get)\n(drop)\n; cost = 2\n|"),
         (GET_ALONE, "10||no plan\n"),
     ] {
-        let run = solved(alloc, domain, Z_PROBLEM)?;
+        let run = solved(&rt, alloc, domain, Z_PROBLEM)?;
         assert_eq!(rt; run.as_slice(), want.as_bytes());
     }
     Ok(())
@@ -34,7 +34,7 @@ fn actions_that_delete_alone_are_listed(rt: HostRuntime) -> Result<(), Fail> {
         (Z, "0|actions 2\natoms 2\nfluents 0\n0 (get)\n1 (drop)\n|"),
         (GET_ALONE, "0|actions 1\natoms 2\nfluents 0\n0 (get)\n|"),
     ] {
-        let run = grounded(alloc, domain, Z_PROBLEM)?;
+        let run = grounded(&rt, alloc, domain, Z_PROBLEM)?;
         assert_eq!(rt; run.as_slice(), want.as_bytes());
     }
     Ok(())
@@ -49,7 +49,7 @@ fn plans_that_make_an_atom_false_are_judged(rt: HostRuntime) -> Result<(), Fail>
         ("(get)\n", "1||hplan: 23 GoalUnmet\n"),
         ("(drop)\n", "1||hplan: 21 NotApplicable(1)\n"),
     ] {
-        let run = validated(alloc, Z, Z_PROBLEM, plan.as_bytes())?;
+        let run = validated(&rt, alloc, Z, Z_PROBLEM, plan.as_bytes())?;
         assert_eq!(rt; run.as_slice(), want.as_bytes(), "at {plan}");
     }
     Ok(())

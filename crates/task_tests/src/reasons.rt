@@ -37,7 +37,7 @@ fn the_reason_is_that_of_the_fault(rt: HostRuntime) -> Result<(), Fail> {
         ),
         ("(put)\n(calm)\n(ease)\n(act k k)", "0|valid; cost = 4\n|"),
     ] {
-        let run = explained(alloc, DOMAIN, PROBLEM, plan.as_bytes())?;
+        let run = explained(&rt, alloc, DOMAIN, PROBLEM, plan.as_bytes())?;
         assert_eq!(rt; run.as_slice(), want.as_bytes(), "at {plan}");
     }
     Ok(())

@@ -4,17 +4,17 @@ use Rattle.hplan.proofs.engine.answer_in_file.Goals as goal
 
 pub returns-in-Ok-clause-found : goal.returns-in-Ok-clause-found
 returns-in-Ok-clause-found g c =
-    all_answered _ c.args.domain.now c.args.problem.now c.in-Ok.task c.in-Ok.ensures.found _ c.solution_in_file-answer.result c.digest_of-digest.ensures
+    all_answered _ c.args.how.limit c.args.domain.now c.args.problem.now c.in-Ok.task c.in-Ok.ensures.found _ c.solution_in_file-answer.result c.digest_of-digest.ensures
     c.solution_in_file-answer.ensures.found
 
 pub returns-in-Ok-clause-refusal : goal.returns-in-Ok-clause-refusal
 returns-in-Ok-clause-refusal g c =
-    none_answered _ c.args.domain.now c.args.problem.now c.in-Ok.task c.in-Ok.ensures.found _ c.solution_in_file-answer.result c.digest_of-digest.ensures
+    none_answered _ c.args.how.limit c.args.domain.now c.args.problem.now c.in-Ok.task c.in-Ok.ensures.found _ c.solution_in_file-answer.result c.digest_of-digest.ensures
     c.solution_in_file-answer.ensures.refusal
 
 pub returns-in-Err-clause-refusal : goal.returns-in-Err-clause-refusal
 returns-in-Err-clause-refusal g c =
-    task_unanswered _ c.args.domain.now c.args.problem.now c.in-Err.fault _ c.from.ensures c.in-Err.ensures.refusal
+    task_unanswered _ c.args.how.limit c.args.domain.now c.args.problem.now c.in-Err.fault _ c.from.ensures c.in-Err.ensures.refusal
 
 pub returns-in-Ok-clause-untouched : goal.returns-in-Ok-clause-untouched
 returns-in-Ok-clause-untouched g c =
