@@ -13,7 +13,7 @@ const ASKED_AFTER: u64 = 900;
 /// How long after a line the next one is told, in milliseconds.
 const TOLD_AFTER: u64 = 1000;
 
-/// The word of a worker without an open node of a finite estimate.
+/// What stands for no number.
 const NOTHING: u64 = u64::MAX;
 
 /// What a worker has told.
@@ -25,6 +25,16 @@ struct Word {
     least: AtomicU64,
 }
 
+/// How the search stood when the committer told it last.
+#[derive(Debug, Drop)]
+struct Last {
+    entries: AtomicU64,
+    open: AtomicU64,
+    acknowledged: AtomicU64,
+    /// `NOTHING` where no plan was found.
+    bound: AtomicU64,
+}
+
 /// A gate of a search that tells how it stands on standard error, a line a second: the workers are asked for their least cost plus estimate a
 /// tenth of a second before, and who does not answer by then is told as of the last time.
 #[derive(Drop)]
@@ -32,6 +42,7 @@ pub struct Watch<'r, R: Eprint + Clock> {
     rt: &'r R,
     began: Option<Instant>,
     words: Vec<Word>,
+    last: Last,
     /// When the last line was told, in milliseconds since the search began, and how many entries there were.
     told_at: AtomicU64,
     told_entries: AtomicU64,
@@ -50,10 +61,17 @@ impl<'r, R: Eprint + Clock> Watch<'r, R> {
                 least: AtomicU64::new(NOTHING),
             })?;
         }
+        let last = Last {
+            entries: AtomicU64::new(0),
+            open: AtomicU64::new(0),
+            acknowledged: AtomicU64::new(0),
+            bound: AtomicU64::new(NOTHING),
+        };
         Ok(Watch {
             rt,
             began: Instant::now(rt).ok(),
             words,
+            last,
             told_at: AtomicU64::new(0),
             told_entries: AtomicU64::new(0),
         })
@@ -89,32 +107,51 @@ impl<'r, R: Eprint + Clock> Watch<'r, R> {
         }
     }
 
-    /// Tells how the search stands.
-    fn tell(&self, standing: Standing) {
-        let now = self.milliseconds();
-        let counts = standing.counts;
+    /// Remembers how the search stands.
+    fn remember(&self, standing: Standing) {
+        let Standing { counts, bound } = standing;
         let open = counts.posted.saturating_sub(counts.settled);
-        let since = now.saturating_sub(self.told_at.load(Ordering::Relaxed));
-        let more = counts
-            .entries
-            .saturating_sub(self.told_entries.load(Ordering::Relaxed));
-        let line = Line {
-            entries: counts.entries,
+        let bound = bound.unwrap_or(NOTHING);
+        self.last.entries.store(counts.entries, Ordering::Relaxed);
+        self.last.open.store(open, Ordering::Relaxed);
+        self.last
+            .acknowledged
+            .store(counts.acknowledged, Ordering::Relaxed);
+        self.last.bound.store(bound, Ordering::Relaxed);
+    }
+
+    /// The line of how the search stood last, so many milliseconds behind the line before.
+    fn line(&self, since: u64) -> Line {
+        let entries = self.last.entries.load(Ordering::Relaxed);
+        let open = self.last.open.load(Ordering::Relaxed);
+        let bound = self.last.bound.load(Ordering::Relaxed);
+        let more = entries.saturating_sub(self.told_entries.load(Ordering::Relaxed));
+        Line {
+            entries,
             rate: rate_of(more, since),
             open,
-            bound: standing.bound,
+            bound: if bound == NOTHING { None } else { Some(bound) },
             least: self.least(open),
-            acknowledged: counts.acknowledged,
-        };
+            acknowledged: self.last.acknowledged.load(Ordering::Relaxed),
+        }
+    }
+
+    /// Tells how the search stood last.
+    fn tell(&self, now: u64, since: u64) {
+        let line = self.line(since);
         // A line that can't be told is no reason to end a search.
         let _ = eprintln!(self.rt; "{line}");
         self.told_at.store(now, Ordering::Relaxed);
-        self.told_entries.store(counts.entries, Ordering::Relaxed);
+        self.told_entries.store(line.entries, Ordering::Relaxed);
     }
 
     /// Tells how the search stood at its end.
-    pub fn end(&self, standing: Standing) {
-        self.tell(standing);
+    pub fn end(&self) {
+        let now = self.milliseconds();
+        self.tell(
+            now,
+            now.saturating_sub(self.told_at.load(Ordering::Relaxed)),
+        );
     }
 }
 
@@ -141,21 +178,19 @@ impl<'r, R: Eprint + Clock> Gate for Watch<'r, R> {
         }
     }
 
+    /// Always: what the committer tells before its last round is how the search ends.
     fn asks_committer(&self) -> bool {
-        let since = self
-            .milliseconds()
-            .saturating_sub(self.told_at.load(Ordering::Relaxed));
-        if since < ASKED_AFTER {
-            return false;
-        }
-        if since < TOLD_AFTER {
-            self.ask();
-            return false;
-        }
         true
     }
 
     fn hear_committer(&self, standing: Standing) {
-        self.tell(standing);
+        self.remember(standing);
+        let now = self.milliseconds();
+        let since = now.saturating_sub(self.told_at.load(Ordering::Relaxed));
+        if since >= TOLD_AFTER {
+            self.tell(now, since);
+        } else if since >= ASKED_AFTER {
+            self.ask();
+        }
     }
 }

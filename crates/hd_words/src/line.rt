@@ -102,6 +102,14 @@ fn limit<'a>(alloc: Global) -> Arg<'a> {
         .value_parser(clap::value_parser!(u64).range(1..=1_099_511_627_774))
 }
 
+/// Whether the search tells how it stands.
+fn progress<'a>(alloc: Global) -> Arg<'a> {
+    Arg::new(alloc, "progress")
+        .long("progress")
+        .help("Tells on standard error, a line a second, how the search stands")
+        .action(ArgAction::SetTrue)
+}
+
 /// A command that reads a domain and a problem.
 fn of_task<'a>(alloc: Global, name: &'a str) -> Result<Command<'a>, AllocError> {
     Command::new(alloc, name)
@@ -118,7 +126,7 @@ fn journal<'a>(alloc: Global, help: &'a str, required: bool) -> Arg<'a> {
         .required(required)
 }
 
-/// `solve DOMAIN PROBLEM [--journal FILE] [--workers N] [--limit N]`.
+/// `solve DOMAIN PROBLEM [--journal FILE] [--workers N] [--limit N] [--progress]`.
 fn solve<'a>(alloc: Global) -> Result<Command<'a>, AllocError> {
     of_task(alloc, "solve")?
         .about("Prints a plan of least cost")
@@ -129,17 +137,19 @@ fn solve<'a>(alloc: Global) -> Result<Command<'a>, AllocError> {
             false,
         ))?
         .arg(workers(alloc))?
-        .arg(limit(alloc))
+        .arg(limit(alloc))?
+        .arg(progress(alloc))
 }
 
-/// `resume DOMAIN PROBLEM --journal FILE [--workers N] [--limit N]`.
+/// `resume DOMAIN PROBLEM --journal FILE [--workers N] [--limit N] [--progress]`.
 fn resume<'a>(alloc: Global) -> Result<Command<'a>, AllocError> {
     of_task(alloc, "resume")?
         .about("Goes on with a search that was stopped")
         .after_help(RESUME_HELP)
         .arg(journal(alloc, "The file that the search is kept in", true))?
         .arg(workers(alloc))?
-        .arg(limit(alloc))
+        .arg(limit(alloc))?
+        .arg(progress(alloc))
 }
 
 /// `certify DOMAIN PROBLEM --journal FILE`.

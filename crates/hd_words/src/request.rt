@@ -14,13 +14,15 @@ pub const MAX_WORKERS: u32 = 64;
 /// The greatest number of expansions that a search may be asked to stop at.
 pub const MAX_LIMIT: u64 = 1_099_511_627_774;
 
-/// How a search goes: by how many workers, and at how many expansions it stops, if at any.
+/// How a search goes: by how many workers, at how many expansions it stops, if at any, and whether it tells how it stands.
 #[derive(Clone, Copy, Debug, PartialEq, Eq)]
 pub struct Search {
     /// From 1 to [`MAX_WORKERS`].
     pub workers: u32,
     /// From 1 to [`MAX_LIMIT`].
     pub limit: Option<u64>,
+    /// Whether it tells on standard error how it stands.
+    pub progress: bool,
 }
 
 /// What a command line asks for.
@@ -130,15 +132,18 @@ fn search_in(found: &ArgMatches<'_>) -> Option<Search>
     ensures { IfSome result IsSearchOf }
 {
     let workers = workers_in(found)?;
+    let progress = found.get_flag("progress");
     match found.get_one::<u64>("limit") {
         None => Some(Search {
             workers,
             limit: None,
+            progress,
         }),
         Some(limit) if limit < 1 || limit > MAX_LIMIT => None,
         Some(limit) => Some(Search {
             workers,
             limit: Some(limit),
+            progress,
         }),
     }
 }

@@ -18,12 +18,13 @@ use hd_plan::{Watched, WriteError, write_plan};
 use hd_texts::{digest_of, task_of};
 use hd_words::Search;
 use std::alloc::Global;
-use std::io::Write;
+use std::io::{Eprint, Write};
 use std::sync::Wait;
 use std::thread::Threads;
+use std::time::Clock;
 
 /// The answer to two texts; its search is kept in memory.
-fn answer_in_memory<R: Threads + Wait + Sync>(
+fn answer_in_memory<R: Threads + Wait + Sync + Eprint + Clock>(
     rt: &R,
     alloc: Global,
     domain: &[u8],
@@ -47,7 +48,7 @@ fn answer_in_memory<R: Threads + Wait + Sync>(
 }
 
 /// The answer to two texts; its search is kept in a file.
-fn answer_in_file<P: Places, R: Threads + Wait + Sync>(
+fn answer_in_file<P: Places, R: Threads + Wait + Sync + Eprint + Clock>(
     rt: &R,
     alloc: Global,
     places: &mut P,
@@ -129,7 +130,7 @@ fn write_told<W: Write>(
 /// # Errors
 /// The first fault of the texts, or why the search fails, or what is told of the error that the writer has answered. A beginning of
 /// the text has then been written, and not all of it, and else nothing.
-pub fn solve<W: Write, R: Threads + Wait + Sync>(
+pub fn solve<W: Write, R: Threads + Wait + Sync + Eprint + Clock>(
     rt: &R,
     alloc: Global,
     domain: &[u8],
@@ -163,7 +164,7 @@ pub fn solve<W: Write, R: Threads + Wait + Sync>(
 ///
 /// # Errors
 /// The same, and, behind the faults of the texts, that the file can't be had, begun or gone on with.
-pub fn solve_kept<P: Places, W: Write, R: Threads + Wait + Sync>(
+pub fn solve_kept<P: Places, W: Write, R: Threads + Wait + Sync + Eprint + Clock>(
     rt: &R,
     alloc: Global,
     places: &mut P,

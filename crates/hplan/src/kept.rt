@@ -4,6 +4,7 @@ ghost use Rattle.hd_task.specs.declared.plan.Kid.{Kid};
 ghost use Rattle.hd_store.specs.Device.{content_of};
 ghost use Rattle.hd_journal.specs.Journal.{kids_of};
 ghost use Rattle.hd_search.specs.Searching.{Grows};
+ghost use Rattle.hd_threads.specs.Ending.{IsOutcomeOf, IsTrueOutcome};
 ghost use Rattle.hd_parallel.specs.Fault.{Tells};
 ghost use Rattle.hd_words.specs.Request.{IsWorkers};
 ghost use Rattle.hplan.specs.declared.fault.Fault.TheVariants as faults;
@@ -15,13 +16,17 @@ use crate::fault::{Fault, journal_in, search_in, store_in};
 use crate::places::Places;
 use crate::told::{Told, told_of};
 use hd_journal::{DIGEST_LEN, Journal, JournalError};
-use hd_parallel::{OpenGate, run};
+use hd_parallel::{Concluded, OpenGate, ThreadsFault, run};
+use hd_progress::Watch;
+use hd_search::RunFault;
 use hd_store::{MemoryDisk, Store};
 use hd_task::Task;
 use hd_words::Search;
 use std::alloc::Global;
+use std::io::Eprint;
 use std::sync::Wait;
 use std::thread::Threads;
+use std::time::Clock;
 
 /// How many open nodes a worker settles before their outcomes are committed, or fewer, where no more are open.
 const TOGETHER: usize = 64;
@@ -35,8 +40,39 @@ pub enum Start {
     Kept,
 }
 
+/// What the search of a task by threads ends with over a journal. Where it is to tell how it stands, it does so on standard error.
+fn concluded_of<S: Store, R: Threads + Wait + Sync + Eprint + Clock>(
+    rt: &R,
+    alloc: Global,
+    task: &Task,
+    journal: &mut Journal<S>,
+    how: Search,
+) -> Result<Concluded, ThreadsFault>
+    requires { IsWorkers how.workers }
+    ensures answer { IfOk result (λ e.
+        IsOutcomeOf task.now how.limit (kids_of journal.new) e.outcome) }
+    ensures truth { IfOk result (λ e. IsTrueOutcome task.now e.outcome) }
+    ensures grows { OnOk result (Grows journal.old journal.new) }
+    ensures told { IfErr result (Tells task.now journal.old journal.new) }
+{
+    let workers = how.workers as usize;
+    if !how.progress {
+        return run(
+            rt, alloc, task, journal, workers, TOGETHER, how.limit, &OpenGate,
+        );
+    }
+    let Ok(watch) = Watch::begin(rt, alloc, workers) else {
+        return Err(ThreadsFault::Run(RunFault::NoMemory));
+    };
+    let ended = run(
+        rt, alloc, task, journal, workers, TOGETHER, how.limit, &watch,
+    );
+    watch.end();
+    ended
+}
+
 /// What the search of a task answers over a journal.
-fn solution_of<S: Store, R: Threads + Wait + Sync>(
+fn solution_of<S: Store, R: Threads + Wait + Sync + Eprint + Clock>(
     rt: &R,
     alloc: Global,
     task: &Task,
@@ -49,11 +85,7 @@ fn solution_of<S: Store, R: Threads + Wait + Sync>(
     ensures grows { OnOk result (Grows journal.old journal.new) }
     ensures refusal { IfErr result (IsRefusedRun task.now journal.old journal.new) }
 {
-    let workers = how.workers as usize;
-    let ended = run(
-        rt, alloc, task, journal, workers, TOGETHER, how.limit, &OpenGate,
-    );
-    let concluded = match ended {
+    let concluded = match concluded_of(rt, alloc, task, journal, how) {
         Ok(concluded) => concluded,
         Err(fault) => return Err(search_in(fault)),
     };
@@ -81,7 +113,7 @@ fn journal_on<S: Store>(
 }
 
 /// What the search of a task answers over a journal on a store, and the store as it is then.
-fn solution_on<S: Store, R: Threads + Wait + Sync>(
+fn solution_on<S: Store, R: Threads + Wait + Sync + Eprint + Clock>(
     rt: &R,
     alloc: Global,
     task: &Task,
@@ -109,7 +141,7 @@ fn solution_on<S: Store, R: Threads + Wait + Sync>(
 }
 
 /// What the search of a task answers over a journal in memory.
-pub fn solution_in_memory<R: Threads + Wait + Sync>(
+pub fn solution_in_memory<R: Threads + Wait + Sync + Eprint + Clock>(
     rt: &R,
     alloc: Global,
     task: &Task,
@@ -128,7 +160,7 @@ pub fn solution_in_memory<R: Threads + Wait + Sync>(
 }
 
 /// What the search of a task answers over a journal in a file.
-pub fn solution_in_file<P: Places, R: Threads + Wait + Sync>(
+pub fn solution_in_file<P: Places, R: Threads + Wait + Sync + Eprint + Clock>(
     rt: &R,
     alloc: Global,
     places: &mut P,

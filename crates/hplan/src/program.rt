@@ -21,10 +21,11 @@ use hd_plan::{Watched, put};
 use hd_words::{Request, Search, WordsError, read_words};
 use std::alloc::Global;
 use std::fs::File;
-use std::io::Write;
+use std::io::{Eprint, Write};
 use std::rt::{Env, Files};
 use std::sync::Wait;
 use std::thread::Threads;
+use std::time::Clock;
 use std::{env, io};
 
 /// The exit status of an answer, and of help.
@@ -98,7 +99,7 @@ fn read<P: Places>(alloc: Global, places: &mut P, name: &str) -> Result<Vec<u8>,
 }
 
 /// Reads two files, and writes the plan of their task. The search is kept in the file of a journal, if one is named.
-fn solve_files<P: Places, O: Write, R: Threads + Wait + Sync>(
+fn solve_files<P: Places, O: Write, R: Threads + Wait + Sync + Eprint + Clock>(
     rt: &R,
     alloc: Global,
     places: &mut P,
@@ -286,7 +287,7 @@ fn judge_files<O: Write, E: Write>(
 }
 
 /// Does what a request asks.
-fn answer<P: Places, O: Write, E: Write, R: Threads + Wait + Sync>(
+fn answer<P: Places, O: Write, E: Write, R: Threads + Wait + Sync + Eprint + Clock>(
     rt: &R,
     alloc: Global,
     request: &Request,
@@ -382,7 +383,7 @@ fn answer<P: Places, O: Write, E: Write, R: Threads + Wait + Sync>(
 /// What was asked for goes to `out`, and everything else to `err`. Faults are looked for in this order: the command line;
 /// the domain's file, the problem's, the plan's; the domain's text, the problem's; their names, types and metric; the grounding (not to
 /// validate); the plan's text; the journal; the work itself.
-pub fn command<P: Places, O: Write, E: Write, R: Threads + Wait + Sync>(
+pub fn command<P: Places, O: Write, E: Write, R: Threads + Wait + Sync + Eprint + Clock>(
     rt: &R,
     alloc: Global,
     words: &[String],
@@ -407,11 +408,11 @@ fn words_of<R: Env + AllocGlobal>(rt: &R) -> io::Result<Vec<String>> {
 }
 
 /// Runs the program with the system's words and files, and answers the exit status.
-pub fn start<R: Env + Files<File = File> + Threads + Wait + Sync + AllocGlobal, O: Write, E: Write>(
-    rt: &R,
-    out: &mut O,
-    err: &mut E,
-) -> u8 {
+pub fn start<
+    R: Env + Files<File = File> + Threads + Wait + Sync + Eprint + Clock + AllocGlobal,
+    O: Write,
+    E: Write,
+>(rt: &R, out: &mut O, err: &mut E) -> u8 {
     match words_of(rt) {
         Ok(words) => command(rt, rt.alloc(), &words, &mut SystemFiles::new(rt), out, err),
         Err(error) if error.kind() == io::ErrorKind::InvalidData => {
