@@ -1,8 +1,8 @@
 -- That a task, and what it is made of, may be shared by threads.
 use denote.RattleType.{RattleType}
-use denote.Param.Send.{IsSend, IsSync, sendable}
-use denote.Param.SendFields.{declared_sync, variants_sync, as_row_sync, FieldsHave}
-use denote.Builtin.{u32, usize}
+use denote.Param.Send.{IsSync, sendable}
+use denote.Param.SendFields.{declared_sync, FieldsHave}
+use denote.Builtin.{u32}
 use Rattle.std.proofs.Crossing.{crosses}
 use Rattle.std.proofs.MapsCrossing as maps
 use Rattle.hd_base.specs.contracts.expression.Expr as expr
@@ -14,7 +14,6 @@ use Rattle.hd_base.proofs.expression.Expr.TheLaws.TheKnot as knot
 use Rattle.hd_base.proofs.expression.Operand.TheSendSync as operand_cross
 use Rattle.hd_base.proofs.operation.Operation.TheSendSync as operation_cross
 use Rattle.hd_base.proofs.relation.Relation.TheSendSync as relation_cross
-use Rattle.hd_base.proofs.sequence.Sequence.TheSendSync as sequence_cross
 use Rattle.hd_task.proofs.condition.Literal.TheSendSync as literal_cross
 use Rattle.hd_task.specs.contracts.task.Task as task
 use Rattle.hd_task.specs.contracts.condition.Condition as condition

@@ -1,8 +1,6 @@
-use Rattle.std.proofs.Common.{◌≡◌, ◌+◌, length, refl, ap, sym, subst, ◌∙◌, arith}
+use Rattle.std.proofs.Common.{◌≡◌, length, refl, ap, sym, subst, ◌∙◌, arith}
 use Rattle.std.specs.List.{AllByRecursion}
-use Rattle.std.specs.Vec.Iter.{into_iter_items}
 use Rattle.hd_threads.specs.Placing.{IsAt}
-use Rattle.hd_parallel.specs.Opening.{AreNumbered}
 use Rattle.hd_parallel.proofs.Places.{numbered_same}
 use Rattle.hd_parallel.proofs.starting.start_all.Goals as goal
 
