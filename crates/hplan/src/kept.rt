@@ -50,10 +50,9 @@ fn solution_of<S: Store, R: Threads + Wait + Sync>(
     ensures refusal { IfErr result (IsRefusedRun task.now journal.old journal.new) }
 {
     let workers = how.workers as usize;
-    let ended = run(
+    let concluded = match run(
         rt, alloc, task, journal, workers, TOGETHER, how.limit, &OpenGate,
-    );
-    let concluded = match ended {
+    ) {
         Ok(concluded) => concluded,
         Err(fault) => return Err(search_in(fault)),
     };
