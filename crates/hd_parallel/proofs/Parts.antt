@@ -1,5 +1,5 @@
 -- Parts that are given away, one after another.
-use Rattle.std.proofs.Common.{◌≡◌, ℕ, zero, suc, ◌+◌, ◌-◌, ◌<◌, List, [], ◌∷◌, map, replicate, arith}
+use Rattle.std.proofs.Common.{ℕ, zero, suc, ◌+◌, ◌-◌, ◌<◌, List, [], ◌∷◌, map, replicate, arith}
 use Rattle.std.specs.List.{AllByRecursion}
 
 -- each of so many passes has the same parts

@@ -62,3 +62,7 @@ module _ {L A : Type 0} where
         boxes = count ∙ sym boxes;
         few = omega (arith, count, few);
       }
+
+  -- the same places, of as many, have the same numbers
+  pub numbered_same : (from workers others : ℕ) (places same : List (Workplace L A)) → workers ≡ others → places ≡ same → AreNumbered from workers places → AreNumbered from others same
+  numbered_same from workers others places same count e numbered = subst (λ (n : ℕ). AreNumbered from n same) count (subst (AreNumbered from workers) e numbered)

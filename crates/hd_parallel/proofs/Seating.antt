@@ -1,5 +1,5 @@
 -- A place at a desk, and what is left for others.
-use Rattle.std.proofs.Common.{◌≡◌, ℕ, ◌+◌, ◌-◌, ◌<◌, Some, List, map, refl, sym, ap, subst, ◌∙◌, arith}
+use Rattle.std.proofs.Common.{◌≡◌, ℕ, ◌+◌, ◌-◌, ◌<◌, Some, List, map, sym, ap, subst, ◌∙◌, arith}
 use Rattle.std.specs.List.{AllByRecursion}
 use Rattle.crossbeam_queue.specs.Passes.{view}
 use Rattle.hd_task.specs.declared.task.Task.{Task}
@@ -15,7 +15,7 @@ use Rattle.hd_threads.specs.declared.placing.Desk.{Desk}
 use Rattle.hd_threads.specs.declared.placing.Workplace.{Workplace}
 use Rattle.hd_threads.specs.Placing.{IsAt}
 use Rattle.hd_parallel.specs.declared.opening.Rest.{Rest}
-use Rattle.hd_parallel.specs.Opening.{IsFresh, HasSeen, HasRoom}
+use Rattle.hd_parallel.specs.Opening.{IsFresh, HasRoom}
 use Rattle.hd_parallel.proofs.Parts.{all_less}
 
 module _ {L A : Type 0} (t : Task) (log : List Kid) (d : Desk L A) (left : ℕ) (r : Rest L A) (room : HasRoom t log d (left + 1) r) where

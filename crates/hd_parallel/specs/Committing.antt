@@ -1,5 +1,5 @@
 -- What the committer leaves when it has ended. (Our own.)
-use Rattle.std.specs.Prelude.{◌≡◌, ℕ, ◌<◌, List, length, Result, OnOk, IfErr}
+use Rattle.std.specs.Prelude.{◌≡◌, ℕ, ◌<◌, length, Result, OnOk, IfErr}
 use Rattle.crossbeam_queue.specs.Passes.{view}
 use Rattle.hd_store.specs.declared.store.Store.{Ghosts}
 use Rattle.hd_journal.specs.declared.journal.Journal.{Journal}

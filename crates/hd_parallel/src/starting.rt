@@ -1,7 +1,7 @@
 //! The threads of the workers.
-ghost use Rattle.std.specs.Prelude.{◌≡◌, ◌<◌, ◌≤◌, length, IfOk, IfSome};
+ghost use Rattle.std.specs.Prelude.{IfErr, IfSome};
 ghost use Rattle.std.specs.Thread.{IsSync};
-ghost use Rattle.hd_parallel.specs.Fault.{IsOfWorker};
+ghost use Rattle.hd_parallel.specs.Fault.{IsOfWorker, IsOfThreads};
 ghost use Rattle.hd_parallel.specs.Opening.{IsJob, AreAt};
 
 use crate::ThreadsFault;
@@ -74,11 +74,8 @@ fn start<
     A: Ledger + Send + Sync,
     G: Gate + Sync,
     R: Threads + Wait + Sync,
->(
-    scope: &'s Scope<'s, &'e ()>,
-    job: Job<'s, 't, L, A, G, R>,
-) -> Option<Working>
-    requires { IsJob job.desk.now job.place job.id job.workers }
+>(scope: &'s Scope<'s, &'e ()>, job: Job<'s, 't, L, A, G, R>) -> Option<Working>
+    requires job { IsJob job.desk.now job.place job.id job.workers }
 {
     let started = scope.spawn_with(
         OfWorker,
@@ -114,6 +111,7 @@ pub(crate) fn start_all<
     gate: &'s G,
 ) -> Result<Vec<Working>, ThreadsFault>
     requires { AreAt desk.now places.items }
+    ensures told { IfErr result IsOfThreads }
 {
     let workers = places.len();
     let mut threads = Vec::with_capacity(alloc, workers)?;
