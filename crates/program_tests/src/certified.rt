@@ -2,9 +2,11 @@
 use crate::kept::{Kept, WHOLE, is, joined, kept};
 use crate::running::{run, run_over, shelf_of};
 use std::alloc::{AllocError, Global};
+use std::io::Eprint;
 use std::sync::Wait;
 use std::test::Fail;
 use std::thread::Threads;
+use std::time::Clock;
 use text_tests::samples::{L, L_PROBLEM, N, N_PROBLEM, U};
 
 /// What a run prints of a journal that shows nothing.
@@ -18,7 +20,7 @@ pub const GROUPS_OF_ONE: [u8; 40] = [
 ];
 
 /// The run of `certify` on the task of two actions.
-fn certified<R: Threads + Wait + Sync>(
+fn certified<R: Threads + Wait + Sync + Eprint + Clock>(
     rt: &R,
     alloc: Global,
     journal: &[u8],
@@ -32,7 +34,7 @@ pub fn in_version_one(alloc: Global, bytes: &[u8]) -> Result<Vec<u8>, AllocError
 }
 
 /// What `certify` prints of the journal that `solve` has made of two texts.
-fn certified_behind<R: Threads + Wait + Sync>(
+fn certified_behind<R: Threads + Wait + Sync + Eprint + Clock>(
     rt: &R,
     alloc: Global,
     domain: &str,
@@ -166,7 +168,7 @@ fn a_journal_of_the_first_version_is_read_with_its_costs(rt: HostRuntime) -> Res
             &whole,
         ),
     ] {
-        let found = kept(alloc, command, COSTS, COSTS_PROBLEM, Some(journal))?;
+        let found = kept(&rt, alloc, command, COSTS, COSTS_PROBLEM, Some(journal))?;
         assert!(rt; is(&found, printed, left), "at {command}");
     }
     Ok(())
@@ -182,7 +184,7 @@ enum Told {
 }
 
 /// What `inspect` prints of a file of which this is told.
-fn inspected<R: Threads + Wait + Sync>(
+fn inspected<R: Threads + Wait + Sync + Eprint + Clock>(
     rt: &R,
     alloc: Global,
     told: &Told,
@@ -199,7 +201,7 @@ fn inspected<R: Threads + Wait + Sync>(
 }
 
 /// Whether this is told of a file.
-fn is_inspected<R: Threads + Wait + Sync>(
+fn is_inspected<R: Threads + Wait + Sync + Eprint + Clock>(
     rt: &R,
     alloc: Global,
     journal: &[u8],

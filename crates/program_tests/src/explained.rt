@@ -1,15 +1,17 @@
 //! What `validate --explain` tells beside what `validate` tells. The answers were worked out by hand.
 use crate::running::{explained, validated};
 use std::alloc::Global;
+use std::io::Eprint;
 use std::process::Abort;
 use std::sync::Wait;
 use std::test::Fail;
 use std::thread::Threads;
+use std::time::Clock;
 use text_tests::samples::{L, L_PROBLEM, U, U_PROBLEM, V, V_PROBLEM};
 
 /// Asserts that a plan is told so, and that its reason is told behind that where it is asked for; without a reason it is empty.
 fn assert_told(
-    rt: &(impl Abort + Threads + Wait + Sync),
+    rt: &(impl Abort + Threads + Wait + Sync + Eprint + Clock),
     alloc: Global,
     texts: (&str, &str),
     plan: &str,

@@ -6,9 +6,11 @@ use crate::running::{run_over, shelf_of};
 use hd_store::MemoryDisk;
 use hplan::{Places, Shelf};
 use std::alloc::{AllocError, Global};
+use std::io::Eprint;
 use std::sync::Wait;
 use std::test::Fail;
 use std::thread::Threads;
+use std::time::Clock;
 use text_tests::samples::{L, L_PROBLEM};
 
 /// The journal of the whole search of two actions: the header, then three groups of an entry each.
@@ -38,7 +40,7 @@ fn journal_on(alloc: Global, shelf: &mut Shelf) -> Option<Vec<u8>> {
 }
 
 /// A run of a command over two texts and the file of a journal, if there is one.
-pub fn kept<R: Threads + Wait + Sync>(
+pub fn kept<R: Threads + Wait + Sync + Eprint + Clock>(
     rt: &R,
     alloc: Global,
     command: &str,
@@ -62,7 +64,7 @@ pub fn kept<R: Threads + Wait + Sync>(
 }
 
 /// The run of `solve` on the task of two actions.
-fn begun<R: Threads + Wait + Sync>(
+fn begun<R: Threads + Wait + Sync + Eprint + Clock>(
     rt: &R,
     alloc: Global,
     journal: Option<&[u8]>,
@@ -71,7 +73,7 @@ fn begun<R: Threads + Wait + Sync>(
 }
 
 /// The run of `resume` on the task of two actions.
-fn resumed<R: Threads + Wait + Sync>(
+fn resumed<R: Threads + Wait + Sync + Eprint + Clock>(
     rt: &R,
     alloc: Global,
     journal: &[u8],
@@ -138,7 +140,7 @@ fn a_file_that_is_not_empty_is_not_taken(rt: HostRuntime) -> Result<(), Fail> {
 }
 
 /// Whether a search of so many workers stops at its limit behind the root's entry, and goes on from there with as many.
-fn stops_and_goes_on<R: Threads + Wait + Sync>(
+fn stops_and_goes_on<R: Threads + Wait + Sync + Eprint + Clock>(
     rt: &R,
     alloc: Global,
     workers: &str,
@@ -184,7 +186,7 @@ fn a_search_that_stopped_at_its_limit_goes_on(rt: HostRuntime) -> Result<(), Fai
 }
 
 /// Whether a search goes on from what a stop may leave: the groups of so many entries, a gate that is not open, and a part of the next group.
-fn goes_on_from<R: Threads + Wait + Sync>(
+fn goes_on_from<R: Threads + Wait + Sync + Eprint + Clock>(
     rt: &R,
     alloc: Global,
     entries: usize,
@@ -307,7 +309,7 @@ fn stop(alloc: Global, shelf: &mut Shelf, fill: u8) -> Result<(), Fail> {
 }
 
 /// Whether a search whose device fails in its n-th call tells so, and goes on behind a stop, after which bytes that are not sure are this one.
-fn goes_on_behind<R: Threads + Wait + Sync>(
+fn goes_on_behind<R: Threads + Wait + Sync + Eprint + Clock>(
     rt: &R,
     alloc: Global,
     n: u64,

@@ -4,9 +4,11 @@ use crate::kept::{WHOLE, joined};
 use crate::running::{run_over, shelf_of};
 use hplan::{Places, Shelf};
 use std::alloc::{AllocError, Global};
+use std::io::Eprint;
 use std::sync::Wait;
 use std::test::Fail;
 use std::thread::Threads;
+use std::time::Clock;
 use text_tests::samples::{L, L_PROBLEM};
 
 /// The words of a run that migrates, and of one that goes on from what it has written.
@@ -42,7 +44,7 @@ fn files_of(
 }
 
 /// A run of these words on files, and what becomes of these.
-fn run_on<R: Threads + Wait + Sync>(
+fn run_on<R: Threads + Wait + Sync + Eprint + Clock>(
     rt: &R,
     alloc: Global,
     words: &[&str],
@@ -64,7 +66,7 @@ fn holds(found: &Option<Vec<u8>>, wanted: Option<&[u8]>) -> bool {
 }
 
 /// Whether a run of `migrate` on a journal and another file prints this, leaves the journal, and leaves this of the other file.
-fn migrates<R: Threads + Wait + Sync>(
+fn migrates<R: Threads + Wait + Sync + Eprint + Clock>(
     rt: &R,
     alloc: Global,
     problem: &str,

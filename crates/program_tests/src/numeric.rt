@@ -1,13 +1,15 @@
 //! What `solve` prints of tasks with types, objects and numbers. The answers were worked out by hand.
 use crate::running::{run, solved};
 use std::alloc::{AllocError, Global};
+use std::io::Eprint;
 use std::sync::Wait;
 use std::test::Fail;
 use std::thread::Threads;
+use std::time::Clock;
 use text_tests::samples::{N, N_PROBLEM, U, U_PROBLEM, V, V_PROBLEM};
 
 /// The run on V, with the second text of each pair in place of the first: of a pair in the domain, and of one in the problem.
-fn changed<R: Threads + Wait + Sync>(
+fn changed<R: Threads + Wait + Sync + Eprint + Clock>(
     rt: &R,
     alloc: Global,
     domain: (&str, &str),
@@ -79,6 +81,10 @@ fn the_cheapest_way_is_not_the_shortest(rt: HostRuntime) -> Result<(), Fail> {
         ),
         (
             ["solve", "d", "p", "--workers", "3"].as_slice(),
+            "0|(near)\n(join)\n(fin)\n; cost = 3\n|",
+        ),
+        (
+            ["solve", "d", "p", "--progress"].as_slice(),
             "0|(near)\n(join)\n(fin)\n; cost = 3\n|",
         ),
         (

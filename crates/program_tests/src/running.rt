@@ -3,9 +3,10 @@
 use crate::line::line_of;
 use hplan::{Shelf, command};
 use std::alloc::{AllocError, Global};
-use std::io::{self, Write};
+use std::io::{self, Eprint, Write};
 use std::sync::Wait;
 use std::thread::Threads;
+use std::time::Clock;
 
 /// A run as bytes.
 fn shown(alloc: Global, status: u8, out: &[u8], err: &[u8]) -> Result<Vec<u8>, AllocError> {
@@ -27,7 +28,7 @@ pub fn shelf_of(alloc: Global, files: &[(&str, &[u8])]) -> Result<Shelf, AllocEr
 }
 
 /// A run of these words over the files of a shelf.
-pub fn run_over<R: Threads + Wait + Sync>(
+pub fn run_over<R: Threads + Wait + Sync + Eprint + Clock>(
     rt: &R,
     alloc: Global,
     words: &[&str],
@@ -41,7 +42,7 @@ pub fn run_over<R: Threads + Wait + Sync>(
 }
 
 /// A run of these words over files of these names.
-pub fn run<R: Threads + Wait + Sync>(
+pub fn run<R: Threads + Wait + Sync + Eprint + Clock>(
     rt: &R,
     alloc: Global,
     words: &[&str],
@@ -60,7 +61,7 @@ pub fn output_in(run: &[u8]) -> &[u8] {
 }
 
 /// The run of `solve` on two texts.
-pub fn solved<R: Threads + Wait + Sync>(
+pub fn solved<R: Threads + Wait + Sync + Eprint + Clock>(
     rt: &R,
     alloc: Global,
     domain: &str,
@@ -71,7 +72,7 @@ pub fn solved<R: Threads + Wait + Sync>(
 }
 
 /// The run of `ground` on two texts.
-pub fn grounded<R: Threads + Wait + Sync>(
+pub fn grounded<R: Threads + Wait + Sync + Eprint + Clock>(
     rt: &R,
     alloc: Global,
     domain: &str,
@@ -82,7 +83,7 @@ pub fn grounded<R: Threads + Wait + Sync>(
 }
 
 /// The run of `validate` on three texts, with these options.
-fn judged<R: Threads + Wait + Sync>(
+fn judged<R: Threads + Wait + Sync + Eprint + Clock>(
     rt: &R,
     alloc: Global,
     domain: &str,
@@ -99,7 +100,7 @@ fn judged<R: Threads + Wait + Sync>(
 }
 
 /// The run of `validate` on three texts.
-pub fn validated<R: Threads + Wait + Sync>(
+pub fn validated<R: Threads + Wait + Sync + Eprint + Clock>(
     rt: &R,
     alloc: Global,
     domain: &str,
@@ -111,7 +112,7 @@ pub fn validated<R: Threads + Wait + Sync>(
 }
 
 /// The run of `validate --explain` on three texts.
-pub fn explained<R: Threads + Wait + Sync>(
+pub fn explained<R: Threads + Wait + Sync + Eprint + Clock>(
     rt: &R,
     alloc: Global,
     domain: &str,
@@ -151,7 +152,7 @@ impl Write for Short {
 }
 
 /// A run of these words over these files, with an output that takes so many bytes, and then fails so.
-pub fn cut_short_by<R: Threads + Wait + Sync>(
+pub fn cut_short_by<R: Threads + Wait + Sync + Eprint + Clock>(
     rt: &R,
     alloc: Global,
     words: &[&str],
@@ -172,7 +173,7 @@ pub fn cut_short_by<R: Threads + Wait + Sync>(
 }
 
 /// A run of these words over these files, with an output that takes so many bytes, and is then full.
-pub fn cut_short<R: Threads + Wait + Sync>(
+pub fn cut_short<R: Threads + Wait + Sync + Eprint + Clock>(
     rt: &R,
     alloc: Global,
     words: &[&str],

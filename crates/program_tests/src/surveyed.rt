@@ -2,9 +2,11 @@
 use crate::kept::{WHOLE, is, joined, kept};
 use crate::running::{run_over, shelf_of};
 use std::alloc::{AllocError, Global};
+use std::io::Eprint;
 use std::sync::Wait;
 use std::test::Fail;
 use std::thread::Threads;
+use std::time::Clock;
 use text_tests::samples::{L, L_PROBLEM, U};
 
 /// What is told of the search of two actions, behind what its journal is.
@@ -24,7 +26,7 @@ const NONE: &str = "posted 1\nsettled 0\nno bound\nnothing left the range\n";
 
 /// Whether `inspect` prints this of the journal of the task of two actions with so many entries, each in its group, and so many bytes behind
 /// them, and leaves the file.
-fn is_surveyed<R: Threads + Wait + Sync>(
+fn is_surveyed<R: Threads + Wait + Sync + Eprint + Clock>(
     rt: &R,
     alloc: Global,
     journal: &[u8],
@@ -41,7 +43,7 @@ fn is_surveyed<R: Threads + Wait + Sync>(
 }
 
 /// What `inspect` prints behind the journal's lines, of the journal that `solve` has made of two texts.
-fn surveyed_behind<R: Threads + Wait + Sync>(
+fn surveyed_behind<R: Threads + Wait + Sync + Eprint + Clock>(
     rt: &R,
     alloc: Global,
     domain: &str,

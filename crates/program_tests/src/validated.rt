@@ -1,9 +1,11 @@
 //! What `validate` prints of plans in a third file. The answers were worked out by hand.
 use crate::running::{cut_short, output_in, run, solved, validated};
 use std::alloc::{AllocError, Global};
+use std::io::Eprint;
 use std::sync::Wait;
 use std::test::Fail;
 use std::thread::Threads;
+use std::time::Clock;
 use text_tests::samples::{L, L_PROBLEM, N, N_PROBLEM, U, U_PROBLEM, V, V_PROBLEM};
 
 #[test]
@@ -33,7 +35,7 @@ fn each_line_of_a_plan_is_judged(rt: HostRuntime) -> Result<(), Fail> {
 }
 
 /// The run on V and its plan, with the second text of a pair in place of the first, in the domain or else in the problem.
-fn changed<R: Threads + Wait + Sync>(
+fn changed<R: Threads + Wait + Sync + Eprint + Clock>(
     rt: &R,
     alloc: Global,
     old: &str,

@@ -7,9 +7,10 @@ use std::test::Fail;
 /// How a search is to go.
 fn how_of(alloc: Global, search: &Search) -> Result<String, AllocError> {
     let workers = search.workers;
+    let told = if search.progress { " told" } else { "" };
     match search.limit {
-        Some(limit) => format!(in alloc; "{workers} to {limit}"),
-        None => format!(in alloc; "{workers}"),
+        Some(limit) => format!(in alloc; "{workers} to {limit}{told}"),
+        None => format!(in alloc; "{workers}{told}"),
     }
 }
 
@@ -116,6 +117,14 @@ fn commands_take_files_and_how_a_search_goes(rt: HostRuntime) -> Result<(), Fail
             "solve d p 4 to 1",
         ),
         (
+            ["solve", "d", "p", "--progress"].as_slice(),
+            "solve d p 4 told",
+        ),
+        (
+            ["resume", "d", "p", "--journal=j", "--limit=7", "--progress"].as_slice(),
+            "resume d p in j 4 to 7 told",
+        ),
+        (
             ["resume", "d", "p", "--journal=j", "--limit=1099511627774"].as_slice(),
             "resume d p in j 4 to 1099511627774",
         ),
@@ -200,6 +209,10 @@ fn other_words_are_faults(rt: HostRuntime) -> Result<(), Fail> {
         (
             ["ground", "d", "p", "--journal", "j"].as_slice(),
             "fault: error: unexpected argument '--journal' found",
+        ),
+        (
+            ["certify", "d", "p", "--journal", "j", "--progress"].as_slice(),
+            "fault: error: unexpected argument '--progress' found",
         ),
         (
             ["ground", "d", "p", "--workers", "1"].as_slice(),

@@ -5,15 +5,17 @@ use crate::tasks::{
 };
 use program_tests::running::{output_in, solved, validated};
 use std::alloc::Global;
+use std::io::Eprint;
 use std::process::Abort;
 use std::sync::Wait;
 use std::test::Fail;
 use std::thread::Threads;
+use std::time::Clock;
 use text_tests::samples::{COUNTERS, COUNTERS_PROBLEM, HANOI, HANOI_PROBLEM};
 
 /// Asserts that a plan of this cost is printed, and that it is valid at this cost.
 fn assert_solved(
-    rt: &(impl Abort + Threads + Wait + Sync),
+    rt: &(impl Abort + Threads + Wait + Sync + Eprint + Clock),
     alloc: Global,
     (domain, problem): (&str, &str),
     cost: &str,
