@@ -1,0 +1,75 @@
+#!/bin/sh
+# Kills searches, and lets others go on from their journals: bench/kill.sh FOLDER [RUNS]
+# FOLDER is as for costs.sh. A run (100 of them, if not said otherwise) takes the tasks in turn: it starts `solve --journal`, kills it (SIGKILL) after
+# a time by chance below that of a whole search, and then `resume` with another number of workers, which is killed in the same way, up to three
+# times; the one after that is let go to its end. Its answer is compared with the list, and what `certify` tells of the journal too.
+# HPLAN names the program, if it is not the one that ./hplan builds. Ends with status 1 where an answer differs.
+here=$(cd "$(dirname "$0")/.." && pwd)
+hplan=${HPLAN:-$here/hplan}
+runs=${2:-100}
+[ -s "$1/costs.txt" ] || { echo "usage: bench/kill.sh FOLDER [RUNS], where FOLDER has costs.txt" >&2; exit 2; }
+folder=$(mktemp -d)
+trap 'rm -rf "$folder"' EXIT
+tasks=$(grep -c . "$1/costs.txt")
+killed=0
+wrong=0
+
+# A number by chance, below another.
+chance() {
+    echo $(($(od -An -N4 -tu4 /dev/urandom) % $1))
+}
+
+# A number of workers.
+workers() {
+    case $(chance 4) in 0) echo 1 ;; 1) echo 2 ;; 2) echo 4 ;; *) echo 7 ;; esac
+}
+
+# So many milliseconds as `timeout` reads them.
+seconds() {
+    printf '%d.%03d' $(($1 / 1000)) $(($1 % 1000))
+}
+
+# How long a whole search of a task takes, in milliseconds, at least 20.
+whole() {
+    begun=$(date +%s%3N)
+    "$hplan" solve "$1" "$2" >"$folder/plan" 2>"$folder/told" </dev/null
+    took=$(($(date +%s%3N) - begun))
+    [ "$took" -lt 20 ] && took=20
+    echo "$took"
+}
+
+# Starts a search, or goes on with one, and kills it: whether it was still there to be killed.
+cut_short() {
+    timeout -s KILL "$(seconds "$(chance "$took")")" "$hplan" "$1" "$domain" "$problem" --journal "$folder/journal" \
+        --workers "$(workers)" >"$folder/plan" 2>"$folder/told" </dev/null
+    [ $? -eq 137 ]
+}
+
+number=0
+while [ "$number" -lt "$runs" ]; do
+    line=$(sed -n "$((number % tasks + 1))p" "$1/costs.txt")
+    number=$((number + 1))
+    task=${line%% *}
+    wanted=${line#* }
+    domain=$1/$task/domain.pddl
+    problem=$1/$task/problem.pddl
+    took=$(whole "$domain" "$problem")
+    rm -f "$folder/journal"
+    verb=solve
+    for _again in 1 2 3 4; do
+        cut_short $verb || break
+        killed=$((killed + 1))
+        [ -e "$folder/journal" ] && verb=resume
+    done
+    [ -e "$folder/journal" ] && verb=resume || verb=solve
+    "$hplan" $verb "$domain" "$problem" --journal "$folder/journal" --workers "$(workers)" \
+        >"$folder/plan" 2>"$folder/told" </dev/null
+    said=$(cat "$folder/plan" "$folder/told" | tail -n 1)
+    shown=$("$hplan" certify "$domain" "$problem" --journal "$folder/journal" </dev/null | sed 's/^certified optimal//; s/^certified //')
+    if [ "$said" != "$wanted" ] || [ "$shown" != "$wanted" ]; then
+        echo "$task: '$said', certified as '$shown', and wanted is '$wanted'"
+        wrong=1
+    fi
+done
+echo "$runs searches, killed $killed times"
+exit $wrong
