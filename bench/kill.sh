@@ -38,9 +38,10 @@ whole() {
     echo "$took"
 }
 
-# Starts a search, or goes on with one, and kills it: whether it was still there to be killed.
+# Starts a search, or goes on with one, and kills it: whether it was still there to be killed. In the foreground `timeout` waits until it is gone, and
+# with it its lock of the journal.
 cut_short() {
-    timeout -s KILL "$(seconds "$(chance "$took")")" "$hplan" "$1" "$domain" "$problem" --journal "$folder/journal" \
+    timeout --foreground -s KILL "$(seconds "$(chance "$took")")" "$hplan" "$1" "$domain" "$problem" --journal "$folder/journal" \
         --workers "$(workers)" >"$folder/plan" 2>"$folder/told" </dev/null
     [ $? -eq 137 ]
 }

@@ -149,7 +149,7 @@ fn owned() -> [u64; 4] {
         for atom in 0..10u64 {
             if (set >> atom) & 1 == 1 {
                 hash ^= word(2 * atom);
-                size += 1;
+                size = size.wrapping_add(1);
             }
         }
         let owner = (hash % 4) as usize;
