@@ -68,7 +68,7 @@ fn open_until(
     at: StopAt,
 ) -> Result<Opened, ReplayFault>
     requires { 1 ≤ at.call }
-    ensures opened { (content : List ℕ) → IsStarted disk content
+    ensures { (content : List ℕ) → IsStarted disk content
         → IfOk result (IsOpenedBy digest.now content (Some at)) }
 {
     let mut disk = disk;
@@ -84,14 +84,14 @@ fn open_until(
 ///
 /// # Errors
 /// `NoMemory`, or what the journal answers.
-pub(crate) fn opened(
+pub(crate) fn open_for(
     alloc: Global,
     digest: &[u8; DIGEST_LEN],
     disk: MemoryDisk,
     stop: Option<StopAt>,
 ) -> Result<Opened, ReplayFault>
     requires { IfSome stop (λ at. 1 ≤ at.call) }
-    ensures opened { (content : List ℕ) → IsStarted disk content
+    ensures { (content : List ℕ) → IsStarted disk content
         → IfOk result (IsOpenedBy digest.now content stop) }
 {
     match stop {

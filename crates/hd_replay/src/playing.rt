@@ -11,7 +11,7 @@ ghost use Rattle.hd_replay.specs.Playing.{IsEndOf, IsEndedBy, PlaysTo, IsStop};
 
 use crate::ending::{end, stop};
 use crate::fault::ReplayFault;
-use crate::opening::{Opened, open, opened};
+use crate::opening::{Opened, open, open_for};
 use crate::report::Report;
 use crate::run::Run;
 use crate::saying::says_of;
@@ -152,7 +152,7 @@ pub(crate) fn play_from<L: Ledger>(
         → PlaysTo task.now digest.now (Rests content) (Resume workers until ∷ moves.now)
         moves.now result }
 {
-    match opened(alloc, digest, disk, until) {
+    match open_for(alloc, digest, disk, until) {
         Ok(Opened::Whole(journal)) => {
             play_over::<L>(blank, alloc, task, digest, journal, workers as usize, moves)
         }
