@@ -1,2 +1,3 @@
 pub mod Played
 pub mod Standing
+pub mod Turning
