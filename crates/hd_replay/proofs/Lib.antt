@@ -5,3 +5,4 @@ pub mod Restarts
 pub mod Standing
 pub mod Steps
 pub mod Stopping
+pub mod Turning

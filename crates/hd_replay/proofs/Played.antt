@@ -44,7 +44,7 @@ same_box k r box e = ap (λ (xs : List (List Released)). record r { mailboxes = 
 
 -- ---- `pop` and `take`
 
-abbrev with_popped : ℕ → Run → Seat → List Released → Run
+abbrev pub with_popped : ℕ → Run → Seat → List Released → Run
 with_popped k r s box = record r { seats = set r.seats k s; mailboxes = set r.mailboxes k box }
 
 same_both : (k : ℕ) (r : Run) (s : Seat) (box : List Released) → slice_get r.seats k ≡ Some s → slice_get r.mailboxes k ≡ Some box → with_popped k r s box ≡ r
@@ -68,7 +68,7 @@ taken_is k r s e = taken_by_is k r s s.hand e
 
 -- ---- `push`
 
-abbrev with_pushed : ℕ → ℕ → Run → Seat → List Released → Run
+abbrev pub with_pushed : ℕ → ℕ → Run → Seat → List Released → Run
 with_pushed k to r s box = record r { seats = set r.seats k s; mailboxes = set r.mailboxes to box }
 
 pub pushed_is : (k : ℕ) (r : Run) (s : Seat) (p : Released) (rest : List Released) (box : List Released)

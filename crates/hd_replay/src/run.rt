@@ -87,8 +87,8 @@ impl<'t, L: Ledger> Run<'t, L> {
         requires group { self.old.group ≡ None }
         requires flushed { self.old.flushed ≡ None }
         ensures { self.new ≡ record self.old {
-          group = pulled_in out.entry;
-          flushed = flushed_in out.entry;
+          group = pulled_in out;
+          flushed = flushed_in out;
         } }
     {
         match mem::replace(&mut self.out, out) {

@@ -1,0 +1,1 @@
+-- Moves that are played one after the other.

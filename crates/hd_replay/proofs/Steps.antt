@@ -1,0 +1,1 @@
+-- Moves of a run that go on.
