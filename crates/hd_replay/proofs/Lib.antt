@@ -3,6 +3,7 @@ pub mod Played
 pub mod Plays
 pub mod Restarts
 pub mod Standing
+pub mod Said
 pub mod Steps
 pub mod Stopping
 pub mod Turning

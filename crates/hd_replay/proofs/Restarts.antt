@@ -29,12 +29,17 @@ use Rattle.hd_journal.specs.Journal.{IsOf, device_of, append_calls, open_calls, 
 use Rattle.hd_journal.specs.Moments.{IsSettled}
 use Rattle.hd_journal.proofs.Opening as opening
 use Rattle.hd_schedule.specs.declared.moves.StopAt.{StopAt}
-use Rattle.hd_world.specs.Stops.{File, Opens, at_rest, bytes_of, is_next, stopped_in, appending}
+use Rattle.hd_task.specs.declared.task.Task.{Task}
+use Rattle.hd_world.specs.Seats.{Run}
+use Rattle.hd_world.specs.Stops.{File, Opens, at_rest, bytes_of, stopped_in, appending}
+use Rattle.hd_world.specs.World.{StopsIn, Falls}
+use Rattle.hd_running.specs.Sound.{IsSound}
 use Rattle.hd_crash.specs.Filling.{Filled}
 use Rattle.hd_crash.proofs.Within.{rest_ran}
 use Rattle.hd_replay.specs.Journals.{StandsAs, Stopping, StopsAs}
 use Rattle.hd_replay.specs.Opening.{OpensBefore, IsCut}
-use Rattle.hd_replay.proofs.Kids.{journal_count}
+use Rattle.hd_replay.specs.Playing.{IsStop}
+use Rattle.hd_replay.proofs.Steps.{count_of, calls_are, next_by}
 use Rattle.hd_replay.proofs.Stopping.{planned, quiet, IsCutIn, cut_in, went_through}
 
 -- ---- what is sure
@@ -51,8 +56,16 @@ pub fills_itself : (content : List ℕ) (byte : ℕ) → Filled (at_rest content
 fills_itself content byte = record {
   left = rests content [] tt;
   longest = refl;
-  filled = λ place below sure. absurd (true≢false (surely content place below ∙ sure));
+  filled = λ place below sure. absurd (true≢false (sym (surely content place below) ∙ sure));
 }
+
+-- a disk that was started anew, and whose machine will stop
+pub planned_by : (old new : Device) (content bytes : List ℕ) (n call : ℕ) → old ≡ record { start = content; steps = []; failures = 0; changes = Well; reads = Well }
+    → new ≡ record old { changes = Stops (n - 1) } → content ≡ bytes → n ≡ call → new ≡ planned bytes [] (call - 1)
+planned_by old new content bytes n call is plan same number =
+    plan
+    ∙ (ap (λ (d : Device). let e : Device = record d { changes = Stops (n - 1) } in e) is
+    ∙ ap₂ (λ (c : List ℕ) (m : ℕ). planned c [] (m - 1)) same number)
 
 -- ---- a journal that was opened
 
@@ -160,7 +173,7 @@ module _ (digest content : List ℕ) (at : StopAt) (old new : Device) (some : 1 
   suc_call = omega (arith, some)
 
   module _ (len : length digest ≡ DIGEST_LEN) (b : BreaksMending digest old store.Failed new) where
-    made : List Call
+    abbrev made : List Call
     made = open_calls digest b.found
 
     found_is : IsFound digest content b.found
@@ -196,3 +209,73 @@ module _ (digest content : List ℕ) (at : StopAt) (old new : Device) (some : 1 
           (cut_here.fills at.byte left (subst (λ (x : ℕ). Filled new x left) same filled));
       started = started;
     }
+
+-- ---- a stop within an append
+
+-- a journal that is opened where its own bytes stand, on a disk whose machine will stop
+pub stopping_now : {S : Type 0} {G : Ghosts S} (digest : List ℕ) (f : File) (call : ℕ) (old : Device) (journal : Journal S G) → length digest ≡ DIGEST_LEN
+    → AllByRecursion (IsGroup f.version) f.groups → old ≡ planned (bytes_of digest f) [] (call - 1) → IsOpened digest old journal
+    → journal.version ≡ f.version → IsOf digest f.groups journal → Stopping digest f call journal
+stopping_now digest f call old journal len sound is o version of_groups =
+    let found_is : IsFound digest (bytes_of digest f) o.found = subst (λ (c : List ℕ). IsFound digest c o.found) (ap content_of is) o.mended.is in
+    let told =
+    opening.stands_found f.version digest f.groups 0 [] (bytes_of digest f) o.found len sound (λ e. omega (arith, e)) refl found_is in
+    let ran : RanThrough o.mended.seen [] (device_of journal) =
+    subst (λ (found : Found). RanThrough o.mended.seen (open_calls digest found) (device_of journal)) told o.mended.ran in
+    record { is_of = of_groups; version = version; device = ran.1 ∙ (o.mended.looked.2 ∙ ap looked_at is) }
+
+module _ {S : Type 0} {G : Ghosts S} (digest : List ℕ) (f : File) (g : GroupView) (call : ℕ) (old new : Journal S G) (s : Stopping digest f call old) where
+  stands : StandsAs digest f old
+  stands = record { is_of = s.is_of; version = s.version; settled = subst IsSettled (sym s.device) tt }
+
+  made_by : append_calls old.version old.last_gate g.kids ≡ append_calls f.version (length (front f.version digest f.groups)) g.kids
+  made_by =
+      ap (λ (at : ℕ). append_calls old.version at g.kids) s.is_of.gate
+      ∙ ap (λ (v : Version). append_calls v (length (front v digest f.groups)) g.kids) s.version
+
+  pub append_cut : (byte : ℕ) (disk : MemoryDisk) (content : List ℕ) → 1 ≤ call → IsNotAppended old g Broken new → Filled (device_of new) byte content
+      → IsStarted disk content → StopsAs digest f g call byte disk
+  append_cut byte disk content some not filled started =
+      let calls = appending f digest (Some g) in
+      let same : append_calls old.version old.last_gate g.kids ≡ calls = made_by ∙ calls_are f digest g (next_by digest f old g stands not.next) in
+      let ran : Ran (planned (bytes_of digest f) [] (call - 1)) calls (Err store.Failed) (device_of new) =
+      subst (λ (cs : List Call). Ran (planned (bytes_of digest f) [] (call - 1)) cs (Err store.Failed) (device_of new)) same
+      (subst (λ (d : Device). Ran d (append_calls old.version old.last_gate g.kids) (Err store.Failed) (device_of new)) s.device not.ran) in
+      let cut = cut_in (bytes_of digest f) [] calls (call - 1) (device_of new) ran in
+      let at_call : suc (call - 1) ≡ call = omega (arith, some) in (
+        content,
+        started,
+        subst (λ (c : ℕ). Filled (stopped_in (at_rest (bytes_of digest f)) calls c) byte content) at_call (cut.fills byte content filled),
+      )
+
+  -- it is never appended where the machine stops in one of the calls
+  pub never_appended : 1 ≤ call → call ≤ 4 → IsAppended old g new → ⊥
+  never_appended some few a =
+      let calls = append_calls old.version old.last_gate g.kids in
+      let four : length calls ≡ 4 = refl in
+      let ran : RanThrough (planned (bytes_of digest f) [] (call - 1)) calls (device_of new) =
+      subst (λ (d : Device). RanThrough d calls (device_of new)) s.device a.ran in
+      omega (arith, four, went_through (bytes_of digest f) [] calls (call - 1) (device_of new) ran, some, few)
+
+-- ---- a stop of a run
+
+pub stop_within : (t : Task) (digest : List ℕ) (f : File) (r : Run) (g : GroupView) (at : StopAt) (disk : MemoryDisk) → IsSound t f r → r.group ≡ Some g
+    → at.call ≤ 4 → StopsAs digest f g at.call at.byte disk → IsStop digest f r at disk
+stop_within t digest f r g at disk x e few (content, started, leaves) = (
+  content,
+  started,
+  Falls content
+      (subst (λ (group : Option GroupView). at.call ≤ length (appending f digest group)) (sym e) (omega (arith, few, count_of t f r digest (Some g) x e)))
+      (subst (λ (group : Option GroupView). Filled (stopped_in (at_rest (bytes_of digest f)) (appending f digest group) at.call) at.byte content) (sym e) leaves) refl,
+)
+
+pub stop_now : (digest : List ℕ) (f : File) (r : Run) (at : StopAt) (disk : MemoryDisk) (content : List ℕ) → at.call ≡ 0 → content ≡ bytes_of digest f
+    → IsStarted disk content → IsStop digest f r at disk
+stop_now digest f r at disk content none is started =
+    let calls = appending f digest r.group in (
+      content,
+      started,
+      Falls content (omega (arith, none))
+          (subst (λ (c : ℕ). Filled (stopped_in (at_rest (bytes_of digest f)) calls c) at.byte content) (sym none)
+          (subst (λ (xs : List ℕ). Filled (at_rest xs) at.byte content) is (fills_itself content at.byte))) refl,
+    )

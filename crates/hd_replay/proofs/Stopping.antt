@@ -1,5 +1,6 @@
 -- What a stop leaves that falls within calls, where it is foretold of the device.
-use Rattle.std.proofs.Common.{◌≡◌, inl, inr, ℕ, zero, suc, ◌+◌, ◌≤◌, List, [], ◌∷◌, length, Err, Ok, refl, sym, ap, subst, arith, true≢false}
+use Rattle.std.proofs.Common.{◌≡◌, inl, inr, ℕ, zero, suc, ◌+◌, ◌≤◌, List, [], ◌∷◌, length, Err, Ok, refl, sym, ap, ◌∙◌, subst, arith, true≢false}
+use Rattle.std.proofs.lemmas.Bool.{ne_eqb}
 use Rattle.hd_store.specs.declared.ahead.Ahead.TheVariants.{Unknown, Stops, Well}
 use Rattle.hd_store.specs.declared.change.Change.{Change}
 use Rattle.hd_store.specs.declared.change.Change.TheVariants.{Write, Cut, Sync, FailedSync}
@@ -101,7 +102,7 @@ cut_in start steps (call ∷ calls) (suc n) new ran =
       | inl went ↦
           let more = cut_in start (step_by start steps call ∷ steps) calls n new went.1 in
           record { within = omega (arith, more.within); fills = more.fills }
-      | inr ends ↦ absurd (true≢false (sym ends.0))
+      | inr ends ↦ absurd (true≢false (sym ends.0 ∙ ne_eqb (suc n) 0 (λ e. omega (arith, e))))
     ]
 
 -- calls that were all done are no more than were foretold

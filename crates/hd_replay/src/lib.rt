@@ -8,7 +8,7 @@ mod fault;
 mod moving;
 mod opening;
 mod playing;
-mod replay;
+mod replaying;
 mod report;
 mod run;
 mod saying;
@@ -19,5 +19,5 @@ mod stepping;
 mod writing;
 
 pub use fault::ReplayFault;
-pub use replay::replay;
+pub use replaying::replay;
 pub use report::{Report, Says};

@@ -1,9 +1,9 @@
 //! How a resumption opens the journal on a disk.
-ghost use Rattle.std.specs.Prelude.{◌≡◌, ◌≤◌, List, ℕ, Some, IfOk, IfSome};
+ghost use Rattle.std.specs.Prelude.{◌≡◌, ◌≤◌, List, ℕ, Some, None, IfOk, IfSome};
 ghost use Rattle.hd_store.specs.MemoryDisk.{IsStarted};
 ghost use Rattle.hd_world.specs.Stops.{File};
 ghost use Rattle.hd_replay.specs.Journals.{StandsAs};
-ghost use Rattle.hd_replay.specs.Opening.{OpensAs, IsOpenedBy};
+ghost use Rattle.hd_replay.specs.Opening.{OpensBefore, IsOpenedBy};
 
 use crate::fault::{ReplayFault, told_of_journal};
 use crate::settling::settled;
@@ -30,8 +30,8 @@ pub(crate) fn open(
     digest: &[u8; DIGEST_LEN],
     disk: MemoryDisk,
 ) -> Result<Journal<MemoryDisk>, ReplayFault>
-    ensures opens { (content : List ℕ) → IsStarted disk content
-        → IfOk result (OpensAs digest.now content) }
+    ensures { (content : List ℕ) → IsStarted disk content
+        → IfOk result (OpensBefore digest.now content None) }
 {
     match Journal::open(alloc, disk, digest) {
         Ok(journal) => Ok(journal),

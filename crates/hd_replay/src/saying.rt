@@ -1,5 +1,5 @@
 //! What the book of a run says at the end of a schedule.
-ghost use Rattle.std.specs.Prelude.{◌≡◌, ◌×◌, length, IfOk};
+ghost use Rattle.std.specs.Prelude.{IfOk};
 ghost use Rattle.hd_entries.specs.Answers.{IsAnswerOf, IsTrueAnswer};
 ghost use Rattle.hd_replay.specs.Reporting.{IsSaidOf, IsSaidFor, IsTrueSaid, IsTrueOf};
 

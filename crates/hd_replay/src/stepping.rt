@@ -1,9 +1,8 @@
 //! The moves of a run that do not end it.
-ghost use Rattle.std.specs.Prelude.{◌≡◌, ◌⊎◌, List, ℕ, None, IfErr, OnOk};
+ghost use Rattle.std.specs.Prelude.{◌≡◌, List, ℕ, None, OnOk};
 ghost use Rattle.hd_task.specs.declared.task.Task.{Task};
-ghost use Rattle.hd_world.specs.Moves.{TurnsTo, EndsRun};
+ghost use Rattle.hd_world.specs.Moves.{TurnsTo};
 ghost use Rattle.hd_world.specs.Stops.{File};
-ghost use Rattle.hd_replay.specs.declared.fault.ReplayFault.TheVariants as faults;
 ghost use Rattle.hd_replay.specs.Held.{IsSoundRun};
 ghost use Rattle.hd_replay.specs.Journals.{Runs, Goes, stop_in};
 
@@ -20,24 +19,36 @@ use std::sync::ledger::Ledger;
 /// `Full`, where the book takes no more entries, or `NoMemory`.
 fn turn<L: Ledger>(run: &mut Run<'_, L>, next: Move) -> Result<(), ReplayFault>
     requires sound { IsSoundRun run.old }
-    ensures ok { OnOk result (TurnsTo run.old.book.state.task run.old next run.new) }
-    ensures fault { IfErr result (λ fault. (fault ≡ faults.NoMemory)
-        ⊎ ((fault ≡ faults.Full) × EndsRun run.old next)) }
+    ensures { OnOk result (TurnsTo run.old.book.state.task run.old next run.new) }
 {
     match next {
-        Move::Pop { worker } => run.pop(worker as usize),
-        Move::Take { worker } => run.take(worker as usize)?,
-        Move::Expand { worker, place } => run.expand(worker as usize, place as usize)?,
-        Move::Commit { worker } => run.commit(worker as usize)?,
-        Move::Redeem { worker } => run.redeem(worker as usize),
-        Move::Push { worker } => run.push(worker as usize)?,
-        Move::Offer { worker } => run.offer(worker as usize),
-        Move::Load { worker } => run.load(worker as usize),
-        Move::Pull => run.pull()?,
-        Move::Ack => run.ack(),
-        Move::Resume { .. } | Move::Flush | Move::Stop(_) => {}
+        Move::Pop { worker } => {
+            run.pop(worker as usize);
+            Ok(())
+        }
+        Move::Take { worker } => run.take(worker as usize),
+        Move::Expand { worker, place } => run.expand(worker as usize, place as usize),
+        Move::Commit { worker } => run.commit(worker as usize),
+        Move::Redeem { worker } => {
+            run.redeem(worker as usize);
+            Ok(())
+        }
+        Move::Push { worker } => run.push(worker as usize),
+        Move::Offer { worker } => {
+            run.offer(worker as usize);
+            Ok(())
+        }
+        Move::Load { worker } => {
+            run.load(worker as usize);
+            Ok(())
+        }
+        Move::Pull => run.pull(),
+        Move::Ack => {
+            run.ack();
+            Ok(())
+        }
+        Move::Resume { .. } | Move::Flush | Move::Stop(_) => Ok(()),
     }
-    Ok(())
 }
 
 /// The stop that a move is, if it falls in one of the calls that append what was pulled, or before them.
@@ -63,7 +74,7 @@ pub(crate) fn step<L: Ledger>(
     requires runs { (t : Task) × (digest : List ℕ) × (f : File)
         × Runs t digest f journal.old run.old }
     requires no_stop { stop_in run.old.group next ≡ None }
-    ensures goes { (t : Task) (digest : List ℕ) (f : File) → Runs t digest f journal.old run.old
+    ensures { (t : Task) (digest : List ℕ) (f : File) → Runs t digest f journal.old run.old
         → OnOk result (Goes t digest f run.old next journal.new run.new) }
 {
     match next {

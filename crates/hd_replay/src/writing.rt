@@ -40,10 +40,13 @@ impl<'t, L: Ledger> Run<'t, L> {
         if self.is_out() {
             return Ok(());
         }
-        if let Some(group) = self.book.take_pending()? {
-            self.put_out(Out::Pulled(group));
+        match self.book.take_pending()? {
+            Some(group) => {
+                self.put_out(Out::Pulled(group));
+                Ok(())
+            }
+            None => Ok(()),
         }
-        Ok(())
     }
 
     /// What was appended is acknowledged.
