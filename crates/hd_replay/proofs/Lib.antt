@@ -1,3 +1,4 @@
+pub mod Begins
 pub mod Kids
 pub mod Played
 pub mod Plays

@@ -1,9 +1,12 @@
 -- Moves that are played one after the other.
-use Rattle.std.proofs.Common.{◌≡◌, inl, inr, ℕ, zero, suc, ◌+◌, ◌≤◌, ◌<◌, Bool, true, false, Option, Some, None, List, [], ◌∷◌, length, drop, get_or, refl, sym, ap, ◌∙◌, subst, arith}
+use Rattle.std.proofs.Common.{◌≡◌, inl, inr, ℕ, zero, suc, ◌+◌, ◌≤◌, ◌<◌, Bool, true, false, Option, Some, None, List, [], ◌∷◌, length, drop, get_or, refl, sym, ap, ◌∙◌, subst, arith, add-one}
+use Rattle.std.proofs.lemmas.List.{drop_all, drop-drop}
+use Rattle.std.proofs.Math.Seq.{drop-cons}
 use Rattle.hd_task.specs.declared.task.Task.{Task}
 use Rattle.hd_store.specs.declared.store.Store.{Ghosts}
 use Rattle.hd_store.specs.declared.memory.MemoryDisk.{MemoryDisk}
-use Rattle.hd_store.specs.MemoryDisk.{IsStarted}
+use Rattle.hd_store.specs.Device.{content_of}
+use Rattle.hd_store.specs.MemoryDisk.{device_of, IsStarted}
 use Rattle.hd_image.specs.Image.{most_of}
 use Rattle.hd_journal.specs.declared.journal.Journal.{Journal}
 use Rattle.hd_schedule.specs.declared.moves.Move.{Move}
@@ -22,7 +25,7 @@ use Rattle.hd_replay.specs.declared.playing.Played.TheVariants.{Stopped, Ended, 
 use Rattle.hd_replay.specs.declared.report.Report.{Report}
 use Rattle.hd_replay.specs.Journals.{StandsAs, Runs}
 use Rattle.hd_replay.specs.Opening.{OpensBefore, IsCut, IsRunOf}
-use Rattle.hd_replay.specs.Playing.{IsEndOf, IsEndedBy, IsStoppedAt, IsStop, PlaysTo}
+use Rattle.hd_replay.specs.Playing.{ComesTo, AtTheEnd, IsFollowed, IsReported, IsEndOf, IsEndedBy, IsStoppedAt, IsStop, PlaysTo, DoesNothing}
 use Rattle.hd_replay.proofs.Restarts.{sound_groups}
 
 -- ---- a run, at a place of its moves
@@ -120,3 +123,96 @@ pub resumed_plays : {S : Type 0} {G : Ghosts S} (t : Task) (digest content : Lis
 resumed_plays t digest content workers stop ms journal o played may p =
     plays_from t digest (Rests content) (recovered t digest workers o.file) (moves.Resume workers stop ∷ ms) ms played
     (λ u plays. (recovered t digest workers o.file, resumes_on t digest content workers stop journal o may, plays)) p
+
+-- ---- a place in a list of moves
+
+-- the move that was read there, and those behind it
+pub read_there : (ms : List Move) (place : ℕ) (m : Move) → place < length ms → m ≡ get_or ms place m → drop place ms ≡ m ∷ drop (place + 1) ms
+read_there ms place m within is =
+    drop-cons ms place m within
+    ∙ (ap (λ (x : Move). x ∷ drop (suc place) ms) (sym is) ∙ ap (λ (n : ℕ). m ∷ drop n ms) (sym (add-one place)))
+
+pub none_there : (ms : List Move) (place : ℕ) → length ms ≤ place → drop place ms ≡ []
+none_there ms place past = drop_all place ms past
+
+-- ---- while nothing runs
+
+-- a place while nothing runs, on a disk that was started anew
+pub record IsRestingAt (t : Task) (digest first : List ℕ) (ms : List Move) (place : ℕ) (disk : MemoryDisk) : Type 0 where
+  pub content : List ℕ
+  pub started : IsStarted disk content
+  pub at : IsAt t digest (Rests first) ms place (Rests content)
+
+-- behind moves that a stop ends, or behind one that does nothing
+pub rests_next : (t : Task) (digest first : List ℕ) (ms rest : List Move) (place count : ℕ) (m : Move) (disk left : MemoryDisk)
+    → (x : IsRestingAt t digest first ms place disk) → drop place ms ≡ m ∷ drop (place + 1) ms → rest ≡ drop (place + 1) ms
+    → IsStoppedAt t digest (Rests x.content) (m ∷ rest) rest left count → IsRestingAt t digest first ms (place + (1 + count)) left
+rests_next t digest first ms rest place count m disk left x is rest_is s = record {
+  content = s.content;
+  started = s.started;
+  at = record {
+    goes = λ u plays.
+        x.at.goes u
+        (subst (λ (xs : List Move). Plays Filled t digest (Rests x.content) xs u) (sym (is ∙ ap (λ (xs : List Move). m ∷ xs) (sym rest_is)))
+        (s.goes u
+        (subst (λ (xs : List Move). Plays Filled t digest (Rests s.content) xs u)
+        (sym (ap (drop count) rest_is ∙ (drop-drop count (place + 1) ms ∙ ap (λ (n : ℕ). drop n ms) (omega arith)))) plays)));
+  };
+}
+
+-- a run goes on at the last of the moves
+pub reported_now : (t : Task) (digest first : List ℕ) (ms rest : List Move) (place : ℕ) (m : Move) (disk left : MemoryDisk) (report : Report)
+    → (x : IsRestingAt t digest first ms place disk) → drop place ms ≡ m ∷ drop (place + 1) ms → rest ≡ drop (place + 1) ms
+    → IsEndedBy t digest (Rests x.content) (m ∷ rest) left report → IsReported t digest first ms (content_of (device_of left)) report
+reported_now t digest first ms rest place m disk left report x is rest_is e = record {
+  file = e.file;
+  run = e.run;
+  comes =
+      AtTheEnd (x.at.goes (Running e.file e.run)
+      (subst (λ (xs : List Move). Plays Filled t digest (Rests x.content) xs (Running e.file e.run)) (sym (is ∙ ap (λ (xs : List Move). m ∷ xs) (sym rest_is)))
+      e.plays));
+  is = e.end.is;
+  truth = e.end.truth;
+  disk = e.end.disk_is;
+}
+
+-- nothing runs behind them, and a resumption with one worker follows
+pub reported_last : (t : Task) (digest first : List ℕ) (ms : List Move) (place : ℕ) (disk left : MemoryDisk) (report : Report)
+    → (x : IsRestingAt t digest first ms place disk) → drop place ms ≡ []
+    → IsEndedBy t digest (Rests x.content) (moves.Resume 1 None ∷ []) left report → IsReported t digest first ms (content_of (device_of left)) report
+reported_last t digest first ms place disk left report x none e = record {
+  file = e.file;
+  run = e.run;
+  comes =
+      IsFollowed x.content
+      (x.at.goes (Rests x.content) (subst (λ (xs : List Move). Plays Filled t digest (Rests x.content) xs (Rests x.content)) (sym none) refl))
+      (subst (λ (v : World). StepsTo Filled t digest (Rests x.content) (moves.Resume 1 None) v) (sym e.plays.2) e.plays.1);
+  is = e.end.is;
+  truth = e.end.truth;
+  disk = e.end.disk_is;
+}
+
+-- a move that does nothing
+pub nothing_played : (t : Task) (digest content : List ℕ) (m : Move) (rest : List Move) (disk : MemoryDisk) → DoesNothing m → IsStarted disk content
+    → IsStoppedAt t digest (Rests content) (m ∷ rest) rest disk 0
+nothing_played t digest content m rest disk nothing started = record {
+  few = omega arith;
+  content = content;
+  started = started;
+  goes = λ u plays. (Rests content, nothing t digest content, plays);
+}
+
+-- the last resumption
+pub last_played : {S : Type 0} {G : Ghosts S} (t : Task) (digest content : List ℕ) (journal : Journal S G) (r : Run) (disk : MemoryDisk) (report : Report)
+    → (o : OpensBefore digest content None journal) → IsRunOf t o.file 1 r → MayResume 1 None → IsEndOf t digest o.file r disk report
+    → IsEndedBy t digest (Rests content) (moves.Resume 1 None ∷ []) disk report
+last_played t digest content journal r disk report o begun may end = record {
+  file = o.file;
+  run = r;
+  plays = (
+    recovered t digest 1 o.file,
+    resumes_on t digest content 1 None journal o may,
+    sym (world_begins t digest o.file 1 r begun),
+  );
+  end = end;
+}

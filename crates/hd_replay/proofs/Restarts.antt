@@ -159,7 +159,7 @@ stands_again digest f again version is settled = record { is_of = is; version = 
 
 module _ (digest content : List ℕ) (at : StopAt) (old new : Device) (some : 1 ≤ at.call) (is : old ≡ planned content [] (at.call - 1)) where
   -- nothing but a change fails where one is foretold
-  broke : IsNotOpened digest old Broken new → BreaksMending digest old store.Failed new
+  pub broke : IsNotOpened digest old Broken new → BreaksMending digest old store.Failed new
   broke not =
       elim (subst (λ (d : Device). IsNotOpened digest d Broken new) is not) [
         | inl told ↦ absurd (true≢false (sym told.0))
@@ -169,7 +169,7 @@ module _ (digest content : List ℕ) (at : StopAt) (old new : Device) (some : 1 
         ]
       ]
 
-  suc_call : suc (at.call - 1) ≡ at.call
+  pub suc_call : suc (at.call - 1) ≡ at.call
   suc_call = omega (arith, some)
 
   module _ (len : length digest ≡ DIGEST_LEN) (b : BreaksMending digest old store.Failed new) where

@@ -2,7 +2,8 @@
 use Rattle.std.proofs.Common.{◌≡◌, inl, inr, ℕ, ◌<◌, ◌≤◌, Bool, true, false, ◌||◌, nat_le, cond, Option, Some, None, is_some, List, [], ◌∷◌, ◌++◌, length, refl, sym, ap, ap₂, ◌∙◌, subst, arith, true≢false, if◌then◌else◌}
 use Rattle.std.specs.Prelude.{option_map, ◌&&◌, ◌==◌, Result, Ok, Err, is_ok, OnOk, OnErr}
 use Rattle.std.specs.List.{list_all, AllByRecursion}
-use Rattle.std.proofs.lemmas.Bool.{leb-false, eqb-true, ne_eqb}
+use Rattle.std.proofs.lemmas.Bool.{leb-true, leb-false, eqb-true, ne_eqb}
+use Rattle.std.proofs.lemmas.Option.{same_Some, none-some}
 use Rattle.hd_task.specs.declared.task.Task.{Task}
 use Rattle.hd_task.specs.declared.plan.Kid.{Kid}
 use Rattle.hd_store.specs.declared.store.Store.{Ghosts}
@@ -337,3 +338,36 @@ flush_turns digest f r mid r' journal journal' g h s e is same back a of_groups 
       (sym (back ∙ (ap (λ (x : Run). with_group_out_of x (Flushed h)) is ∙ ap (λ (k : GroupView). with_group_out_of r (Flushed k)) same)));
   stands = record { is_of = of_groups; version = a.version ∙ s.version; settled = settled };
 }
+
+-- ---- a stop that falls
+
+falls_by : (calls : ℕ) (stop at : StopAt) → cond {A = Option StopAt} (nat_le stop.call calls) (Some stop) None ≡ Some at → (stop ≡ at) × (at.call ≤ calls)
+falls_by calls stop at e =
+    elim (nat_le stop.call calls) as (λ b. (nat_le stop.call calls) ≡ b → cond {A = Option StopAt} b (Some stop) None ≡ Some at → (stop ≡ at) × (at.call ≤ calls)) [
+      | true ↦ λ is e.
+          let same = same_Some stop at e in
+          (same, subst (λ (s : StopAt). s.call ≤ calls) same (leb-true stop.call calls is))
+      | false ↦ λ is e. absurd (none-some at e)
+    ] refl e
+
+pub falls_here : (group : Option GroupView) (m : Move) (at : StopAt) → stop_in group m ≡ Some at → (m ≡ moves.Stop at) × (at.call ≤ calls_in group)
+falls_here group (moves.Resume workers stop) at e = absurd (none-some at e)
+falls_here group (moves.Pop k) at e = absurd (none-some at e)
+falls_here group (moves.Take k) at e = absurd (none-some at e)
+falls_here group (moves.Expand k place) at e = absurd (none-some at e)
+falls_here group (moves.Commit k) at e = absurd (none-some at e)
+falls_here group (moves.Redeem k) at e = absurd (none-some at e)
+falls_here group (moves.Push k) at e = absurd (none-some at e)
+falls_here group (moves.Offer k) at e = absurd (none-some at e)
+falls_here group (moves.Load k) at e = absurd (none-some at e)
+falls_here group moves.Pull at e = absurd (none-some at e)
+falls_here group moves.Flush at e = absurd (none-some at e)
+falls_here group moves.Ack at e = absurd (none-some at e)
+falls_here group (moves.Stop stop) at e =
+    let x = falls_by (calls_in group) stop at e in (ap (λ (s : StopAt). moves.Stop s) x.0, x.1)
+
+-- ---- answers
+
+pub ok_given : {X E : Type 0} (P : Type 0) (said : Result X E) → ((e : E) → said ≡ Err e → ⊥) → OnOk said P → P
+ok_given P (Ok x) not_err p = p
+ok_given P (Err e) not_err p = absurd (not_err e refl)

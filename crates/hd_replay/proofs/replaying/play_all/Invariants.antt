@@ -1,16 +1,13 @@
 use Rattle.std.proofs.Common.{ℕ, ◌-◌, ◌≤◌, List, length}
 use Rattle.hd_store.specs.MemoryDisk.{IsStarted}
-use Rattle.hd_world.specs.World.{Stopped}
-use Rattle.hd_replay.proofs.Plays.{IsAt}
+use Rattle.hd_replay.proofs.Plays.{IsRestingAt}
 use Rattle.hd_replay.proofs.replaying.play_all.Given as goal
 
 -- nothing runs, and the disk is at this place of the moves
 abbrev pub invariant-loop-at : goal.invariant-loop-at
 invariant-loop-at l = record {
   starts : (content : List ℕ) × IsStarted l.held content;
-  at :
-      (content : List ℕ) → IsStarted l.fn.disk content
-      → (now : List ℕ) × IsStarted l.held now × IsAt l.task l.digest (Stopped content) l.moves l.at (Stopped now);
+  at : (first : List ℕ) → IsStarted l.fn.disk first → IsRestingAt l.task l.digest first l.moves l.at l.held;
   within : l.at ≤ length l.moves;
 }
 
