@@ -1,7 +1,8 @@
 -- A run that begins with a journal's entries.
-use Rattle.std.proofs.Common.{◌≡◌, ℕ, suc, zero, ◌≤◌, Option, Some, None, List, [], ◌∷◌, length, map, replicate, refl, sym, ap, ap₂, ◌∙◌, subst}
+use Rattle.std.proofs.Common.{◌≡◌, ℕ, suc, zero, ◌+◌, ◌≤◌, Option, Some, None, List, [], ◌∷◌, ◌++◌, length, map, replicate, refl, sym, ap, ap₂, ◌∙◌, subst, append_assoc}
 use Rattle.std.specs.List.{AllByRecursion, range_with_len}
-use Rattle.std.proofs.lemmas.List.{length-replicate}
+use Rattle.std.proofs.lemmas.List.{length-replicate, length-map, map-append, replicate_more}
+use Rattle.std.proofs.lemmas.List.FromFn.{length-range_with_len}
 use Rattle.hd_task.specs.declared.task.Task.{Task}
 use Rattle.hd_task.specs.declared.plan.Kid.{Kid}
 use Rattle.hd_zobrist.specs.declared.owners.TheConstants.{MAX_WORKERS}
@@ -80,3 +81,40 @@ pub boxes_seen : {X : Type 0} (items : X → List ParcelView) (boxes : List X) (
     → map (λ (x : X). map parcel_of (items x)) boxes ≡ replicate n []
 boxes_seen items boxes n is =
     seen_twice items boxes ∙ (ap (map (λ (box : List ParcelView). map parcel_of box)) is ∙ empty_boxes n)
+
+-- ---- one mailbox more
+
+pub boxes_none : {X : Type 0} (items : X → List ParcelView) (boxes : List X) → boxes ≡ [] → map items boxes ≡ []
+boxes_none items boxes is = ap (map items) is
+
+pub boxes_more : {X : Type 0} (items : X → List ParcelView) (boxes after : List X) (box : X) (n : ℕ) → map items boxes ≡ replicate n [] → items box ≡ []
+    → after ≡ boxes ++ box ∷ [] → map items after ≡ replicate (n + 1) []
+boxes_more items boxes after box n are none is =
+    ap (map items) is
+    ∙ (map-append items boxes (box ∷ [])
+    ∙ (ap₂ (λ (xs : List (List ParcelView)) (x : List ParcelView). xs ++ x ∷ []) are none ∙ replicate_more n []))
+
+-- ---- one place more
+
+pub seats_more : (before after : List Seat) (seat : Seat) (w : WorkerView) (left rest : List WorkerView) (all : List Seat) → after ≡ before ++ seat ∷ []
+    → seat ≡ seat_with w → left ≡ w ∷ rest → before ++ map seat_with left ≡ all → after ++ map seat_with rest ≡ all
+seats_more before after seat w left rest all is seat_is are so_far =
+    ap (λ (xs : List Seat). xs ++ map seat_with rest) is
+    ∙ (append_assoc before (seat ∷ []) (map seat_with rest)
+    ∙ (ap (λ (s : Seat). before ++ s ∷ map seat_with rest) seat_is ∙ (ap (λ (ws : List WorkerView). before ++ map seat_with ws) (sym are) ∙ so_far)))
+
+-- ---- a run's parts
+
+pub run_parts : (b : BookView) (seats seats' : List Seat) (boxes boxes' : List (List Released)) (bound bound' : Option ℕ) → seats ≡ seats' → boxes ≡ boxes'
+    → bound ≡ bound'
+    → (let x : Run = record { book = b; seats = seats; mailboxes = boxes; bound = bound; group = None; flushed = None } in x)
+    ≡ (let x : Run = record { book = b; seats = seats'; mailboxes = boxes'; bound = bound'; group = None; flushed = None } in x)
+run_parts b seats seats' boxes boxes' bound bound' same_seat same_box same_bound =
+    ap₂ (λ (ss : List Seat) (ms : List (List Released)). let x : Run = record { book = b; seats = ss; mailboxes = ms; bound = bound; group = None; flushed = None } in x)
+    same_seat same_box
+    ∙ ap (λ (o : Option ℕ). let x : Run = record { book = b; seats = seats'; mailboxes = boxes'; bound = o; group = None; flushed = None } in x) same_bound
+
+pub team_count : (t : Task) (entries : List Kid) (workers : ℕ) (team : List WorkerView) → team ≡ recovered_workers t entries workers → length team ≡ workers
+team_count t entries workers team is =
+    ap length is
+    ∙ (length-map (range_with_len 0 workers) (λ (id : ℕ). recovered_worker t entries id workers) ∙ length-range_with_len 0 workers)

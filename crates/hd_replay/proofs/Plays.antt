@@ -8,6 +8,7 @@ use Rattle.hd_store.specs.declared.memory.MemoryDisk.{MemoryDisk}
 use Rattle.hd_store.specs.Device.{content_of}
 use Rattle.hd_store.specs.MemoryDisk.{device_of, IsStarted}
 use Rattle.hd_image.specs.Image.{most_of}
+use Rattle.hd_zobrist.specs.declared.owners.TheConstants.{MAX_WORKERS}
 use Rattle.hd_journal.specs.declared.journal.Journal.{Journal}
 use Rattle.hd_schedule.specs.declared.moves.Move.{Move}
 use Rattle.hd_schedule.specs.declared.moves.Move.TheVariants as moves
@@ -15,7 +16,7 @@ use Rattle.hd_schedule.specs.declared.moves.StopAt.{StopAt}
 use Rattle.hd_world.specs.Seats.{Run}
 use Rattle.hd_world.specs.Starting.{run_after}
 use Rattle.hd_world.specs.Stops.{File, entries_of}
-use Rattle.hd_world.specs.World.{World, Stopped as Rests, Running, MayResume, ResumesTo, IsStopped, IsOpened, recovered, StepsTo, Plays}
+use Rattle.hd_world.specs.World.{World, Stopped as Rests, Running, MayResume, ResumesTo, IsNot, IsStopped, IsOpened, recovered, StepsTo, Plays}
 use Rattle.hd_running.specs.Sound.{IsSound}
 use Rattle.hd_crash.specs.Filling.{Filled}
 use Rattle.hd_crash.specs.Left.{AreGroups}
@@ -216,3 +217,27 @@ last_played t digest content journal r disk report o begun may end = record {
   );
   end = end;
 }
+
+-- ---- moves that do nothing while nothing runs
+
+pub may_workers : (workers : ℕ) (stop : Option StopAt) → MayResume workers stop → (1 ≤ workers) × (workers ≤ MAX_WORKERS)
+may_workers workers None may = may
+may_workers workers (Some at) may = (may.0, may.1)
+
+pub nothing_resumed : (workers : ℕ) (stop : Option StopAt) → (MayResume workers stop → ⊥) → DoesNothing (moves.Resume workers stop)
+nothing_resumed workers stop may_not = λ t digest content. IsNot may_not refl
+
+pub nothing_by : (m : Move) → ((workers : ℕ) (stop : Option StopAt) → m ≡ moves.Resume workers stop → ⊥) → DoesNothing m
+nothing_by (moves.Resume workers stop) other = absurd (other workers stop refl)
+nothing_by (moves.Pop k) other = λ t digest content. refl
+nothing_by (moves.Take k) other = λ t digest content. refl
+nothing_by (moves.Expand k place) other = λ t digest content. refl
+nothing_by (moves.Commit k) other = λ t digest content. refl
+nothing_by (moves.Redeem k) other = λ t digest content. refl
+nothing_by (moves.Push k) other = λ t digest content. refl
+nothing_by (moves.Offer k) other = λ t digest content. refl
+nothing_by (moves.Load k) other = λ t digest content. refl
+nothing_by moves.Pull other = λ t digest content. refl
+nothing_by moves.Flush other = λ t digest content. refl
+nothing_by moves.Ack other = λ t digest content. refl
+nothing_by (moves.Stop stop) other = λ t digest content. refl

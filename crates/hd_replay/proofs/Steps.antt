@@ -1,6 +1,6 @@
 -- Moves of a run that go on.
 use Rattle.std.proofs.Common.{◌≡◌, inl, inr, ℕ, ◌<◌, ◌≤◌, Bool, true, false, ◌||◌, nat_le, cond, Option, Some, None, is_some, List, [], ◌∷◌, ◌++◌, length, refl, sym, ap, ap₂, ◌∙◌, subst, arith, true≢false, if◌then◌else◌}
-use Rattle.std.specs.Prelude.{option_map, ◌&&◌, ◌==◌, Result, Ok, Err, is_ok, OnOk, OnErr}
+use Rattle.std.specs.Prelude.{option_map, ◌&&◌, ◌==◌, Result, Ok, Err, is_ok, IfOk, OnOk, OnErr}
 use Rattle.std.specs.List.{list_all, AllByRecursion}
 use Rattle.std.proofs.lemmas.Bool.{leb-true, leb-false, eqb-true, ne_eqb}
 use Rattle.std.proofs.lemmas.Option.{same_Some, none-some}
@@ -371,3 +371,7 @@ falls_here group (moves.Stop stop) at e =
 pub ok_given : {X E : Type 0} (P : Type 0) (said : Result X E) → ((e : E) → said ≡ Err e → ⊥) → OnOk said P → P
 ok_given P (Ok x) not_err p = p
 ok_given P (Err e) not_err p = absurd (not_err e refl)
+
+pub if_ok : {X E : Type 0} (P Q : X → Type 0) (said : Result X E) → ((x : X) → P x → Q x) → IfOk said P → IfOk said Q
+if_ok P Q (Ok x) f p = f x p
+if_ok P Q (Err e) f p = p

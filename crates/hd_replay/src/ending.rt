@@ -152,8 +152,12 @@ pub(crate) fn stop<L: Ledger>(
     let mut run = run;
     let out = run.take_out();
     end(run);
+    if at.call == 0 {
+        end_out(out);
+        return Ok(settled(alloc, journal.into_store(), at.byte)?);
+    }
     match out {
-        Out::Pulled(group) if at.call > 0 => stop_within(alloc, digest, journal, group, at),
+        Out::Pulled(group) => stop_within(alloc, digest, journal, group, at),
         out => {
             end_out(out);
             Ok(settled(alloc, journal.into_store(), at.byte)?)

@@ -21,6 +21,28 @@ use std::marker::Brand;
 use std::mem;
 use std::sync::ledger::Blank;
 
+/// So many workers, and where a resumption stops, if it is possible.
+fn possible(workers: u32, stop: Option<StopAt>) -> Option<(u32, Option<StopAt>)>
+    ensures workers { IfSome result (λ r. r.0 ≡ workers) }
+    ensures stop { IfSome result (λ r. r.1 ≡ stop) }
+    ensures may { IfSome result (λ r. MayResume r.0 r.1) }
+    ensures none { IfNone result (MayResume workers stop → ⊥) }
+{
+    if workers == 0 || workers as usize > MAX_WORKERS {
+        return None;
+    }
+    match stop {
+        Some(at) => {
+            if at.call == 0 {
+                None
+            } else {
+                Some((workers, Some(at)))
+            }
+        }
+        None => Some((workers, None)),
+    }
+}
+
 /// The workers of a resumption that is possible, and where it stops. None where a move does nothing while nothing runs.
 fn resumption_in(next: Move) -> Option<(u32, Option<StopAt>)>
     ensures some { IfSome result (λ r. next ≡ Resume r.0 r.1) }
@@ -28,12 +50,10 @@ fn resumption_in(next: Move) -> Option<(u32, Option<StopAt>)>
     ensures none { IfNone result (DoesNothing next) }
 {
     match next {
-        Move::Resume { workers, stop } if 1 <= workers && workers as usize <= MAX_WORKERS => {
-            match stop {
-                Some(at) if at.call == 0 => None,
-                stop => Some((workers, stop)),
-            }
-        }
+        Move::Resume { workers, stop } => match possible(workers, stop) {
+            Some(resumption) => Some(resumption),
+            None => None,
+        },
         _ => None,
     }
 }
