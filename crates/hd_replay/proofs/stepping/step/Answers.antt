@@ -7,7 +7,7 @@ use Rattle.hd_replay.proofs.stepping.step.Goals as goal
 pub turn-requires : goal.turn-requires
 turn-requires g c =
     let x = c.requires.runs in
-    sound_run x.0 x.1 x.2 c.args.journal.now c.args.run.now x.3
+    record { sound = sound_run x.0 x.1 x.2 c.args.journal.now c.args.run.now x.3 }
 
 pub returns-in-Flush : goal.returns-in-Flush
 returns-in-Flush g c = λ t digest f x.
@@ -17,7 +17,7 @@ returns-in-Flush g c = λ t digest f x.
     let j' = c.flush.new.journal in
     on_ok (Flushes digest f r j' r') (Goes t digest f r c.args.next j' r') c.flush.result
     (λ (fl : Flushes digest f r j' r'). subst (λ m. Goes t digest f r m j' r') (sym c.in-Flush.is) (flush_goes t digest f r r' j j' x fl))
-    (c.flush.ensures digest f x.stands)
+    (c.flush.ensures.flushed digest f x.stands)
 
 pub returns-in_default : goal.returns-in_default
 returns-in_default g c = λ t digest f x.
