@@ -24,9 +24,9 @@ use Rattle.hd_crash.proofs.Playing.{recovered_is, resumed_sound}
 use Rattle.hd_replay.specs.declared.playing.Played.{Played}
 use Rattle.hd_replay.specs.declared.playing.Played.TheVariants.{Stopped, Ended, Failed}
 use Rattle.hd_replay.specs.declared.report.Report.{Report}
-use Rattle.hd_replay.specs.Journals.{StandsAs, Runs}
+use Rattle.hd_replay.specs.Journals.{StandsAs, Runs, Goes}
 use Rattle.hd_replay.specs.Opening.{OpensBefore, IsCut, IsRunOf}
-use Rattle.hd_replay.specs.Playing.{ComesTo, AtTheEnd, IsFollowed, IsReported, IsEndOf, IsEndedBy, IsStoppedAt, IsStop, PlaysTo, DoesNothing}
+use Rattle.hd_replay.specs.Playing.{ComesTo, AtTheEnd, IsFollowed, IsReported, IsEndOf, IsEndedBy, IsStoppedAt, IsStop, PlaysTo, EndsTo, DoesNothing}
 use Rattle.hd_replay.proofs.Restarts.{sound_groups}
 
 -- ---- a run, at a place of its moves
@@ -241,3 +241,22 @@ nothing_by moves.Pull other = λ t digest content. refl
 nothing_by moves.Flush other = λ t digest content. refl
 nothing_by moves.Ack other = λ t digest content. refl
 nothing_by (moves.Stop stop) other = λ t digest content. refl
+
+-- ---- a turn of a run
+
+pub turned_at : {S : Type 0} {G : Ghosts S} (t : Task) (digest : List ℕ) (w : World) (ms : List Move) (place : ℕ) (f : File) (r r' : Run) (m : Move) (journal' : Journal S G)
+    → drop place ms ≡ m ∷ drop (place + 1) ms → IsAt t digest w ms place (Running f r) → Goes t digest f r m journal' r'
+    → (now : File) × Runs t digest now journal' r' × IsAt t digest w ms (place + 1) (Running now r')
+turned_at t digest w ms place f r r' m journal' is at goes = (
+  goes.file,
+  goes.runs,
+  at_next t digest w ms place (Running f r) (Running goes.file r') m is at goes.steps,
+)
+
+-- behind the last
+pub plays_end : (t : Task) (digest : List ℕ) (w : World) (ms : List Move) (place : ℕ) (f : File) (r : Run) (played : Played) → drop place ms ≡ []
+    → IsAt t digest w ms place (Running f r) → EndsTo t digest f r played → PlaysTo t digest w ms ms played
+plays_end t digest w ms place f r (Stopped disk count) none at e = absurd e
+plays_end t digest w ms place f r (Ended disk report) none at e =
+    ended_at t digest w (Running f r) ms place disk report none at (record { file = f; run = r; plays = refl; end = e })
+plays_end t digest w ms place f r (Failed fault) none at e = tt

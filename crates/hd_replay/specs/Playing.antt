@@ -64,6 +64,12 @@ PlaysTo t digest w all moves (Stopped disk count) = IsStoppedAt t digest w all m
 PlaysTo t digest w all moves (Ended disk report) = IsEndedBy t digest w all disk report
 PlaysTo t digest w all moves (Failed fault) = Unit {0}
 
+-- what the end of a schedule comes to, where a run goes on
+abbrev pub EndsTo : Task → List ℕ → File → Run → Played → Type 0
+EndsTo t digest f r (Stopped disk count) = ⊥
+EndsTo t digest f r (Ended disk report) = IsEndOf t digest f r disk report
+EndsTo t digest f r (Failed fault) = Unit {0}
+
 -- a stop left this disk
 abbrev pub IsStop : List ℕ → File → Run → StopAt → MemoryDisk → Type 0
 IsStop digest f r at disk = (content : List ℕ) × IsStarted disk content × StopsIn Filled digest f r at (Rests content)

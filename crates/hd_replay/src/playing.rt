@@ -7,7 +7,7 @@ ghost use Rattle.hd_store.specs.MemoryDisk.{IsStarted};
 ghost use Rattle.hd_world.specs.Stops.{File};
 ghost use Rattle.hd_world.specs.World.{Stopped as Rests, Running, MayResume, recovered};
 ghost use Rattle.hd_replay.specs.Journals.{Runs, StandsAs, calls_in};
-ghost use Rattle.hd_replay.specs.Playing.{IsEndOf, IsEndedBy, PlaysTo, IsStop};
+ghost use Rattle.hd_replay.specs.Playing.{IsEndOf, IsEndedBy, EndsTo, PlaysTo};
 
 use crate::ending::{end, stop};
 use crate::fault::ReplayFault;
@@ -68,7 +68,7 @@ fn report<L: Ledger>(
 /// What a run comes to at the end of moves.
 fn ended<L: Ledger>(run: Run<'_, L>, journal: Journal<MemoryDisk>) -> Played
     ensures { (t : Task) (digest : List ℕ) (f : File) → Runs t digest f journal run.entry
-        → PlaysTo t digest (Running f run.entry) [] [] result }
+        → EndsTo t digest f run.entry result }
 {
     match report(run, journal) {
         Ok((disk, report)) => Played::Ended(disk, report),
