@@ -1,5 +1,5 @@
 -- What a worker's moves make of its seat is what the moves of a schedule make of a run.
-use Rattle.std.proofs.Common.{◌≡◌, ◌≢◌, ℕ, ◌<◌, ◌≤◌, nat_lt, Bool, true, false, cond, ◌&&◌, ◌||◌, take, ◌⊎◌, inl, inr, Option, Some, None, is_some, List, [], ◌∷◌, ◌++◌, set, length, slice_get, refl, sym, ap, ◌∙◌, subst}
+use Rattle.std.proofs.Common.{◌≡◌, ◌≢◌, ℕ, ◌<◌, ◌≤◌, nat_lt, Bool, true, false, cond, ◌&&◌, ◌||◌, take, ◌⊎◌, inl, inr, Option, Some, None, is_some, List, [], ◌∷◌, ◌++◌, set, length, slice_get, refl, sym, ap, ◌∙◌, subst, arith}
 use Rattle.std.specs.Prelude.{option_map, Result, Ok, Err}
 use Rattle.std.proofs.lemmas.Bool.{lt-ltb, le-ltb}
 use Rattle.std.proofs.lemmas.List.{set-get_or}
@@ -224,7 +224,7 @@ no_outcomes b s none =
 -- one that gave a batch does
 some_given : (os : List Outcome) → ranks 0 (take MAX_OUTCOMES os) ≢ [] → nat_lt 0 (length os) ≡ true
 some_given [] given = absurd (given refl)
-some_given (o ∷ os) given = refl
+some_given (o ∷ os) given = lt-ltb 0 (length (o ∷ os)) (omega arith)
 
 pub gave_batch : (b : BookView) (s : Seat) → length s.tickets < MAX_TICKETS → (after_batch s.worker).given ≢ [] → committed_in b s ≡ committed_for b s (refusal_to b (batch_of s.worker))
 gave_batch b s few given =
