@@ -22,7 +22,7 @@ use Rattle.hd_book.specs.declared.refusal.CommitRefusal.{CommitRefusal}
 use Rattle.hd_book.specs.declared.refusal.CommitRefusal.TheVariants.{Halted, Refused}
 use Rattle.hd_book.specs.View.{BookView, ParcelsView}
 use Rattle.hd_book.specs.Refusing.{refusal_to, IsRefusalTo}
-use Rattle.hd_book.specs.Steps.{after_commit, ticket_after, after_redeem}
+use Rattle.hd_book.specs.Steps.{after_commit, ticket_after}
 use Rattle.hd_turns.specs.Worker.{WorkerView}
 use Rattle.hd_turns.specs.Calls.{ranks, batch_of, after_batch, after_numbering, after_sending, after_return}
 use Rattle.hd_world.specs.declared.limits.TheConstants.{MAILBOX_PLACES, MAX_TICKETS}
