@@ -1,9 +1,10 @@
 -- What a worker's moves make of its seat is what the moves of a schedule make of a run.
-use Rattle.std.proofs.Common.{◌≡◌, ◌≢◌, ℕ, ◌<◌, ◌≤◌, nat_lt, Bool, true, false, cond, ◌&&◌, ◌||◌, take, ◌⊎◌, inl, inr, Option, Some, None, is_some, List, [], ◌∷◌, ◌++◌, set, length, slice_get, refl, sym, ap, ◌∙◌, subst}
+use Rattle.std.proofs.Common.{◌≡◌, ◌≢◌, ℕ, ◌<◌, ◌≤◌, nat_lt, Bool, true, false, cond, ◌&&◌, ◌||◌, take, ◌⊎◌, inl, inr, Option, Some, None, is_some, List, [], ◌∷◌, ◌++◌, set, length, slice_get, refl, sym, ap, ◌∙◌, subst, arith}
 use Rattle.std.specs.Prelude.{option_map, Result, Ok, Err}
 use Rattle.std.proofs.lemmas.Bool.{lt-ltb, le-ltb}
 use Rattle.std.proofs.lemmas.List.{set-get_or}
 use Rattle.std.proofs.lemmas.Option.{get_or_from_slice_get}
+use Rattle.hd_task.specs.declared.plan.TheConstants.{ROOT_PARENT}
 use Rattle.hd_node.specs.declared.batch.Outcome.{Outcome}
 use Rattle.hd_node.specs.declared.batch.TheConstants.{MAX_OUTCOMES}
 use Rattle.hd_entries.specs.declared.refusal.Refusal.TheVariants.{UnknownParent, NotAKid, SettledBefore, StateDiffers, NotDominated, BelowBound, Full, NoMemory}
@@ -21,11 +22,12 @@ use Rattle.hd_book.specs.declared.refusal.CommitRefusal.{CommitRefusal}
 use Rattle.hd_book.specs.declared.refusal.CommitRefusal.TheVariants.{Halted, Refused}
 use Rattle.hd_book.specs.View.{BookView, ParcelsView}
 use Rattle.hd_book.specs.Refusing.{refusal_to, IsRefusalTo}
-use Rattle.hd_book.specs.Steps.{after_commit, after_redeem}
-use Rattle.hd_turns.specs.Calls.{ranks, batch_of, after_batch, after_sending, after_return}
+use Rattle.hd_book.specs.Steps.{after_commit, ticket_after}
+use Rattle.hd_turns.specs.Worker.{WorkerView}
+use Rattle.hd_turns.specs.Calls.{ranks, batch_of, after_batch, after_numbering, after_sending, after_return}
 use Rattle.hd_world.specs.declared.limits.TheConstants.{MAILBOX_PLACES, MAX_TICKETS}
 use Rattle.hd_world.specs.Seats.{Seat, Run}
-use Rattle.hd_world.specs.Moves.{with_seat, popped, taken_by, taken, may_commit, is_dropped, with_drop, committed_by, committed, redeemed_by, redeemed_of, redeemed, mailed, pushed_of, pushed, owner_of}
+use Rattle.hd_world.specs.Moves.{with_seat, bound_in, popped, taken_by, taken, may_commit, is_dropped, with_drop, committed_by, committed, redeemed_by, redeemed_of, redeemed, mailed, pushed_of, pushed, owner_of}
 use Rattle.hd_replay.specs.declared.fault.ReplayFault.{ReplayFault}
 use Rattle.hd_replay.specs.declared.fault.ReplayFault.TheVariants as faults
 use Rattle.hd_replay.specs.Seats.{seat_popped, box_popped, with_taken, seat_posted, box_posted, ends_with, seat_committed, seat_dropped, committed_for, committed_in, seat_redeemed_for, book_redeemed_for, seat_redeemed, book_redeemed}
@@ -224,7 +226,7 @@ no_outcomes b s none =
 -- one that gave a batch does
 some_given : (os : List Outcome) → ranks 0 (take MAX_OUTCOMES os) ≢ [] → nat_lt 0 (length os) ≡ true
 some_given [] given = absurd (given refl)
-some_given (o ∷ os) given = refl
+some_given (o ∷ os) given = lt-ltb 0 (length (o ∷ os)) (omega arith)
 
 pub gave_batch : (b : BookView) (s : Seat) → length s.tickets < MAX_TICKETS → (after_batch s.worker).given ≢ [] → committed_in b s ≡ committed_for b s (refusal_to b (batch_of s.worker))
 gave_batch b s few given =
@@ -248,3 +250,42 @@ pub gave_ended : (b : BookView) (s : Seat) (why : CommitRefusal) → length s.ti
     → refusal_to b (batch_of s.worker) ≡ Some why → is_dropped why ≡ false → committed_in b s ≡ None
 gave_ended b s why few given is ends =
     gave_batch b s few given ∙ ap (committed_for b s) is ∙ ap (λ y. cond {A = Option (BookView × Seat)} y (Some (b, seat_dropped s)) None) ends
+
+-- ---- what a seat's commit comes to
+
+-- a book and a seat
+abbrev made : BookView → WorkerView → Option Released → List TicketView → Option ℕ → Option (BookView × Seat)
+made b w hand held told = Some (b, record { worker = w; hand = hand; tickets = held; told = told })
+
+-- a batch that was given is accepted
+pub accepts : (b b' : BookView) (s : Seat) (w w' : WorkerView) (batch : List Outcome) (k : TicketView) (held : List TicketView) (told : Option ℕ)
+    → length s.tickets < MAX_TICKETS → batch ≡ batch_of s.worker → w ≡ after_batch s.worker → w.given ≢ [] → refusal_to b batch ≡ None
+    → b' ≡ after_commit batch b → w' ≡ after_numbering (length b.state.entries) w → k ≡ ticket_after batch b → held ≡ s.tickets ++ k ∷ [] → told ≡ bound_in b'.state
+    → committed_in b s ≡ made b' w' s.hand held told
+accepts b b' s w w' batch k held told few these gave given accepted is numbered ticket tickets bound =
+    let batch_is = batch_of s.worker in
+    let c = after_commit batch_is b in
+    let v = after_numbering (length b.state.entries) (after_batch s.worker) in
+    let ks = s.tickets ++ ticket_after batch_is b ∷ [] in
+    let book : b' ≡ c = is ∙ ap (λ (os : List Outcome). after_commit os b) these in
+    let worker : w' ≡ v = numbered ∙ ap (after_numbering (length b.state.entries)) gave in
+    let all : held ≡ ks =
+    tickets ∙ ap (λ (x : TicketView). s.tickets ++ x ∷ []) (ticket ∙ ap (λ (os : List Outcome). ticket_after os b) these)
+    in
+    let least : told ≡ bound_in c.state = bound ∙ ap (λ (x : BookView). bound_in x.state) book in
+    gave_accepted b s few (λ none. given (ap (λ (x : WorkerView). x.given) gave ∙ none)) (ap (refusal_to b) (sym these) ∙ accepted)
+    ∙ sym
+    (ap (λ (x : BookView). made x w' s.hand held told) book
+    ∙ (ap (λ (x : WorkerView). made c x s.hand held told) worker ∙ (ap (λ (x : List TicketView). made c v s.hand x told) all ∙ ap (made c v s.hand ks) least)))
+
+-- one that was given is dropped
+pub drops : (b b' : BookView) (s : Seat) (w w' : WorkerView) (batch : List Outcome) (held : List TicketView) (why : CommitRefusal)
+    → length s.tickets < MAX_TICKETS → batch ≡ batch_of s.worker → w ≡ after_batch s.worker → w.given ≢ [] → refusal_to b batch ≡ Some why → is_dropped why ≡ true
+    → b' ≡ b → w' ≡ after_numbering ROOT_PARENT w → held ≡ s.tickets → committed_in b s ≡ made b' w' s.hand held s.told
+drops b b' s w w' batch held why few these gave given refused drop same numbered tickets =
+    let v = after_numbering ROOT_PARENT (after_batch s.worker) in
+    let worker : w' ≡ v = numbered ∙ ap (after_numbering ROOT_PARENT) gave in
+    gave_dropped b s why few (λ none. given (ap (λ (x : WorkerView). x.given) gave ∙ none)) (ap (refusal_to b) (sym these) ∙ refused) drop
+    ∙ sym
+    (ap (λ (x : BookView). made x w' s.hand held s.told) same
+    ∙ (ap (λ (x : WorkerView). made b x s.hand held s.told) worker ∙ ap (λ (x : List TicketView). made b v s.hand x s.told) tickets))

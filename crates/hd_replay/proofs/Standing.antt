@@ -2,7 +2,7 @@
 use Rattle.std.proofs.Common.{◌≡◌, ℕ, ◌<◌, ◌≤◌, Some, List, [], map, set, length, get_or, slice_get, refl, sym, ap, ◌∙◌, subst}
 use Rattle.std.specs.Prelude.{option_map}
 use Rattle.std.specs.List.{AllByRecursion}
-use Rattle.std.proofs.lemmas.List.{map-set, length-set}
+use Rattle.std.proofs.lemmas.List.{map-set, length-map, length-set}
 use Rattle.std.proofs.lemmas.Option.{slice_get_read, slice_get-map}
 use Rattle.hd_base.proofs.Lists.{AllByRecursion-slice_get}
 use Rattle.hd_task.specs.declared.task.Task.{Task}
@@ -43,6 +43,10 @@ module _ (v r : Run) (is : v ≡ r) (sound : IsSoundRun r) where
 module _ {X : Type 0} (f : X → List ParcelView) (t : Task) (workers : ℕ) (boxes : List X) (all : AreBoxesOf t workers (map f boxes)) where
   pub box_of : (k : ℕ) (box : X) → slice_get boxes k ≡ Some box → AreParcelsOf t (f box)
   box_of k box e = AllByRecursion-slice_get (AreParcelsOf t) (map f boxes) k (f box) all.parcels (slice_get-map f boxes k ∙ ap (option_map f) e)
+
+  -- each worker has one
+  pub box_within : (k : ℕ) → k < workers → k < length boxes
+  box_within k within = subst (λ n. k < n) (sym all.one_each ∙ length-map boxes f) within
 
   -- a mailbox in the place of another
   pub boxes_with : (workers' k : ℕ) (box : X) → workers' ≡ workers → AreParcelsOf t (f box) → AreBoxesOf t workers' (map f (set boxes k box))

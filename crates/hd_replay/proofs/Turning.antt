@@ -1,5 +1,5 @@
 -- What a worker's moves make of a run, where that is seen through its view.
-use Rattle.std.proofs.Common.{◌≡◌, ℕ, ◌∷◌, drop, Some, None, List, [], map, set, length, slice_get, refl, sym, ap, ◌∙◌, subst}
+use Rattle.std.proofs.Common.{◌≡◌, ℕ, ◌∷◌, drop, Some, None, List, [], map, set, length, slice_get, sym, ap, ◌∙◌, subst}
 use Rattle.std.specs.Prelude.{option_map}
 use Rattle.std.proofs.lemmas.List.{map-set}
 use Rattle.std.proofs.lemmas.Option.{slice_get-map, none-some, same_Some}
@@ -7,7 +7,6 @@ use Rattle.hd_task.specs.declared.task.Task.{Task}
 use Rattle.hd_entries.specs.Holding.{Released}
 use Rattle.hd_book.specs.View.{BookView}
 use Rattle.hd_hmax.specs.Rounds.{hmax}
-use Rattle.hd_turns.specs.Worker.{WorkerView}
 use Rattle.hd_turns.specs.Calls.{Expands, after_sending}
 use Rattle.hd_world.specs.Seats.{Seat, Run}
 use Rattle.hd_world.specs.Moves.{with_seat, popped, taken, Expanded, committed, redeemed, pushed, owner_of}

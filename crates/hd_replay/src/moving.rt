@@ -36,9 +36,10 @@ impl<'t, L: Ledger> Run<'t, L> {
             (TurnsTo self.old.book.state.task self.old (moves.Take number) self.new) }
         ensures memory { IfErr result (λ fault. fault ≡ faults.NoMemory) }
     {
-        if number < self.seats.len() {
-            self.seats[number].take()?;
+        if number >= self.seats.len() {
+            return Ok(());
         }
+        self.seats[number].take()?;
         Ok(())
     }
 
@@ -53,9 +54,10 @@ impl<'t, L: Ledger> Run<'t, L> {
         ensures memory { IfErr result (λ fault. fault ≡ faults.NoMemory) }
     {
         let Run { seats, lookup, .. } = self;
-        if number < seats.len() {
-            seats[number].expand(lookup, place)?;
+        if number >= seats.len() {
+            return Ok(());
         }
+        seats[number].expand(lookup, place)?;
         Ok(())
     }
 
@@ -77,9 +79,10 @@ impl<'t, L: Ledger> Run<'t, L> {
             seats,
             ..
         } = self;
-        if number < seats.len() {
-            seats[number].commit(book, share)?;
+        if number >= seats.len() {
+            return Ok(());
         }
+        seats[number].commit(book, share)?;
         Ok(())
     }
 
@@ -89,9 +92,10 @@ impl<'t, L: Ledger> Run<'t, L> {
         ensures { TurnsTo self.old.book.state.task self.old (moves.Redeem number) self.new }
     {
         let Run { book, seats, .. } = self;
-        if number < seats.len() {
-            seats[number].redeem(book);
+        if number >= seats.len() {
+            return;
         }
+        seats[number].redeem(book);
     }
 
     /// The next parcel of the worker's outbox goes to its owner's mailbox, if that is not full.
