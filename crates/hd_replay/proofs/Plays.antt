@@ -10,6 +10,7 @@ use Rattle.hd_store.specs.MemoryDisk.{device_of, IsStarted}
 use Rattle.hd_image.specs.Image.{most_of}
 use Rattle.hd_zobrist.specs.declared.owners.TheConstants.{MAX_WORKERS}
 use Rattle.hd_journal.specs.declared.journal.Journal.{Journal}
+use Rattle.hd_journal.specs.Group.{GroupView}
 use Rattle.hd_schedule.specs.declared.moves.Move.{Move}
 use Rattle.hd_schedule.specs.declared.moves.Move.TheVariants as moves
 use Rattle.hd_schedule.specs.declared.moves.StopAt.{StopAt}
@@ -24,10 +25,11 @@ use Rattle.hd_crash.proofs.Playing.{recovered_is, resumed_sound}
 use Rattle.hd_replay.specs.declared.playing.Played.{Played}
 use Rattle.hd_replay.specs.declared.playing.Played.TheVariants.{Stopped, Ended, Failed}
 use Rattle.hd_replay.specs.declared.report.Report.{Report}
-use Rattle.hd_replay.specs.Journals.{StandsAs, Runs, Goes}
+use Rattle.hd_replay.specs.Journals.{StandsAs, Runs, Goes, stop_in}
 use Rattle.hd_replay.specs.Opening.{OpensBefore, IsCut, IsRunOf}
 use Rattle.hd_replay.specs.Playing.{ComesTo, AtTheEnd, IsFollowed, IsReported, IsEndOf, IsEndedBy, IsStoppedAt, IsStop, PlaysTo, EndsTo, DoesNothing}
 use Rattle.hd_replay.proofs.Restarts.{sound_groups}
+use Rattle.hd_replay.proofs.Steps.{falls_here}
 
 -- ---- a run, at a place of its moves
 
@@ -126,12 +128,6 @@ resumed_plays t digest content workers stop ms journal o played may p =
     (λ u plays. (recovered t digest workers o.file, resumes_on t digest content workers stop journal o may, plays)) p
 
 -- ---- a place in a list of moves
-
--- the move that was read there, and those behind it
-pub read_there : (ms : List Move) (place : ℕ) (m : Move) → place < length ms → m ≡ get_or ms place m → drop place ms ≡ m ∷ drop (place + 1) ms
-read_there ms place m within is =
-    drop-cons ms place m within
-    ∙ (ap (λ (x : Move). x ∷ drop (suc place) ms) (sym is) ∙ ap (λ (n : ℕ). m ∷ drop n ms) (sym (add-one place)))
 
 pub none_there : (ms : List Move) (place : ℕ) → length ms ≤ place → drop place ms ≡ []
 none_there ms place past = drop_all place ms past
@@ -260,3 +256,15 @@ plays_end t digest w ms place f r (Stopped disk count) none at e = absurd e
 plays_end t digest w ms place f r (Ended disk report) none at e =
     ended_at t digest w (Running f r) ms place disk report none at (record { file = f; run = r; plays = refl; end = e })
 plays_end t digest w ms place f r (Failed fault) none at e = tt
+
+-- ---- moves that were read
+
+pub read_any : (ms : List Move) (place : ℕ) (m d : Move) → place < length ms → m ≡ get_or ms place d → drop place ms ≡ m ∷ drop (place + 1) ms
+read_any ms place m d within is =
+    drop-cons ms place d within
+    ∙ (ap (λ (x : Move). x ∷ drop (suc place) ms) (sym is) ∙ ap (λ (n : ℕ). m ∷ drop n ms) (sym (add-one place)))
+
+pub stop_read : (group : Option GroupView) (ms : List Move) (place : ℕ) (m : Move) (at : StopAt) → drop place ms ≡ m ∷ drop (place + 1) ms
+    → Some at ≡ stop_in group m → drop place ms ≡ moves.Stop at ∷ drop (place + 1) ms
+stop_read group ms place m at is e =
+    is ∙ ap (λ (x : Move). x ∷ drop (place + 1) ms) (falls_here group m at (sym e)).0

@@ -1,5 +1,5 @@
 //! Schedules played, from one resumption to the next.
-ghost use Rattle.std.specs.Prelude.{◌≡◌, ◌≤◌, ◌<◌, ◌∷◌, List, [], ℕ, None, Some, IfOk};
+ghost use Rattle.std.specs.Prelude.{◌≡◌, ◌+◌, ◌≤◌, ◌<◌, ◌∷◌, List, [], ℕ, None, length, drop, IfOk};
 ghost use Rattle.hd_task.specs.declared.task.Task.{Task};
 ghost use Rattle.hd_zobrist.specs.declared.owners.TheConstants.{MAX_WORKERS};
 ghost use Rattle.hd_schedule.specs.declared.moves.Move.TheVariants.{Resume};
@@ -76,6 +76,22 @@ fn ended<L: Ledger>(run: Run<'_, L>, journal: Journal<MemoryDisk>) -> Played
     }
 }
 
+/// The move of this number.
+pub(crate) fn move_at(moves: &[Move], number: usize) -> Move
+    requires { number < length moves.now }
+    ensures { drop number moves.now ≡ result ∷ drop (number + 1) moves.now }
+{
+    moves[number]
+}
+
+/// The moves from this number on.
+pub(crate) fn moves_from(moves: &[Move], number: usize) -> &[Move]
+    requires { number ≤ length moves.now }
+    ensures { result.now ≡ drop number moves.now }
+{
+    &moves[number..]
+}
+
 /// Plays moves of a run, up to a stop or to their end.
 fn play<L: Ledger>(
     alloc: Global,
@@ -91,7 +107,7 @@ fn play<L: Ledger>(
     let mut run = run;
     let mut journal = journal;
     for number in 0..moves.len() {
-        let next = moves[number];
+        let next = move_at(moves, number);
         if let Some(at) = stop_in(&run, next) {
             return match stop(alloc, digest, run, journal, at) {
                 Ok(disk) => Played::Stopped(disk, number + 1),

@@ -8,7 +8,7 @@ ghost use Rattle.hd_world.specs.World.{Stopped as Rests, MayResume};
 ghost use Rattle.hd_replay.specs.Playing.{DoesNothing, IsReported, PlaysTo};
 
 use crate::fault::ReplayFault;
-use crate::playing::{Played, play_from, play_last};
+use crate::playing::{Played, move_at, moves_from, play_from, play_last};
 use crate::report::Report;
 use crate::settling::settled;
 use hd_journal::DIGEST_LEN;
@@ -105,8 +105,8 @@ fn play_all(
     let mut held = disk;
     let mut at = 0;
     while at < moves.len() {
-        let next = moves[at];
-        let rest = &moves[at + 1..];
+        let next = move_at(moves, at);
+        let rest = moves_from(moves, at + 1);
         match play_next(alloc, task, digest, held, next, rest) {
             Played::Stopped(left, count) => {
                 held = left;
