@@ -1,9 +1,8 @@
-use Rattle.std.proofs.Common.{◌≡◌, ◌+◌, ◌-◌, ◌≤◌, length, ap, ◌∙◌, arith}
+use Rattle.std.proofs.Common.{◌+◌, [], ◌∷◌, None, length, ap, ◌∙◌, arith}
 use Rattle.std.proofs.lemmas.List.{length-drop}
 use Rattle.hd_store.specs.declared.memory.MemoryDisk.{MemoryDisk}
 use Rattle.hd_store.specs.Device.{content_of}
 use Rattle.hd_store.specs.MemoryDisk.{device_of}
-use Rattle.std.proofs.Common.{[], ◌∷◌, None}
 use Rattle.hd_schedule.specs.declared.moves.Move.TheVariants.{Resume}
 use Rattle.hd_world.specs.World.{Stopped}
 use Rattle.hd_replay.specs.declared.report.Report.{Report}
@@ -12,15 +11,15 @@ use Rattle.hd_replay.proofs.Plays.{rests_next, reported_now, reported_last, none
 use Rattle.hd_replay.proofs.Steps.{if_ok}
 use Rattle.hd_replay.proofs.replaying.play_all.Goals as goal
 
-pub overflow_add-at : goal.overflow_add-at
-overflow_add-at c =
+pub overflow_add-at-in-Stopped : goal.overflow_add-at-in-Stopped
+overflow_add-at-in-Stopped c =
     let s = c.loop-at.invariant.starts in
     let few = (c.in-Stopped.ensures s.0 s.1).few in
     let long = ap length c.moves_from-rest.ensures ∙ length-drop (c.loop-at.at + 1) c.args.moves.now in
     omega (arith, few, long, c.loop-at-test.true)
 
-pub overflow_add-at-in-Stopped : goal.overflow_add-at-in-Stopped
-overflow_add-at-in-Stopped c =
+pub overflow_add-at-in-Stopped-2 : goal.overflow_add-at-in-Stopped-2
+overflow_add-at-in-Stopped-2 c =
     let s = c.loop-at.invariant.starts in
     let few = (c.in-Stopped.ensures s.0 s.1).few in
     let long = ap length c.moves_from-rest.ensures ∙ length-drop (c.loop-at.at + 1) c.args.moves.now in
