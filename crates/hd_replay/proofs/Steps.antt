@@ -104,7 +104,7 @@ none_fits : (q : QueueView) → cond {A = Option (Range ℕ)} (fitting q == 0) N
     → fitting q ≡ 0
 none_fits q e =
     elim (fitting q == 0) as (λ b. (fitting q == 0) ≡ b
-        → cond {A = Option (Range ℕ)} b None (Some (record { start = q.acknowledged; end = group_end (record q { out = fitting q }) })) ≡ None → fitting q ≡ 0) [
+    → cond {A = Option (Range ℕ)} b None (Some (record { start = q.acknowledged; end = group_end (record q { out = fitting q }) })) ≡ None → fitting q ≡ 0) [
       | true ↦ λ is e. eqb-true (fitting q) 0 is
       | false ↦ λ is e. absurd (cc)
     ] refl e
@@ -304,7 +304,7 @@ pub ack_turns : {X E : Type 0} (v r : Run) (g : GroupView) (book : BookView) (sa
     → (let x : Run = record v { book = book } in x) ≡ acked r
 ack_turns v r g book said is none e =
     subst (λ (x : Run). is_ok said ≡ is_group_out x.book g → OnOk said (book ≡ after_flush x.book) → OnErr said (book ≡ x.book)
-        → (let y : Run = record x { book = book } in y) ≡ acked r) (sym is)
+    → (let y : Run = record x { book = book } in y) ≡ acked r) (sym is)
     (λ out ok err. acked_is r g book said none e out ok err)
 
 pub back_same : (r mid r' : Run) (out : Out) → mid ≡ bare r → r' ≡ with_group_out_of mid out → pulled_in out ≡ r.group → flushed_in out ≡ r.flushed → r' ≡ r
