@@ -1,6 +1,6 @@
 //! What stands at the end of a schedule.
 ghost use Rattle.std.specs.Prelude.{◌≡◌, Some};
-ghost use Rattle.hd_replay.specs.ReportText.{says_text, report_text};
+ghost use Rattle.hd_replay.specs.ReportText.{says_text};
 
 use std::fmt;
 
@@ -41,8 +41,6 @@ impl fmt::Display for Says {
 }
 
 impl fmt::Display for Report {
-    ghost output = { λ report. Some (report_text report) };
-
     /// Four lines, each with its end.
     fn fmt<W: fmt::Write>(&self, f: &mut fmt::Formatter<W>) -> fmt::Result {
         let Report {
