@@ -1,0 +1,10 @@
+pub mod Begins
+pub mod Kids
+pub mod Played
+pub mod Plays
+pub mod Restarts
+pub mod Standing
+pub mod Said
+pub mod Steps
+pub mod Stopping
+pub mod Turning

@@ -1,0 +1,63 @@
+//! What stands at the end of a schedule.
+ghost use Rattle.std.specs.Prelude.{◌≡◌, Some};
+ghost use Rattle.hd_replay.specs.ReportText.{says_text};
+
+use std::fmt;
+
+/// What a book answers that is at its end.
+#[derive(Clone, Copy, Debug, PartialEq, Eq)]
+pub enum Says {
+    /// There is a valid plan of this cost, and none that costs less.
+    Optimal(u64),
+    /// No plan is valid.
+    NoPlan,
+    /// A number left the range, at first where this entry was expanded.
+    RangeLeft(u64),
+}
+
+/// What stands at the end of a schedule.
+#[derive(Clone, Copy, Debug, PartialEq, Eq)]
+pub struct Report {
+    /// How many entries the book has.
+    pub expansions: u64,
+    /// How many of them are acknowledged.
+    pub acknowledged: u64,
+    /// The disk's length.
+    pub bytes: u64,
+    /// What the book answers, if it is at its end.
+    pub verdict: Option<Says>,
+}
+
+impl fmt::Display for Says {
+    ghost output = { λ says. Some (says_text says) };
+
+    fn fmt<W: fmt::Write>(&self, f: &mut fmt::Formatter<W>) -> fmt::Result {
+        match self {
+            Says::Optimal(cost) => write!(f, "optimal {cost}"),
+            Says::NoPlan => write!(f, "no-plan"),
+            Says::RangeLeft(entry) => write!(f, "range-left {entry}"),
+        }
+    }
+}
+
+impl fmt::Display for Report {
+    /// Four lines, each with its end.
+    fn fmt<W: fmt::Write>(&self, f: &mut fmt::Formatter<W>) -> fmt::Result {
+        let Report {
+            expansions,
+            acknowledged,
+            bytes,
+            verdict,
+        } = *self;
+        match verdict {
+            Some(says) => write!(
+                f,
+                "expansions {expansions}\nacknowledged {acknowledged}\nbytes {bytes}\nverdict {says}\n"
+            ),
+            None => write!(
+                f,
+                "expansions {expansions}\nacknowledged {acknowledged}\nbytes {bytes}\nverdict none\n"
+            ),
+        }
+    }
+}

@@ -1,0 +1,22 @@
+//! Disks that a stop left.
+ghost use Rattle.std.specs.Prelude.{List, ℕ, IfOk};
+ghost use Rattle.hd_store.specs.MemoryDisk.{device_of, IsStarted};
+ghost use Rattle.hd_crash.specs.Filling.{Filled};
+
+use hd_base::NoMemory;
+use hd_store::MemoryDisk;
+use std::alloc::Global;
+
+/// What a stop leaves of a disk, where each byte that is not sure reads this one and the length is the greatest: a disk that holds it for
+/// sure, and of which nothing else is known.
+///
+/// # Errors
+/// `NoMemory`.
+pub(crate) fn settled(alloc: Global, disk: MemoryDisk, byte: u8) -> Result<MemoryDisk, NoMemory>
+    ensures { IfOk result (λ left. (content : List ℕ) × Filled (device_of disk) byte content
+        × IsStarted left content) }
+{
+    let mut disk = disk;
+    disk.settle(byte)?;
+    MemoryDisk::of(alloc, Vec::from_slice(alloc, disk.bytes())?)
+}

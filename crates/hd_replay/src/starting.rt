@@ -1,0 +1,126 @@
+//! How a run begins: the search of a journal's entries is shared among workers.
+ghost use Rattle.std.specs.Prelude.{◌≡◌, ◌≤◌, ◌<◌, List, ℕ, [], None, length, map, replicate, IfOk};
+ghost use Rattle.hd_zobrist.specs.declared.owners.TheConstants.{MAX_WORKERS};
+ghost use Rattle.hd_world.specs.Moves.{bound_in};
+ghost use Rattle.hd_world.specs.Stops.{File};
+ghost use Rattle.hd_replay.specs.Seats.{seat_with};
+ghost use Rattle.hd_replay.specs.Journals.{StandsAs};
+ghost use Rattle.hd_replay.specs.Opening.{IsRunOf};
+
+use crate::fault::{ReplayFault, told_of_recovery};
+use crate::run::{Out, Run};
+use crate::seat::Seat;
+use hd_base::NoMemory;
+use hd_journal::Journal;
+use hd_node::Parcel;
+use hd_recovery::{Recovered, recover};
+use hd_store::MemoryDisk;
+use hd_task::Task;
+use hd_worker::{Lookup, Worker};
+use std::alloc::Global;
+use std::collections::VecDeque;
+use std::sync::ledger::{Blank, Ledger};
+
+/// The place of each worker.
+///
+/// # Errors
+/// `NoMemory` where there is no room for them.
+fn seats_of<'t>(alloc: Global, workers: Vec<Worker<'t>>) -> Result<Vec<Seat<'t>>, NoMemory>
+    ensures { IfOk result (λ seats. seats.items ≡ map seat_with workers.entry.items) }
+{
+    let mut seats = Vec::with_capacity(alloc, workers.len())?;
+    for worker in workers {
+        seats.push_reserved(Seat::of(alloc, worker));
+    }
+    Ok(seats)
+}
+
+/// So many empty mailboxes.
+///
+/// # Errors
+/// `NoMemory` where there is no room for them.
+fn mailboxes_of<'t>(alloc: Global, workers: usize) -> Result<Vec<VecDeque<Parcel<'t>>>, NoMemory>
+    ensures { IfOk result (λ boxes. map (λ box. box.items) boxes.items ≡ replicate workers []) }
+{
+    let mut mailboxes = Vec::with_capacity(alloc, workers)?;
+    for _worker in 0..workers {
+        mailboxes.push_reserved(VecDeque::new(alloc));
+    }
+    Ok(mailboxes)
+}
+
+/// The run of a search that was made again.
+///
+/// # Errors
+/// `NoMemory` where there is no room for it.
+fn begun<'t, L: Ledger>(
+    alloc: Global,
+    task: &'t Task,
+    recovered: Recovered<'t, L>,
+    workers: usize,
+) -> Result<Run<'t, L>, NoMemory>
+    requires task { recovered.book.state.task ≡ task.now }
+    requires part { 0 < recovered.share.parts }
+    requires all { length recovered.workers.items ≡ workers }
+    requires some { 1 ≤ workers }
+    requires few { workers ≤ MAX_WORKERS }
+    ensures { IfOk result (λ run. run ≡ record {
+      book = recovered.entry.book;
+      seats = map seat_with recovered.entry.workers.items;
+      mailboxes = replicate workers [];
+      bound = bound_in recovered.entry.book.state;
+      group = None;
+      flushed = None;
+    }) }
+{
+    let Recovered {
+        book,
+        share,
+        workers: team,
+    } = recovered;
+    let lookup = Lookup::of(alloc, task)?;
+    let mailboxes = mailboxes_of(alloc, workers)?;
+    let bound = book.bound();
+    let seats = seats_of(alloc, team)?;
+    Ok(Run {
+        book,
+        share,
+        lookup,
+        seats,
+        mailboxes,
+        bound,
+        out: Out::Nothing,
+    })
+}
+
+/// The run that begins with a journal's entries, shared among so many workers.
+///
+/// # Errors
+/// Why a search can't go on from them: that they are too many, or that one is faulty; or `NoMemory`.
+pub(crate) fn run_of<'t, L: Ledger>(
+    blank: Blank,
+    alloc: Global,
+    task: &'t Task,
+    journal: &Journal<MemoryDisk>,
+    workers: usize,
+) -> Result<Run<'t, L>, ReplayFault>
+    requires name { blank.name ≡ L.name }
+    requires parts { blank.parts ≡ L.parts }
+    requires part { 0 < L.parts }
+    requires some { 1 ≤ workers }
+    requires few { workers ≤ MAX_WORKERS }
+    ensures { (digest : List ℕ) (f : File) → StandsAs digest f journal.now
+        → IfOk result (IsRunOf task.now f workers) }
+{
+    match recover::<L>(
+        blank,
+        alloc,
+        task,
+        journal.most(),
+        journal.entries(),
+        workers,
+    ) {
+        Ok(recovered) => Ok(begun(alloc, task, recovered, workers)?),
+        Err(fault) => Err(told_of_recovery(fault)),
+    }
+}
