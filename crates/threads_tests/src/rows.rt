@@ -1,11 +1,11 @@
 //! Small tasks, with limits and with several numbers of workers.
 ghost use Rattle.std.specs.Prelude.{◌≤◌};
 
-use crate::tasks::{journal_on, task};
+use crate::tasks::{DIGEST, journal_on, task};
 use hd_parallel::{Concluded, OpenGate, Outcome, ThreadsFault, run};
 use hd_store::MemoryDisk;
 use hd_task::Task;
-use std::alloc::Global;
+use std::alloc::{AllocError, Global};
 use std::sync::Wait;
 use std::test::Fail;
 use std::thread::Threads;
@@ -133,5 +133,40 @@ fn a_search_stops_at_its_limit_and_goes_on(rt: HostRuntime) -> Result<(), Fail> 
             }
         }
     }
+    Ok(())
+}
+
+/// The groups of the search of two actions in the first version, each of one entry behind its gate, and the gate behind them.
+const FIRST_GROUPS: [u8; 40] = [
+    0x01, 0x01, 0x00, 0x00, 0x00, 0xff, 0xff, 0xff, 0xff, 0xff, 0xff, 0xff, 0xff, 0x01, 0x01, 0x00,
+    0x00, 0x00, 0x00, 0x00, 0x00, 0x00, 0x00, 0x00, 0x00, 0x00, 0x01, 0x01, 0x00, 0x00, 0x00, 0x01,
+    0x00, 0x00, 0x00, 0x01, 0x00, 0x00, 0x00, 0x00,
+];
+
+/// The journal of the first version that has so many bytes of these groups, and a closed gate.
+fn in_version_one(alloc: Global, groups: &[u8]) -> Result<Vec<u8>, AllocError> {
+    let mut bytes = Vec::new(alloc);
+    bytes.extend_from_slice(&[0x01, 0x48, 0x44, 0x50, 0x4a, 0x01])?;
+    bytes.extend_from_slice(&DIGEST)?;
+    bytes.extend_from_slice(groups)?;
+    bytes.push(0)?;
+    Ok(bytes)
+}
+
+/// Two of its three groups are there; 78 bytes are in the end.
+#[test]
+fn a_journal_of_the_first_version_goes_on_as_one(rt: HostRuntime) -> Result<(), Fail> {
+    let alloc = rt.alloc();
+    let task = task(&rt, alloc, L, L_PROBLEM);
+    let part = in_version_one(alloc, &FIRST_GROUPS[..26])?;
+    let whole = in_version_one(alloc, &FIRST_GROUPS[..39])?;
+    let disk = MemoryDisk::of(alloc, part)?;
+    let (disk, came) = searched(&rt, alloc, &task, disk, 3, 64, None)?;
+    match came {
+        Ok(concluded) => assert_eq!(rt; said(&concluded.outcome), Says::Optimal(2)),
+        Err(fault) => return Err(fault.into()),
+    }
+    assert_eq!(rt; disk.bytes(), whole.as_slice());
+    assert_eq!(rt; disk.bytes().len(), 78);
     Ok(())
 }
