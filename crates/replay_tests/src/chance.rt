@@ -24,8 +24,8 @@ fn below(random: &mut SplitMix64, end: u32) -> u32 {
 /// A stop by chance, in one of so many calls.
 fn stop_by_chance(random: &mut SplitMix64, first: u32, calls: u32) -> StopAt {
     StopAt {
-        call: first + below(random, calls),
-        byte: below(random, 3) as u8,
+        call: first.saturating_add(below(random, calls)),
+        byte: u8::try_from(below(random, 3)).unwrap_or(0),
     }
 }
 
@@ -51,11 +51,11 @@ fn move_by_chance(random: &mut SplitMix64) -> Move {
     let worker = below(random, 3);
     match below(random, 40) {
         0 => Move::Resume {
-            workers: 1 + worker,
+            workers: worker.saturating_add(1),
             stop: None,
         },
         1 => Move::Resume {
-            workers: 1 + worker,
+            workers: worker.saturating_add(1),
             stop: Some(stop_by_chance(random, 1, 7)),
         },
         2 => Move::Stop(stop_by_chance(random, 0, 6)),
@@ -70,7 +70,7 @@ fn move_by_chance(random: &mut SplitMix64) -> Move {
 fn schedule_by_chance(alloc: Global, random: &mut SplitMix64) -> Result<Vec<Move>, NoMemory> {
     let mut moves = Vec::new(alloc);
     moves.push(Move::Resume {
-        workers: 1 + below(random, 3),
+        workers: below(random, 3).saturating_add(1),
         stop: None,
     })?;
     for _move in 0..MOVES {

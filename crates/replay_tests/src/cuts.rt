@@ -66,10 +66,16 @@ fn is_cut_well(alloc: Global, groups: usize, call: u32, byte: &str) -> Result<bo
     if groups > 1 {
         front.push_str(FRONTS[2])?;
     }
-    let left = groups as u64 + if call >= 3 && byte == "01" { 1 } else { 0 };
+    let whole = groups as u64;
+    let left = if call >= 3 && byte == "01" {
+        whole.saturating_add(1)
+    } else {
+        whole
+    };
+    let bytes = left.saturating_mul(14).saturating_add(39);
     for workers in [1u32, 2, 64] {
         let schedule = format!(in alloc; "{front}stop {call} {byte}\nresume {workers}\n")?;
-        if !ends(alloc, &task, &schedule, (left, left, 39 + 14 * left, None)) {
+        if !ends(alloc, &task, &schedule, (left, left, bytes, None)) {
             return Ok(false);
         }
     }
