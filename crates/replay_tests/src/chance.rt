@@ -126,7 +126,7 @@ fn missed(
             None => None,
         };
         if said != Some(verdict) {
-            missed += 1;
+            missed = missed.saturating_add(1);
         }
     }
     Ok(missed)
