@@ -118,7 +118,7 @@ fn missed(
     verdict: Says,
 ) -> Result<u32, NoMemory> {
     let mut random = SplitMix64::seed_from_u64(seed);
-    let mut missed = 0;
+    let mut missed = 0u32;
     for _schedule in 0..schedules {
         let moves = schedule_by_chance(alloc, &mut random)?;
         let said = match played(alloc, task, moves.as_slice()) {
