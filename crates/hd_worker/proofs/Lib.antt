@@ -1,4 +1,5 @@
 pub mod Batches
+pub mod Least
 pub mod Mapping
 pub mod Settled
 pub mod Taken

@@ -3,6 +3,7 @@ ghost use Rattle.std.specs.Prelude.{◌≡◌, ◌+◌, ◌≤◌, [], vec_len, 
 ghost use Rattle.hd_hmax.specs.Rounds.{hmax};
 ghost use Rattle.hd_node.specs.declared.batch.TheConstants.{MAX_OUTCOMES};
 ghost use Rattle.hd_open.specs.Totals.{IsBest};
+ghost use Rattle.hd_worker.specs.Least.{IsLeast};
 ghost use Rattle.hd_worker.specs.Lookup.{IsLookupOf};
 ghost use Rattle.hd_turns.specs.Totals.{total_at};
 ghost use Rattle.hd_turns.specs.Calls.{Expands, ExpandsBest};
@@ -36,6 +37,20 @@ impl<'t> Worker<'t> {
         ensures none { IfOk result (λ r. IfNone r (self.old.waiting ≡ [])) }
     {
         self.frontier.best(&mut lookup.hmax)
+    }
+
+    /// The least cost plus estimate of the open nodes: that of the node whose place `best` answers. None where each estimate is infinite, or
+    /// nothing is open.
+    ///
+    /// # Errors
+    /// `NoMemory` where there is no room for what is kept of estimates.
+    pub fn least(&mut self, lookup: &mut Lookup<'t>) -> Result<Option<u128>, NoMemory>
+        requires { IsLookupOf self.old.task lookup.old }
+        ensures lookup { IsLookupOf self.old.task lookup.new }
+        ensures same { self.new ≡ self.old }
+        ensures least { IfOk result (IsLeast (total_at self.old.task) self.old.waiting) }
+    {
+        self.frontier.least(&mut lookup.hmax)
     }
 
     /// Makes the open node at a place, in the order of arrival, an outcome: a duplicate by the closed list; else bounded by the bound that

@@ -3,6 +3,7 @@ ghost use Rattle.std.specs.Prelude.{◌≡◌, ◌+◌, ◌-◌, ◌<◌, ◌≤
 ghost use Rattle.hd_task.specs.Plans.{IsStateOf};
 ghost use Rattle.hd_entries.specs.Holding.{parcel_of};
 ghost use Rattle.hd_open.specs.Totals.{IsBest};
+ghost use Rattle.hd_worker.specs.Least.{IsLeast};
 ghost use Rattle.hd_worker.specs.Lookup.{IsLookupOf};
 ghost use Rattle.hd_turns.specs.Totals.{total_at};
 ghost use Rattle.hd_worker.specs.Frontier.{empty_frontier, arrived, received, with_room, closed_too, all_numbered, SettlesAt, SettlesBest};
@@ -145,6 +146,32 @@ impl<'t> Frontier<'t> {
             estimates,
         )?;
         Ok(self.nodes.best())
+    }
+
+    /// The least cost plus estimate of the open nodes; none where each estimate is infinite, or nothing is open.
+    ///
+    /// # Errors
+    /// `NoMemory` where there is no room for the estimates.
+    pub(crate) fn least(&mut self, estimates: &mut Hmax<'t>) -> Result<Option<u128>, NoMemory>
+        requires { estimates.old.task ≡ self.old.task }
+        ensures same { self.new ≡ self.old }
+        ensures estimates { estimates.new.task ≡ estimates.old.task }
+        ensures least { IfOk result (IsLeast (total_at self.old.task) self.old.waiting) }
+    {
+        open_all(
+            self.alloc,
+            &mut self.known,
+            &mut self.nodes,
+            &mut self.fresh,
+            estimates,
+        )?;
+        let Some(place) = self.nodes.best() else {
+            return Ok(None);
+        };
+        let Some(node) = self.nodes.get(place) else {
+            return Ok(None);
+        };
+        Ok(node.total)
     }
 
     /// Settles the open node at a place, if there is one. Its expansion is named by the place that its outcome has.
