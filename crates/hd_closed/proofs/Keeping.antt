@@ -1,10 +1,9 @@
 -- What a closed list keeps, as states come, estimates are made and expansions are closed and named.
-use Rattle.std.proofs.Common.{◌≡◌, ◌≢◌, ◌⊎◌, inl, inr, ⊎_elim, ℕ, zero, suc, ◌+◌, ◌<◌, ◌≤◌, Bool, true, false, cond, nat_eq, nat_le, List, [], ◌∷◌, ◌++◌, Option, Some, None, map, set, take, drop, length, get_or, slice_get, Contains, IfSome, IfNone, refl, sym, ap, ap₂, ◌∙◌, subst, arith, length-append, length-set, append-nil, drop_of_length-le, take_all}
+use Rattle.std.proofs.Common.{◌≡◌, ◌≢◌, ◌⊎◌, inl, inr, ⊎_elim, ℕ, zero, suc, ◌+◌, ◌<◌, ◌≤◌, Bool, true, false, cond, nat_le, List, [], ◌∷◌, ◌++◌, Option, Some, None, map, set, take, drop, length, get_or, slice_get, Contains, IfSome, IfNone, refl, sym, ap, ap₂, ◌∙◌, subst, arith, length-append, length-set, append-nil, drop_of_length-le, take_all}
 use Rattle.std.specs.Prelude.{option_map}
-use Rattle.std.specs.HashMap.{get}
 use Rattle.std.specs.List.{AllByRecursion}
 use Rattle.std.proofs.lemmas.Bool.{cases_lt, leb-true, leb-false, ltb-true, ltb-false}
-use Rattle.std.proofs.lemmas.List.{map-append, length-map}
+use Rattle.std.proofs.lemmas.List.{length-map}
 use Rattle.std.proofs.lemmas.Option.{none-some, same_Some, slice_get_within, slice_get-map, slice_get_read, get_or_from_slice_get}
 use Rattle.hd_base.proofs.Lists.{AllByRecursion-push, AllByRecursion-slice_get}
 use Rattle.hd_base.proofs.Members.{Contains-map, IsFrom-from_map, Contains-first, Contains-later}
@@ -14,16 +13,17 @@ use Rattle.hd_task.specs.declared.task.Task.{Task}
 use Rattle.hd_task.specs.Plans.{IsStateOf}
 use Rattle.hd_hmax.specs.declared.estimate.EstimateValue.{EstimateValue}
 use Rattle.hd_hmax.specs.Rounds.{hmax}
+use Rattle.hd_hmax.proofs.Cheapest.{slice_get_there}
 use Rattle.hd_hmax.specs.Value.{estimated}
 use Rattle.hd_node.specs.declared.batch.By.{By}
 use Rattle.hd_node.specs.declared.batch.By.TheVariants.{Entry, Here}
 use Rattle.hd_closed.specs.declared.notes.Note.{Note}
 use Rattle.hd_closed.specs.declared.closed.Shut.{Shut}
 use Rattle.hd_closed.specs.Closed.{Closed, state_at, nothing, IsClosedAt, IsNamedBy, IsDearer}
-use Rattle.hd_closed.specs.Notes.{short_hash, state_of, note_of, IsLast, AreChained}
+use Rattle.hd_closed.specs.Notes.{note_of, IsAlike, AreAlike, IsTable}
 use Rattle.hd_closed.specs.Numbering.{numbered, closed_numbered}
 use Rattle.hd_closed.specs.Shut.{closed_of, IsEntered, HasNumbered, shut_numbered, is_cheaper_than, is_cheaper, no_dearer_than, no_dearer, IsNoted, IsLeast, IsLeastOf, IsKept}
-use Rattle.hd_closed.proofs.Chains.{Heads, get_front, get_last, get_push}
+use Rattle.hd_closed.proofs.Chains.{get_front, get_back, get_last, get_push, get_set_same, get_set_other, get_set, same_or_not, table_set}
 
 -- ---- lists
 
@@ -35,29 +35,11 @@ same_list (x ∷ xs) [] len each = absurd (omega arith)
 same_list {X} (x ∷ xs) (y ∷ ys) len each =
     ap₂ (λ (z : X) (zs : List X). z ∷ zs) (sym (same_Some y x (each zero x refl))) (same_list xs ys (omega arith) (λ k z at. each (suc k) z at))
 
-get_set_same : {X : Type 0} (xs : List X) (i : ℕ) (y : X) → i < length xs → slice_get (set xs i y) i ≡ Some y
-get_set_same [] i y lt = absurd (omega arith)
-get_set_same (x ∷ xs) zero y lt = refl
-get_set_same (x ∷ xs) (suc i) y lt = get_set_same xs i y (omega arith)
-
--- what stands in a list with one place changed
-get_set : {X : Type 0} (xs : List X) (i : ℕ) (y : X) (k : ℕ) (x : X) → slice_get (set xs i y) k ≡ Some x → ((k ≡ i) × (y ≡ x)) ⊎ (slice_get xs k ≡ Some x)
-get_set [] i y k x e = inr e
-get_set (z ∷ xs) zero y zero x e = inl (refl, same_Some y x e)
-get_set (z ∷ xs) zero y (suc k) x e = inr e
-get_set (z ∷ xs) (suc i) y zero x e = inr e
-get_set (z ∷ xs) (suc i) y (suc k) x e = ⊎_elim (λ here. inl (ap suc here.0, here.1)) (λ there. inr there) (get_set xs i y k x e)
-
 -- a change that a function does not see
 pub map-set_same : {X Y : Type 0} (f : X → Y) (xs : List X) (i : ℕ) (x y : X) → slice_get xs i ≡ Some x → f y ≡ f x → map f (set xs i y) ≡ map f xs
 map-set_same f [] i x y at same = absurd (none-some x at)
 map-set_same {X} {Y} f (z ∷ xs) zero x y at same = ap (λ (w : Y). w ∷ map f xs) (same ∙ ap f (sym (same_Some z x at)))
 map-set_same {X} {Y} f (z ∷ xs) (suc i) x y at same = ap (λ (ws : List Y). f z ∷ ws) (map-set_same f xs i x y at same)
-
-all_set : {X : Type 0} (P : X → Type 0) (xs : List X) (i : ℕ) (y : X) → AllByRecursion P xs → P y → AllByRecursion P (set xs i y)
-all_set P [] i y all p = tt
-all_set P (x ∷ xs) zero y all p = (p, all.1)
-all_set P (x ∷ xs) (suc i) y all p = (all.0, all_set P xs i y all.1 p)
 
 all_weaker : {X : Type 0} (P Q : X → Type 0) → ((x : X) → P x → Q x) → (xs : List X) → AllByRecursion P xs → AllByRecursion Q xs
 all_weaker P Q h [] all = tt
@@ -90,72 +72,92 @@ closed-numbered first given states (s ∷ shuts) =
 
 -- ---- a state more
 
-module _ (t : Task) (notes : List Note) (heads : Heads) (shuts : List Shut) (entered : ℕ) (k : IsKept t notes heads shuts entered) where
-  states_count : length (map state_of notes) ≡ length notes
-  states_count = length-map notes state_of
+module _ (t : Task) (states : List State) (notes : List Note) (heads : List (Option ℕ)) (shuts : List Shut) (entered : ℕ) (k : IsKept t states notes heads shuts entered) where
+  notes_count : length notes ≡ length states
+  notes_count = k.as_many
 
-  pub within_states : AllByRecursion (λ s. s.state < length (map state_of notes)) shuts
-  within_states = subst (λ (n : ℕ). AllByRecursion (λ (s : Shut). s.state < n) shuts) (sym states_count) k.within
+  -- the state of a note
+  pub state_there : (place : ℕ) (n : Note) → slice_get notes place ≡ Some n → (s : State) × (slice_get states place ≡ Some s)
+  state_there place n at =
+      let lt = slice_get_within notes place n at in
+      slice_get_there states place (omega (arith, notes_count))
+
+  -- notes that say the same
+  pub kept_alike : (notes' : List Note) (heads' : List (Option ℕ)) → AreAlike notes notes' → IsTable states notes' heads' → IsKept t states notes' heads' shuts entered
+  kept_alike notes' heads' alike table = record {
+    as_many = alike.as_many ∙ k.as_many;
+    of_task = k.of_task;
+    noted = λ i s m is at.
+        let x = alike.each i m at in
+        let same = x.2 in
+        subst (λ (o : Option EstimateValue). IfSome o (λ v. estimated v ≡ hmax t s)) (sym same.value) (k.noted i s x.0 is x.1);
+    table = table;
+    once = k.once;
+    within = k.within;
+    least = λ i m at.
+        let x = alike.each i m at in
+        let same = x.2 in
+        subst (λ (o : Option ℕ). IsLeastOf shuts i o) (sym same.least) (k.least i x.0 x.1);
+    numbered = k.numbered;
+    bounded = k.bounded;
+  }
 
   pub kept_push :
-      (heads' : Heads) (s : State) (before : Option ℕ) → IsStateOf t s → ((j : ℕ) → slice_get (map state_of notes) j ≡ Some s → ⊥)
-      → AreChained (notes ++ note_of s before ∷ []) heads' → IsKept t (notes ++ note_of s before ∷ []) heads' shuts entered
-  kept_push heads' s before of absent chained =
-      let longer : map state_of (notes ++ note_of s before ∷ []) ≡ map state_of notes ++ s ∷ [] = map-append state_of notes (note_of s before ∷ []) in
-      let more : length (notes ++ note_of s before ∷ []) ≡ length notes + 1 = length-append notes (note_of s before ∷ []) in
-      record {
-        noted = AllByRecursion-push (IsNoted t) notes (note_of s before) k.noted (record { of_task = of; value = tt });
-        chained = chained;
-        once = λ i j u at there.
-            let at' = subst (λ (xs : List State). slice_get xs i ≡ Some u) longer at in
-            let there' = subst (λ (xs : List State). slice_get xs j ≡ Some u) longer there in
-            ⊎_elim (λ a. ⊎_elim (λ b. k.once i j u a b) (λ b. absurd (absent i (a ∙ ap Some (sym b.1)))) (get_push (map state_of notes) s j u there'))
-            (λ a. ⊎_elim (λ b. absurd (absent j (b ∙ ap Some (sym a.1)))) (λ b. a.0 ∙ sym b.0) (get_push (map state_of notes) s j u there'))
-            (get_push (map state_of notes) s i u at');
-        within = subst (λ (n : ℕ). AllByRecursion (λ (x : Shut). x.state < n) shuts) (sym more) (all_weaker (λ (x : Shut). x.state < length notes) (λ (x : Shut). x.state < length notes + 1) (λ x lt. omega arith) shuts k.within);
-        least = λ i n at.
-            ⊎_elim (λ there. k.least i n there)
-            (λ here. subst (λ (m : Note). IsLeastOf shuts i m.least) here.1
-            (λ j x there is. let lt = AllByRecursion-slice_get (λ (x : Shut). x.state < length notes) shuts j x k.within there in absurd (omega (arith, here.0))))
-            (get_push notes (note_of s before) i n at);
-        numbered = k.numbered;
-        bounded = k.bounded;
-      }
+      (notes' : List Note) (heads' : List (Option ℕ)) (s : State) (hash : ℕ) → IsStateOf t s → ((j : ℕ) → slice_get states j ≡ Some s → ⊥)
+      → AreAlike (notes ++ note_of hash None ∷ []) notes' → IsTable (states ++ s ∷ []) notes' heads' → IsKept t (states ++ s ∷ []) notes' heads' shuts entered
+  kept_push notes' heads' s hash of absent alike table = record {
+    as_many = (let of = table.notes_of in of.as_many);
+    of_task = AllByRecursion-push (IsStateOf t) states s k.of_task of;
+    noted = λ i u m is at. let x = alike.each i m at in noted_at i u m x.0 is x.2 (get_push notes (note_of hash None) i x.0 x.1);
+    table = table;
+    once = λ i j u at there.
+        ⊎_elim (λ a. ⊎_elim (λ b. k.once i j u a b) (λ b. absurd (absent i (a ∙ ap Some (sym b.1)))) (get_push states s j u there))
+        (λ a. ⊎_elim (λ b. absurd (absent j (b ∙ ap Some (sym a.1)))) (λ b. a.0 ∙ sym b.0) (get_push states s j u there))
+        (get_push states s i u at);
+    within = subst (λ (n : ℕ). AllByRecursion (λ (x : Shut). x.state < n) shuts) (sym (length-append states (s ∷ []))) (all_weaker (λ (x : Shut). x.state < length states) (λ (x : Shut). x.state < length states + 1) (λ x lt. omega arith) shuts k.within);
+    least = λ i m at. let x = alike.each i m at in least_at i m x.0 x.2 (get_push notes (note_of hash None) i x.0 x.1);
+    numbered = k.numbered;
+    bounded = k.bounded;
+  }
+    where
+      noted_at :
+          (i : ℕ) (u : State) (m n : Note) → slice_get (states ++ s ∷ []) i ≡ Some u → IsAlike n m → (slice_get notes i ≡ Some n) ⊎ ((i ≡ length notes) × (note_of hash None ≡ n))
+          → IsNoted t u m
+      noted_at i u m n is same (inl old) =
+          let lt = slice_get_within notes i n old in
+          subst (λ (o : Option EstimateValue). IfSome o (λ v. estimated v ≡ hmax t u)) (sym same.value)
+          (k.noted i u n (get_back states (s ∷ []) i u (omega (arith, notes_count)) is) old)
+      noted_at i u m n is same (inr last) =
+          subst (λ (o : Option EstimateValue). IfSome o (λ v. estimated v ≡ hmax t u)) (ap (λ (x : Note). x.value) last.1 ∙ sym same.value) tt
 
-  -- ---- a note changes, but not its state or its chain
+      least_at : (i : ℕ) (m n : Note) → IsAlike n m → (slice_get notes i ≡ Some n) ⊎ ((i ≡ length notes) × (note_of hash None ≡ n)) → IsLeastOf shuts i m.least
+      least_at i m n same (inl old) = subst (λ (o : Option ℕ). IsLeastOf shuts i o) (sym same.least) (k.least i n old)
+      least_at i m n same (inr last) =
+          subst (λ (o : Option ℕ). IsLeastOf shuts i o) (ap (λ (x : Note). x.least) last.1 ∙ sym same.least)
+          (λ j x there is. let lt = AllByRecursion-slice_get (λ (x : Shut). x.state < length states) shuts j x k.within there in absurd (omega (arith, last.0, notes_count)))
 
-  set_chained :
-      (place : ℕ) (n n' : Note) → slice_get notes place ≡ Some n → n'.state ≡ n.state → n'.before ≡ n.before → AreChained (set notes place n') heads
-  set_chained place n n' at same chain =
-      let states_same : map state_of (set notes place n') ≡ map state_of notes = map-set_same state_of notes place n n' at same in
-      record {
-        before = λ i m there.
-            subst (λ (xs : List State). IsLast xs (short_hash m.state) i m.before) (sym states_same)
-            (⊎_elim (λ here. subst (λ (x : Note). IsLast (map state_of notes) (short_hash x.state) i x.before) here.1
-            (subst (λ (u : State). IsLast (map state_of notes) (short_hash u) i n'.before) (sym same)
-            (subst (λ (o : Option ℕ). IsLast (map state_of notes) (short_hash n.state) i o) (sym chain)
-            (k.chained.before i n (ap (slice_get notes) here.0 ∙ at)))))
-            (λ other. k.chained.before i m other) (get_set notes place n' i m there));
-        last = λ hash.
-            subst (λ (xs : List State). IsLast xs hash (length (set notes place n')) (get nat_eq heads hash)) (sym states_same)
-            (subst (λ (i : ℕ). IsLast (map state_of notes) hash i (get nat_eq heads hash)) (sym (length-set notes place n')) (k.chained.last hash));
-      }
+  -- ---- a note changes, but not its hash or its chain
 
   pub kept_set :
-      (shuts' : List Shut) (place : ℕ) (n n' : Note) → slice_get notes place ≡ Some n → n'.state ≡ n.state → n'.before ≡ n.before → IsNoted t n'
-      → AllByRecursion (λ s. s.state < length notes) shuts' → ((i : ℕ) (m : Note) → slice_get (set notes place n') i ≡ Some m → IsLeastOf shuts' i m.least)
-      → HasNumbered shuts' entered → entered ≤ length shuts' → IsKept t (set notes place n') heads shuts' entered
-  kept_set shuts' place n n' at same chain noted within least numbered bounded =
-      let states_same : map state_of (set notes place n') ≡ map state_of notes = map-set_same state_of notes place n n' at same in
-      record {
-        noted = all_set (IsNoted t) notes place n' k.noted noted;
-        chained = set_chained place n n' at same chain;
-        once = λ i j u here there. k.once i j u (subst (λ (xs : List State). slice_get xs i ≡ Some u) states_same here) (subst (λ (xs : List State). slice_get xs j ≡ Some u) states_same there);
-        within = subst (λ (m : ℕ). AllByRecursion (λ (s : Shut). s.state < m) shuts') (sym (length-set notes place n')) within;
-        least = least;
-        numbered = numbered;
-        bounded = bounded;
-      }
+      (shuts' : List Shut) (place : ℕ) (s : State) (n n' : Note) → slice_get states place ≡ Some s → slice_get notes place ≡ Some n → n'.hash ≡ n.hash → n'.before ≡ n.before → IsNoted t s n'
+      → AllByRecursion (λ s. s.state < length states) shuts' → ((i : ℕ) (m : Note) → slice_get (set notes place n') i ≡ Some m → IsLeastOf shuts' i m.least)
+      → HasNumbered shuts' entered → entered ≤ length shuts' → IsKept t states (set notes place n') heads shuts' entered
+  kept_set shuts' place s n n' is at hash chain noted within least numbered bounded = record {
+    as_many = length-set notes place n' ∙ k.as_many;
+    of_task = k.of_task;
+    noted = λ i u m there in_place. ⊎_elim (λ here. noted_at i u m there here.0 here.1) (λ other. k.noted i u m there other) (get_set notes place n' i m in_place);
+    table = table_set states notes heads place n n' k.table at hash chain;
+    once = k.once;
+    within = within;
+    least = least;
+    numbered = numbered;
+    bounded = bounded;
+  }
+    where
+      noted_at : (i : ℕ) (u : State) (m : Note) → slice_get states i ≡ Some u → i ≡ place → n' ≡ m → IsNoted t u m
+      noted_at i u m there e same =
+          let its : s ≡ u = same_Some s u (sym is ∙ (ap (slice_get states) (sym e) ∙ there)) in
+          subst (λ (x : Note). IsNoted t u x) same (subst (λ (v : State). IsNoted t v n') its noted)
 
   -- a note has its estimate from now on
   valued : (x : Option ℕ) (o : Option EstimateValue) (v : EstimateValue) → IfSome o (λ w. w ≡ v) → estimated v ≡ x → IfSome o (λ w. estimated w ≡ x)
@@ -163,15 +165,10 @@ module _ (t : Task) (notes : List Note) (heads : Heads) (shuts : List Shut) (ent
   valued x (Some w) v value is = ap estimated value ∙ is
 
   pub kept_valued :
-      (place : ℕ) (n n' : Note) (v : EstimateValue) → slice_get notes place ≡ Some n → n'.state ≡ n.state → n'.before ≡ n.before → n'.least ≡ n.least
-      → IfSome n'.value (λ w. w ≡ v) → estimated v ≡ hmax t n.state → IsKept t (set notes place n') heads shuts entered
-  kept_valued place n n' v at same chain leasts value is =
-      let old = AllByRecursion-slice_get (IsNoted t) notes place n k.noted at in
-      kept_set shuts place n n' at same chain
-      (record {
-        of_task = subst (IsStateOf t) (sym same) old.of_task;
-        value = valued (hmax t n'.state) n'.value v value (is ∙ ap (hmax t) (sym same));
-      }) k.within
+      (place : ℕ) (s : State) (n n' : Note) (v : EstimateValue) → slice_get states place ≡ Some s → slice_get notes place ≡ Some n → n'.hash ≡ n.hash → n'.before ≡ n.before → n'.least ≡ n.least
+      → IfSome n'.value (λ w. w ≡ v) → estimated v ≡ hmax t s → IsKept t states (set notes place n') heads shuts entered
+  kept_valued place s n n' v is at hash chain leasts value estimate =
+      kept_set shuts place s n n' is at hash chain (valued (hmax t s) n'.value v value estimate) k.within
       (λ i m there.
       ⊎_elim (λ here. subst (λ (x : Note). IsLeastOf shuts i x.least) here.1
       (subst (λ (o : Option ℕ). IsLeastOf shuts i o) (sym leasts) (k.least i n (ap (slice_get notes) here.0 ∙ at))))
@@ -226,40 +223,27 @@ module _ (t : Task) (notes : List Note) (heads : Heads) (shuts : List Shut) (ent
       let bound = k.bounded in
       ⊎_elim (λ there. k.numbered j s lt there) (λ here. absurd (omega (arith, here.0))) (get_push shuts x j s at)
 
-  within_push : (x : Shut) → x.state < length notes → AllByRecursion (λ s. s.state < length notes) (shuts ++ x ∷ [])
-  within_push x lt = AllByRecursion-push (λ (s : Shut). s.state < length notes) shuts x k.within lt
+  within_push : (x : Shut) → x.state < length notes → AllByRecursion (λ s. s.state < length states) (shuts ++ x ∷ [])
+  within_push x lt = AllByRecursion-push (λ (s : Shut). s.state < length states) shuts x k.within (omega (arith, notes_count))
 
   bounded_push : (x : Shut) → entered ≤ length (shuts ++ x ∷ [])
   bounded_push x = let a = k.bounded in omega (arith, length-append shuts (x ∷ []))
 
   -- the new one is the cheapest of its state
   pub kept_cheaper :
-      (x : Shut) (n n' : Note) → slice_get notes x.state ≡ Some n → n'.state ≡ n.state → n'.before ≡ n.before → n'.value ≡ n.value → n'.least ≡ Some (length shuts)
-      → ((q : ℕ) (s : Shut) → n.least ≡ Some q → slice_get shuts q ≡ Some s → x.cost < s.cost) → IsKept t (set notes x.state n') heads (shuts ++ x ∷ []) entered
-  kept_cheaper x n n' at same chain values leasts cheaper =
-      let old = AllByRecursion-slice_get (IsNoted t) notes x.state n k.noted at in
-      kept_set (shuts ++ x ∷ []) x.state n n' at same chain
-      (record {
-        of_task = subst (IsStateOf t) (sym same) old.of_task;
-        value = subst (λ (o : Option EstimateValue). IfSome o (λ w. estimated w ≡ hmax t n'.state)) (sym values)
-            (subst (λ (u : State). IfSome n.value (λ w. estimated w ≡ hmax t u)) (sym same) old.value);
-      }) (within_push x (slice_get_within notes x.state n at))
+      (x : Shut) (n n' : Note) → slice_get notes x.state ≡ Some n → n'.hash ≡ n.hash → n'.before ≡ n.before → n'.value ≡ n.value → n'.least ≡ Some (length shuts)
+      → ((q : ℕ) (s : Shut) → n.least ≡ Some q → slice_get shuts q ≡ Some s → x.cost < s.cost) → IsKept t states (set notes x.state n') heads (shuts ++ x ∷ []) entered
+  kept_cheaper x n n' at hash chain values leasts cheaper =
+      let its = state_there x.state n at in
+      kept_set (shuts ++ x ∷ []) x.state its.0 n n' its.1 at hash chain
+      (subst (λ (o : Option EstimateValue). IfSome o (λ w. estimated w ≡ hmax t its.0)) (sym values) (k.noted x.state its.0 n its.1 at)) (within_push x (slice_get_within notes x.state n at))
       (λ i m there.
       ⊎_elim (λ here. subst (λ (y : Note). IsLeastOf (shuts ++ x ∷ []) i y.least) here.1
       (subst (λ (o : Option ℕ). IsLeastOf (shuts ++ x ∷ []) i o) (sym leasts)
       (subst (λ (j : ℕ). IsLeast (shuts ++ x ∷ []) j (length shuts)) (sym here.0) (is_new_least x n.least (k.least x.state n at) cheaper))))
-      (λ other. by_place i m there other (cases_same i)) (get_set notes x.state n' i m there))
+      (λ other. by_place i m there other (same_or_not x.state i)) (get_set notes x.state n' i m there))
       (numbered_push x) (bounded_push x)
     where
-      cases_same : (i : ℕ) → (x.state ≡ i) ⊎ (x.state ≢ i)
-      cases_same i = elim (cases_lt x.state i) [
-        | inl lt ↦ inr (λ e. omega arith)
-        | inr le ↦ elim (cases_lt i x.state) [
-          | inl lt ↦ inr (λ e. omega arith)
-          | inr le' ↦ inl (omega arith)
-        ]
-      ]
-
       by_place : (i : ℕ) (m : Note) → slice_get (set notes x.state n') i ≡ Some m → slice_get notes i ≡ Some m → (x.state ≡ i) ⊎ (x.state ≢ i) → IsLeastOf (shuts ++ x ∷ []) i m.least
       by_place i m there other (inl e) =
           let here : slice_get (set notes x.state n') i ≡ Some n' = subst (λ (j : ℕ). slice_get (set notes x.state n') j ≡ Some n') e (get_set_same notes x.state n' (slice_get_within notes x.state n at)) in
@@ -272,10 +256,12 @@ module _ (t : Task) (notes : List Note) (heads : Heads) (shuts : List Shut) (ent
   -- an older one is
   pub kept_dearer :
       (x : Shut) (n : Note) (q : ℕ) (s : Shut) → slice_get notes x.state ≡ Some n → n.least ≡ Some q → slice_get shuts q ≡ Some s → s.cost ≤ x.cost
-      → IsKept t notes heads (shuts ++ x ∷ []) entered
+      → IsKept t states notes heads (shuts ++ x ∷ []) entered
   kept_dearer x n q s at leasts there cheap = record {
+    as_many = k.as_many;
+    of_task = k.of_task;
     noted = k.noted;
-    chained = k.chained;
+    table = k.table;
     once = k.once;
     within = within_push x (slice_get_within notes x.state n at);
     least = λ i m here. by i m here (cases_lt x.state i) (cases_lt i x.state);
@@ -320,12 +306,14 @@ module _ (t : Task) (notes : List Note) (heads : Heads) (shuts : List Shut) (ent
 
   pub kept_numbered :
       (first : ℕ) (given : List ℕ) (shuts' : List Shut) (entered' : ℕ) → shuts' ≡ map (shut_numbered first given) shuts → HasNumbered shuts' entered' → entered' ≤ length shuts'
-      → IsKept t notes heads shuts' entered'
+      → IsKept t states notes heads shuts' entered'
   kept_numbered first given shuts' entered' is numbered bounded = record {
+    as_many = k.as_many;
+    of_task = k.of_task;
     noted = k.noted;
-    chained = k.chained;
+    table = k.table;
     once = k.once;
-    within = subst (AllByRecursion (λ (s : Shut). s.state < length notes)) (sym is) (within-numbered first given shuts (length notes) k.within);
+    within = subst (AllByRecursion (λ (s : Shut). s.state < length states)) (sym is) (within-numbered first given shuts (length states) k.within);
     least = λ i n at. subst (λ (xs : List Shut). IsLeastOf xs i n.least) (sym is) (least_numbered first given i n.least (k.least i n at));
     numbered = numbered;
     bounded = bounded;
@@ -333,21 +321,21 @@ module _ (t : Task) (notes : List Note) (heads : Heads) (shuts : List Shut) (ent
 
   -- ---- look-ups
 
-  state_there : (place : ℕ) (s : State) → slice_get (map state_of notes) place ≡ Some s → state_at (map state_of notes) place ≡ s
-  state_there place s at = get_or_from_slice_get (map state_of notes) place s nothing at
+  state_at_place : (place : ℕ) (s : State) → slice_get states place ≡ Some s → state_at states place ≡ s
+  state_at_place place s at = get_or_from_slice_get states place s nothing at
 
   -- the cheapest expansion of a state names it
   pub named_by :
-      (place : ℕ) (n : Note) (s : State) (q : ℕ) (x : Shut) (cost : ℕ) → slice_get notes place ≡ Some n → slice_get (map state_of notes) place ≡ Some s
-      → n.least ≡ Some q → slice_get shuts q ≡ Some x → x.cost ≤ cost → IsNamedBy (map (closed_of (map state_of notes)) shuts) s cost x.by
+      (place : ℕ) (n : Note) (s : State) (q : ℕ) (x : Shut) (cost : ℕ) → slice_get notes place ≡ Some n → slice_get states place ≡ Some s
+      → n.least ≡ Some q → slice_get shuts q ≡ Some x → x.cost ≤ cost → IsNamedBy (map (closed_of states) shuts) s cost x.by
   named_by place n s q x cost at is leasts there cheap =
       let l : IsLeast shuts place q = subst (IsLeastOf shuts place) leasts (k.least place n at) in
       let same : l.shut ≡ x = same_Some l.shut x (sym l.there ∙ there) in
       let of : x.state ≡ place = ap (λ (y : Shut). y.state) (sym same) ∙ l.of_state in (
-        closed_of (map state_of notes) x,
+        closed_of states x,
         record {
-          among = Contains-map (closed_of (map state_of notes)) shuts x (among_at shuts q x there);
-          same_state = ap (state_at (map state_of notes)) of ∙ state_there place s is;
+          among = Contains-map (closed_of states) shuts x (among_at shuts q x there);
+          same_state = ap (state_at states) of ∙ state_at_place place s is;
           no_dearer = cheap;
         },
         refl,
@@ -355,14 +343,14 @@ module _ (t : Task) (notes : List Note) (heads : Heads) (shuts : List Shut) (ent
 
   -- an expansion of a state is one that its note knows of
   from_closed :
-      (place : ℕ) (s : State) (cost : ℕ) (c : Closed) → slice_get (map state_of notes) place ≡ Some s → IsClosedAt (map (closed_of (map state_of notes)) shuts) s cost c
+      (place : ℕ) (s : State) (cost : ℕ) (c : Closed) → slice_get states place ≡ Some s → IsClosedAt (map (closed_of states) shuts) s cost c
       → (j : ℕ) × (x : Shut) × (slice_get shuts j ≡ Some x) × (x.state ≡ place) × (x.cost ≤ cost)
   from_closed place s cost c is closed =
-      let from = IsFrom-from_map (closed_of (map state_of notes)) shuts c closed.among in
+      let from = IsFrom-from_map (closed_of states) shuts c closed.among in
       let at = place_of shuts from.source from.among in
-      let lt : from.source.state < length (map state_of notes) = AllByRecursion-slice_get (λ (y : Shut). y.state < length (map state_of notes)) shuts at.0 from.source within_states at.1 in
-      let its : slice_get (map state_of notes) from.source.state ≡ Some (state_at (map state_of notes) from.source.state) = there_at (map state_of notes) from.source.state lt in
-      let same : state_at (map state_of notes) from.source.state ≡ s = ap (λ (y : Closed). y.state) from.is ∙ closed.same_state in
+      let lt : from.source.state < length states = AllByRecursion-slice_get (λ (y : Shut). y.state < length states) shuts at.0 from.source k.within at.1 in
+      let its : slice_get states from.source.state ≡ Some (state_at states from.source.state) = there_at states from.source.state lt in
+      let same : state_at states from.source.state ≡ s = ap (λ (y : Closed). y.state) from.is ∙ closed.same_state in
       let cheap = ap (λ (y : Closed). y.cost) from.is in
       (at.0, from.source, at.1, k.once from.source.state place s (its ∙ ap Some same) is, (let le = closed.no_dearer in omega arith))
     where
@@ -372,16 +360,16 @@ module _ (t : Task) (notes : List Note) (heads : Heads) (shuts : List Shut) (ent
       there_at (u ∷ states) (suc i) lt = there_at states i (omega arith)
 
   pub none_closed :
-      (place : ℕ) (n : Note) (s : State) (cost : ℕ) → slice_get notes place ≡ Some n → slice_get (map state_of notes) place ≡ Some s → n.least ≡ None
-      → IsDearer (map (closed_of (map state_of notes)) shuts) s cost
+      (place : ℕ) (n : Note) (s : State) (cost : ℕ) → slice_get notes place ≡ Some n → slice_get states place ≡ Some s → n.least ≡ None
+      → IsDearer (map (closed_of states) shuts) s cost
   none_closed place n s cost at is none c closed =
       let x = from_closed place s cost c is closed in
       let absent : IsLeastOf shuts place None = subst (IsLeastOf shuts place) none (k.least place n at) in
       absent x.0 x.1 x.2 x.3
 
   pub all_dearer :
-      (place : ℕ) (n : Note) (s : State) (q : ℕ) (y : Shut) (cost : ℕ) → slice_get notes place ≡ Some n → slice_get (map state_of notes) place ≡ Some s
-      → n.least ≡ Some q → slice_get shuts q ≡ Some y → cost < y.cost → IsDearer (map (closed_of (map state_of notes)) shuts) s cost
+      (place : ℕ) (n : Note) (s : State) (q : ℕ) (y : Shut) (cost : ℕ) → slice_get notes place ≡ Some n → slice_get states place ≡ Some s
+      → n.least ≡ Some q → slice_get shuts q ≡ Some y → cost < y.cost → IsDearer (map (closed_of states) shuts) s cost
   all_dearer place n s q y cost at is leasts there dear c closed =
       let x = from_closed place s cost c is closed in
       let l : IsLeast shuts place q = subst (IsLeastOf shuts place) leasts (k.least place n at) in
@@ -392,55 +380,54 @@ module _ (t : Task) (notes : List Note) (heads : Heads) (shuts : List Shut) (ent
 
   -- ---- the answers of look-ups
 
-  there_of : (place : ℕ) (n : Note) → slice_get notes place ≡ Some n → slice_get (map state_of notes) place ≡ Some n.state
-  there_of place n at = slice_get-map state_of notes place ∙ ap (option_map state_of) at
-
   abbrev closed_now : List Closed
-  closed_now = map (closed_of (map state_of notes)) shuts
+  closed_now = map (closed_of states) shuts
 
   -- a state's note tells what names an expansion that costs no more
   pub told_by :
       (place : ℕ) (n : Note) (cost : ℕ) → slice_get notes place ≡ Some n
-      → IfSome (no_dearer shuts n.least cost) (λ by. IfSome (slice_get (map state_of notes) place) (λ s. IsNamedBy closed_now s cost by))
+      → IfSome (no_dearer shuts n.least cost) (λ by. IfSome (slice_get states place) (λ s. IsNamedBy closed_now s cost by))
   told_by place n cost at =
-      elim n.least as (λ o. n.least ≡ o → IfSome (no_dearer shuts o cost) (λ by. IfSome (slice_get (map state_of notes) place) (λ s. IsNamedBy closed_now s cost by))) [
+      elim n.least as (λ o. n.least ≡ o → IfSome (no_dearer shuts o cost) (λ by. IfSome (slice_get states place) (λ s. IsNamedBy closed_now s cost by))) [
         | None ↦ λ _. tt
         | Some q ↦ λ leasts. at_slot q leasts (slice_get shuts q) refl
       ] refl
     where
-      named : (q : ℕ) (x : Shut) → n.least ≡ Some q → slice_get shuts q ≡ Some x → x.cost ≤ cost → IfSome (slice_get (map state_of notes) place) (λ s. IsNamedBy closed_now s cost x.by)
+      named : (q : ℕ) (x : Shut) → n.least ≡ Some q → slice_get shuts q ≡ Some x → x.cost ≤ cost → IfSome (slice_get states place) (λ s. IsNamedBy closed_now s cost x.by)
       named q x leasts there cheap =
-          subst (λ (o : Option State). IfSome o (λ s. IsNamedBy closed_now s cost x.by)) (sym (there_of place n at))
-          (named_by place n n.state q x cost at (there_of place n at) leasts there cheap)
+          let is = state_there place n at in
+          subst (λ (o : Option State). IfSome o (λ s. IsNamedBy closed_now s cost x.by)) (sym is.1)
+          (named_by place n is.0 q x cost at is.1 leasts there cheap)
 
-      by_test : (q : ℕ) (x : Shut) → n.least ≡ Some q → slice_get shuts q ≡ Some x → (b : Bool) → nat_le x.cost cost ≡ b → IfSome (cond b (Some x.by) None) (λ by. IfSome (slice_get (map state_of notes) place) (λ s. IsNamedBy closed_now s cost by))
+      by_test : (q : ℕ) (x : Shut) → n.least ≡ Some q → slice_get shuts q ≡ Some x → (b : Bool) → nat_le x.cost cost ≡ b → IfSome (cond b (Some x.by) None) (λ by. IfSome (slice_get states place) (λ s. IsNamedBy closed_now s cost by))
       by_test q x leasts there true e = named q x leasts there (leb-true x.cost cost e)
       by_test q x leasts there false e = tt
 
       at_slot :
           (q : ℕ) → n.least ≡ Some q → (o : Option Shut) → slice_get shuts q ≡ o
-          → IfSome (no_dearer_than o cost) (λ by. IfSome (slice_get (map state_of notes) place) (λ s. IsNamedBy closed_now s cost by))
+          → IfSome (no_dearer_than o cost) (λ by. IfSome (slice_get states place) (λ s. IsNamedBy closed_now s cost by))
       at_slot q leasts None there = tt
       at_slot q leasts (Some x) there = by_test q x leasts there (nat_le x.cost cost) refl
 
   -- and where it tells of none, there is none
   pub told_of_none :
       (place : ℕ) (n : Note) (cost : ℕ) → slice_get notes place ≡ Some n
-      → IfNone (no_dearer shuts n.least cost) (IfSome (slice_get (map state_of notes) place) (λ s. IsDearer closed_now s cost))
+      → IfNone (no_dearer shuts n.least cost) (IfSome (slice_get states place) (λ s. IsDearer closed_now s cost))
   told_of_none place n cost at =
-      elim n.least as (λ o. n.least ≡ o → IfNone (no_dearer shuts o cost) (IfSome (slice_get (map state_of notes) place) (λ s. IsDearer closed_now s cost))) [
-        | None ↦ λ none. at_state (none_closed place n n.state cost at (there_of place n at) none)
+      elim n.least as (λ o. n.least ≡ o → IfNone (no_dearer shuts o cost) (IfSome (slice_get states place) (λ s. IsDearer closed_now s cost))) [
+        | None ↦ λ none. let is = state_there place n at in at_state is.0 is.1 (none_closed place n is.0 cost at is.1 none)
         | Some q ↦ λ leasts. at_slot q leasts (slice_get shuts q) refl
       ] refl
     where
-      at_state : IsDearer closed_now n.state cost → IfSome (slice_get (map state_of notes) place) (λ s. IsDearer closed_now s cost)
-      at_state d = subst (λ (o : Option State). IfSome o (λ s. IsDearer closed_now s cost)) (sym (there_of place n at)) d
+      at_state : (u : State) → slice_get states place ≡ Some u → IsDearer closed_now u cost → IfSome (slice_get states place) (λ s. IsDearer closed_now s cost)
+      at_state u is d = subst (λ (o : Option State). IfSome o (λ s. IsDearer closed_now s cost)) (sym is) d
 
-      by_test : (q : ℕ) (x : Shut) → n.least ≡ Some q → slice_get shuts q ≡ Some x → (b : Bool) → nat_le x.cost cost ≡ b → IfNone (cond b (Some x.by) None) (IfSome (slice_get (map state_of notes) place) (λ s. IsDearer closed_now s cost))
+      by_test : (q : ℕ) (x : Shut) → n.least ≡ Some q → slice_get shuts q ≡ Some x → (b : Bool) → nat_le x.cost cost ≡ b → IfNone (cond b (Some x.by) None) (IfSome (slice_get states place) (λ s. IsDearer closed_now s cost))
       by_test q x leasts there true e = tt
-      by_test q x leasts there false e = at_state (all_dearer place n n.state q x cost at (there_of place n at) leasts there (leb-false x.cost cost e))
+      by_test q x leasts there false e =
+          let is = state_there place n at in at_state is.0 is.1 (all_dearer place n is.0 q x cost at is.1 leasts there (leb-false x.cost cost e))
 
-      at_slot : (q : ℕ) → n.least ≡ Some q → (o : Option Shut) → slice_get shuts q ≡ o → IfNone (no_dearer_than o cost) (IfSome (slice_get (map state_of notes) place) (λ s. IsDearer closed_now s cost))
+      at_slot : (q : ℕ) → n.least ≡ Some q → (o : Option Shut) → slice_get shuts q ≡ o → IfNone (no_dearer_than o cost) (IfSome (slice_get states place) (λ s. IsDearer closed_now s cost))
       at_slot q leasts None there =
           let l : IsLeast shuts place q = subst (IsLeastOf shuts place) leasts (k.least place n at) in
           absurd (none-some l.shut (sym there ∙ l.there))
@@ -455,39 +442,37 @@ module _ (t : Task) (notes : List Note) (heads : Heads) (shuts : List Shut) (ent
       ltb-true cost s.cost (sym (ap (λ (o : Option Shut). is_cheaper_than o cost) same) ∙ test)
 
   pub closed_cheaper :
-      (place : ℕ) (x : Shut) (n n' : Note) → x.state ≡ place → slice_get notes place ≡ Some n → n'.state ≡ n.state → n'.before ≡ n.before → n'.value ≡ n.value → n'.least ≡ Some (length shuts)
-      → is_cheaper shuts n.least x.cost ≡ true → IsKept t (set notes place n') heads (shuts ++ x ∷ []) entered
+      (place : ℕ) (x : Shut) (n n' : Note) → x.state ≡ place → slice_get notes place ≡ Some n → n'.hash ≡ n.hash → n'.before ≡ n.before → n'.value ≡ n.value → n'.least ≡ Some (length shuts)
+      → is_cheaper shuts n.least x.cost ≡ true → IsKept t states (set notes place n') heads (shuts ++ x ∷ []) entered
   closed_cheaper place x n n' of at same chain values leasts test =
-      subst (λ (i : ℕ). IsKept t (set notes i n') heads (shuts ++ x ∷ []) entered) of
+      subst (λ (i : ℕ). IsKept t states (set notes i n') heads (shuts ++ x ∷ []) entered) of
       (kept_cheaper x n n' (ap (slice_get notes) of ∙ at) same chain values leasts (cheaper_all n.least x.cost test))
 
   pub closed_dearer :
-      (place : ℕ) (x : Shut) (n : Note) → x.state ≡ place → slice_get notes place ≡ Some n → is_cheaper shuts n.least x.cost ≡ false → IsKept t notes heads (shuts ++ x ∷ []) entered
+      (place : ℕ) (x : Shut) (n : Note) → x.state ≡ place → slice_get notes place ≡ Some n → is_cheaper shuts n.least x.cost ≡ false → IsKept t states notes heads (shuts ++ x ∷ []) entered
   closed_dearer place x n of at test =
-      elim n.least as (λ o. n.least ≡ o → is_cheaper shuts o x.cost ≡ false → IsKept t notes heads (shuts ++ x ∷ []) entered) [
+      elim n.least as (λ o. n.least ≡ o → is_cheaper shuts o x.cost ≡ false → IsKept t states notes heads (shuts ++ x ∷ []) entered) [
         | None ↦ λ _ e. absurd (cc)
         | Some q ↦ λ leasts e. at_slot q leasts (slice_get shuts q) refl e
       ] refl test
     where
-      at_slot : (q : ℕ) → n.least ≡ Some q → (o : Option Shut) → slice_get shuts q ≡ o → is_cheaper_than o x.cost ≡ false → IsKept t notes heads (shuts ++ x ∷ []) entered
+      at_slot : (q : ℕ) → n.least ≡ Some q → (o : Option Shut) → slice_get shuts q ≡ o → is_cheaper_than o x.cost ≡ false → IsKept t states notes heads (shuts ++ x ∷ []) entered
       at_slot q leasts None there e = absurd (cc)
       at_slot q leasts (Some s) there e = kept_dearer x n q s (ap (slice_get notes) of ∙ at) leasts there (ltb-false x.cost s.cost e)
 
   -- ---- estimates
 
-  pub value_known : (place : ℕ) (n : Note) (v : EstimateValue) → slice_get notes place ≡ Some n → n.value ≡ Some v → IfSome (slice_get (map state_of notes) place) (λ s. estimated v ≡ hmax t s)
+  pub value_new : (place : ℕ) (s : State) (v : EstimateValue) → slice_get states place ≡ Some s → estimated v ≡ hmax t s → IfSome (slice_get states place) (λ s. estimated v ≡ hmax t s)
+  value_new place s v at is = subst (λ (o : Option State). IfSome o (λ s. estimated v ≡ hmax t s)) (sym at) is
+
+  pub value_known : (place : ℕ) (n : Note) (v : EstimateValue) → slice_get notes place ≡ Some n → n.value ≡ Some v → IfSome (slice_get states place) (λ s. estimated v ≡ hmax t s)
   value_known place n v at is =
-      let noted = AllByRecursion-slice_get (IsNoted t) notes place n k.noted at in
-      value_of place n v at (subst (λ (o : Option EstimateValue). IfSome o (λ w. estimated w ≡ hmax t n.state)) is noted.value)
-    where
-      value_of : (place : ℕ) (n : Note) (v : EstimateValue) → slice_get notes place ≡ Some n → estimated v ≡ hmax t n.state → IfSome (slice_get (map state_of notes) place) (λ s. estimated v ≡ hmax t s)
-      value_of place n v at is = subst (λ (o : Option State). IfSome o (λ s. estimated v ≡ hmax t s)) (sym (there_of place n at)) is
+      let its = state_there place n at in
+      let noted : IfSome n.value (λ w. estimated w ≡ hmax t its.0) = k.noted place its.0 n its.1 at in
+      value_new place its.0 v its.1 (subst (λ (o : Option EstimateValue). IfSome o (λ w. estimated w ≡ hmax t its.0)) is noted)
 
-  pub value_new : (place : ℕ) (n : Note) (v : EstimateValue) → slice_get notes place ≡ Some n → estimated v ≡ hmax t n.state → IfSome (slice_get (map state_of notes) place) (λ s. estimated v ≡ hmax t s)
-  value_new place n v at is = subst (λ (o : Option State). IfSome o (λ s. estimated v ≡ hmax t s)) (sym (there_of place n at)) is
-
-  pub state_of_task : (place : ℕ) (n : Note) → slice_get notes place ≡ Some n → IsStateOf t n.state
-  state_of_task place n at = (AllByRecursion-slice_get (IsNoted t) notes place n k.noted at).of_task
+  pub state_of_task : (place : ℕ) (s : State) → slice_get states place ≡ Some s → IsStateOf t s
+  state_of_task place s at = AllByRecursion-slice_get (IsStateOf t) states place s k.of_task at
 
 -- ---- naming expansions from a place on
 
@@ -510,13 +495,6 @@ numbering_starts first given shuts from entered = record {
   rest = λ j s le at. at;
   as_many = refl;
 }
-
-get_set_other : {X : Type 0} (xs : List X) (i : ℕ) (y : X) (k : ℕ) → i ≢ k → slice_get (set xs i y) k ≡ slice_get xs k
-get_set_other [] i y k ne = refl
-get_set_other (x ∷ xs) zero y zero ne = absurd (ne refl)
-get_set_other (x ∷ xs) zero y (suc k) ne = refl
-get_set_other (x ∷ xs) (suc i) y zero ne = refl
-get_set_other (x ∷ xs) (suc i) y (suc k) ne = get_set_other xs i y k (λ e. ne (ap suc e))
 
 pub numbering_goes_on :
     (first : ℕ) (given : List ℕ) (before shuts : List Shut) (place : ℕ) (x y : Shut) → IsNumbering first given before shuts place → place < length shuts
@@ -581,6 +559,5 @@ written_back len new items e f =
     ap (take len) (ap (λ ys. new ++ ys) (drop_of_length-le items (omega arith)) ∙ append-nil new) ∙ take_all len new (omega arith)
 
 -- a note that is read
-pub note_there : (notes : List Note) (states : List State) (place : ℕ) (n : Note) → map state_of notes ≡ states → place < length states → n ≡ get_or notes place n → slice_get notes place ≡ Some n
-note_there notes states place n are within read =
-    slice_get_read notes (length notes) place n refl (let same = ap length are in let count = length-map notes state_of in omega arith) read
+pub note_there : (notes : List Note) (count place : ℕ) (n : Note) → length notes ≡ count → place < count → n ≡ get_or notes place n → slice_get notes place ≡ Some n
+note_there notes count place n many within read = slice_get_read notes (length notes) place n refl (omega arith) read

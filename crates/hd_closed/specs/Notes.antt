@@ -1,33 +1,51 @@
--- How the note of a state is found: notes whose states have the same short hash are chained, the last one first. (Our own.)
-use Rattle.std.specs.Prelude.{◌≡◌, ℕ, ◌%◌, ◌<◌, List, Option, Some, None, nat_eq, map, length, slice_get}
-use Rattle.std.specs.HashMap.{HashMap, get}
-use Rattle.std.specs.declared.hash.FoldHasher.{FoldHasher}
-use Rattle.std.specs.declared.hash.BuildHasherDefault.{BuildHasherDefault}
+-- How the note of a state is found: notes whose states are in the same bucket are chained, the last one first. (Hash tables with chains:
+-- Knuth 1973.)
+use Rattle.std.specs.Prelude.{◌≡◌, ℕ, ◌%◌, ◌<◌, ◌≤◌, List, Option, Some, None, length, slice_get, slice_index_or}
 use Rattle.hd_task.specs.declared.state.State.{State}
 use Rattle.hd_zobrist.specs.Hash.{state_hash}
 use Rattle.hd_closed.specs.declared.notes.Note.{Note}
 
-abbrev pub state_of : Note → State
-state_of n = n.state
+-- the note of a hash of whose state nothing is known yet
+abbrev pub note_of : ℕ → Option ℕ → Note
+note_of hash before = record { hash = hash; value = None; least = None; before = before }
 
--- the note of a state of which nothing is known yet
-abbrev pub note_of : State → Option ℕ → Note
-note_of s before = record { state = s; value = None; least = None; before = before }
+-- two notes say the same of a state
+pub record IsAlike (n n' : Note) : Type 0 where
+  pub hash : n'.hash ≡ n.hash
+  pub value : n'.value ≡ n.value
+  pub least : n'.least ≡ n.least
 
--- the lower half of a state's hash
-abbrev pub short_hash : State → ℕ
-short_hash s = state_hash s % 4294967296
+-- each note of the second list says the same as the one at its place in the first
+pub record AreAlike (notes notes' : List Note) : Type 0 where
+  pub as_many : length notes' ≡ length notes
+  pub each : (k : ℕ) (n' : Note) → slice_get notes' k ≡ Some n' → (n : Note) × (slice_get notes k ≡ Some n) × IsAlike n n'
 
--- a state of this short hash stands at a place
-abbrev pub HasHash : List State → ℕ → ℕ → Type 0
-HasHash states hash k = (s : State) × (slice_get states k ≡ Some s) × (short_hash s ≡ hash)
+-- the place that a bucket has
+abbrev pub head_at : List (Option ℕ) → ℕ → Option ℕ
+head_at heads b = slice_index_or heads b None
 
--- where the last state of this short hash stands that comes before a place, if there is one
-abbrev pub IsLast : List State → ℕ → ℕ → Option ℕ → Type 0
-IsLast states hash upto None = (k : ℕ) → k < upto → HasHash states hash k → ⊥
-IsLast states hash upto (Some q) = (q < upto) × HasHash states hash q × ((k : ℕ) → q < k → k < upto → HasHash states hash k → ⊥)
+-- a state of this bucket, of so many, stands at a place
+abbrev pub IsIn : List State → ℕ → ℕ → ℕ → Type 0
+IsIn states buckets b k = (s : State) × (slice_get states k ≡ Some s) × (state_hash s % buckets ≡ b)
 
--- each note has the place of the one before it, and each short hash that of the last one
-pub record AreChained (notes : List Note) (heads : HashMap ℕ ℕ (BuildHasherDefault FoldHasher)) : Type 0 where
-  pub before : (k : ℕ) (n : Note) → slice_get notes k ≡ Some n → IsLast (map state_of notes) (short_hash n.state) k n.before
-  pub last : (hash : ℕ) → IsLast (map state_of notes) hash (length notes) (get nat_eq heads hash)
+-- where the last state of this bucket stands that comes before a place, if there is one
+abbrev pub IsLast : List State → ℕ → ℕ → ℕ → Option ℕ → Type 0
+IsLast states buckets b upto None = (k : ℕ) → k < upto → IsIn states buckets b k → ⊥
+IsLast states buckets b upto (Some q) =
+    (q < upto) × IsIn states buckets b q × ((k : ℕ) → q < k → k < upto → IsIn states buckets b k → ⊥)
+
+-- notes have the hashes of these states
+pub record AreNotesOf (states : List State) (notes : List Note) : Type 0 where
+  pub as_many : length notes ≡ length states
+  pub hashes : (k : ℕ) (n : Note) (s : State) → slice_get notes k ≡ Some n → slice_get states k ≡ Some s → n.hash ≡ state_hash s
+
+-- each of the first notes has the place of the one before it, and each bucket that of the last one of them
+pub record AreChained (states : List State) (notes : List Note) (heads : List (Option ℕ)) (count : ℕ) : Type 0 where
+  pub before : (k : ℕ) (n : Note) → k < count → slice_get notes k ≡ Some n → IsLast states (length heads) (n.hash % length heads) k n.before
+  pub last : (b : ℕ) → b < length heads → IsLast states (length heads) b count (head_at heads b)
+
+-- all notes are chained, and there are no fewer buckets
+pub record IsTable (states : List State) (notes : List Note) (heads : List (Option ℕ)) : Type 0 where
+  pub notes_of : AreNotesOf states notes
+  pub chained : AreChained states notes heads (length notes)
+  pub enough : length notes ≤ length heads

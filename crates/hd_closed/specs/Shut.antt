@@ -1,9 +1,6 @@
 -- What a closed list keeps. (Our own.)
 use Rattle.std.specs.Prelude.{◌≡◌, ℕ, ◌<◌, ◌≤◌, Bool, true, nat_lt, nat_le, if◌then◌else◌, List, Option, Some, None, map, length, slice_get, IfSome}
 use Rattle.std.specs.List.{AllByRecursion}
-use Rattle.std.specs.HashMap.{HashMap}
-use Rattle.std.specs.declared.hash.FoldHasher.{FoldHasher}
-use Rattle.std.specs.declared.hash.BuildHasherDefault.{BuildHasherDefault}
 use Rattle.hd_task.specs.declared.state.State.{State}
 use Rattle.hd_task.specs.declared.task.Task.{Task}
 use Rattle.hd_task.specs.Plans.{IsStateOf}
@@ -14,7 +11,7 @@ use Rattle.hd_node.specs.declared.batch.By.TheVariants.{Entry, Here}
 use Rattle.hd_closed.specs.declared.notes.Note.{Note}
 use Rattle.hd_closed.specs.declared.closed.Shut.{Shut}
 use Rattle.hd_closed.specs.Closed.{Closed, closed_at}
-use Rattle.hd_closed.specs.Notes.{state_of, AreChained}
+use Rattle.hd_closed.specs.Notes.{IsTable}
 use Rattle.hd_closed.specs.Numbering.{numbered}
 
 abbrev pub closed_of : List State → Shut → Closed
@@ -54,10 +51,9 @@ abbrev pub no_dearer : List Shut → Option ℕ → ℕ → Option By
 no_dearer shuts None cost = None
 no_dearer shuts (Some place) cost = no_dearer_than (slice_get shuts place) cost
 
--- what is noted of a state is true of it
-pub record IsNoted (t : Task) (n : Note) : Type 0 where
-  pub of_task : IsStateOf t n.state
-  pub value : IfSome n.value (λ v. estimated v ≡ hmax t n.state)
+-- the estimate that is noted of a state is its own
+abbrev pub IsNoted : Task → State → Note → Type 0
+IsNoted t s n = IfSome n.value (λ v. estimated v ≡ hmax t s)
 
 -- the expansion at a place is the cheapest of its state
 pub record IsLeast (shuts : List Shut) (state : ℕ) (place : ℕ) : Type 0 where
@@ -72,11 +68,13 @@ IsLeastOf shuts state None = (k : ℕ) (s : Shut) → slice_get shuts k ≡ Some
 IsLeastOf shuts state (Some place) = IsLeast shuts state place
 
 -- each state is noted once, and each expansion is of one that is noted
-pub record IsKept (t : Task) (notes : List Note) (heads : HashMap ℕ ℕ (BuildHasherDefault FoldHasher)) (shuts : List Shut) (entered : ℕ) : Type 0 where
-  pub noted : AllByRecursion (IsNoted t) notes
-  pub chained : AreChained notes heads
-  pub once : (i j : ℕ) (s : State) → slice_get (map state_of notes) i ≡ Some s → slice_get (map state_of notes) j ≡ Some s → i ≡ j
-  pub within : AllByRecursion (λ s. s.state < length notes) shuts
+pub record IsKept (t : Task) (states : List State) (notes : List Note) (heads : List (Option ℕ)) (shuts : List Shut) (entered : ℕ) : Type 0 where
+  pub as_many : length notes ≡ length states
+  pub of_task : AllByRecursion (IsStateOf t) states
+  pub noted : (k : ℕ) (s : State) (n : Note) → slice_get states k ≡ Some s → slice_get notes k ≡ Some n → IsNoted t s n
+  pub table : IsTable states notes heads
+  pub once : (i j : ℕ) (s : State) → slice_get states i ≡ Some s → slice_get states j ≡ Some s → i ≡ j
+  pub within : AllByRecursion (λ s. s.state < length states) shuts
   pub least : (k : ℕ) (n : Note) → slice_get notes k ≡ Some n → IsLeastOf shuts k n.least
   pub numbered : HasNumbered shuts entered
   pub bounded : entered ≤ length shuts

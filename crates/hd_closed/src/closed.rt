@@ -5,18 +5,18 @@ ghost use Rattle.hd_hmax.specs.Rounds.{hmax};
 ghost use Rattle.hd_hmax.specs.Value.{estimated};
 ghost use Rattle.hd_closed.specs.Numbering.{closed_numbered, numbered};
 ghost use Rattle.hd_closed.specs.Closed.{closed_at, BeginsWith, IsNamedBy, IsDearer};
-ghost use Rattle.hd_closed.specs.Notes.{state_of, AreChained};
 ghost use Rattle.hd_closed.specs.Shut.{HasNumbered, AreNumbered, is_cheaper, no_dearer};
 
-use crate::notes::{Heads, Note, add, find};
+use crate::notes::{Note, add, find};
 use crate::numbering::numbered;
+use crate::rows::Rows;
 use crate::short::{Known, MAX_PLACES, Place};
 use hd_base::NoMemory;
 use hd_hmax::{EstimateValue, Hmax};
 use hd_node::{By, Hashed};
+use hd_pack::Layout;
 use hd_task::Task;
 use std::alloc::{AllocError, Global};
-use std::collections::HashMap;
 use std::marker::Model;
 
 /// An expansion: what names it, the place of its state's note, and what its plan costs.
@@ -31,8 +31,11 @@ pub(crate) struct Shut {
 #[derive(Debug, Drop)]
 pub struct ClosedList<'t> {
     task: &'t Task,
+    rows: Rows,
+    /// Of each state, what is known of it.
     notes: Vec<Note>,
-    heads: Heads,
+    /// Of each bucket, the place of its last note.
+    heads: Vec<Place>,
     shuts: Vec<Shut>,
     /// All expansions before this place are entries.
     entered: usize,
@@ -41,7 +44,7 @@ pub struct ClosedList<'t> {
 }
 
 impl<'t> Model for ClosedList<'t> {
-    ghost use Rattle.std.specs.Prelude.{◌≡◌, ◌<◌, true, map, vec_len, vec_capacity};
+    ghost use Rattle.std.specs.Prelude.{◌≡◌, ◌<◌, true, map, length, vec_len, vec_capacity};
     ghost use Rattle.hd_closed.specs.Closed.{ClosedView};
     ghost use Rattle.hd_task.specs.contracts.task.Task as tasks;
     ghost use Rattle.std.specs.Coded.{codes};
@@ -50,18 +53,20 @@ impl<'t> Model for ClosedList<'t> {
 
     ghost coded = { Prim.hlevel (codes, tasks.the_row.coded) };
 
-    ghost use Rattle.hd_closed.specs.Notes.{state_of};
     ghost use Rattle.hd_closed.specs.Shut.{closed_of, IsKept};
     ghost use Rattle.hd_closed.specs.declared.short.TheConstants.{MAX_PLACES};
 
     ghost view = { λ c. record {
       task = c.task.now;
-      states = map state_of c.notes.items;
-      closed = map (closed_of (map state_of c.notes.items)) c.shuts.items;
+      states = c.rows.states;
+      closed = map (closed_of c.rows.states) c.shuts.items;
       ready = c.ready;
     } };
 
-    ghost invariant = { λ c. IsKept c.task.now c.notes.items c.heads c.shuts.items c.entered
+    ghost invariant = { λ c. IsKept c.task.now c.rows.states c.notes.items c.heads.items
+        c.shuts.items c.entered
+        × (c.rows.atoms ≡ length c.task.now.atoms)
+        × (c.rows.fluents ≡ length c.task.now.fluents)
         × (c.ready ≡ true → vec_len c.shuts < vec_capacity c.shuts)
         × (c.ready ≡ true → vec_len c.shuts < MAX_PLACES) };
 }
@@ -150,21 +155,13 @@ impl<'t> ClosedList<'t> {
     {
         ClosedList {
             task,
+            rows: Rows::empty(alloc, Layout::new(task)),
             notes: Vec::new(alloc),
-            heads: HashMap::new(alloc),
+            heads: Vec::new(alloc),
             shuts: Vec::new(alloc),
             entered: 0,
             ready: false,
         }
-    }
-
-    /// The state at a place, with its hash.
-    pub fn state(&self, place: usize) -> &Hashed
-        requires { place < length self.now.states }
-        ensures state { slice_get self.now.states place ≡ Some result.now }
-        ensures of_task { IsStateOf self.now.task result.now }
-    {
-        &self.notes[place].state
     }
 
     /// The place of a state. One that was not met before comes behind the others, as a copy.
@@ -180,12 +177,23 @@ impl<'t> ClosedList<'t> {
         ensures place { IfOk result (λ k. slice_get self.new.states k ≡ Some state.now) }
         ensures err { OnErr result (self.new ≡ self.old) }
     {
-        if let Some(place) = find(self.notes.as_slice(), &self.heads, state) {
+        let found = find(
+            &self.rows,
+            self.notes.as_slice(),
+            self.heads.as_slice(),
+            state,
+        );
+        if let Some(place) = found {
             return Ok(place);
         }
-        let copy = state.copied(alloc)?;
         let place = self.notes.len();
-        add(&mut self.notes, &mut self.heads, copy)?;
+        add(
+            alloc,
+            &mut self.rows,
+            &mut self.notes,
+            &mut self.heads,
+            state,
+        )?;
         Ok(place)
     }
 
@@ -202,7 +210,7 @@ impl<'t> ClosedList<'t> {
         if let Some(value) = known {
             return value;
         }
-        let value = estimates.value(self.notes[place].state.state());
+        let value = estimates.value(&self.rows.at(place));
         self.notes[place].value = Known::of(value);
         value
     }

@@ -7,6 +7,8 @@
 mod closed;
 mod notes;
 mod numbering;
+mod row;
+mod rows;
 mod short;
 
 pub use closed::ClosedList;

@@ -1,74 +1,147 @@
 //! What is noted of each state, and how a state's note is found by its hash.
-ghost use Rattle.std.specs.Prelude.{◌≡◌, ℕ, ◌<◌, ◌++◌, [], ◌∷◌, None, nat_eq, map, length, slice_get, IfSome, IfNone, OnOk, OnErr};
-ghost use Rattle.std.specs.HashMap.{get};
-ghost use Rattle.hd_closed.specs.Notes.{short_hash, state_of, note_of, AreChained};
+ghost use Rattle.std.specs.Prelude.{◌≡◌, ℕ, ◌<◌, ◌≤◌, ◌%◌, ◌++◌, List, [], ◌∷◌, None, Some, true, false, length, vec_len, vec_capacity, slice_get, slice_set, IfOk, IfSome, IfNone, OnOk, OnErr};
+ghost use Rattle.hd_task.specs.declared.state.State.{State};
+ghost use Rattle.hd_zobrist.specs.Hash.{state_hash};
+ghost use Rattle.hd_closed.specs.Rows.{IsOfRows};
+ghost use Rattle.hd_closed.specs.Notes.{note_of, head_at, AreAlike, AreNotesOf, AreChained, IsTable};
 
+use crate::rows::Rows;
 use crate::short::{Known, MAX_PLACES, Place};
 use hd_base::NoMemory;
 use hd_node::Hashed;
-use std::alloc::AllocError;
-use std::collections::HashMap;
+use std::alloc::{AllocError, Global};
 
-/// A state, and what is known of it.
+/// What is known of a state.
 #[derive(Debug, Drop)]
 pub(crate) struct Note {
-    pub(crate) state: Hashed,
+    /// The state's hash.
+    hash: u64,
     /// The value of its estimate, once that is known, if it has at most 64 bits.
     pub(crate) value: Known,
     /// The place of its cheapest expansion in the closed list, if it has one.
     pub(crate) least: Place,
-    /// The place of the note before this one whose state has the same short hash.
+    /// The place of the note before this one whose state is in the same bucket.
     before: Place,
 }
 
-/// The places of the last notes, by the short hashes of their states.
-pub(crate) type Heads = HashMap<u32, u32>;
-
-/// The lower half of a state's hash.
-fn short_hash(state: &Hashed) -> u32
-    ensures { result ≡ short_hash state.now }
+/// The bucket of a hash, of so many.
+fn bucket_of(hash: u64, buckets: usize) -> usize
+    requires { 0 < buckets }
+    ensures value { result ≡ hash % buckets }
+    ensures within { result < buckets }
 {
-    (state.hash() % 4_294_967_296) as u32
+    (hash % buckets as u64) as usize
 }
 
-/// The place of the last note whose state has the same short hash.
-fn head_of(heads: &Heads, state: &Hashed) -> Option<usize>
-    ensures { result ≡ get nat_eq heads.now (short_hash state.now) }
+/// The place that the bucket of a hash has.
+#[tactic(auto, using(crate::proofs::Chains::head_read))]
+fn head_of(heads: &[Place], hash: u64) -> Option<usize>
+    requires { 0 < length heads.now }
+    ensures { result ≡ head_at heads.now (hash % length heads.now) }
 {
-    match heads.get(&short_hash(state)) {
-        Some(place) => Some(*place as usize),
-        None => None,
+    let bucket = bucket_of(hash, heads.len());
+    heads[bucket].get()
+}
+
+/// Puts a place into the bucket of a hash, and gives the one that was there.
+#[tactic(auto, using(crate::proofs::Chains::head_read))]
+fn link(heads: &mut Vec<Place>, hash: u64, place: usize) -> Place
+    requires some { 0 < length heads.old.items }
+    requires few { place < MAX_PLACES }
+    ensures heads { heads.new.items
+        ≡ slice_set heads.old.items (hash % length heads.old.items) (Some place) }
+    ensures before { result ≡ head_at heads.old.items (hash % length heads.old.items) }
+{
+    let bucket = bucket_of(hash, heads.len());
+    let before = heads[bucket].copied();
+    heads[bucket] = Place::of(place);
+    before
+}
+
+/// Chains notes anew, by buckets that are empty.
+fn link_all(notes: &mut Vec<Note>, heads: &mut Vec<Place>)
+    requires some { 0 < length heads.old.items }
+    requires few { length notes.old.items ≤ MAX_PLACES }
+    requires empty { (b : ℕ) → head_at heads.old.items b ≡ None }
+    ensures alike { AreAlike notes.old.items notes.new.items }
+    ensures len { length heads.new.items ≡ length heads.old.items }
+    ensures chained { (states : List State) → AreNotesOf states notes.old.items
+        → AreChained states notes.new.items heads.new.items (length notes.old.items) }
+{
+    for place in 0..notes.len() {
+        let hash = notes[place].hash;
+        let before = link(heads, hash, place);
+        notes[place].before = before;
     }
 }
 
-/// The note of a state of which nothing is known yet.
-fn note_by(state: Hashed, before: Option<usize>) -> Note
-    requires { IfSome before (λ k. k < MAX_PLACES) }
-    ensures { result ≡ note_of state before }
+/// So many empty buckets.
+///
+/// # Errors
+/// `NoMemory` where there is no room for them.
+fn buckets_of(alloc: Global, count: usize) -> Result<Vec<Place>, NoMemory>
+    ensures len { IfOk result (λ v. length v.items ≡ count) }
+    ensures empty { IfOk result (λ v. (b : ℕ) → head_at v.items b ≡ None) }
 {
-    let before = match before {
-        Some(place) => Place::of(place),
-        None => Place::none(),
-    };
-    Note {
-        state,
-        value: Known::none(),
-        least: Place::none(),
-        before,
+    let mut buckets = Vec::with_capacity(alloc, count)?;
+    while buckets.len() < count {
+        buckets.push(Place::none())?;
     }
+    Ok(buckets)
+}
+
+/// Makes a bucket for one note more: as many again as there are, where there are as many notes.
+///
+/// # Errors
+/// `NoMemory` where there is no room for them.
+#[tactic(auto, using(crate::proofs::Chains::alike_same))]
+fn cover(
+    alloc: Global,
+    rows: &Rows,
+    notes: &mut Vec<Note>,
+    heads: &mut Vec<Place>,
+) -> Result<(), NoMemory>
+    requires table { IsTable rows.now.states notes.old.items heads.old.items }
+    requires few { length notes.old.items < MAX_PLACES }
+    ensures alike { AreAlike notes.old.items notes.new.items }
+    ensures table { IsTable rows.now.states notes.new.items heads.new.items }
+    ensures room { OnOk result (length notes.new.items < length heads.new.items) }
+{
+    if notes.len() < heads.len() {
+        return Ok(());
+    }
+    let mut grown = buckets_of(alloc, (2 * notes.len()).max(16))?;
+    link_all(notes, &mut grown);
+    *heads = grown;
+    Ok(())
+}
+
+/// Whether this state stands at a place. One of another hash does not.
+fn stands(rows: &Rows, place: usize, noted: u64, state: &Hashed) -> bool
+    requires place { place < length rows.now.states }
+    requires of_rows { IsOfRows rows.now state.now }
+    requires hash { slice_get rows.now.states place ≡ Some state.now
+        → noted ≡ state_hash state.now }
+    ensures yes { result ≡ true → slice_get rows.now.states place ≡ Some state.now }
+    ensures no { result ≡ false → slice_get rows.now.states place ≡ Some state.now → ⊥ }
+{
+    noted == state.hash() && rows.is(place, state.state())
 }
 
 /// The place of a state's note.
-pub(crate) fn find(notes: &[Note], heads: &Heads, state: &Hashed) -> Option<usize>
-    requires { AreChained notes.now heads.now }
-    ensures found { IfSome result (λ k. slice_get (map state_of notes.now) k ≡ Some state.now) }
-    ensures none { IfNone result ((k : ℕ)
-        → slice_get (map state_of notes.now) k ≡ Some state.now → ⊥) }
+pub(crate) fn find(rows: &Rows, notes: &[Note], heads: &[Place], state: &Hashed) -> Option<usize>
+    requires table { IsTable rows.now.states notes.now heads.now }
+    requires of_rows { IsOfRows rows.now state.now }
+    ensures found { IfSome result (λ k. slice_get rows.now.states k ≡ Some state.now) }
+    ensures none { IfNone result ((k : ℕ) → slice_get rows.now.states k ≡ Some state.now → ⊥) }
 {
-    let mut next = head_of(heads, state);
+    if heads.is_empty() {
+        return None;
+    }
+    let mut next = head_of(heads, state.hash());
     while let Some(place) = next {
         let note = &notes[place];
-        if *note.state.state() == *state.state() {
+        if stands(rows, place, note.hash, state) {
             return Some(place);
         }
         next = note.before.get();
@@ -77,27 +150,57 @@ pub(crate) fn find(notes: &[Note], heads: &Heads, state: &Hashed) -> Option<usiz
 }
 
 /// One note more, of a state of which nothing is known yet.
+fn push_note(notes: &mut Vec<Note>, heads: &mut Vec<Place>, hash: u64)
+    requires room { vec_len notes.old < vec_capacity notes.old }
+    requires few { length notes.old.items < MAX_PLACES }
+    requires bucket { length notes.old.items < length heads.old.items }
+    ensures notes { AreAlike (notes.old.items ++ note_of hash None ∷ []) notes.new.items }
+    ensures table { (states : List State) (s : State)
+        → IsTable states notes.old.items heads.old.items → state_hash s ≡ hash
+        → IsTable (states ++ s ∷ []) notes.new.items heads.new.items }
+{
+    let before = link(heads, hash, notes.len());
+    let note = Note {
+        hash,
+        value: Known::none(),
+        least: Place::none(),
+        before,
+    };
+    match notes.push(note) {
+        Ok(()) => {}
+        Err(_) => unreachable!(),
+    }
+}
+
+/// One state more, of which nothing is known yet.
 ///
 /// # Errors
-/// Want of memory; no note has come.
-pub(crate) fn add(notes: &mut Vec<Note>, heads: &mut Heads, state: Hashed) -> Result<(), NoMemory>
-    requires { AreChained notes.old.items heads.old }
-    ensures states { OnOk result (map state_of notes.new.items
-        ≡ map state_of notes.old.items ++ state ∷ []) }
-    ensures notes { OnOk result (notes.new.items ≡ notes.old.items
-        ++ note_of state (get nat_eq heads.old (short_hash state)) ∷ []) }
-    ensures err { OnErr result (notes.new.items ≡ notes.old.items) }
-    ensures chained { AreChained notes.new.items heads.new }
+/// Want of memory; no state has come.
+#[tactic(auto, using(crate::proofs::Chains::alike_same))]
+pub(crate) fn add(
+    alloc: Global,
+    rows: &mut Rows,
+    notes: &mut Vec<Note>,
+    heads: &mut Vec<Place>,
+    state: &Hashed,
+) -> Result<(), NoMemory>
+    requires table { IsTable rows.old.states notes.old.items heads.old.items }
+    requires of_rows { IsOfRows rows.old state.now }
+    ensures atoms { rows.new.atoms ≡ rows.old.atoms }
+    ensures fluents { rows.new.fluents ≡ rows.old.fluents }
+    ensures states { OnOk result (rows.new.states ≡ rows.old.states ++ state.now ∷ []) }
+    ensures notes { OnOk result (AreAlike
+        (notes.old.items ++ note_of (state_hash state.now) None ∷ []) notes.new.items) }
+    ensures err { OnErr result (rows.new.states ≡ rows.old.states) }
+    ensures same { OnErr result (AreAlike notes.old.items notes.new.items) }
+    ensures table { IsTable rows.new.states notes.new.items heads.new.items }
 {
     if notes.len() >= MAX_PLACES {
         return Err(AllocError);
     }
-    let before = head_of(heads, &state);
+    cover(alloc, rows, notes, heads)?;
     notes.reserve(1)?;
-    heads.insert(short_hash(&state), notes.len() as u32)?;
-    let note = note_by(state, before);
-    match notes.push(note) {
-        Ok(()) => Ok(()),
-        Err(_) => unreachable!(),
-    }
+    rows.push(state.state())?;
+    push_note(notes, heads, state.hash());
+    Ok(())
 }

@@ -41,6 +41,13 @@ impl Place {
         }
     }
 
+    /// The same.
+    pub(crate) fn copied(&self) -> Place
+        ensures { result ≡ self.now }
+    {
+        Place { code: self.code }
+    }
+
     /// The place, if it is one.
     pub(crate) fn get(&self) -> Option<usize>
         ensures { result ≡ self.now }

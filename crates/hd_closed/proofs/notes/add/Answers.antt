@@ -1,18 +1,35 @@
-use Rattle.std.proofs.Common.{◌≡◌, ℕ, Some, nat_eq, cond, ◌∷◌, [], ◌++◌, length, List, sym, ap₂, subst, ◌∙◌, rules, arith}
-use Rattle.std.specs.HashMap.{get}
-use Rattle.std.proofs.lemmas.Grind.{common_steps}
+use Rattle.std.proofs.Common.{None, List, ◌∷◌, [], ◌++◌, sym, ap, subst, ◌∙◌}
+use Rattle.hd_zobrist.specs.Hash.{state_hash}
+use Rattle.hd_task.specs.declared.state.State.{State}
 use Rattle.hd_closed.specs.declared.notes.Note.{Note}
-use Rattle.hd_closed.specs.Notes.{short_hash, note_of, AreChained}
-use Rattle.hd_closed.proofs.Chains.{chained_push}
+use Rattle.hd_closed.specs.Rows.{RowsView}
+use Rattle.hd_closed.specs.Notes.{note_of, AreAlike, IsTable}
+use Rattle.hd_closed.proofs.Chains.{alike_then, on_err}
 use Rattle.hd_closed.proofs.notes.add.Goals as goal
 
-pub returns-clause-chained : goal.returns-clause-chained
-returns-clause-chained c =
-    let s = c.args.state in
-    let heads = c.args.heads.now in
-    let notes = c.args.notes.now.items in
-    let items : c.push.new.self.items ≡ notes ++ note_of s (get nat_eq heads (short_hash s)) ∷ [] = first_of (search rules, grind (arith, common_steps)) in
-    let many : c.len-2.result ≡ length notes = omega arith in
-    subst (λ (xs : List Note). AreChained xs c.insert.new.self) (sym items)
-    (chained_push notes heads c.requires c.insert.new.self s
-    (λ q. c.in_ok-insert.ensures.updates.0 q ∙ ap₂ (λ (h l : ℕ). cond (nat_eq h q) (Some l) (get nat_eq heads q)) c.short_hash.ensures many))
+pub returns-in_err-reserve-clause-table : goal.returns-in_err-reserve-clause-table
+returns-in_err-reserve-clause-table c =
+    subst (λ (xs : List Note). IsTable c.args.rows.now.states xs c.cover.new.heads.items) (sym c.reserve.ensures.items) c.in_ok-cover.ensures.table
+
+pub returns-in_err-reserve-clause-same : goal.returns-in_err-reserve-clause-same
+returns-in_err-reserve-clause-same c = on_err _ (subst (AreAlike c.args.notes.now.items) (sym c.reserve.ensures.items) c.in_ok-cover.ensures.alike)
+
+pub returns-in_err-push-clause-table : goal.returns-in_err-push-clause-table
+returns-in_err-push-clause-table c =
+    subst (λ (r : RowsView). IsTable r.states c.reserve.new.self.items c.cover.new.heads.items) (sym c.in_err-push.ensures.err)
+    (subst (λ (xs : List Note). IsTable c.args.rows.now.states xs c.cover.new.heads.items) (sym c.reserve.ensures.items) c.in_ok-cover.ensures.table)
+
+pub returns-in_err-push-clause-same : goal.returns-in_err-push-clause-same
+returns-in_err-push-clause-same c = on_err _ (subst (AreAlike c.args.notes.now.items) (sym c.reserve.ensures.items) c.in_ok-cover.ensures.alike)
+
+pub returns-clause-notes : goal.returns-clause-notes
+returns-clause-notes c =
+    let alike = subst (AreAlike c.args.notes.now.items) (sym c.reserve.ensures.items) c.in_ok-cover.ensures.alike in
+    let more = subst (λ h. AreAlike (c.reserve.new.self.items ++ note_of h None ∷ []) c.push_note.new.notes.items) c.hash.ensures c.push_note.ensures.notes in
+    alike_then c.args.notes.now.items c.reserve.new.self.items c.push_note.new.notes.items (note_of (state_hash c.args.state.now) None) alike more
+
+pub returns-clause-table : goal.returns-clause-table
+returns-clause-table c =
+    let before = subst (λ (xs : List Note). IsTable c.args.rows.now.states xs c.cover.new.heads.items) (sym c.reserve.ensures.items) c.in_ok-cover.ensures.table in
+    subst (λ (ss : List State). IsTable ss c.push_note.new.notes.items c.push_note.new.heads.items) (sym (c.in_ok-push.ensures.ok ∙ ap (λ (u : State). c.args.rows.now.states ++ u ∷ []) c.state.ensures))
+    (c.push_note.ensures.table c.args.rows.now.states c.args.state.now before (sym c.hash.ensures))

@@ -2,7 +2,6 @@ use Rattle.std.proofs.Common.{◌≡◌, List, map, take, drop, ◌++◌, length
 use Rattle.std.proofs.lemmas.List.{length-map}
 use Rattle.hd_closed.specs.declared.closed.Shut.{Shut}
 use Rattle.hd_closed.specs.Closed.{ClosedView}
-use Rattle.hd_closed.specs.Notes.{state_of}
 use Rattle.hd_closed.specs.Numbering.{closed_numbered}
 use Rattle.hd_closed.specs.Shut.{closed_of, shut_numbered, HasNumbered}
 use Rattle.hd_closed.proofs.Keeping.{written_back, entered_numbered, kept_numbered, closed-numbered}
@@ -27,11 +26,13 @@ invariant_of-self c =
     let many : length new ≡ length shuts.items = ap length named ∙ length-map shuts.items (shut_numbered c.args.first c.args.given.now) in
     let whole : take shuts.len (new ++ drop (length new) shuts.items) ≡ new = written_back shuts.len new shuts.items (omega arith) (omega arith) in
     let entered = c.entered_from-self-inside.result in (
-      kept_numbered i.task.now i.notes.items i.heads shuts.items i.entered c.self.invariant.0 c.args.first c.args.given.now (take shuts.len (new ++ drop (length new) shuts.items)) entered (whole ∙ named)
+      kept_numbered i.task.now i.rows.states i.notes.items i.heads.items shuts.items i.entered c.self.invariant.0 c.args.first c.args.given.now (take shuts.len (new ++ drop (length new) shuts.items)) entered (whole ∙ named)
           (subst (λ (xs : List Shut). HasNumbered xs entered) c.as_slice.ensures.value c.entered_from-self-inside.ensures.entered)
           (let bounded = c.entered_from-self-inside.ensures.bounded in let same = ap length c.as_slice.ensures.value in omega arith),
       c.self.invariant.1,
       c.self.invariant.2,
+      c.self.invariant.3,
+      c.self.invariant.4,
     )
 
 pub returns-clause-closed : goal.returns-clause-closed
@@ -42,6 +43,6 @@ returns-clause-closed c =
     let named : new ≡ map (shut_numbered c.args.first c.args.given.now) shuts.items = c.number_from.ensures ∙ ap (map (shut_numbered c.args.first c.args.given.now)) c.as_mut_slice.ensures.value in
     let many : length new ≡ length shuts.items = ap length named ∙ length-map shuts.items (shut_numbered c.args.first c.args.given.now) in
     let whole : take shuts.len (new ++ drop (length new) shuts.items) ≡ new = written_back shuts.len new shuts.items (omega arith) (omega arith) in
-    ap (map (closed_of (map state_of i.notes.items))) (whole ∙ named)
-    ∙ (closed-numbered c.args.first c.args.given.now (map state_of i.notes.items) shuts.items
+    ap (map (closed_of i.rows.states)) (whole ∙ named)
+    ∙ (closed-numbered c.args.first c.args.given.now i.rows.states shuts.items
     ∙ ap (λ (v : ClosedView). map (closed_numbered c.args.first c.args.given.now) v.closed) c.self.view_is)
