@@ -49,11 +49,17 @@ pub struct Watch<'r, R: Eprint + Clock> {
 }
 
 impl<'r, R: Eprint + Clock> Watch<'r, R> {
-    /// That of a search that begins now, by so many workers. Where the clock can't be read, the last line alone is told.
+    /// That of a search that begins now, by so many workers, with so many entries, which count as none of those that it makes. Where the
+    /// clock can't be read, the last line alone is told.
     ///
     /// # Errors
     /// `AllocError` where there is no room for what workers tell.
-    pub fn begin(rt: &'r R, alloc: Global, workers: usize) -> Result<Watch<'r, R>, AllocError> {
+    pub fn begin(
+        rt: &'r R,
+        alloc: Global,
+        workers: usize,
+        entries: u64,
+    ) -> Result<Watch<'r, R>, AllocError> {
         let mut words = Vec::with_capacity(alloc, workers)?;
         for _worker in 0..workers {
             words.push(Word {
@@ -62,7 +68,7 @@ impl<'r, R: Eprint + Clock> Watch<'r, R> {
             })?;
         }
         let last = Last {
-            entries: AtomicU64::new(0),
+            entries: AtomicU64::new(entries),
             open: AtomicU64::new(0),
             acknowledged: AtomicU64::new(0),
             bound: AtomicU64::new(NOTHING),
@@ -73,7 +79,7 @@ impl<'r, R: Eprint + Clock> Watch<'r, R> {
             words,
             last,
             told_at: AtomicU64::new(0),
-            told_entries: AtomicU64::new(0),
+            told_entries: AtomicU64::new(entries),
         })
     }
 

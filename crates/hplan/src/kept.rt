@@ -61,7 +61,8 @@ fn concluded_of<S: Store, R: Threads + Wait + Sync + Eprint + Clock>(
             rt, alloc, task, journal, workers, TOGETHER, how.limit, &OpenGate,
         );
     }
-    let Ok(watch) = Watch::begin(rt, alloc, workers) else {
+    let found = journal.entries().len() as u64;
+    let Ok(watch) = Watch::begin(rt, alloc, workers, found) else {
         return Err(ThreadsFault::Run(RunFault::NoMemory));
     };
     let ended = run(
