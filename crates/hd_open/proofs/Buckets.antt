@@ -4,7 +4,7 @@ use Rattle.std.specs.List.{AllByRecursion}
 use Rattle.std.proofs.lemmas.List.{get_or-set_same, get_or-set_other}
 use Rattle.std.proofs.lemmas.Option.{none-some, same_Some}
 use Rattle.std.proofs.Math.ListN.{get_or-eq_default}
-use Rattle.hd_open.specs.Queue.{IsAmong, IsAscending, bucket, in_buckets}
+use Rattle.hd_open.specs.Queue.{IsAmong, IsAscending, bucket}
 
 -- ---- numbers in a list
 
@@ -78,9 +78,3 @@ bucket_more [] zero = refl
 bucket_more [] (suc t) = refl
 bucket_more (b ∷ small) zero = refl
 bucket_more (b ∷ small) (suc t) = bucket_more small t
-
-pub in_buckets_set :
-    (small : List (List ℕ)) (t : ℕ) (b : List ℕ) → t < length small → in_buckets (set small t b) + length (bucket small t) ≡ in_buckets small + length b
-in_buckets_set [] t b within = absurd (omega arith)
-in_buckets_set (c ∷ small) zero b within = omega arith
-in_buckets_set (c ∷ small) (suc t) b within = let rest = in_buckets_set small t b (omega arith) in omega arith

@@ -11,23 +11,23 @@ use Rattle.hd_open.proofs.Places.{IsPlaced, place_more_some, place_at-le, place_
 
 module _ {A : Type 0} where
   pub counts_raised :
-      (slots slots' : List (Option A)) (c d : Counts) (i : ℕ) → AreCounts slots c → IsRaised c.parts.items d.parts.items (i / 8) → d.all ≡ c.all + 1
-      → IsPlaced slots slots' i → length slots' ≤ 8 * length d.parts.items → AreCounts slots' d
+      (slots slots' : List (Option A)) (c d : Counts) (i : ℕ) → AreCounts slots c → IsRaised c.parts.items d.parts.items (i / 64) → d.all ≡ c.all + 1
+      → IsPlaced slots slots' i → length slots' ≤ 64 * length d.parts.items → AreCounts slots' d
   counts_raised slots slots' c d i k r one p covering = record {
     parts = λ end some_there within.
         let less = start_less end some_there in
         let len = r.len in
         let old = k.parts end some_there (omega arith) in
-        elim (cases_lt (i / 8) end) [
+        elim (cases_lt (i / 64) end) [
           | inr le ↦ (let a = r.earlier end some_there le in
-              let b = p.up_to (8 * start_of end) (omega arith) in
-              let e = p.up_to (8 * end) (omega arith) in
+              let b = p.up_to (64 * start_of end) (omega arith) in
+              let e = p.up_to (64 * end) (omega arith) in
               omega arith)
-          | inl lt ↦ (let e = p.behind (8 * end) (omega arith) in
-              elim (cases_lt (i / 8) (start_of end)) [
-                | inl lt' ↦ (let a = r.later end lt' in let b = p.behind (8 * start_of end) (omega arith) in omega arith)
+          | inl lt ↦ (let e = p.behind (64 * end) (omega arith) in
+              elim (cases_lt (i / 64) (start_of end)) [
+                | inl lt' ↦ (let a = r.later end lt' in let b = p.behind (64 * start_of end) (omega arith) in omega arith)
                 | inr le' ↦ (let a = r.here end (omega arith) (record { from = le'; upto = lt }) in
-                    let b = p.up_to (8 * start_of end) (omega arith) in
+                    let b = p.up_to (64 * start_of end) (omega arith) in
                     omega arith)
               ])
         ];
@@ -36,23 +36,23 @@ module _ {A : Type 0} where
   }
 
   pub counts_lowered :
-      (slots slots' : List (Option A)) (c d : Counts) (i : ℕ) → AreCounts slots c → IsRaised d.parts.items c.parts.items (i / 8) → c.all ≡ d.all + 1
-      → IsPlaced slots' slots i → length slots' ≤ 8 * length d.parts.items → AreCounts slots' d
+      (slots slots' : List (Option A)) (c d : Counts) (i : ℕ) → AreCounts slots c → IsRaised d.parts.items c.parts.items (i / 64) → c.all ≡ d.all + 1
+      → IsPlaced slots' slots i → length slots' ≤ 64 * length d.parts.items → AreCounts slots' d
   counts_lowered slots slots' c d i k r one p covering = record {
     parts = λ end some_there within.
         let less = start_less end some_there in
         let len = r.len in
         let old = k.parts end some_there (omega arith) in
-        elim (cases_lt (i / 8) end) [
+        elim (cases_lt (i / 64) end) [
           | inr le ↦ (let a = r.earlier end some_there le in
-              let b = p.up_to (8 * start_of end) (omega arith) in
-              let e = p.up_to (8 * end) (omega arith) in
+              let b = p.up_to (64 * start_of end) (omega arith) in
+              let e = p.up_to (64 * end) (omega arith) in
               omega arith)
-          | inl lt ↦ (let e = p.behind (8 * end) (omega arith) in
-              elim (cases_lt (i / 8) (start_of end)) [
-                | inl lt' ↦ (let a = r.later end lt' in let b = p.behind (8 * start_of end) (omega arith) in omega arith)
+          | inl lt ↦ (let e = p.behind (64 * end) (omega arith) in
+              elim (cases_lt (i / 64) (start_of end)) [
+                | inl lt' ↦ (let a = r.later end lt' in let b = p.behind (64 * start_of end) (omega arith) in omega arith)
                 | inr le' ↦ (let a = r.here end within (record { from = le'; upto = lt }) in
-                    let b = p.up_to (8 * start_of end) (omega arith) in
+                    let b = p.up_to (64 * start_of end) (omega arith) in
                     omega arith)
               ])
         ];
@@ -62,12 +62,12 @@ module _ {A : Type 0} where
 
   -- ---- parts that have a node, and the greatest numbers
 
-  pub some_counted : (slots : List (Option A)) (c : Counts) (i : ℕ) (x : A) → AreCounts slots c → slice_get slots i ≡ Some (Some x) → AreSome c.parts.items (i / 8)
+  pub some_counted : (slots : List (Option A)) (c : Counts) (i : ℕ) (x : A) → AreCounts slots c → slice_get slots i ≡ Some (Some x) → AreSome c.parts.items (i / 64)
   some_counted slots c i x k at end within has =
       let here : place_at slots (i + 1) ≡ place_at slots i + 1 = place_more_some slots i x at in
       let is = k.parts end (let past = has.upto in omega arith) within in
-      let from = place_at-le slots (8 * start_of end) i (let le = has.from in omega arith) in
-      let to = place_at-le slots (i + 1) (8 * end) (let past = has.upto in omega arith) in
+      let from = place_at-le slots (64 * start_of end) i (let le = has.from in omega arith) in
+      let to = place_at-le slots (i + 1) (64 * end) (let past = has.upto in omega arith) in
       omega arith
 
   -- there is a node in all
@@ -81,7 +81,7 @@ module _ {A : Type 0} where
   below_limit : (slots : List (Option A)) (c : Counts) (group : ℕ) → AreCounts slots c → c.all + 1 < 2 ^ 64 → AreBelowLimit c.parts.items group
   below_limit slots c group k less end within has =
       let is = k.parts end (let past = has.upto in omega arith) within in
-      let most = place_at-le-all slots (8 * end) in
+      let most = place_at-le-all slots (64 * end) in
       let all = k.all in
       omega arith
 
@@ -93,11 +93,11 @@ module _ {A : Type 0} where
       below_limit slots c group k (omega arith)
 
   -- a node more can be counted where a slot is empty
-  pub fits_back : (slots : List (Option A)) (c : Counts) (i : ℕ) → AreCounts slots c → slice_get slots i ≡ Some None → length slots < 2 ^ 64 → AreBelowLimit c.parts.items (i / 8)
+  pub fits_back : (slots : List (Option A)) (c : Counts) (i : ℕ) → AreCounts slots c → slice_get slots i ≡ Some None → length slots < 2 ^ 64 → AreBelowLimit c.parts.items (i / 64)
   fits_back slots c i k empty few =
       let all = k.all in
       let fewer = length-live-lt slots i empty in
-      below_limit slots c (i / 8) k (omega arith)
+      below_limit slots c (i / 64) k (omega arith)
 
   pub all_fits : (slots : List (Option A)) (c : Counts) → AreCounts slots c → c.all ≤ length slots
   all_fits slots c k = let all = k.all in let few = length-live-le slots in omega arith
@@ -109,9 +109,9 @@ module _ {A : Type 0} where
 
   pub counted_push :
       (slots after : List (Option A)) (x : A) (c d : Counts) (i : ℕ) → after ≡ slots ++ Some x ∷ [] → i ≡ length slots → AreCounts slots c
-      → length slots < 8 * length c.parts.items → IsRaised c.parts.items d.parts.items (i / 8) → d.all ≡ c.all + 1 → AreCounts after d
+      → length slots < 64 * length c.parts.items → IsRaised c.parts.items d.parts.items (i / 64) → d.all ≡ c.all + 1 → AreCounts after d
   counted_push slots after x c d i is at k room r one =
-      let s : IsRaised c.parts.items d.parts.items (length slots / 8) = subst (λ (j : ℕ). IsRaised c.parts.items d.parts.items (j / 8)) at r in
+      let s : IsRaised c.parts.items d.parts.items (length slots / 64) = subst (λ (j : ℕ). IsRaised c.parts.items d.parts.items (j / 64)) at r in
       let longer : length (slots ++ Some x ∷ []) ≡ length slots + 1 = length-append slots (Some x ∷ []) in
       let len = r.len in
       subst (λ (ys : List (Option A)). AreCounts ys d) (sym is)
@@ -119,7 +119,7 @@ module _ {A : Type 0} where
 
   pub counted_left :
       (slots : List (Option A)) (x : A) (c d : Counts) (i : ℕ) → slice_get slots i ≡ Some (Some x) → AreCounts slots c
-      → IsRaised d.parts.items c.parts.items (i / 8) → c.all ≡ d.all + 1 → AreCounts (set slots i None) d
+      → IsRaised d.parts.items c.parts.items (i / 64) → c.all ≡ d.all + 1 → AreCounts (set slots i None) d
   counted_left slots x c d i at k r one =
       let same : length (set slots i None) ≡ length slots = length-set slots i None in
       let len = r.len in
@@ -128,7 +128,7 @@ module _ {A : Type 0} where
 
   pub counted_back :
       (slots : List (Option A)) (x : A) (c d : Counts) (i : ℕ) → slice_get slots i ≡ Some None → AreCounts slots c
-      → IsRaised c.parts.items d.parts.items (i / 8) → d.all ≡ c.all + 1 → AreCounts (set slots i (Some x)) d
+      → IsRaised c.parts.items d.parts.items (i / 64) → d.all ≡ c.all + 1 → AreCounts (set slots i (Some x)) d
   counted_back slots x c d i at k r one =
       let same : length (set slots i (Some x)) ≡ length slots = length-set slots i (Some x) in
       let len = r.len in
@@ -138,8 +138,8 @@ module _ {A : Type 0} where
   -- ---- a group more
 
   pub counted_cover :
-      (slots : List (Option A)) (c d : Counts) (before : ℕ) → AreCounts slots c → length c.parts.items ≤ length slots / 8
-      → before ≡ place_at slots (8 * start_of (length slots / 8 + 1)) → d.parts.items ≡ c.parts.items ++ (c.all - before) ∷ [] → d.all ≡ c.all
+      (slots : List (Option A)) (c d : Counts) (before : ℕ) → AreCounts slots c → length c.parts.items ≤ length slots / 64
+      → before ≡ place_at slots (64 * start_of (length slots / 64 + 1)) → d.parts.items ≡ c.parts.items ++ (c.all - before) ∷ [] → d.all ≡ c.all
       → AreCounts slots d
   counted_cover slots c d before k full is added same = record {
     parts = parts;
@@ -147,38 +147,38 @@ module _ {A : Type 0} where
     covering = let covers = k.covering in let l = longer in omega arith;
   }
     where
-      groups : length c.parts.items ≡ length slots / 8
+      groups : length c.parts.items ≡ length slots / 64
       groups = let covers = k.covering in omega arith
 
       longer : length d.parts.items ≡ length c.parts.items + 1
       longer = ap length added ∙ length-append c.parts.items ((c.all - before) ∷ [])
 
-      last : part_at d.parts.items (length slots / 8 + 1) ≡ c.all - before
+      last : part_at d.parts.items (length slots / 64 + 1) ≡ c.all - before
       last =
-          ap (λ (xs : List ℕ). get_or xs (length slots / 8 + 1 - 1) 0) added
-          ∙ (get_or-append_right c.parts.items ((c.all - before) ∷ []) (length slots / 8) (length slots / 8 + 1 - 1) 0 groups (omega arith)
+          ap (λ (xs : List ℕ). get_or xs (length slots / 64 + 1 - 1) 0) added
+          ∙ (get_or-append_right c.parts.items ((c.all - before) ∷ []) (length slots / 64) (length slots / 64 + 1 - 1) 0 groups (omega arith)
           ∙ ap (λ (n : ℕ). get_or ((c.all - before) ∷ []) n 0) nought)
         where
-          nought : length slots / 8 + 1 - 1 - length slots / 8 ≡ 0
+          nought : length slots / 64 + 1 - 1 - length slots / 64 ≡ 0
           nought = omega arith
 
-      whole : place_at slots (8 * start_of (length slots / 8 + 1)) + part_at d.parts.items (length slots / 8 + 1) ≡ place_at slots (8 * (length slots / 8 + 1))
+      whole : place_at slots (64 * start_of (length slots / 64 + 1)) + part_at d.parts.items (length slots / 64 + 1) ≡ place_at slots (64 * (length slots / 64 + 1))
       whole =
-          let all = place_all slots (8 * (length slots / 8 + 1)) (omega arith) in
-          let most = place_at-le-all slots (8 * start_of (length slots / 8 + 1)) in
+          let all = place_all slots (64 * (length slots / 64 + 1)) (omega arith) in
+          let most = place_at-le-all slots (64 * start_of (length slots / 64 + 1)) in
           let count = k.all in
           let part = last in
           omega arith
 
-      parts : (end : ℕ) → 0 < end → end ≤ length d.parts.items → place_at slots (8 * start_of end) + part_at d.parts.items end ≡ place_at slots (8 * end)
+      parts : (end : ℕ) → 0 < end → end ≤ length d.parts.items → place_at slots (64 * start_of end) + part_at d.parts.items end ≡ place_at slots (64 * end)
       parts end some_there within =
-          elim (cases_lt end (length slots / 8 + 1)) [
+          elim (cases_lt end (length slots / 64 + 1)) [
             | inl lt ↦ (let old = k.parts end some_there (let g = groups in omega arith) in
                 let kept : part_at d.parts.items end ≡ part_at c.parts.items end =
                 ap (λ (xs : List ℕ). get_or xs (end - 1) 0) added ∙ get_or_append_left c.parts.items ((c.all - before) ∷ []) 0 (end - 1) (let g = groups in omega arith) in
                 omega arith)
-            | inr le ↦ (let here : length slots / 8 + 1 ≡ end = (let g = groups in let l = longer in omega arith) in
-                subst (λ (e : ℕ). place_at slots (8 * start_of e) + part_at d.parts.items e ≡ place_at slots (8 * e)) here whole)
+            | inr le ↦ (let here : length slots / 64 + 1 ≡ end = (let g = groups in let l = longer in omega arith) in
+                subst (λ (e : ℕ). place_at slots (64 * start_of e) + part_at d.parts.items e ≡ place_at slots (64 * e)) here whole)
           ]
 
   -- ---- the parts that make a place
@@ -186,12 +186,12 @@ module _ {A : Type 0} where
   -- a part more
   pub place_more :
       (slots : List (Option A)) (c : Counts) (end start part sum arrival : ℕ) → AreCounts slots c → 0 < end → end ≤ length c.parts.items
-      → start ≡ start_of end → part ≡ get_or c.parts.items (end - 1) part → place_at slots (8 * end) + sum ≡ arrival
-      → place_at slots (8 * start) + (sum + part) ≡ arrival
+      → start ≡ start_of end → part ≡ get_or c.parts.items (end - 1) part → place_at slots (64 * end) + sum ≡ arrival
+      → place_at slots (64 * start) + (sum + part) ≡ arrival
   place_more slots c end start part sum arrival k some_there within at read was =
       let is : part ≡ part_at c.parts.items end = read ∙ default_zero in
       let old = k.parts end some_there within in
-      let moved : place_at slots (8 * start) ≡ place_at slots (8 * start_of end) = ap (λ (s : ℕ). place_at slots (8 * s)) at in
+      let moved : place_at slots (64 * start) ≡ place_at slots (64 * start_of end) = ap (λ (s : ℕ). place_at slots (64 * s)) at in
       omega arith
     where
       default_zero : get_or c.parts.items (end - 1) part ≡ get_or c.parts.items (end - 1) 0
@@ -200,8 +200,8 @@ module _ {A : Type 0} where
   -- a group farther, behind one at which a part starts
   pub group_more :
       (slots : List (Option A)) (c : Counts) (end start part left place : ℕ) → AreCounts slots c → 0 < end → end ≤ length c.parts.items
-      → start ≡ start_of end → part ≡ get_or c.parts.items (end - 1) part → part ≤ left → place_at slots (8 * start) + left ≡ place
-      → place_at slots (8 * end) + (left - part) ≡ place
+      → start ≡ start_of end → part ≡ get_or c.parts.items (end - 1) part → part ≤ left → place_at slots (64 * start) + left ≡ place
+      → place_at slots (64 * end) + (left - part) ≡ place
   group_more slots c end start part left place k some_there within at read le was =
-      let more = place_more slots c end start part 0 (place_at slots (8 * end)) k some_there within at read (omega arith) in
+      let more = place_more slots c end start part 0 (place_at slots (64 * end)) k some_there within at read (omega arith) in
       omega arith

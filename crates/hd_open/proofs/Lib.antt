@@ -1,6 +1,7 @@
 pub mod Buckets
 pub mod Counting
 pub mod Lowest
+pub mod Marking
 pub mod Ordering
 pub mod Places
 pub mod Queueing

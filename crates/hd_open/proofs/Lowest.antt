@@ -1,8 +1,8 @@
 -- Numbers without their lowest one bits.
-use Rattle.std.proofs.Common.{◌≡◌, ◌⊎◌, ℕ, zero, suc, ◌+◌, ◌-◌, ◌*◌, ◌/◌, ◌%◌, ◌<◌, ◌≤◌, bit_and, min, refl, sym, ap, ◌∙◌, subst, inl, inr, arith}
+use Rattle.std.proofs.Common.{◌≡◌, ◌⊎◌, ℕ, zero, suc, ◌+◌, ◌-◌, ◌*◌, ◌/◌, ◌%◌, ◌<◌, ◌≤◌, bit_and, bit_or, min, max, refl, sym, ap, ◌∙◌, subst, inl, inr, arith}
 use Rattle.std.specs.Int.{bit_at}
 use Rattle.std.proofs.lemmas.Bool.{cases_lt}
-use Rattle.std.proofs.lemmas.Nat.Bits.{bit_at_lowest, bit_at-suc, bit_at_and, same_from_bits}
+use Rattle.std.proofs.lemmas.Nat.Bits.{bit_at_lowest, bit_at-suc, bit_at_and, bit_at_or, same_from_bits}
 use Rattle.hd_open.specs.Counts.{start_of}
 
 -- ---- the bits of an even number, and of an odd one
@@ -137,6 +137,66 @@ next_by (suc most) i le some_there =
 
 pub next_start : (i : ℕ) → 0 < i → start_of (i + (i - start_of i)) ≤ start_of i
 next_start i some_there = next_by i i (le i) some_there
+  where
+    le : (m : ℕ) → m ≤ m
+    le m = omega arith
+
+-- ---- the next part, counted from 0
+
+or_halves : (a b i : ℕ) → bit_at (bit_or a b) (suc i) ≡ bit_at (bit_or (a / 2) (b / 2)) i
+or_halves a b i =
+    bit_at_or a b (suc i)
+    ∙ (ap (λ (x : ℕ). max x (bit_at b (suc i))) (bit_at-suc a i)
+    ∙ (ap (λ (x : ℕ). max (bit_at (a / 2) i) x) (bit_at-suc b i) ∙ sym (bit_at_or (a / 2) (b / 2) i)))
+
+or_lowest : (a b : ℕ) → bit_at (bit_or a b) 0 ≡ max (a % 2) (b % 2)
+or_lowest a b =
+    bit_at_or a b 0 ∙ (ap (λ (x : ℕ). max x (bit_at b 0)) (bit_at_lowest a) ∙ ap (λ (x : ℕ). max (a % 2) x) (bit_at_lowest b))
+
+or_step : (a b : ℕ) → bit_or a b ≡ 2 * bit_or (a / 2) (b / 2) + max (a % 2) (b % 2)
+or_step a b = same_from_bits (bit_or a b) (2 * bit_or (a / 2) (b / 2) + max (a % 2) (b % 2)) bits
+  where
+    half : (2 * bit_or (a / 2) (b / 2) + max (a % 2) (b % 2)) / 2 ≡ bit_or (a / 2) (b / 2)
+    half = omega arith
+
+    bits : (i : ℕ) → bit_at (bit_or a b) i ≡ bit_at (2 * bit_or (a / 2) (b / 2) + max (a % 2) (b % 2)) i
+    bits zero =
+        let one = or_lowest a b in
+        let other = bit_at_lowest (2 * bit_or (a / 2) (b / 2) + max (a % 2) (b % 2)) in
+        omega arith
+    bits (suc i) =
+        or_halves a b i
+        ∙ (ap (λ (x : ℕ). bit_at x i) (sym half) ∙ sym (bit_at-suc (2 * bit_or (a / 2) (b / 2) + max (a % 2) (b % 2)) i))
+
+or_same : (a : ℕ) → bit_or a a ≡ a
+or_same a = same_from_bits (bit_or a a) a (λ i. bit_at_or a a i ∙ same (bit_at a i))
+  where
+    same : (x : ℕ) → max x x ≡ x
+    same x = omega arith
+
+next_or_by : (most at : ℕ) → at ≤ most → bit_or at (at + 1) + 1 ≡ at + 1 + (at + 1 - start_of (at + 1))
+next_or_by zero at le =
+    let none : at ≡ 0 = omega arith in
+    subst (λ (n : ℕ). bit_or n (n + 1) + 1 ≡ n + 1 + (n + 1 - start_of (n + 1))) (sym none) refl
+next_or_by (suc most) at le =
+    elim (even_or_odd at) [
+      | inl is ↦ (let same : (at + 1) / 2 ≡ at / 2 = omega arith in
+          let step = or_step at (at + 1) in
+          let halves : bit_or (at / 2) ((at + 1) / 2) ≡ at / 2 = ap (bit_or (at / 2)) same ∙ or_same (at / 2) in
+          let start : start_of (at + 1) ≡ 2 * ((at + 1) / 2) = odd (at + 1) (omega arith) in
+          omega arith)
+      | inr is ↦ (let same : (at + 1) / 2 ≡ at / 2 + 1 = omega arith in
+          let step = or_step at (at + 1) in
+          let halves : bit_or (at / 2) ((at + 1) / 2) ≡ bit_or (at / 2) (at / 2 + 1) = ap (bit_or (at / 2)) same in
+          let start : start_of (at + 1) ≡ 2 * start_of ((at + 1) / 2) = even (at + 1) (omega arith) in
+          let start_half : start_of ((at + 1) / 2) ≡ start_of (at / 2 + 1) = ap start_of same in
+          let rest = next_or_by most (at / 2) (omega arith) in
+          let less = start_less (at / 2 + 1) (omega arith) in
+          omega arith)
+    ]
+
+pub next_or : (at : ℕ) → bit_or at (at + 1) + 1 ≡ at + 1 + (at + 1 - start_of (at + 1))
+next_or at = next_or_by at at (le at)
   where
     le : (m : ℕ) → m ≤ m
     le m = omega arith

@@ -8,10 +8,12 @@ use Rattle.std.proofs.lemmas.Bool.{cases_lt, cases_order, lt-ltb}
 use Rattle.std.proofs.lemmas.Option.{none-some, same_Some}
 use Rattle.hd_open.specs.declared.queue.Queue.{Queue}
 use Rattle.hd_open.specs.Totals.{IsNotAfter}
-use Rattle.hd_open.specs.Live.{live, IsAt, IsBestArrival}
-use Rattle.hd_open.specs.Queue.{entry_cmp, Has, IsAmong, bucket, entries, in_buckets, IsAscending, IsFirstSmall, IsOrderly, IsUpTo, IsQueued}
+use Rattle.hd_open.specs.Live.{live, IsBestArrival}
+use Rattle.hd_open.specs.Marks.{mark_at, AreMarks}
+use Rattle.hd_open.specs.Queue.{entry_cmp, Has, IsAmong, bucket, IsAscending, AreCleared, IsCleared, IsFirst, IsOrderly, IsSingle, IsBelow, IsQueued}
 use Rattle.hd_open.proofs.Ordering.{entry_cmp_not_greater, entry_cmp_same}
-use Rattle.hd_open.proofs.Buckets.{among_more, among_last, among_cases, among_rest, among_of_rest, length_rest, ascending_push, ascending_rest, first_least, none_among, bucket_here, bucket_else, bucket_past, in_buckets_set}
+use Rattle.hd_open.proofs.Buckets.{among_more, among_last, among_cases, among_rest, among_of_rest, ascending_push, ascending_rest, first_least, none_among, bucket_here, bucket_else, bucket_past}
+use Rattle.hd_open.proofs.Marking.{filled_is_marked, marked_filled}
 use Rattle.hd_open.proofs.Places.{live_none, slice_get-set_else, slice_get-push_else}
 
 cond_stays : (b c : Bool) → c ≡ true → cond b true c ≡ true
@@ -37,7 +39,7 @@ pub record IsAdded (q r : Queue) (total : Option ℕ) (arrival : ℕ) : Type 0 w
   pub orderly : IsOrderly r
   pub added : Has r total arrival
   pub stays : (g : Option ℕ) (k : ℕ) → Has q g k → Has r g k
-  pub only : (g : Option ℕ) (k : ℕ) → Has r g k → Has q g k ⊎ (arrival ≡ k)
+  pub only : (g : Option ℕ) (k : ℕ) → Has r g k → Has q g k ⊎ ((total ≡ g) × (arrival ≡ k))
 
 -- the same arrivals are there
 pub record IsSame (q r : Queue) : Type 0 where
@@ -74,7 +76,7 @@ covered q r o same few least large dead = record {
 
 -- an arrival comes behind the others of its bucket
 pub added_small :
-    (q r : Queue) (small : List (List ℕ)) (total arrival : ℕ) → IsOrderly q → IsUpTo q arrival
+    (q r : Queue) (small : List (List ℕ)) (total arrival : ℕ) → IsOrderly q → IsBelow q arrival
     → ((t : ℕ) → bucket small t ≡ bucket q.small.items t) → length small ≤ 65536 → total < length small
     → r.small.items ≡ set small total (bucket small total ++ arrival ∷ []) → r.least ≤ q.least → r.least ≤ total → r.large ≡ q.large → r.dead ≡ q.dead
     → IsAdded q r (Some total) arrival
@@ -102,7 +104,7 @@ added_small q r small total arrival o latest same few within is least_old least_
     ascends_here : IsAscending (bucket r.small.items total)
     ascends_here =
         subst (λ (xs : List ℕ). IsAscending xs) (sym here)
-        (ascending_push (bucket q.small.items total) arrival (o.ascends total) (λ k among. latest (Some total) k (inl among)))
+        (ascending_push (bucket q.small.items total) arrival (o.ascends total) (λ k among. let lt = latest (Some total) k (inl among) in omega arith))
 
     ascends : (t : ℕ) → IsAscending (bucket r.small.items t)
     ascends t =
@@ -119,10 +121,10 @@ added_small q r small total arrival o latest same few within is least_old least_
           | inr other ↦ subst (λ (xs : List ℕ). IsAmong xs k) (sym (else t (λ is_total. elim other [ inl lt ↦ omega arith | inr gt ↦ omega arith ]))) among
         ]
 
-    among_only : (t k : ℕ) → IsAmong (bucket r.small.items t) k → IsAmong (bucket q.small.items t) k ⊎ (arrival ≡ k)
+    among_only : (t k : ℕ) → IsAmong (bucket r.small.items t) k → IsAmong (bucket q.small.items t) k ⊎ ((total ≡ t) × (arrival ≡ k))
     among_only t k among =
         elim (cases_order t total) [
-          | inl is_total ↦ ⊎_elim (λ old. inl (subst (λ (u : ℕ). IsAmong (bucket q.small.items u) k) (sym is_total) old)) (λ new. inr new)
+          | inl is_total ↦ ⊎_elim (λ old. inl (subst (λ (u : ℕ). IsAmong (bucket q.small.items u) k) (sym is_total) old)) (λ new. inr (sym is_total, new))
               (among_cases (bucket q.small.items total) arrival k (subst (λ (xs : List ℕ). IsAmong xs k) here (subst (λ (u : ℕ). IsAmong (bucket r.small.items u) k) is_total among)))
           | inr other ↦ inl (subst (λ (xs : List ℕ). IsAmong xs k) (else t (λ is_total. elim other [ inl lt ↦ omega arith | inr gt ↦ omega arith ])) among)
         ]
@@ -133,9 +135,9 @@ added_small q r small total arrival o latest same few within is least_old least_
         (λ in_large. inr (ap (λ (l : BTreeSet (ℕ × ℕ)). contains entry_cmp l (t, k)) large ∙ in_large)) has
     stays None k has = subst (λ (xs : List ℕ). IsAmong xs k) (sym dead) has
 
-    only : (g : Option ℕ) (k : ℕ) → Has r g k → Has q g k ⊎ (arrival ≡ k)
+    only : (g : Option ℕ) (k : ℕ) → Has r g k → Has q g k ⊎ ((Some total ≡ g) × (arrival ≡ k))
     only (Some t) k has =
-        ⊎_elim (λ in_bucket. ⊎_elim (λ old. inl (inl old)) (λ new. inr new) (among_only t k in_bucket))
+        ⊎_elim (λ in_bucket. ⊎_elim (λ old. inl (inl old)) (λ new. inr (ap Some new.0, new.1)) (among_only t k in_bucket))
         (λ in_large. inl (inr (ap (λ (l : BTreeSet (ℕ × ℕ)). contains entry_cmp l (t, k)) (sym large) ∙ in_large))) has
     only None k has = inl (subst (λ (xs : List ℕ). IsAmong xs k) dead has)
 
@@ -164,16 +166,16 @@ added_large q r total arrival o large up small least dead there = record {
         (λ in_large. inr (up.0 (t, k) ∙ cond_stays (is_eq (entry_cmp (total, arrival) (t, k))) (contains entry_cmp q.large (t, k)) in_large)) has
     stays None k has = subst (λ (xs : List ℕ). IsAmong xs k) (sym dead) has
 
-    only : (g : Option ℕ) (k : ℕ) → Has r g k → Has q g k ⊎ (arrival ≡ k)
+    only : (g : Option ℕ) (k : ℕ) → Has r g k → Has q g k ⊎ ((Some total ≡ g) × (arrival ≡ k))
     only (Some t) k has =
         ⊎_elim (λ in_bucket. inl (inl (subst (λ (bs : List (List ℕ)). IsAmong (bucket bs t) k) small in_bucket)))
-        (λ in_large. ⊎_elim (λ old. inl (inr old)) (λ new. inr (entry_cmp_same total arrival t k new).1)
+        (λ in_large. ⊎_elim (λ old. inl (inr old)) (λ new. let same = entry_cmp_same total arrival t k new in inr (ap Some same.0, same.1))
         (cond_comes (is_eq (entry_cmp (total, arrival) (t, k))) (contains entry_cmp q.large (t, k)) (sym (up.0 (t, k)) ∙ in_large))) has
     only None k has = inl (subst (λ (xs : List ℕ). IsAmong xs k) dead has)
 
 -- an arrival without a total
 pub added_dead :
-    (q r : Queue) (arrival : ℕ) → IsOrderly q → IsUpTo q arrival → r.dead ≡ q.dead ++ arrival ∷ [] → r.small.items ≡ q.small.items → r.least ≡ q.least
+    (q r : Queue) (arrival : ℕ) → IsOrderly q → IsBelow q arrival → r.dead ≡ q.dead ++ arrival ∷ [] → r.small.items ≡ q.small.items → r.least ≡ q.least
     → r.large ≡ q.large → IsAdded q r None arrival
 added_dead q r arrival o latest is small least large = record {
   orderly = record {
@@ -181,7 +183,7 @@ added_dead q r arrival o latest is small least large = record {
     few = let len = ap length small in let few = o.few in omega arith;
     empty = λ t before. ap (λ (bs : List (List ℕ)). bucket bs t) small ∙ o.empty t (omega arith);
     greater = λ t a held. o.greater t a (ap (λ (l : BTreeSet (ℕ × ℕ)). contains entry_cmp l (t, a)) (sym large) ∙ held);
-    dead = subst (λ (xs : List ℕ). IsAscending xs) (sym is) (ascending_push q.dead arrival o.dead (λ k among. latest None k among));
+    dead = subst (λ (xs : List ℕ). IsAscending xs) (sym is) (ascending_push q.dead arrival o.dead (λ k among. let lt = latest None k among in omega arith));
   };
   added = subst (λ (xs : List ℕ). IsAmong xs arrival) (sym is) (among_last q.dead arrival);
   stays = stays;
@@ -194,11 +196,11 @@ added_dead q r arrival o latest is small least large = record {
         (λ in_large. inr (ap (λ (l : BTreeSet (ℕ × ℕ)). contains entry_cmp l (t, k)) large ∙ in_large)) has
     stays None k has = subst (λ (xs : List ℕ). IsAmong xs k) (sym is) (among_more q.dead arrival k has)
 
-    only : (g : Option ℕ) (k : ℕ) → Has r g k → Has q g k ⊎ (arrival ≡ k)
+    only : (g : Option ℕ) (k : ℕ) → Has r g k → Has q g k ⊎ ((None ≡ g) × (arrival ≡ k))
     only (Some t) k has =
         ⊎_elim (λ in_bucket. inl (inl (subst (λ (bs : List (List ℕ)). IsAmong (bucket bs t) k) small in_bucket)))
         (λ in_large. inl (inr (ap (λ (l : BTreeSet (ℕ × ℕ)). contains entry_cmp l (t, k)) (sym large) ∙ in_large))) has
-    only None k has = among_cases q.dead arrival k (subst (λ (xs : List ℕ). IsAmong xs k) is has)
+    only None k has = ⊎_elim (λ old. inl old) (λ new. inr (refl, new)) (among_cases q.dead arrival k (subst (λ (xs : List ℕ). IsAmong xs k) is has))
 
 -- ---- the first one
 
@@ -250,72 +252,150 @@ has_none q none no_large no_dead None k has = no_first q.dead no_dead has
     no_first [] is among = among
     no_first (x ∷ xs) is among = absurd (cc)
 
--- buckets are empty below a total, and from it on
-pub all_empty : (small : List (List ℕ)) (from : ℕ) → ((t : ℕ) → t < from → bucket small t ≡ []) → ((t : ℕ) → from ≤ t → bucket small t ≡ []) → (t : ℕ) → bucket small t ≡ []
-all_empty small from before behind t =
-    elim (cases_lt t from) [
-      | inl lt ↦ before t lt
-      | inr le ↦ behind t le
-    ]
-
--- the same, of buckets as a slice
-pub least_small_from :
-    (q : Queue) (small : List (List ℕ)) (total arrival : ℕ) → IsOrderly q → small ≡ q.small.items → total < length small
-    → slice_get (bucket small total) 0 ≡ Some arrival → ((t : ℕ) → q.least ≤ t → t < total → bucket small t ≡ [])
-    → (g : Option ℕ) (k : ℕ) → Has q g k → IsNotAfter (Some total) arrival g k
-least_small_from q small total arrival o is within at empty =
-    least_small q total arrival o (subst (λ (bs : List (List ℕ)). total < length bs) is within)
-    (subst (λ (bs : List (List ℕ)). slice_get (bucket bs total) 0 ≡ Some arrival) is at)
-    (λ t lt. elim (cases_lt t q.least) [
-      | inl before ↦ o.empty t before
-      | inr le ↦ ap (λ (bs : List (List ℕ)). bucket bs t) (sym is) ∙ empty t le lt
-    ])
-
-pub none_small :
-    (q : Queue) (small : List (List ℕ)) → IsOrderly q → small ≡ q.small.items → ((t : ℕ) → q.least ≤ t → bucket small t ≡ [])
-    → (t : ℕ) → bucket q.small.items t ≡ []
-none_small q small o is none t =
-    elim (cases_lt t q.least) [
-      | inl before ↦ o.empty t before
-      | inr le ↦ ap (λ (bs : List (List ℕ)). bucket bs t) (sym is) ∙ none t le
-    ]
-
 pub if_none : {X : Type 0} (P : Type 0) (r : Option X) → P → IfNone r P
 if_none P None p = p
 if_none P (Some x) p = _
 
--- ---- the first one goes
+-- ---- entries that are dropped
 
-pub gone_large :
+pub cleared_same : (words xs : List ℕ) → AreCleared words xs xs
+cleared_same words xs = record { stays = λ k marked among. among; only = λ k among. among; ascends = λ up. up }
+
+-- the first one goes
+pub cleared_rest :
+    (words xs ys : List ℕ) (a : ℕ) → AreCleared words xs ys → slice_get ys 0 ≡ Some a → (mark_at words a ≡ 1 → ⊥) → AreCleared words xs (drop 1 ys)
+cleared_rest words xs ys a c at stale = record {
+  stays = λ k marked among.
+      ⊎_elim (λ rest. rest) (λ same. absurd (stale (ap (mark_at words) same ∙ marked))) (among_rest ys a k at (c.stays k marked among));
+  only = λ k among. c.only k (among_of_rest ys k among);
+  ascends = λ up. ascending_rest ys (c.ascends up);
+}
+
+cleared_more : (words xs ys zs : List ℕ) → AreCleared words xs ys → AreCleared words ys zs → AreCleared words xs zs
+cleared_more words xs ys zs c d = record {
+  stays = λ k marked among. d.stays k marked (c.stays k marked among);
+  only = λ k among. c.only k (d.only k among);
+  ascends = λ up. d.ascends (c.ascends up);
+}
+
+-- where there was none, there is none
+cleared_none : (words xs ys : List ℕ) → AreCleared words xs ys → xs ≡ [] → ys ≡ []
+cleared_none words xs [] c none = refl
+cleared_none words xs (y ∷ ys) c none = absurd (none_among xs y none (c.only y (inl refl)))
+
+-- a bucket more is cleared
+pub cleared_bucket :
+    (words : List ℕ) (first small : List (List ℕ)) (total : ℕ) (b : List ℕ) → total < length small
+    → ((t : ℕ) → AreCleared words (bucket first t) (bucket small t)) → AreCleared words (bucket small total) b
+    → (t : ℕ) → AreCleared words (bucket first t) (bucket (set small total b) t)
+cleared_bucket words first small total b within each here t =
+    elim (cases_order t total) [
+      | inl is ↦ subst (λ (u : ℕ). AreCleared words (bucket first u) (bucket (set small total b) u)) (sym is)
+          (subst (λ (xs : List ℕ). AreCleared words (bucket first total) xs) (sym (bucket_here small total b within))
+          (cleared_more words (bucket first total) (bucket small total) b (each total) here))
+      | inr other ↦ subst (λ (xs : List ℕ). AreCleared words (bucket first t) xs)
+          (sym (bucket_else small total t b (λ is. elim other [ inl lt ↦ omega arith | inr gt ↦ omega arith ]))) (each t)
+    ]
+
+-- buckets that were empty are, and so are those after them
+pub empty_below :
+    (words : List ℕ) (q : Queue) (small : List (List ℕ)) (total : ℕ) → IsOrderly q
+    → ((t : ℕ) → AreCleared words (bucket q.small.items t) (bucket small t)) → ((t : ℕ) → q.least ≤ t → t < total → bucket small t ≡ [])
+    → (t : ℕ) → t < total → bucket small t ≡ []
+empty_below words q small total o each none t lt =
+    elim (cases_lt t q.least) [
+      | inl before ↦ cleared_none words (bucket q.small.items t) (bucket small t) (each t) (o.empty t before)
+      | inr le ↦ none t le lt
+    ]
+
+pub all_empty :
+    (words : List ℕ) (q : Queue) (small : List (List ℕ)) → IsOrderly q → ((t : ℕ) → AreCleared words (bucket q.small.items t) (bucket small t))
+    → ((t : ℕ) → q.least ≤ t → bucket small t ≡ []) → (t : ℕ) → bucket small t ≡ []
+all_empty words q small o each none t = empty_below words q small (t + 1) o each (λ u le lt. none u le) t (omega arith)
+
+-- the sorted ones
+
+pub large_stays :
+    (r : Option (ℕ × ℕ)) (old new : BTreeSet (ℕ × ℕ)) (words : List ℕ) (x : ℕ × ℕ) (t k : ℕ)
+    → IfSome r (λ y. Updates entry_cmp old new y false) → IfNone r (IsUnchanged old new) → IfSome r (λ y. old.keys ≡ y ∷ new.keys)
+    → slice_get old.keys 0 ≡ Some x → (mark_at words x.1 ≡ 1 → ⊥) → mark_at words k ≡ 1 → contains entry_cmp old (t, k) ≡ true
+    → contains entry_cmp new (t, k) ≡ true
+large_stays (Some y) old new words x t k up same head at stale marked held =
+    ⊎_elim (λ stays. up.0 (t, k) ∙ stays)
+    (λ is. let gone = entry_cmp_same y.0 y.1 t k is in
+    let first : y ≡ x = same_Some y x (ap (λ (ks : List (ℕ × ℕ)). slice_get ks 0) (sym head) ∙ at) in
+    absurd (stale (ap (mark_at words) (ap (λ (z : ℕ × ℕ). z.1) (sym first) ∙ gone.1) ∙ marked)))
+    (cond_goes (is_eq (entry_cmp y (t, k))) (contains entry_cmp old (t, k)) held)
+large_stays None old new words x t k up same head at stale marked held =
+    ap (λ (ks : List (ℕ × ℕ)). list_any (is_at (entry_cmp (t, k))) ks) same ∙ held
+
+pub large_only :
     (r : Option (ℕ × ℕ)) (old new : BTreeSet (ℕ × ℕ)) (x : ℕ × ℕ) → IfSome r (λ k. Updates entry_cmp old new k false) → IfNone r (IsUnchanged old new)
     → contains entry_cmp new x ≡ true → contains entry_cmp old x ≡ true
-gone_large (Some k) old new x up same held = cond_went (is_eq (entry_cmp k x)) (contains entry_cmp old x) (sym (up.0 x) ∙ held)
-gone_large None old new x up same held = ap (λ (ks : List (ℕ × ℕ)). list_any (is_at (entry_cmp x)) ks) (sym same) ∙ held
+large_only (Some k) old new x up same held = cond_went (is_eq (entry_cmp k x)) (contains entry_cmp old x) (sym (up.0 x) ∙ held)
+large_only None old new x up same held = ap (λ (ks : List (ℕ × ℕ)). list_any (is_at (entry_cmp x)) ks) (sym same) ∙ held
 
-pub orderly_left :
-    (q r : Queue) → IsOrderly q → ((t a : ℕ) → contains entry_cmp r.large (t, a) ≡ true → contains entry_cmp q.large (t, a) ≡ true)
-    → r.small.items ≡ q.small.items → r.least ≡ q.least → r.dead ≡ q.dead → IsOrderly r
-orderly_left q r o only small least dead = record {
-  ascends = λ t. subst (λ (bs : List (List ℕ)). IsAscending (bucket bs t)) (sym small) (o.ascends t);
-  few = let len = ap length small in let few = o.few in omega arith;
-  empty = λ t before. ap (λ (bs : List (List ℕ)). bucket bs t) small ∙ o.empty t (omega arith);
-  greater = λ t a held. o.greater t a (only t a held);
-  dead = subst (λ (xs : List ℕ). IsAscending xs) (sym dead) o.dead;
+-- the whole queue
+pub cleared_queue :
+    (words : List ℕ) (q r : Queue) → IsOrderly q → ((t : ℕ) → AreCleared words (bucket q.small.items t) (bucket r.small.items t))
+    → length r.small.items ≡ length q.small.items → ((t : ℕ) → t < r.least → bucket r.small.items t ≡ [])
+    → ((t k : ℕ) → mark_at words k ≡ 1 → contains entry_cmp q.large (t, k) ≡ true → contains entry_cmp r.large (t, k) ≡ true)
+    → ((t k : ℕ) → contains entry_cmp r.large (t, k) ≡ true → contains entry_cmp q.large (t, k) ≡ true)
+    → AreCleared words q.dead r.dead → IsCleared words q r
+cleared_queue words q r o small len empty large_stay large_few dead = record {
+  stays = stays;
+  only = only;
+  orderly = record {
+    ascends = λ t. (small t).ascends (o.ascends t);
+    few = let few = o.few in omega arith;
+    empty = empty;
+    greater = λ t a held. o.greater t a (large_few t a held);
+    dead = dead.ascends o.dead;
+  };
 }
+  where
+    stays : (g : Option ℕ) (k : ℕ) → mark_at words k ≡ 1 → Has q g k → Has r g k
+    stays (Some t) k marked has = ⊎_elim (λ in_bucket. inl ((small t).stays k marked in_bucket)) (λ in_large. inr (large_stay t k marked in_large)) has
+    stays None k marked has = dead.stays k marked has
+
+    only : (g : Option ℕ) (k : ℕ) → Has r g k → Has q g k
+    only (Some t) k has = ⊎_elim (λ in_bucket. inl ((small t).only k in_bucket)) (λ in_large. inr (large_few t k in_large)) has
+    only None k has = dead.only k has
+
+pub first_among : (xs : List ℕ) (a : ℕ) → slice_get xs 0 ≡ Some a → IsAmong xs a
+first_among [] a at = absurd (none-some a at)
+first_among (x ∷ xs) a at = inl (same_Some x a at)
+
+-- a bucket that has a first one is there
+pub bucket_within : (small : List (List ℕ)) (t a : ℕ) → slice_get (bucket small t) 0 ≡ Some a → t < length small
+bucket_within small t a at =
+    elim (cases_lt t (length small)) [
+      | inl lt ↦ lt
+      | inr le ↦ absurd (none-some a (sym (ap (λ (xs : List ℕ). slice_get xs 0) (bucket_past small t le)) ∙ at))
+    ]
+
+pub no_first : (xs : List ℕ) → xs ≡ [] → slice_get xs 0 ≡ None
+no_first xs none = ap (λ (ys : List ℕ). slice_get ys 0) none
+
+-- the first one of those without a total, where there are no others, is the first of all
+pub found_dead :
+    (words : List ℕ) (q : Queue) (found : Option ℕ) → IsOrderly q → ((t : ℕ) → bucket q.small.items t ≡ []) → q.large.keys ≡ []
+    → IfSome found (λ a. slice_get q.dead 0 ≡ Some a) → IfSome found (λ a. mark_at words a ≡ 1) → IfSome found (IsFirst words q)
+found_dead words q (Some a) o none no_large at marked = record {
+  total = None;
+  has = first_among q.dead a at;
+  marked = marked;
+  least = λ g k has. least_dead q a o none no_large at g k has;
+}
+found_dead words q None o none no_large at marked = _
 
 -- ---- nodes and their entries
 
 module _ {A : Type 0} (total : A → Option ℕ) where
-  -- a stale entry goes
-  pub queued_dropped :
-      (slots : List (Option A)) (q r : Queue) (t : Option ℕ) (a : ℕ)
-      → IsQueued total slots q → ¬ IsAt total slots a t
-      → ((g : Option ℕ) (k : ℕ) → Has q g k → Has r g k ⊎ ((t ≡ g) × (a ≡ k)))
-      → IsQueued total slots r
-  queued_dropped slots q r t a queued stale drops k x at =
-      ⊎_elim (λ stays. stays)
-      (λ same. absurd (stale (x, subst (λ (i : ℕ). slice_get slots i ≡ Some (Some x)) (sym same.1) at, sym same.0)))
-      (drops (total x) k (queued k x at))
+  -- stale entries go
+  pub queued_cleared :
+      (slots : List (Option A)) (words : List ℕ) (q r : Queue) → AreMarks slots words → IsQueued total slots q → IsCleared words q r → IsQueued total slots r
+  queued_cleared slots words q r m queued c k x at = c.stays (total x) k (filled_is_marked slots words k x m at) (queued k x at)
 
   -- a node comes behind the others
   pub queued_push :
@@ -348,25 +428,54 @@ module _ {A : Type 0} (total : A → Option ℕ) where
   pub queued_none : (slots : List (Option A)) (q : Queue) → IsQueued total slots q → ((g : Option ℕ) (k : ℕ) → Has q g k → ⊥) → live slots ≡ []
   queued_none slots q queued none = live_none slots (λ k x at. none (total x) k (queued k x at))
 
-  -- the first entry that is not stale is that of the best node
-  pub queued_best :
-      (slots : List (Option A)) (q : Queue) (t : Option ℕ) (a : ℕ)
-      → IsQueued total slots q → IsAt total slots a t
-      → ((g : Option ℕ) (k : ℕ) → Has q g k → IsNotAfter t a g k)
-      → IsBestArrival total slots a
-  queued_best slots q t a queued here least = record {
-    node = here.0;
-    there = here.1;
-    least = λ k other at. subst (λ (u : Option ℕ). IsNotAfter u a (total other) k) (sym here.2) (least (total other) k (queued k other at));
-  }
+  -- the first entry whose slot is marked is that of the best node
+  pub first_best :
+      (slots : List (Option A)) (words : List ℕ) (q : Queue) (a : ℕ)
+      → AreMarks slots words → IsQueued total slots q → IsSingle q → IsFirst words q a → IsBestArrival total slots a
+  first_best slots words q a m queued single f =
+      let here = marked_filled slots words a m f.marked in
+      let same : f.total ≡ total here.0 = single f.total (total here.0) a f.has (queued a here.0 here.1) in
+      record {
+        node = here.0;
+        there = here.1;
+        least = λ k other at. subst (λ (u : Option ℕ). IsNotAfter u a (total other) k) same (f.least (total other) k (queued k other at));
+      }
 
--- ---- the greatest arrival
+  -- the same, of what a call has found
+  pub best_found :
+      (slots : List (Option A)) (words ws : List ℕ) (q : Queue) (found : Option ℕ)
+      → AreMarks slots words → ws ≡ words → IsQueued total slots q → IsSingle q → IfSome found (IsFirst ws q)
+      → IfSome found (λ a. IsBestArrival total slots a)
+  best_found slots words ws q (Some a) m is queued single f =
+      first_best slots words q a m queued single (subst (λ (vs : List ℕ). IsFirst vs q a) is f)
+  best_found slots words ws q None m is queued single f = f
 
-pub up_to_less : (q r : Queue) (n : ℕ) → IsUpTo q n → ((g : Option ℕ) (k : ℕ) → Has r g k → Has q g k) → IsUpTo r n
-up_to_less q r n latest only g k has = latest g k (only g k has)
+  pub none_found :
+      (slots : List (Option A)) (q : Queue) (found : Option ℕ)
+      → IsQueued total slots q → IfNone found ((g : Option ℕ) (k : ℕ) → Has q g k → ⊥) → IfNone found (live slots ≡ [])
+  none_found slots q (Some a) queued none = none
+  none_found slots q None queued none = queued_none slots q queued none
 
-pub up_to_added : (q r : Queue) (n : ℕ) → IsUpTo q n → ((g : Option ℕ) (k : ℕ) → Has r g k → Has q g k ⊎ (n ≡ k)) → IsUpTo r n
-up_to_added q r n latest only g k has = ⊎_elim (λ old. latest g k old) (λ new. omega arith) (only g k has)
+-- ---- the greatest arrival, and the totals of arrivals
 
-pub up_to_more : (q : Queue) (m n : ℕ) → IsUpTo q m → m ≤ n → IsUpTo q n
-up_to_more q m n latest le g k has = let most = latest g k has in omega arith
+pub below_less : (q r : Queue) (n : ℕ) → IsBelow q n → ((g : Option ℕ) (k : ℕ) → Has r g k → Has q g k) → IsBelow r n
+below_less q r n latest only g k has = latest g k (only g k has)
+
+pub below_added :
+    (q r : Queue) (t : Option ℕ) (n : ℕ) → IsBelow q n → ((g : Option ℕ) (k : ℕ) → Has r g k → Has q g k ⊎ ((t ≡ g) × (n ≡ k))) → IsBelow r (n + 1)
+below_added q r t n latest only g k has =
+    ⊎_elim (λ old. let lt = latest g k old in omega arith) (λ new. let is = new.1 in omega arith) (only g k has)
+
+pub single_less : (q r : Queue) → IsSingle q → ((g : Option ℕ) (k : ℕ) → Has r g k → Has q g k) → IsSingle r
+single_less q r single only g h k one other = single g h k (only g k one) (only h k other)
+
+pub single_added :
+    (q r : Queue) (t : Option ℕ) (n : ℕ) → IsSingle q → IsBelow q n → ((g : Option ℕ) (k : ℕ) → Has r g k → Has q g k ⊎ ((t ≡ g) × (n ≡ k)))
+    → IsSingle r
+single_added q r t n single latest only g h k one other =
+    ⊎_elim
+    (λ old. ⊎_elim (λ old'. single g h k old old') (λ new'. absurd (past g old new'.1)) (only h k other))
+    (λ new. ⊎_elim (λ old'. absurd (past h old' new.1)) (λ new'. sym new.0 ∙ new'.0) (only h k other)) (only g k one)
+  where
+    past : (u : Option ℕ) → Has q u k → n ≡ k → ⊥
+    past u has is = let lt = latest u k has in omega arith

@@ -1,10 +1,10 @@
 -- The parts that have a group, one after the other.
-use Rattle.std.proofs.Common.{◌≡◌, ◌≢◌, ℕ, zero, suc, ◌+◌, ◌-◌, ◌<◌, ◌≤◌, List, length, get_or, set, refl, sym, ap, ◌∙◌, subst, inl, inr, arith, length-set}
+use Rattle.std.proofs.Common.{◌≡◌, ◌≢◌, ℕ, zero, suc, ◌+◌, ◌-◌, ◌<◌, ◌≤◌, List, length, get_or, set, bit_or, refl, sym, ap, ◌∙◌, subst, inl, inr, arith, length-set}
 use Rattle.std.proofs.lemmas.Bool.{cases_lt, cases_order}
 use Rattle.std.proofs.lemmas.List.{get_or-set_same, get_or-set_other}
 use Rattle.std.proofs.lemmas.Grind.{get_or_default_zero}
 use Rattle.hd_open.specs.Counts.{start_of, part_at, HasGroup, IsRaised}
-use Rattle.hd_open.proofs.Lowest.{start_less, skipped, next_start}
+use Rattle.hd_open.proofs.Lowest.{start_less, skipped, next_start, next_or}
 
 -- in one list each part that has a group and ends before this one is one more than in the other, and the other parts are the same; the
 -- part that ends here is the next one
@@ -108,29 +108,40 @@ lowered_more less more group upto u within some_there =
 pub has_next : (less more : List ℕ) (group upto : ℕ) → IsRaisedUpTo less more group upto → HasGroup upto group
 has_next less more group upto u = record { from = u.from; upto = u.past }
 
--- ---- a part that is read
+-- ---- a part that is read, by its place
+
+back : (at : ℕ) → at + 1 - 1 ≡ at
+back at = omega arith
 
 raised_set :
-    (less more : List ℕ) (group upto start x : ℕ) → IsRaisedUpTo less more group upto → upto ≤ length more → start ≡ start_of upto
-    → x ≡ part_at more upto → IsRaisedUpTo less (set more (upto - 1) (x + 1)) group (upto + (upto - start))
-raised_set less more group upto start x u within at is =
-    subst (λ (s : ℕ). IsRaisedUpTo less (set more (upto - 1) (x + 1)) group (upto + (upto - s))) (sym at)
-    (subst (λ (y : ℕ). IsRaisedUpTo less (set more (upto - 1) (y + 1)) group (upto + (upto - start_of upto))) (sym is) (raised_more less more group upto u within))
+    (less more : List ℕ) (group at x : ℕ) → IsRaisedUpTo less more group (at + 1) → at < length more → x ≡ get_or more at x
+    → IsRaisedUpTo less (set more at (x + 1)) group (at + 1 + (at + 1 - start_of (at + 1)))
+raised_set less more group at x u within read =
+    let is : part_at more (at + 1) ≡ x = ap (λ (n : ℕ). get_or more n 0) (back at) ∙ sym (read ∙ get_or_default_zero more at x within) in
+    subst (λ (n : ℕ). IsRaisedUpTo less (set more n (x + 1)) group (at + 1 + (at + 1 - start_of (at + 1)))) (back at)
+    (subst (λ (y : ℕ). IsRaisedUpTo less (set more (at + 1 - 1) (y + 1)) group (at + 1 + (at + 1 - start_of (at + 1)))) is
+    (raised_more less more group (at + 1) u (omega arith)))
 
 pub raised_read :
-    (less more : List ℕ) (group upto start x : ℕ) → IsRaisedUpTo less more group upto → upto ≤ length more → start ≡ start_of upto
-    → x ≡ get_or more (upto - 1) x → IsRaisedUpTo less (set more (upto - 1) (x + 1)) group (upto + (upto - start))
-raised_read less more group upto start x u within at read =
-    raised_set less more group upto start x u within at (read ∙ get_or_default_zero more (upto - 1) x (let past = u.past in omega arith))
+    (less more : List ℕ) (group at x : ℕ) → IsRaisedUpTo less more group (at + 1) → at < length more → x ≡ get_or more at x
+    → IsRaisedUpTo less (set more at (x + 1)) group (bit_or at (at + 1) + 1)
+raised_read less more group at x u within read =
+    subst (λ (n : ℕ). IsRaisedUpTo less (set more at (x + 1)) group n) (sym (next_or at)) (raised_set less more group at x u within read)
+
+lowered_set :
+    (less more : List ℕ) (group at x : ℕ) → IsRaisedUpTo less more group (at + 1) → at < length less → x ≡ get_or less at x → 0 < part_at less (at + 1)
+    → IsRaisedUpTo (set less at (x - 1)) more group (at + 1 + (at + 1 - start_of (at + 1)))
+lowered_set less more group at x u within read some_there =
+    let is : part_at less (at + 1) ≡ x = ap (λ (n : ℕ). get_or less n 0) (back at) ∙ sym (read ∙ get_or_default_zero less at x within) in
+    subst (λ (n : ℕ). IsRaisedUpTo (set less n (x - 1)) more group (at + 1 + (at + 1 - start_of (at + 1)))) (back at)
+    (subst (λ (y : ℕ). IsRaisedUpTo (set less (at + 1 - 1) (y - 1)) more group (at + 1 + (at + 1 - start_of (at + 1)))) is
+    (lowered_more less more group (at + 1) u (omega arith) some_there))
 
 pub lowered_read :
-    (less more : List ℕ) (group upto start x : ℕ) → IsRaisedUpTo less more group upto → upto ≤ length less → start ≡ start_of upto
-    → x ≡ get_or less (upto - 1) x → 0 < part_at less upto → IsRaisedUpTo (set less (upto - 1) (x - 1)) more group (upto + (upto - start))
-lowered_read less more group upto start x u within at read some_there =
-    let is : x ≡ part_at less upto = read ∙ get_or_default_zero less (upto - 1) x (let past = u.past in omega arith) in
-    subst (λ (s : ℕ). IsRaisedUpTo (set less (upto - 1) (x - 1)) more group (upto + (upto - s))) (sym at)
-    (subst (λ (y : ℕ). IsRaisedUpTo (set less (upto - 1) (y - 1)) more group (upto + (upto - start_of upto))) (sym is)
-    (lowered_more less more group upto u within some_there))
+    (less more : List ℕ) (group at x : ℕ) → IsRaisedUpTo less more group (at + 1) → at < length less → x ≡ get_or less at x → 0 < part_at less (at + 1)
+    → IsRaisedUpTo (set less at (x - 1)) more group (bit_or at (at + 1) + 1)
+lowered_read less more group at x u within read some_there =
+    subst (λ (n : ℕ). IsRaisedUpTo (set less at (x - 1)) more group n) (sym (next_or at)) (lowered_set less more group at x u within read some_there)
 
 -- the part that is the next to be less is no nought yet
 pub some_next : (less more : List ℕ) (group upto : ℕ) → IsRaisedUpTo less more group upto → upto ≤ length less → 0 < part_at more upto → 0 < part_at less upto

@@ -1,5 +1,5 @@
 -- What an open list keeps, and what contracts see, where nodes come and go.
-use Rattle.std.proofs.Common.{◌≡◌, ◌≤◌, ℕ, List, ◌∷◌, ◌++◌, [], Option, Some, None, Result, Ok, Err, OnOk, length, set, slice_get, refl, ap, sym, ◌∙◌, subst, arith, length-set}
+use Rattle.std.proofs.Common.{◌≡◌, ◌⊎◌, ◌≤◌, ℕ, List, ◌∷◌, ◌++◌, [], Option, Some, None, length, set, slice_get, refl, ap, sym, ◌∙◌, subst, inl, inr, ⊎_elim, arith, length-append, length-set}
 use Rattle.std.specs.List.{remove}
 use Rattle.std.proofs.lemmas.List.{take-set-le}
 use Rattle.std.proofs.lemmas.Option.{same_Some}
@@ -10,20 +10,18 @@ use Rattle.hd_open.specs.declared.queue.Queue.{Queue}
 use Rattle.hd_open.specs.Totals.{IsBest}
 use Rattle.hd_open.specs.Live.{live, place_at, IsBestArrival}
 use Rattle.hd_open.specs.Counts.{AreCounts}
-use Rattle.hd_open.specs.Queue.{Has, IsQueued, IsOrderly, IsUpTo}
+use Rattle.hd_open.specs.Marks.{AreMarks}
+use Rattle.hd_open.specs.Queue.{Has, IsQueued, IsOrderly, IsSingle, IsBelow}
 use Rattle.hd_open.specs.Open.{Open, TakesAt, TakesBest}
 use Rattle.hd_open.specs.Kept.{open_view, IsKept, IsHintOf}
 use Rattle.hd_open.proofs.Places.{live-append, live_get, live-set-none, emptied, best_place}
-use Rattle.hd_open.proofs.Queueing.{queued_left, queued_back}
+use Rattle.hd_open.proofs.Queueing.{queued_push, queued_left, queued_back, single_added, below_added}
 
 module _ {A : Type 0} where
   -- a node comes behind the others
-  pub nodes_push :
-      {T E : Type 0} (r : Result T E) (slots after : List (Option A)) (nodes : List A) (x : A) → live slots ≡ nodes
-      → OnOk r (after ≡ slots ++ Some x ∷ []) → OnOk r (live after ≡ nodes ++ x ∷ [])
-  nodes_push (Ok v) slots after nodes x is pushed =
+  pub nodes_push : (slots after : List (Option A)) (nodes : List A) (x : A) → live slots ≡ nodes → after ≡ slots ++ Some x ∷ [] → live after ≡ nodes ++ x ∷ []
+  nodes_push slots after nodes x is pushed =
       ap live pushed ∙ (live-append slots (Some x ∷ []) ∙ ap (λ (ns : List A). ns ++ x ∷ []) is)
-  nodes_push (Err e) slots after nodes x is pushed = pushed
 
   -- how many nodes stand before a slot that is emptied
   place_left : (slots : List (Option A)) (i : ℕ) → place_at (set slots i None) i ≡ place_at slots i
@@ -38,12 +36,14 @@ module _ {A : Type 0} where
   module _ (total : A → Option ℕ) where
     -- a node goes
     pub kept_left :
-        (slots : List (Option A)) (q : Queue) (d : Counts) (i : ℕ) (x : A) → IsQueued total slots q → IsOrderly q → IsUpTo q (length slots)
-        → slice_get slots i ≡ Some (Some x) → AreCounts (set slots i None) d → IsKept total (set slots i None) (Some (gap_at total i x)) None q d
-    kept_left slots q d i x queued orderly latest at counted = record {
+        (slots : List (Option A)) (q : Queue) (d : Counts) (i : ℕ) (x : A) → IsQueued total slots q → IsOrderly q → IsSingle q → IsBelow q (length slots)
+        → slice_get slots i ≡ Some (Some x) → AreMarks (set slots i None) d.marks.items → AreCounts (set slots i None) d → IsKept total (set slots i None) (Some (gap_at total i x)) None q d
+    kept_left slots q d i x queued orderly single latest at marked counted = record {
       queued = queued_left total slots q i queued;
       orderly = orderly;
-      latest = subst (λ (n : ℕ). IsUpTo q n) (sym (length-set slots i None)) latest;
+      single = single;
+      latest = subst (λ (n : ℕ). IsBelow q n) (sym (length-set slots i None)) latest;
+      marked = marked;
       counted = counted;
       empty = λ g is.
           let same = same_Some (gap_at total i x) g is in
@@ -75,13 +75,40 @@ module _ {A : Type 0} where
     -- a node comes back
     pub kept_back :
         (slots : List (Option A)) (g : Gap) (hint : Option Hint) (q : Queue) (c d : Counts) (x : A) → IsKept total slots (Some g) hint q c → g.total ≡ total x
-        → AreCounts (set slots g.arrival (Some x)) d → IsKept total (set slots g.arrival (Some x)) None None q d
-    kept_back slots g hint q c d x k same counted = record {
+        → AreMarks (set slots g.arrival (Some x)) d.marks.items → AreCounts (set slots g.arrival (Some x)) d
+        → IsKept total (set slots g.arrival (Some x)) None None q d
+    kept_back slots g hint q c d x k same marked counted = record {
       queued = queued_back total slots q g.arrival x g.total k.queued (k.waiting g refl) same;
       orderly = k.orderly;
-      latest = subst (λ (n : ℕ). IsUpTo q n) (sym (length-set slots g.arrival (Some x))) k.latest;
+      single = k.single;
+      latest = subst (λ (n : ℕ). IsBelow q n) (sym (length-set slots g.arrival (Some x))) k.latest;
+      marked = marked;
       counted = counted;
       empty = λ h is. absurd (cc);
       waiting = λ h is. absurd (cc);
       hinted = _;
     }
+
+    -- a node has come behind the others
+    pub kept_push :
+        (slots after : List (Option A)) (q r : Queue) (d : Counts) (x : A) (t : Option ℕ) (n : ℕ) → t ≡ total x → n ≡ length slots
+        → after ≡ slots ++ Some x ∷ [] → IsQueued total slots q → IsSingle q → IsBelow q (length slots) → IsOrderly r → Has r t n
+        → ((g : Option ℕ) (k : ℕ) → Has q g k → Has r g k) → ((g : Option ℕ) (k : ℕ) → Has r g k → Has q g k ⊎ ((t ≡ g) × (n ≡ k)))
+        → AreMarks after d.marks.items → AreCounts after d → IsKept total after None None r d
+    kept_push slots after q r d x t n at_total at is queued single latest orderly added stays only marked counted = record {
+      queued = subst (λ (ys : List (Option A)). IsQueued total ys r) (sym is) (queued_push total slots r x (λ k y here. stays (total y) k (queued k y here)) added_there);
+      orderly = orderly;
+      single = single_added q r (total x) (length slots) single latest only_there;
+      latest = subst (λ (m : ℕ). IsBelow r m) (sym (ap length is ∙ length-append slots (Some x ∷ []))) (below_added q r (total x) (length slots) latest only_there);
+      marked = marked;
+      counted = counted;
+      empty = λ h none. absurd (cc);
+      waiting = λ h none. absurd (cc);
+      hinted = _;
+    }
+      where
+        added_there : Has r (total x) (length slots)
+        added_there = subst (λ (k : ℕ). Has r (total x) k) at (subst (λ (u : Option ℕ). Has r u n) at_total added)
+
+        only_there : (g : Option ℕ) (k : ℕ) → Has r g k → Has q g k ⊎ ((total x ≡ g) × (length slots ≡ k))
+        only_there g k has = ⊎_elim (λ old. inl old) (λ new. inr (sym at_total ∙ new.0, sym at ∙ new.1)) (only g k has)

@@ -5,8 +5,9 @@ use Rattle.hd_open.specs.declared.slots.Hint.{Hint}
 use Rattle.hd_open.specs.declared.counts.Counts.{Counts}
 use Rattle.hd_open.specs.declared.queue.Queue.{Queue}
 use Rattle.hd_open.specs.Live.{live, place_at, IsFilled}
+use Rattle.hd_open.specs.Marks.{AreMarks}
 use Rattle.hd_open.specs.Counts.{AreCounts}
-use Rattle.hd_open.specs.Queue.{Has, IsQueued, IsOrderly, IsUpTo}
+use Rattle.hd_open.specs.Queue.{Has, IsQueued, IsOrderly, IsSingle, IsBelow}
 use Rattle.hd_open.specs.Open.{Open}
 
 -- the nodes in order, and where the gap stands among them
@@ -18,11 +19,13 @@ pub record IsHintOf {A : Type 0} (slots : List (Option A)) (h : Hint) : Type 0 w
   pub filled : IsFilled slots h.arrival
   pub place : place_at slots h.arrival ≡ h.place
 
--- nodes are counted and queued, and the slot of the gap is empty, with its entry still in the queue
+-- nodes are marked, counted and queued, and the slot of the gap is empty, with its entry still in the queue
 pub record IsKept {A : Type 0} (total : A → Option ℕ) (slots : List (Option A)) (gap : Option Gap) (hint : Option Hint) (q : Queue) (c : Counts) : Type 0 where
   pub queued : IsQueued total slots q
   pub orderly : IsOrderly q
-  pub latest : IsUpTo q (length slots)
+  pub single : IsSingle q
+  pub latest : IsBelow q (length slots)
+  pub marked : AreMarks slots c.marks.items
   pub counted : AreCounts slots c
   pub empty : (g : Gap) → gap ≡ Some g → slice_get slots g.arrival ≡ Some None
   pub waiting : (g : Gap) → gap ≡ Some g → Has q g.total g.arrival

@@ -16,10 +16,6 @@ place_at slots arrival = length (live (take arrival slots))
 abbrev pub IsFilled : {A : Type 0} → List (Option A) → ℕ → Type 0
 IsFilled {A} slots arrival = (x : A) × (slice_get slots arrival ≡ Some (Some x))
 
--- a slot holds a node of this total
-abbrev pub IsAt : {A : Type 0} → (A → Option ℕ) → List (Option A) → ℕ → Option ℕ → Type 0
-IsAt {A} total slots arrival t = (x : A) × (slice_get slots arrival ≡ Some (Some x)) × (total x ≡ t)
-
 -- the node that a slot holds is the best one
 pub record IsBestArrival {A : Type 0} (total : A → Option ℕ) (slots : List (Option A)) (arrival : ℕ) : Type 0 where
   pub node : A

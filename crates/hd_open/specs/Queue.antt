@@ -1,11 +1,13 @@
 -- Arrivals in the order in which their nodes are to be expanded. (Buckets by value: Dial 1969.)
-use Rattle.std.specs.Prelude.{◌≡◌, ◌⊎◌, ℕ, ◌+◌, ◌<◌, ◌≤◌, true, List, [], ◌∷◌, Option, Some, None, length, slice_get, slice_index_or}
+use Rattle.std.specs.Prelude.{◌≡◌, ◌⊎◌, ℕ, ◌<◌, ◌≤◌, true, List, [], ◌∷◌, Option, Some, None, length, slice_get, slice_index_or}
 use Rattle.std.specs.List.{AllByRecursion}
 use Rattle.std.specs.Ordering.{nat_cmp, ordering_then}
 use Rattle.std.specs.declared.cmp.Ordering.{Ordering}
 use Rattle.std.specs.BTreeSet.{contains}
 use Rattle.hd_open.specs.declared.queue.Queue.{Queue}
 use Rattle.hd_open.specs.declared.queue.TheConstants.{BUCKETS}
+use Rattle.hd_open.specs.Marks.{mark_at}
+use Rattle.hd_open.specs.Totals.{IsNotAfter}
 
 -- entries are ordered by total, and of equal totals by arrival
 abbrev pub entry_cmp : ℕ × ℕ → ℕ × ℕ → Ordering
@@ -30,34 +32,9 @@ abbrev pub Has : Queue → Option ℕ → ℕ → Type 0
 Has q (Some t) arrival = IsAmong (bucket q.small.items t) arrival ⊎ (contains entry_cmp q.large (t, arrival) ≡ true)
 Has q None arrival = IsAmong q.dead arrival
 
--- how many arrivals buckets have
-abbrev pub in_buckets : List (List ℕ) → ℕ
-in_buckets [] = 0
-in_buckets (b ∷ small) = length b + in_buckets small
-
--- how many entries a queue has
-abbrev pub entries : Queue → ℕ
-entries q = in_buckets q.small.items + length q.large.keys + length q.dead
-
 -- no bucket before this one has an arrival
 abbrev pub AreEmptyBelow : List (List ℕ) → ℕ → Type 0
 AreEmptyBelow small total = (t : ℕ) → t < total → bucket small t ≡ []
-
--- an arrival stands first in the first bucket that has one
-pub record IsFirstSmall (q : Queue) (total arrival : ℕ) : Type 0 where
-  pub within : total < length q.small.items
-  pub first : slice_get (bucket q.small.items total) 0 ≡ Some arrival
-  pub below : AreEmptyBelow q.small.items total
-
--- a total has no bucket, and an arrival with it stands first among those like it
-pub record IsFirstLarge (q : Queue) (total arrival : ℕ) : Type 0 where
-  pub no_bucket : BUCKETS ≤ total
-  pub first : slice_get q.large.keys 0 ≡ Some (total, arrival)
-
--- an arrival with this total stands first among those like it
-abbrev pub IsFirst : Queue → Option ℕ → ℕ → Type 0
-IsFirst q (Some t) arrival = IsFirstSmall q t arrival ⊎ IsFirstLarge q t arrival
-IsFirst q None arrival = slice_get q.dead 0 ≡ Some arrival
 
 -- in each bucket, and among those that come last, arrivals ascend; totals without a bucket are greater than those with one
 pub record IsOrderly (q : Queue) : Type 0 where
@@ -67,9 +44,32 @@ pub record IsOrderly (q : Queue) : Type 0 where
   pub greater : (t arrival : ℕ) → contains entry_cmp q.large (t, arrival) ≡ true → BUCKETS ≤ t
   pub dead : IsAscending q.dead
 
--- no arrival is greater than this one
-abbrev pub IsUpTo : Queue → ℕ → Type 0
-IsUpTo q arrival = (g : Option ℕ) (k : ℕ) → Has q g k → k ≤ arrival
+-- each arrival is less than this one
+abbrev pub IsBelow : Queue → ℕ → Type 0
+IsBelow q arrival = (g : Option ℕ) (k : ℕ) → Has q g k → k < arrival
+
+-- an arrival has one total
+abbrev pub IsSingle : Queue → Type 0
+IsSingle q = (g h : Option ℕ) (k : ℕ) → Has q g k → Has q h k → g ≡ h
+
+-- in the second list some of the arrivals may be gone whose slots are not marked
+pub record AreCleared (words before after : List ℕ) : Type 0 where
+  pub stays : (k : ℕ) → mark_at words k ≡ 1 → IsAmong before k → IsAmong after k
+  pub only : (k : ℕ) → IsAmong after k → IsAmong before k
+  pub ascends : IsAscending before → IsAscending after
+
+-- in the second queue some of the arrivals may be gone whose slots are not marked
+pub record IsCleared (words : List ℕ) (before after : Queue) : Type 0 where
+  pub stays : (g : Option ℕ) (k : ℕ) → mark_at words k ≡ 1 → Has before g k → Has after g k
+  pub only : (g : Option ℕ) (k : ℕ) → Has after g k → Has before g k
+  pub orderly : IsOrderly after
+
+-- an arrival comes no later than each other, and its slot is marked
+pub record IsFirst (words : List ℕ) (q : Queue) (arrival : ℕ) : Type 0 where
+  pub total : Option ℕ
+  pub has : Has q total arrival
+  pub marked : mark_at words arrival ≡ 1
+  pub least : (g : Option ℕ) (k : ℕ) → Has q g k → IsNotAfter total arrival g k
 
 -- each node has its entry
 abbrev pub IsQueued : {A : Type 0} → (A → Option ℕ) → List (Option A) → Queue → Type 0

@@ -4,13 +4,15 @@ ghost use Rattle.hd_open.specs.Counts.{start_of, IsRaised, AreSome, AreBelowLimi
 
 use std::alloc::Global;
 
-/// How many slots a group has.
-pub(crate) const GROUP: usize = 8;
+/// How many slots a group has: as many as a word has bits.
+pub(crate) const GROUP: usize = 64;
 
-/// Counts of groups of slots, each over as many groups as the lowest one bit of its number says (the binary indexed tree: Fenwick 1994), and
-/// the count of all.
+/// Which slots hold a node; counts of groups of slots, each over as many groups as the lowest one bit of its number says (the binary indexed
+/// tree: Fenwick 1994); and the count of all.
 #[derive(Drop)]
 pub(crate) struct Counts {
+    /// A word for each group, with a bit for each slot.
+    pub(crate) marks: Vec<u64>,
     /// At `end - 1` stands how many nodes the groups from `start_of(end)` up to `end` have.
     pub(crate) parts: Vec<usize>,
     pub(crate) all: usize,
@@ -31,10 +33,10 @@ pub(crate) fn raise_parts(parts: &mut Vec<usize>, group: usize)
     requires fits { AreBelowLimit parts.old.items group }
     ensures { IsRaised parts.old.items parts.new.items group }
 {
-    let mut end = group + 1;
-    while end <= parts.len() {
-        parts[end - 1] += 1;
-        end += end - start_of(end);
+    let mut at = group;
+    while at < parts.len() {
+        parts[at] += 1;
+        at |= at + 1;
     }
 }
 
@@ -44,20 +46,22 @@ pub(crate) fn lower_parts(parts: &mut Vec<usize>, group: usize)
     requires some { AreSome parts.old.items group }
     ensures { IsRaised parts.new.items parts.old.items group }
 {
-    let mut end = group + 1;
-    while end <= parts.len() {
-        parts[end - 1] -= 1;
-        end += end - start_of(end);
+    let mut at = group;
+    while at < parts.len() {
+        parts[at] -= 1;
+        at |= at + 1;
     }
 }
 
 impl Counts {
     /// Counts of no slots.
     pub(crate) fn empty(alloc: Global) -> Counts
+        ensures marks { result.marks.items ≡ [] }
         ensures parts { result.parts.items ≡ [] }
         ensures all { result.all ≡ 0 }
     {
         Counts {
+            marks: Vec::new(alloc),
             parts: Vec::new(alloc),
             all: 0,
         }

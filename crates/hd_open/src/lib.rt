@@ -7,6 +7,7 @@
 
 mod arrivals;
 mod counts;
+mod marks;
 mod open;
 mod queue;
 mod slots;

@@ -78,10 +78,14 @@ impl<T: Waits> OpenList<T> {
         if let Err(error) = cover(self.slots.as_slice(), &mut self.counts) {
             return Err((node, error));
         }
+        if let Err(error) = self.slots.reserve(1) {
+            return Err((node, error));
+        }
         if let Err(error) = self.queue.add(total, arrival) {
             return Err((node, error));
         }
-        append(&mut self.slots, &mut self.counts, node)
+        append(&mut self.slots, &mut self.counts, node);
+        Ok(())
     }
 
     /// The place of the best node: that of the least total, the earliest of equal ones. Nodes without a total come last.
@@ -92,7 +96,7 @@ impl<T: Waits> OpenList<T> {
         ensures gap { self.new.gap ≡ None }
     {
         self.gap = None;
-        let arrival = best_arrival(self.slots.as_slice(), &mut self.queue)?;
+        let arrival = best_arrival(self.slots.as_slice(), &self.counts, &mut self.queue)?;
         let place = place_of(self.slots.as_slice(), &self.counts, arrival);
         self.hint = Some(Hint { place, arrival });
         Some(place)
@@ -106,7 +110,7 @@ impl<T: Waits> OpenList<T> {
     {
         self.gap = None;
         self.hint = None;
-        let arrival = best_arrival(self.slots.as_slice(), &mut self.queue)?;
+        let arrival = best_arrival(self.slots.as_slice(), &self.counts, &mut self.queue)?;
         let (node, gap) = take_from(&mut self.slots, &mut self.counts, arrival);
         self.gap = Some(gap);
         Some(node)

@@ -1,10 +1,11 @@
 //! Arrivals in the order in which their nodes are to be expanded.
-ghost use Rattle.std.specs.Prelude.{◌≡◌, ◌+◌, ◌<◌, ◌≤◌, ℕ, Option, Some, None, true, [], ◌⊎◌, length, slice_get, IfSome, IfNone, OnOk};
+ghost use Rattle.std.specs.Prelude.{◌≡◌, ◌<◌, ◌≤◌, ℕ, Option, Some, None, true, [], ◌⊎◌, length, slice_get, IfSome, IfNone, OnOk, OnErr};
 ghost use Rattle.std.specs.BTreeSet.{contains, IsLowerBound};
-ghost use Rattle.hd_open.specs.Totals.{IsNotAfter};
-ghost use Rattle.hd_open.specs.Queue.{Has, bucket, entries, entry_cmp, IsFirst, IsFirstSmall, IsFirstLarge, IsOrderly, IsUpTo};
+ghost use Rattle.hd_open.specs.Marks.{mark_at};
+ghost use Rattle.hd_open.specs.Queue.{Has, bucket, entry_cmp, AreCleared, IsCleared, IsFirst, IsOrderly, IsBelow};
 
 use crate::arrivals::Arrivals;
+use crate::marks::is_marked;
 use hd_base::NoMemory;
 use std::alloc::{AllocError, Global};
 use std::collections::BTreeSet;
@@ -13,7 +14,7 @@ use std::collections::BTreeSet;
 pub(crate) const BUCKETS: u64 = 65_536;
 
 /// Arrivals by their totals: small totals have a bucket each, greater ones are sorted, and those without a total come last. An entry
-/// may be stale: its node may have left.
+/// may be stale: its node may have left, and its slot is not marked then.
 #[derive(Drop)]
 pub(crate) struct Queue {
     alloc: Global,
@@ -38,15 +39,36 @@ fn cover(alloc: Global, small: &mut Vec<Arrivals>, total: usize) -> Result<(), N
     Ok(())
 }
 
-/// From a total on, the first one whose bucket has an arrival, and the first arrival there.
-fn first_from(small: &[Arrivals], from: usize) -> Option<(usize, usize)>
-    ensures within { IfSome result (λ r. r.0 < length small.now) }
-    ensures first { IfSome result (λ r. slice_get (bucket small.now r.0) 0 ≡ Some r.1) }
-    ensures empty { IfSome result (λ r. (t : ℕ) → from ≤ t → t < r.0 → bucket small.now t ≡ []) }
-    ensures none { IfNone result ((t : ℕ) → from ≤ t → bucket small.now t ≡ []) }
+/// The first arrival whose slot is marked. Those before it are dropped.
+fn first_waiting(arrivals: &mut Arrivals, words: &[u64]) -> Option<usize>
+    ensures cleared { AreCleared words.now arrivals.old arrivals.new }
+    ensures first { IfSome result (λ a. slice_get arrivals.new 0 ≡ Some a) }
+    ensures marked { IfSome result (λ a. mark_at words.now a ≡ 1) }
+    ensures none { IfNone result (arrivals.new ≡ []) }
+{
+    while let Some(arrival) = arrivals.first() {
+        if is_marked(words, arrival) {
+            return Some(arrival);
+        }
+        arrivals.drop_first();
+    }
+    None
+}
+
+/// From a total on, the first one whose bucket has an arrival whose slot is marked, and the first such arrival there. Those before it are
+/// dropped.
+fn first_small(small: &mut Vec<Arrivals>, from: usize, words: &[u64]) -> Option<(usize, usize)>
+    ensures cleared { (t : ℕ) → AreCleared words.now (bucket small.old.items t)
+        (bucket small.new.items t) }
+    ensures len { length small.new.items ≡ length small.old.items }
+    ensures first { IfSome result (λ r. slice_get (bucket small.new.items r.0) 0 ≡ Some r.1) }
+    ensures marked { IfSome result (λ r. mark_at words.now r.1 ≡ 1) }
+    ensures empty { IfSome result (λ r. (t : ℕ) → from ≤ t → t < r.0
+        → bucket small.new.items t ≡ []) }
+    ensures none { IfNone result ((t : ℕ) → from ≤ t → bucket small.new.items t ≡ []) }
 {
     for total in from..small.len() {
-        if let Some(arrival) = small[total].first() {
+        if let Some(arrival) = first_waiting(&mut small[total], words) {
             return Some((total, arrival));
         }
     }
@@ -64,6 +86,26 @@ fn first_of(large: &BTreeSet<(u128, usize)>) -> Option<(u128, usize)>
         Some(first) => Some(*first),
         None => None,
     }
+}
+
+/// The first entry of those that are sorted whose slot is marked. Those before it are dropped.
+fn first_large(large: &mut BTreeSet<(u128, usize)>, words: &[u64]) -> Option<(u128, usize)>
+    ensures stays { (t k : ℕ) → mark_at words.now k ≡ 1 → contains entry_cmp large.old (t, k) ≡ true
+        → contains entry_cmp large.new (t, k) ≡ true }
+    ensures only { (t k : ℕ) → contains entry_cmp large.new (t, k) ≡ true
+        → contains entry_cmp large.old (t, k) ≡ true }
+    ensures member { IfSome result (λ r. contains entry_cmp large.new r ≡ true) }
+    ensures marked { IfSome result (λ r. mark_at words.now r.1 ≡ 1) }
+    ensures least { IfSome result (λ r. IsLowerBound entry_cmp large.new r) }
+    ensures none { IfNone result (large.new.keys ≡ []) }
+{
+    while let Some((total, arrival)) = first_of(large) {
+        if is_marked(words, arrival) {
+            return Some((total, arrival));
+        }
+        let _first = large.pop_first();
+    }
+    None
 }
 
 impl Queue {
@@ -85,11 +127,13 @@ impl Queue {
     fn add_small(&mut self, total: usize, arrival: u32) -> Result<(), NoMemory>
         requires bucket { total < BUCKETS }
         requires orderly { IsOrderly self.old }
-        requires latest { IsUpTo self.old arrival }
+        requires latest { IsBelow self.old arrival }
         ensures orderly { IsOrderly self.new }
         ensures added { OnOk result (Has self.new (Some total) arrival) }
         ensures stays { (g : Option ℕ) (k : ℕ) → Has self.old g k → Has self.new g k }
-        ensures only { (g : Option ℕ) (k : ℕ) → Has self.new g k → Has self.old g k ⊎ (arrival ≡ k) }
+        ensures only { (g : Option ℕ) (k : ℕ) → Has self.new g k
+            → Has self.old g k ⊎ ((Some total ≡ g) × (arrival ≡ k)) }
+        ensures err { OnErr result ((g : Option ℕ) (k : ℕ) → Has self.new g k → Has self.old g k) }
     {
         cover(self.alloc, &mut self.small, total)?;
         self.small[total].push(arrival)?;
@@ -106,7 +150,9 @@ impl Queue {
         ensures orderly { IsOrderly self.new }
         ensures added { OnOk result (Has self.new (Some total) arrival) }
         ensures stays { (g : Option ℕ) (k : ℕ) → Has self.old g k → Has self.new g k }
-        ensures only { (g : Option ℕ) (k : ℕ) → Has self.new g k → Has self.old g k ⊎ (arrival ≡ k) }
+        ensures only { (g : Option ℕ) (k : ℕ) → Has self.new g k
+            → Has self.old g k ⊎ ((Some total ≡ g) × (arrival ≡ k)) }
+        ensures err { OnErr result ((g : Option ℕ) (k : ℕ) → Has self.new g k → Has self.old g k) }
     {
         self.large.insert((total, arrival))?;
         Ok(())
@@ -115,11 +161,13 @@ impl Queue {
     /// One arrival more, of no total.
     fn add_dead(&mut self, arrival: u32) -> Result<(), NoMemory>
         requires orderly { IsOrderly self.old }
-        requires latest { IsUpTo self.old arrival }
+        requires latest { IsBelow self.old arrival }
         ensures orderly { IsOrderly self.new }
         ensures added { OnOk result (Has self.new None arrival) }
         ensures stays { (g : Option ℕ) (k : ℕ) → Has self.old g k → Has self.new g k }
-        ensures only { (g : Option ℕ) (k : ℕ) → Has self.new g k → Has self.old g k ⊎ (arrival ≡ k) }
+        ensures only { (g : Option ℕ) (k : ℕ) → Has self.new g k
+            → Has self.old g k ⊎ ((None ≡ g) × (arrival ≡ k)) }
+        ensures err { OnErr result ((g : Option ℕ) (k : ℕ) → Has self.new g k → Has self.old g k) }
     {
         self.dead.push(arrival)?;
         Ok(())
@@ -131,11 +179,13 @@ impl Queue {
     /// `NoMemory` where there is no room for it, or it is no number of 32 bits.
     pub(crate) fn add(&mut self, total: Option<u128>, arrival: usize) -> Result<(), NoMemory>
         requires orderly { IsOrderly self.old }
-        requires latest { IsUpTo self.old arrival }
+        requires latest { IsBelow self.old arrival }
         ensures orderly { IsOrderly self.new }
         ensures added { OnOk result (Has self.new total arrival) }
         ensures stays { (g : Option ℕ) (k : ℕ) → Has self.old g k → Has self.new g k }
-        ensures only { (g : Option ℕ) (k : ℕ) → Has self.new g k → Has self.old g k ⊎ (arrival ≡ k) }
+        ensures only { (g : Option ℕ) (k : ℕ) → Has self.new g k
+            → Has self.old g k ⊎ ((total ≡ g) × (arrival ≡ k)) }
+        ensures err { OnErr result ((g : Option ℕ) (k : ℕ) → Has self.new g k → Has self.old g k) }
     {
         let Ok(short) = u32::try_from(arrival) else {
             return Err(AllocError);
@@ -152,83 +202,21 @@ impl Queue {
         }
     }
 
-    /// The first one.
-    pub(crate) fn first(&self) -> Option<(Option<u128>, usize)>
-        requires orderly { IsOrderly self.now }
-        ensures first { IfSome result (λ r. IsFirst self.now r.0 r.1) }
-        ensures least { IfSome result (λ r. (g : Option ℕ) (k : ℕ) → Has self.now g k
-            → IsNotAfter r.0 r.1 g k) }
-        ensures none { IfNone result ((g : Option ℕ) (k : ℕ) → Has self.now g k → ⊥) }
+    /// The arrival of the first entry whose slot is marked. Those before it are dropped.
+    pub(crate) fn first(&mut self, words: &[u64]) -> Option<usize>
+        requires orderly { IsOrderly self.old }
+        ensures cleared { IsCleared words.now self.old self.new }
+        ensures first { IfSome result (IsFirst words.now self.new) }
+        ensures none { IfNone result ((g : Option ℕ) (k : ℕ) → Has self.new g k → ⊥) }
     {
-        if let Some((total, arrival)) = first_from(self.small.as_slice(), self.least) {
-            return Some((Some(total as u128), arrival));
+        if let Some((total, arrival)) = first_small(&mut self.small, self.least, words) {
+            self.least = total;
+            return Some(arrival);
         }
-        if let Some((total, arrival)) = first_of(&self.large) {
-            return Some((Some(total), arrival));
+        self.least = self.small.len();
+        if let Some((_, arrival)) = first_large(&mut self.large, words) {
+            return Some(arrival);
         }
-        let arrival = self.dead.first()?;
-        Some((None, arrival))
-    }
-
-    /// Drops the first one of the first bucket that has one.
-    fn drop_small(&mut self, total: usize, arrival: usize)
-        requires first { IsFirstSmall self.old total arrival }
-        requires orderly { IsOrderly self.old }
-        ensures orderly { IsOrderly self.new }
-        ensures stays { (g : Option ℕ) (k : ℕ) → Has self.old g k
-            → Has self.new g k ⊎ ((Some total ≡ g) × (arrival ≡ k)) }
-        ensures only { (g : Option ℕ) (k : ℕ) → Has self.new g k → Has self.old g k }
-        ensures fewer { entries self.new + 1 ≡ entries self.old }
-    {
-        self.least = total;
-        self.small[total].drop_first();
-    }
-
-    /// Drops the first one of those without a bucket.
-    fn drop_large(&mut self, total: u128, arrival: usize)
-        requires first { IsFirstLarge self.old total arrival }
-        requires orderly { IsOrderly self.old }
-        ensures orderly { IsOrderly self.new }
-        ensures stays { (g : Option ℕ) (k : ℕ) → Has self.old g k
-            → Has self.new g k ⊎ ((Some total ≡ g) × (arrival ≡ k)) }
-        ensures only { (g : Option ℕ) (k : ℕ) → Has self.new g k → Has self.old g k }
-        ensures fewer { entries self.new + 1 ≡ entries self.old }
-    {
-        let _first = self.large.pop_first();
-    }
-
-    /// Drops the first one of those without a total.
-    fn drop_dead(&mut self, arrival: usize)
-        requires first { slice_get self.old.dead 0 ≡ Some arrival }
-        requires orderly { IsOrderly self.old }
-        ensures orderly { IsOrderly self.new }
-        ensures stays { (g : Option ℕ) (k : ℕ) → Has self.old g k
-            → Has self.new g k ⊎ ((None ≡ g) × (arrival ≡ k)) }
-        ensures only { (g : Option ℕ) (k : ℕ) → Has self.new g k → Has self.old g k }
-        ensures fewer { entries self.new + 1 ≡ entries self.old }
-    {
-        self.dead.drop_first();
-    }
-
-    /// Drops the first one.
-    pub(crate) fn drop_first(&mut self, total: Option<u128>, arrival: usize)
-        requires first { IsFirst self.old total arrival }
-        requires orderly { IsOrderly self.old }
-        ensures orderly { IsOrderly self.new }
-        ensures stays { (g : Option ℕ) (k : ℕ) → Has self.old g k
-            → Has self.new g k ⊎ ((total ≡ g) × (arrival ≡ k)) }
-        ensures only { (g : Option ℕ) (k : ℕ) → Has self.new g k → Has self.old g k }
-        ensures fewer { entries self.new + 1 ≡ entries self.old }
-    {
-        match total {
-            Some(cost) => {
-                if cost < u128::from(BUCKETS) {
-                    self.drop_small(cost as usize, arrival);
-                } else {
-                    self.drop_large(cost, arrival);
-                }
-            }
-            None => self.drop_dead(arrival),
-        }
+        first_waiting(&mut self.dead, words)
     }
 }

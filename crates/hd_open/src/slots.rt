@@ -1,16 +1,17 @@
 //! Nodes by their arrivals: where they stand among each other, and which is the best one.
-ghost use Rattle.std.specs.Prelude.{◌≡◌, ◌+◌, ◌*◌, ◌<◌, ◌≤◌, ◌++◌, ◌↔◌, ℕ, [], ◌∷◌, Some, None, length, slice_get, slice_set, IfSome, IfNone, IfErr, OnOk, OnErr, IsTrue};
-ghost use Rattle.hd_open.specs.Live.{live, place_at, IsFilled, IsAt, IsBestArrival};
+ghost use Rattle.std.specs.Prelude.{◌≡◌, ◌+◌, ◌*◌, ◌<◌, ◌≤◌, ◌++◌, [], ◌∷◌, Some, None, length, slice_get, slice_set, IfSome, IfNone, OnOk, vec_len, vec_capacity};
+ghost use Rattle.hd_open.specs.Live.{live, place_at, IsFilled, IsBestArrival};
+ghost use Rattle.hd_open.specs.Marks.{AreMarks};
 ghost use Rattle.hd_open.specs.Counts.{AreCounts};
 ghost use Rattle.hd_open.specs.Kept.{IsHintOf};
 ghost use Rattle.hd_open.specs.declared.counts.TheConstants.{GROUP};
-ghost use Rattle.hd_open.specs.Queue.{IsOrderly, IsUpTo, IsQueued};
+ghost use Rattle.hd_open.specs.Queue.{IsOrderly, IsSingle, IsBelow, IsQueued};
 
 use crate::counts::{Counts, GROUP, lower_parts, raise_parts, start_of};
+use crate::marks::{is_marked, mark, marked_before, unmark};
 use crate::queue::Queue;
 use crate::waits::Waits;
 use hd_base::NoMemory;
-use std::alloc::AllocError;
 
 /// The arrival of the node at a place.
 #[derive(Clone, Copy, Debug, PartialEq, Eq)]
@@ -26,31 +27,17 @@ pub(crate) struct Gap {
     pub(crate) total: Option<u128>,
 }
 
-/// How many slots hold a node, from one up to another.
-fn filled_between<T>(slots: &[Option<T>], from: usize, to: usize) -> usize
-    requires order { from ≤ to }
-    requires within { to ≤ length slots.now }
-    ensures { place_at slots.now from + result ≡ place_at slots.now to }
-{
-    let mut count = 0;
-    for at in from..to {
-        if slots[at].is_some() {
-            count += 1;
-        }
-    }
-    count
-}
-
 /// From a slot on, the node before which there are so many.
-fn filled_after<T>(slots: &[Option<T>], from: usize, more: usize) -> usize
-    requires { place_at slots.now from + more < length (live slots.now) }
+fn filled_after<T>(slots: &[Option<T>], counts: &Counts, from: usize, more: usize) -> usize
+    requires marked { AreMarks slots.now counts.now.marks.items }
+    requires within { place_at slots.now from + more < length (live slots.now) }
     ensures filled { IsFilled slots.now result }
     ensures place { place_at slots.now result ≡ place_at slots.now from + more }
 {
     let mut left = more;
     let mut at = from;
     while at < slots.len() {
-        if slots[at].is_some() {
+        if is_marked(counts.marks.as_slice(), at) {
             if left == 0 {
                 return at;
             }
@@ -61,21 +48,34 @@ fn filled_after<T>(slots: &[Option<T>], from: usize, more: usize) -> usize
     unreachable!()
 }
 
-/// How many nodes stand before an arrival.
-pub(crate) fn place_of<T>(slots: &[Option<T>], counts: &Counts, arrival: usize) -> usize
+/// How many nodes stand before a group.
+fn counted_before<T>(slots: &[Option<T>], counts: &Counts, group: usize) -> usize
     requires counted { AreCounts slots.now counts.now }
-    requires within { arrival ≤ length slots.now }
-    ensures { result ≡ place_at slots.now arrival }
+    requires within { group ≤ length counts.now.parts.items }
+    ensures { result ≡ place_at slots.now (GROUP * group) }
 {
     // So that it is known that the sums fit.
     let _count = slots.len();
-    let mut end = arrival / GROUP;
-    let mut place = filled_between(slots, GROUP * end, arrival);
+    let mut end = group;
+    let mut place = 0;
     while end > 0 {
         place += counts.parts[end - 1];
         end = start_of(end);
     }
     place
+}
+
+/// How many nodes stand before an arrival.
+pub(crate) fn place_of<T>(slots: &[Option<T>], counts: &Counts, arrival: usize) -> usize
+    requires marked { AreMarks slots.now counts.now.marks.items }
+    requires counted { AreCounts slots.now counts.now }
+    requires within { arrival < length slots.now }
+    ensures { result ≡ place_at slots.now arrival }
+{
+    // So that it is known that the sum fits.
+    let _count = slots.len();
+    let before = counted_before(slots, counts, arrival / GROUP);
+    before + marked_before(counts.marks.as_slice(), arrival)
 }
 
 /// A power of two, with which the search for a place among so many groups begins.
@@ -111,13 +111,14 @@ fn group_of<T>(slots: &[Option<T>], counts: &Counts, place: usize) -> (usize, us
 
 /// The arrival of the node at a place.
 pub(crate) fn arrival_of<T>(slots: &[Option<T>], counts: &Counts, place: usize) -> usize
+    requires marked { AreMarks slots.now counts.now.marks.items }
     requires counted { AreCounts slots.now counts.now }
     requires within { place < length (live slots.now) }
     ensures filled { IsFilled slots.now result }
     ensures place { place_at slots.now result ≡ place }
 {
     let (group, left) = group_of(slots, counts, place);
-    filled_after(slots, GROUP * group, left)
+    filled_after(slots, counts, GROUP * group, left)
 }
 
 /// The same, where the arrival of the node at one place may be known.
@@ -127,6 +128,7 @@ pub(crate) fn arrival_by<T>(
     hint: Option<Hint>,
     place: usize,
 ) -> usize
+    requires marked { AreMarks slots.now counts.now.marks.items }
     requires counted { AreCounts slots.now counts.now }
     requires within { place < length (live slots.now) }
     requires hinted { IfSome hint (IsHintOf slots.now) }
@@ -141,96 +143,81 @@ pub(crate) fn arrival_by<T>(
     arrival_of(slots, counts, place)
 }
 
+/// A word more, if the next slot is the first of a group.
+///
+/// # Errors
+/// `NoMemory` where there is no room for it.
+fn cover_words<T>(slots: &[Option<T>], words: &mut Vec<u64>) -> Result<(), NoMemory>
+    requires marked { AreMarks slots.now words.old.items }
+    ensures marked { AreMarks slots.now words.new.items }
+    ensures words { OnOk result (length slots.now < GROUP * length words.new.items) }
+{
+    if slots.len() / GROUP >= words.len() {
+        words.push(0)?;
+    }
+    Ok(())
+}
+
 /// Counts a group more, which has no node, if the next slot is the first of one.
 ///
 /// # Errors
 /// `NoMemory` where there is no room for its count.
 pub(crate) fn cover<T>(slots: &[Option<T>], counts: &mut Counts) -> Result<(), NoMemory>
+    requires marked { AreMarks slots.now counts.old.marks.items }
     requires counted { AreCounts slots.now counts.old }
+    ensures marked { AreMarks slots.now counts.new.marks.items }
     ensures counted { AreCounts slots.now counts.new }
+    ensures words { OnOk result (length slots.now < GROUP * length counts.new.marks.items) }
     ensures room { OnOk result (length slots.now < GROUP * length counts.new.parts.items) }
 {
+    cover_words(slots, &mut counts.marks)?;
     let group = slots.len() / GROUP;
     if group >= counts.parts.len() {
-        let before = place_of(slots, counts, GROUP * start_of(group + 1));
+        let before = counted_before(slots, counts, start_of(group + 1));
         counts.parts.push(counts.all - before)?;
     }
     Ok(())
 }
 
-/// Whether two totals are the same.
-fn are_same(one: Option<u128>, other: Option<u128>) -> bool
-    ensures { IsTrue result ↔ (one ≡ other) }
-{
-    match (one, other) {
-        (Some(a), Some(b)) => a == b,
-        (None, None) => true,
-        (Some(_), None) => false,
-        (None, Some(_)) => false,
-    }
-}
-
-/// Whether a node of this total is at an arrival.
-fn is_at<T: Waits>(slots: &[Option<T>], arrival: usize, total: Option<u128>) -> bool
-    ensures { IsTrue result ↔ IsAt T.total slots.now arrival total }
-{
-    match slots.get(arrival) {
-        Some(Some(node)) => are_same(node.total(), total),
-        Some(None) => false,
-        None => false,
-    }
-}
-
 /// The arrival of the best node. Entries of the queue whose nodes have left are dropped on the way.
-pub(crate) fn best_arrival<T: Waits>(slots: &[Option<T>], queue: &mut Queue) -> Option<usize>
+pub(crate) fn best_arrival<T: Waits>(
+    slots: &[Option<T>],
+    counts: &Counts,
+    queue: &mut Queue,
+) -> Option<usize>
+    requires marked { AreMarks slots.now counts.now.marks.items }
     requires queued { IsQueued T.total slots.now queue.old }
     requires orderly { IsOrderly queue.old }
-    requires latest { IsUpTo queue.old (length slots.now) }
+    requires single { IsSingle queue.old }
+    requires latest { IsBelow queue.old (length slots.now) }
     ensures kept { IsQueued T.total slots.now queue.new }
     ensures orderly { IsOrderly queue.new }
-    ensures latest { IsUpTo queue.new (length slots.now) }
+    ensures single { IsSingle queue.new }
+    ensures latest { IsBelow queue.new (length slots.now) }
     ensures best { IfSome result (λ k. IsBestArrival T.total slots.now k) }
     ensures none { IfNone result (live slots.now ≡ []) }
 {
-    while let Some((total, arrival)) = queue.first() {
-        if is_at(slots, arrival, total) {
-            return Some(arrival);
-        }
-        queue.drop_first(total, arrival);
-    }
-    None
+    queue.first(counts.marks.as_slice())
 }
 
-/// Puts a node into a slot of its own, behind the others.
-///
-/// # Errors
-/// The node, where there is no room for it.
-pub(crate) fn append<T>(
-    slots: &mut Vec<Option<T>>,
-    counts: &mut Counts,
-    node: T,
-) -> Result<(), (T, NoMemory)>
+/// Puts a node into a slot of its own, behind the others. There is room for it.
+pub(crate) fn append<T>(slots: &mut Vec<Option<T>>, counts: &mut Counts, node: T)
+    requires free { vec_len slots.old < vec_capacity slots.old }
+    requires marked { AreMarks slots.old.items counts.old.marks.items }
     requires counted { AreCounts slots.old.items counts.old }
+    requires words { length slots.old.items < GROUP * length counts.old.marks.items }
     requires room { length slots.old.items < GROUP * length counts.old.parts.items }
-    ensures slots { OnOk result (slots.new.items ≡ slots.old.items ++ Some node ∷ []) }
-    ensures back { IfErr result (λ r. r.0 ≡ node) }
-    ensures err { OnErr result (slots.new.items ≡ slots.old.items) }
+    ensures slots { slots.new.items ≡ slots.old.items ++ Some node ∷ [] }
+    ensures marked { AreMarks slots.new.items counts.new.marks.items }
     ensures counted { AreCounts slots.new.items counts.new }
 {
     let arrival = slots.len();
-    match slots.push(Some(node)) {
-        Ok(()) => {
-            // So that it is known how many there are at most.
-            let _count = slots.len();
-            raise_parts(&mut counts.parts, arrival / GROUP);
-            counts.all += 1;
-            Ok(())
-        }
-        Err(failed) => match failed.value {
-            Some(node) => Err((node, AllocError)),
-            None => unreachable!(),
-        },
-    }
+    slots.push_reserved(Some(node));
+    // So that it is known how many there are at most.
+    let _count = slots.len();
+    mark(&mut counts.marks, arrival);
+    raise_parts(&mut counts.parts, arrival / GROUP);
+    counts.all += 1;
 }
 
 /// Takes the node out of a slot, which is a gap from then on.
@@ -240,13 +227,16 @@ pub(crate) fn take_from<T: Waits>(
     arrival: usize,
 ) -> (T, Gap)
     requires within { arrival < length slots.old.items }
+    requires marked { AreMarks slots.old.items counts.old.marks.items }
     requires counted { AreCounts slots.old.items counts.old }
     requires filled { IsFilled slots.old.items arrival }
     ensures node { slice_get slots.old.items arrival ≡ Some (Some result.0) }
     ensures gap { result.1 ≡ record { arrival = arrival; total = T.total result.0 } }
     ensures slots { slots.new.items ≡ slice_set slots.old.items arrival None }
+    ensures marked { AreMarks slots.new.items counts.new.marks.items }
     ensures counted { AreCounts slots.new.items counts.new }
 {
+    unmark(&mut counts.marks, arrival);
     lower_parts(&mut counts.parts, arrival / GROUP);
     counts.all -= 1;
     match slots[arrival].take() {
@@ -266,13 +256,16 @@ pub(crate) fn put_into<T: Drop>(
     node: T,
 )
     requires within { arrival < length slots.old.items }
+    requires marked { AreMarks slots.old.items counts.old.marks.items }
     requires counted { AreCounts slots.old.items counts.old }
     requires empty { slice_get slots.old.items arrival ≡ Some None }
     ensures slots { slots.new.items ≡ slice_set slots.old.items arrival (Some node) }
+    ensures marked { AreMarks slots.new.items counts.new.marks.items }
     ensures counted { AreCounts slots.new.items counts.new }
 {
     // So that it is known how many there are at most.
     let _count = slots.len();
+    mark(&mut counts.marks, arrival);
     raise_parts(&mut counts.parts, arrival / GROUP);
     counts.all += 1;
     slots[arrival] = Some(node);

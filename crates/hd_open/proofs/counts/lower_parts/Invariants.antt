@@ -2,8 +2,8 @@ use Rattle.std.proofs.Common.{◌+◌, ◌-◌, length}
 use Rattle.hd_open.proofs.Raising.{IsRaisedUpTo}
 use Rattle.hd_open.proofs.counts.lower_parts.Given as goal
 
-abbrev pub invariant-loop-end : goal.invariant-loop-end
-invariant-loop-end l = IsRaisedUpTo l.parts.items l.initial.parts.items l.group l.end
+abbrev pub invariant-loop-at : goal.invariant-loop-at
+invariant-loop-at l = IsRaisedUpTo l.parts.items l.initial.parts.items l.group (l.at + 1)
 
-abbrev pub decreases-loop-end : goal.decreases-loop-end
-decreases-loop-end l = length l.parts.items + 1 - l.end
+abbrev pub decreases-loop-at : goal.decreases-loop-at
+decreases-loop-at l = length l.parts.items - l.at

@@ -6,13 +6,14 @@ use Rattle.hd_open.proofs.slots.cover.Goals as goal
 
 pub overflow_sub-counts : goal.overflow_sub-counts
 overflow_sub-counts g c =
-    let all = place_at-le-all c.args.slots.now (8 * c.start_of.result) in
-    let is = c.place_of-before.ensures in
+    let all = place_at-le-all c.args.slots.now (64 * c.start_of.result) in
+    let is = c.counted_before-before.ensures in
     let count = c.requires.counted.all in
     omega arith
 
 pub returns-in_ok-push-clause-counted : goal.returns-in_ok-push-clause-counted
 returns-in_ok-push-clause-counted g c =
     let slots = c.args.slots.now in
-    counted_cover slots c.args.counts.now (record { parts = c.push.new.self; all = c.args.counts.now.all }) c.place_of-before.result c.requires.counted
-    (omega arith) (c.place_of-before.ensures ∙ ap (λ (s : ℕ). place_at slots (8 * s)) c.start_of.ensures.value) c.in_ok-push.ensures.items refl
+    counted_cover slots c.args.counts.now (record { marks = c.cover_words.new.words; parts = c.push.new.self; all = c.args.counts.now.all })
+    c.counted_before-before.result c.requires.counted
+    (omega arith) (c.counted_before-before.ensures ∙ ap (λ (s : ℕ). place_at slots (64 * s)) c.start_of.ensures.value) c.in_ok-push.ensures.items refl

@@ -1,15 +1,17 @@
-use Rattle.std.proofs.Common.{◌∙◌, sym, arith}
-use Rattle.hd_open.proofs.Places.{place_more_read, place_same_read}
+use Rattle.std.proofs.Common.{arith}
+use Rattle.hd_open.proofs.Marking.{marked_filled, place_tested, place_failed}
 use Rattle.hd_open.proofs.slots.filled_after.Goals as goal
-use Rattle.hd_open.proofs.slots.filled_after.Goals.{then-is_some+else-left-eq0, else-is_some}
+use Rattle.hd_open.proofs.slots.filled_after.Goals.{then-is_marked+else-left-eq0, else-is_marked}
 
 pub loop-at-preserved : goal.loop-at-preserved
 loop-at-preserved g c =
-    elim c.if-is_some.branch [
-      | then-is_some+else-left-eq0 w ↦
-          let more = place_more_read c.args.slots.now c.loop-at.at c.index-slots-at.result (omega arith) c.index-slots-at.is (sym c.is_some.ensures ∙ w.if-is_some.true) in
+    elim c.if-is_marked.branch [
+      | then-is_marked+else-left-eq0 w ↦
+          let more = place_tested c.args.slots.now c.args.counts.now.marks.items c.as_slice.result.now c.loop-at.at c.is_marked.result c.requires.marked
+          c.as_slice.ensures.value c.is_marked.ensures w.if-is_marked.true in
           omega arith
-      | else-is_some w ↦
-          let same = place_same_read c.args.slots.now c.loop-at.at c.index-slots-at.result (omega arith) c.index-slots-at.is (sym c.is_some.ensures ∙ w.if-is_some.false) in
+      | else-is_marked w ↦
+          let same = place_failed c.args.slots.now c.args.counts.now.marks.items c.as_slice.result.now c.loop-at.at c.is_marked.result c.requires.marked
+          c.as_slice.ensures.value c.is_marked.ensures w.if-is_marked.false in
           omega arith
     ]

@@ -1,7 +1,9 @@
-use Rattle.std.proofs.Common.{Some, ◌-◌, set, sym, ap, ◌∙◌, subst, refl, arith}
+use Rattle.std.proofs.Common.{Some, None, ◌-◌, set, sym, ap, ◌∙◌, subst, refl, arith}
 use Rattle.std.proofs.lemmas.Option.{none-some, get_or_from_slice_get}
 use Rattle.hd_open.specs.Counts.{AreCounts}
 use Rattle.hd_open.proofs.Counting.{some_counted, some_in_all, counted_left}
+use Rattle.hd_open.specs.Marks.{AreMarks}
+use Rattle.hd_open.proofs.Marking.{marks_set}
 use Rattle.hd_open.proofs.slots.take_from.Goals as goal
 
 pub lower_parts-requires-clause-some : goal.lower_parts-requires-clause-some
@@ -24,7 +26,13 @@ returns-clause-node g c =
 
 pub returns-clause-counted : goal.returns-clause-counted
 returns-clause-counted g c =
-    subst (λ o. AreCounts (set c.args.slots.now.items c.args.arrival o) (record { parts = c.lower_parts.new.parts; all = c.args.counts.now.all - 1 })) (sym c.take.ensures.after)
-    (counted_left c.args.slots.now.items c.requires.filled.0 c.args.counts.now (record { parts = c.lower_parts.new.parts; all = c.args.counts.now.all - 1 })
+    subst (λ o. AreCounts (set c.args.slots.now.items c.args.arrival o) (record { marks = c.unmark.new.words; parts = c.lower_parts.new.parts; all = c.args.counts.now.all - 1 })) (sym c.take.ensures.after)
+    (counted_left c.args.slots.now.items c.requires.filled.0 c.args.counts.now (record { marks = c.unmark.new.words; parts = c.lower_parts.new.parts; all = c.args.counts.now.all - 1 })
     c.args.arrival c.requires.filled.1 c.requires.counted c.lower_parts.ensures
     (let some_there = some_in_all c.args.slots.now.items c.args.counts.now c.args.arrival c.requires.filled.0 c.requires.counted c.requires.filled.1 in omega arith))
+
+pub returns-clause-marked : goal.returns-clause-marked
+returns-clause-marked g c =
+    subst (λ o. AreMarks (set c.args.slots.now.items c.args.arrival o) c.unmark.new.words.items) (sym c.take.ensures.after)
+    (marks_set c.args.slots.now.items c.args.counts.now.marks.items c.unmark.new.words.items c.args.arrival None c.requires.marked
+    c.requires.within c.unmark.ensures.here c.unmark.ensures.others c.unmark.ensures.len)

@@ -1,7 +1,16 @@
-use Rattle.std.proofs.Common.{ap}
-use Rattle.hd_open.proofs.Taking.{nodes_push}
+use Rattle.std.proofs.Common.{Some, ◌∷◌, ◌++◌, [], ap, ◌∙◌, arith}
+use Rattle.hd_open.proofs.Taking.{nodes_push, kept_push}
 use Rattle.hd_open.proofs.open.OpenList.push.Goals as goal
+
+pub invariant_of-self-2 : goal.invariant_of-self-2
+invariant_of-self-2 g c =
+    kept_push g.T.Waits.total c.self.inside.slots.items c.append.new.slots.items c.self.inside.queue c.add.new.self c.append.new.counts c.args.node
+    c.total-total.result c.len-arrival.result c.total-total.ensures (omega arith)
+    (c.append.ensures.slots ∙ ap (λ xs. xs ++ Some c.args.node ∷ []) c.reserve.ensures.items)
+    c.self.invariant.queued c.self.invariant.single c.self.invariant.latest c.in_default-add.ensures.orderly c.in_default-add.ensures.added
+    c.in_default-add.ensures.stays c.in_default-add.ensures.only c.append.ensures.marked c.append.ensures.counted
 
 pub returns-clause-nodes : goal.returns-clause-nodes
 returns-clause-nodes g c =
-    nodes_push c.append.result c.self.inside.slots.items c.append.new.slots.items c.args.self.now.nodes c.args.node (ap (λ o. o.nodes) c.self.view_is) c.append.ensures.slots
+    nodes_push c.self.inside.slots.items c.append.new.slots.items c.args.self.now.nodes c.args.node (ap (λ o. o.nodes) c.self.view_is)
+    (c.append.ensures.slots ∙ ap (λ xs. xs ++ Some c.args.node ∷ []) c.reserve.ensures.items)

@@ -3,6 +3,7 @@ use Rattle.std.specs.Prelude.{option_map}
 use Rattle.std.specs.List.{insert}
 use Rattle.std.proofs.lemmas.Option.{slice_get_within}
 use Rattle.hd_open.specs.Live.{live, place_at}
+use Rattle.hd_open.specs.Marks.{AreMarks}
 use Rattle.hd_open.specs.Counts.{AreCounts}
 use Rattle.hd_open.specs.Open.{IsGapOf}
 use Rattle.hd_open.specs.Kept.{IsKept}
@@ -26,6 +27,7 @@ invariant_of-self g c =
     (kept_back total slots gap c.self.inside.hint c.self.inside.queue c.self.inside.counts c.put_into.new.counts c.args.node
     (subst (λ o. IsKept total slots o c.self.inside.hint c.self.inside.queue c.self.inside.counts) c.in-Some.is c.self.invariant)
     (subst (IsGapOf (total c.args.node)) seen c.requires)
+    (subst (λ xs. AreMarks xs c.put_into.new.counts.marks.items) c.put_into.ensures.slots c.put_into.ensures.marked)
     (subst (λ xs. AreCounts xs c.put_into.new.counts) c.put_into.ensures.slots c.put_into.ensures.counted))
 
 pub returns-clause-nodes : goal.returns-clause-nodes

@@ -1,5 +1,6 @@
 use Rattle.std.proofs.Common.{◌≡◌, Some, None, slice_set, ap, sym, subst}
 use Rattle.hd_open.specs.Live.{place_at}
+use Rattle.hd_open.specs.Marks.{AreMarks}
 use Rattle.hd_open.specs.Counts.{AreCounts}
 use Rattle.hd_open.specs.Open.{TakesAt}
 use Rattle.hd_open.specs.Kept.{open_view, IsKept}
@@ -15,7 +16,8 @@ invariant_of-self g c =
     let i = c.arrival_by-arrival.result in
     subst (λ xs. IsKept total xs (Some c.take_from-node.result.1) None c.self.inside.queue d) (sym c.take_from-node.ensures.slots)
     (subst (λ h. IsKept total (slice_set slots i None) (Some h) None c.self.inside.queue d) (sym c.take_from-node.ensures.gap)
-    (kept_left total slots c.self.inside.queue d i node c.self.invariant.queued c.self.invariant.orderly c.self.invariant.latest c.take_from-node.ensures.node
+    (kept_left total slots c.self.inside.queue d i node c.self.invariant.queued c.self.invariant.orderly c.self.invariant.single c.self.invariant.latest
+    c.take_from-node.ensures.node (subst (λ xs. AreMarks xs d.marks.items) c.take_from-node.ensures.slots c.take_from-node.ensures.marked)
     (subst (λ xs. AreCounts xs d) c.take_from-node.ensures.slots c.take_from-node.ensures.counted)))
 
 pub returns-clause-taken : goal.returns-clause-taken

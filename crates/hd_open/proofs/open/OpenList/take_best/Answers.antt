@@ -1,7 +1,8 @@
 use Rattle.std.proofs.Common.{length, Some, None, slice_set, ap, sym, subst}
 use Rattle.hd_open.specs.Live.{IsBestArrival}
+use Rattle.hd_open.specs.Marks.{AreMarks}
 use Rattle.hd_open.specs.Counts.{AreCounts}
-use Rattle.hd_open.specs.Queue.{IsQueued, IsUpTo}
+use Rattle.hd_open.specs.Queue.{IsQueued, IsBelow}
 use Rattle.hd_open.specs.Open.{TakesBest}
 use Rattle.hd_open.specs.Kept.{open_view, IsKept}
 use Rattle.hd_open.proofs.Taking.{kept_left, taken_best}
@@ -18,7 +19,9 @@ invariant_of-self-2 g c =
     subst (λ xs. IsKept total xs (Some c.take_from-node.result.1) None q d) (sym c.take_from-node.ensures.slots)
     (subst (λ h. IsKept total (slice_set slots i None) (Some h) None q d) (sym c.take_from-node.ensures.gap)
     (kept_left total slots q d i node (subst (λ xs. IsQueued total xs q) c.as_slice.ensures.value c.in_ok-arrival.ensures.kept)
-    c.in_ok-arrival.ensures.orderly (subst (λ xs. IsUpTo q (length xs)) c.as_slice.ensures.value c.in_ok-arrival.ensures.latest) c.take_from-node.ensures.node
+    c.in_ok-arrival.ensures.orderly c.in_ok-arrival.ensures.single
+    (subst (λ xs. IsBelow q (length xs)) c.as_slice.ensures.value c.in_ok-arrival.ensures.latest) c.take_from-node.ensures.node
+    (subst (λ xs. AreMarks xs d.marks.items) c.take_from-node.ensures.slots c.take_from-node.ensures.marked)
     (subst (λ xs. AreCounts xs d) c.take_from-node.ensures.slots c.take_from-node.ensures.counted)))
 
 pub returns-clause-taken : goal.returns-clause-taken

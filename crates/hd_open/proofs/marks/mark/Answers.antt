@@ -1,0 +1,8 @@
+use Rattle.hd_open.proofs.Marking.{mark_here, mark_else}
+use Rattle.hd_open.proofs.marks.mark.Goals as goal
+
+pub returns-clause-here : goal.returns-clause-here
+returns-clause-here c = mark_here c.args.words.now.items c.args.at c.index_mut.result.now c.requires.within
+
+pub returns-clause-others : goal.returns-clause-others
+returns-clause-others c = mark_else c.args.words.now.items c.args.at c.index_mut.result.now c.requires.within c.index_mut.ensures.value
