@@ -1,13 +1,13 @@
 -- Counts stay those of the slots.
-use Rattle.std.proofs.Common.{◌≡◌, ℕ, zero, suc, ◌+◌, ◌-◌, ◌*◌, ◌/◌, ◌^◌, ◌<◌, ◌≤◌, List, [], ◌∷◌, ◌++◌, Option, Some, None, length, get_or, set, slice_get, refl, sym, ap, ◌∙◌, subst, inl, inr, arith, length-append, length-set}
+use Rattle.std.proofs.Common.{◌≡◌, ℕ, ◌+◌, ◌-◌, ◌*◌, ◌/◌, ◌^◌, ◌<◌, ◌≤◌, List, [], ◌∷◌, ◌++◌, Option, Some, None, length, get_or, set, slice_get, sym, ap, ◌∙◌, subst, inl, inr, arith, length-append, length-set}
 use Rattle.std.proofs.lemmas.Bool.{cases_lt}
 use Rattle.std.proofs.lemmas.List.{get_or_append_left, get_or-append_right}
 use Rattle.std.proofs.lemmas.Grind.{get_or_default_zero}
 use Rattle.hd_open.specs.declared.counts.Counts.{Counts}
-use Rattle.hd_open.specs.Live.{live, place_at}
-use Rattle.hd_open.specs.Counts.{start_of, part_at, HasGroup, IsRaised, AreSome, AreBelowLimit, AreCounts}
+use Rattle.hd_open.specs.Live.{place_at}
+use Rattle.hd_open.specs.Counts.{start_of, part_at, IsRaised, AreSome, AreBelowLimit, AreCounts}
 use Rattle.hd_open.proofs.Lowest.{start_less}
-use Rattle.hd_open.proofs.Places.{IsPlaced, place_more_some, place_at-le, place_at-le-all, place_at-le-arrival, place_all, length-live-le, length-live-lt, placed_push, placed_left, placed_set}
+use Rattle.hd_open.proofs.Places.{IsPlaced, place_more_some, place_at-le, place_at-le-all, place_all, length-live-le, length-live-lt, placed_push, placed_left, placed_set}
 
 module _ {A : Type 0} where
   pub counts_raised :

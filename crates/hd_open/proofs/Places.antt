@@ -1,9 +1,9 @@
 -- Where nodes stand among those that slots hold.
-use Rattle.std.proofs.Common.{◌≡◌, ◌⊎◌, ℕ, zero, suc, ◌+◌, ◌<◌, ◌≤◌, true, false, List, [], ◌∷◌, ◌++◌, Option, Some, None, is_some, length, set, get_or, slice_get, refl, sym, ap, ◌∙◌, subst, inl, inr, ⊎_elim, arith}
+use Rattle.std.proofs.Common.{◌≡◌, ◌⊎◌, ℕ, zero, suc, ◌+◌, ◌<◌, ◌≤◌, List, [], ◌∷◌, ◌++◌, Option, Some, None, length, set, slice_get, refl, sym, ap, ◌∙◌, subst, inl, inr, ⊎_elim, arith}
 use Rattle.std.specs.List.{insert, remove}
 use Rattle.std.proofs.lemmas.List.{length-append, take_all, take-append-le, take-set-le}
 use Rattle.std.proofs.lemmas.Bool.{cases_lt}
-use Rattle.std.proofs.lemmas.Option.{none-some, same_Some, slice_get_within, slice_get_read}
+use Rattle.std.proofs.lemmas.Option.{none-some, same_Some, slice_get_within}
 use Rattle.hd_open.specs.Totals.{IsBest}
 use Rattle.hd_open.specs.Live.{live, place_at, IsBestArrival}
 
@@ -33,19 +33,6 @@ module _ {A : Type 0} where
   place_more_some (None ∷ slots) (suc i) x at =
       let shift : suc i + 1 ≡ suc (i + 1) = omega arith in
       ap (place_at (None ∷ slots)) shift ∙ place_more_some slots i x at
-
-  pub place_more_none : (slots : List (Option A)) (i : ℕ) → slice_get slots i ≡ Some None → place_at slots (i + 1) ≡ place_at slots i
-  place_more_none [] i at = absurd (cc)
-  place_more_none (Some y ∷ slots) zero at = absurd (cc)
-  place_more_none (None ∷ slots) zero at = refl
-  place_more_none (Some y ∷ slots) (suc i) at =
-      let shift : suc i + 1 ≡ suc (i + 1) = omega arith in
-      let moved : place_at (Some y ∷ slots) (suc i + 1) ≡ place_at (Some y ∷ slots) (suc (i + 1)) = ap (place_at (Some y ∷ slots)) shift in
-      let rest = place_more_none slots i at in
-      omega arith
-  place_more_none (None ∷ slots) (suc i) at =
-      let shift : suc i + 1 ≡ suc (i + 1) = omega arith in
-      ap (place_at (None ∷ slots)) shift ∙ place_more_none slots i at
 
   pub place_at-le : (slots : List (Option A)) (m n : ℕ) → m ≤ n → place_at slots m ≤ place_at slots n
   place_at-le [] zero n le = omega arith
@@ -94,20 +81,6 @@ module _ {A : Type 0} where
         | inl lt ↦ lt
         | inr le ↦ let all = place_all slots m le in absurd (omega arith)
       ]
-
-  -- ---- a slot that is read
-
-  pub place_more_read :
-      (slots : List (Option A)) (i : ℕ) (o : Option A) → i < length slots → o ≡ get_or slots i o → is_some o ≡ true
-      → place_at slots (i + 1) ≡ place_at slots i + 1
-  place_more_read slots i None within read there = absurd (cc)
-  place_more_read slots i (Some x) within read there = place_more_some slots i x (slice_get_read slots (length slots) i (Some x) refl within read)
-
-  pub place_same_read :
-      (slots : List (Option A)) (i : ℕ) (o : Option A) → i < length slots → o ≡ get_or slots i o → is_some o ≡ false
-      → place_at slots (i + 1) ≡ place_at slots i
-  place_same_read slots i None within read gone = place_more_none slots i (slice_get_read slots (length slots) i None refl within read)
-  place_same_read slots i (Some x) within read gone = absurd (cc)
 
   -- ---- a node at its place
 

@@ -13,7 +13,7 @@ use Rattle.hd_open.specs.Counts.{AreCounts}
 use Rattle.hd_open.specs.Marks.{AreMarks}
 use Rattle.hd_open.specs.Queue.{Has, IsQueued, IsOrderly, IsSingle, IsBelow}
 use Rattle.hd_open.specs.Open.{Open, TakesAt, TakesBest}
-use Rattle.hd_open.specs.Kept.{open_view, IsKept, IsHintOf}
+use Rattle.hd_open.specs.Kept.{open_view, IsKept}
 use Rattle.hd_open.proofs.Places.{live-append, live_get, live-set-none, emptied, best_place}
 use Rattle.hd_open.proofs.Queueing.{queued_push, queued_left, queued_back, single_added, below_added}
 

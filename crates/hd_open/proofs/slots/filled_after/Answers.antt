@@ -1,5 +1,5 @@
 use Rattle.std.proofs.Common.{arith}
-use Rattle.hd_open.proofs.Marking.{marked_filled, place_tested, place_failed}
+use Rattle.hd_open.proofs.Marking.{place_tested, place_failed}
 use Rattle.hd_open.proofs.slots.filled_after.Goals as goal
 use Rattle.hd_open.proofs.slots.filled_after.Goals.{then-is_marked+else-left-eq0, else-is_marked}
 

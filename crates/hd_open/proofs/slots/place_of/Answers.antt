@@ -1,6 +1,5 @@
-use Rattle.std.proofs.Common.{ℕ, ◌∙◌, ◌*◌, ◌/◌, ◌%◌, ◌^◌, ◌+◌, ◌≡◌, List, get_or, ap, arith}
+use Rattle.std.proofs.Common.{ℕ, ◌∙◌, ◌/◌, ◌%◌, ◌^◌, List, get_or, ap, arith}
 use Rattle.std.specs.Prelude.{count_ones}
-use Rattle.hd_open.specs.Live.{place_at}
 use Rattle.hd_open.proofs.Places.{place_at-le-arrival}
 use Rattle.hd_open.proofs.Marking.{places_marked}
 use Rattle.hd_open.proofs.slots.place_of.Goals as goal

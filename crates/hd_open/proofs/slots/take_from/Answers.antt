@@ -1,4 +1,4 @@
-use Rattle.std.proofs.Common.{Some, None, ◌-◌, set, sym, ap, ◌∙◌, subst, refl, arith}
+use Rattle.std.proofs.Common.{Some, None, ◌-◌, set, sym, ap, ◌∙◌, subst, arith}
 use Rattle.std.proofs.lemmas.Option.{none-some, get_or_from_slice_get}
 use Rattle.hd_open.specs.Counts.{AreCounts}
 use Rattle.hd_open.proofs.Counting.{some_counted, some_in_all, counted_left}

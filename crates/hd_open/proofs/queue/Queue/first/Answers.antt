@@ -1,5 +1,4 @@
-use Rattle.std.proofs.Common.{ℕ, Some, inl, inr}
-use Rattle.hd_open.specs.declared.queue.Queue.{Queue}
+use Rattle.std.proofs.Common.{Some, inl, inr}
 use Rattle.hd_open.proofs.Queueing.{cleared_queue, cleared_same, empty_below, all_empty, bucket_within, first_among, least_small, least_large, found_dead}
 use Rattle.hd_open.proofs.queue.Queue.first.Goals as goal
 
