@@ -1,12 +1,12 @@
 -- The least total of open nodes, from the best one.
-use Rattle.std.proofs.Common.{◌≡◌, ◌⊎◌, inl, inr, ℕ, zero, suc, ◌≤◌, Bool, true, false, Option, Some, None, List, [], ◌∷◌, map, slice_get, refl, sym, ap, ◌∙◌, subst}
+use Rattle.std.proofs.Common.{◌≡◌, inl, inr, ℕ, suc, Option, Some, None, List, [], ◌∷◌, slice_get, refl, sym, ap, ◌∙◌, subst}
 use Rattle.std.specs.List.{AllByRecursion}
-use Rattle.std.proofs.lemmas.Option.{none-some, same_Some}
+use Rattle.std.proofs.lemmas.Option.{same_Some}
 use Rattle.hd_base.proofs.Lists.{AllByRecursion-slice_get}
 use Rattle.hd_task.specs.declared.state.State.{State}
 use Rattle.hd_task.specs.declared.task.Task.{Task}
 use Rattle.hd_entries.specs.Holding.{Released}
-use Rattle.hd_open.specs.Totals.{is_less, IsNotAfter, IsBest}
+use Rattle.hd_open.specs.Totals.{IsNotAfter, IsBest}
 use Rattle.hd_turns.specs.Totals.{total_at}
 use Rattle.hd_worker.specs.declared.node.Node.{Node}
 use Rattle.hd_worker.specs.Least.{IsLeast}

@@ -6,7 +6,7 @@ use Rattle.std.proofs.lemmas.List.{map-append}
 use Rattle.std.specs.Prelude.{option_map}
 use Rattle.std.proofs.lemmas.Option.{none-some, same_Some, slice_get-map, slice_get-get_or, get_or_from_slice_get}
 use Rattle.hd_base.proofs.Truth.{each_way}
-use Rattle.hd_base.proofs.Lists.{AllByRecursion-push, AllByRecursion-slice_get}
+use Rattle.hd_base.proofs.Lists.{AllByRecursion-slice_get}
 use Rattle.hd_task.specs.declared.state.State.{State}
 use Rattle.hd_task.specs.declared.task.Task.{Task}
 use Rattle.hd_task.specs.Plans.{node}

@@ -1,7 +1,6 @@
-use Rattle.std.proofs.Common.{ℕ, List, Option, ◌∙◌, ap, sym, subst}
+use Rattle.std.proofs.Common.{ℕ, Option, ◌∙◌, ap, sym, subst}
 use Rattle.std.specs.List.{AllByRecursion}
 use Rattle.hd_task.specs.declared.task.Task.{Task}
-use Rattle.hd_worker.specs.declared.node.Node.{Node}
 use Rattle.hd_worker.specs.Nodes.{IsNodeOf}
 use Rattle.hd_turns.specs.Totals.{total_at}
 use Rattle.hd_worker.specs.Least.{IsLeast}

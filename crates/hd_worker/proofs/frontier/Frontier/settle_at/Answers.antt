@@ -1,4 +1,4 @@
-use Rattle.std.proofs.Common.{◌++◌, List, ◌∙◌, ap, ap₂, subst, arith}
+use Rattle.std.proofs.Common.{◌++◌, List, ◌∙◌, ap, ap₂, subst}
 use Rattle.std.specs.List.{AllByRecursion, remove}
 use Rattle.hd_task.specs.declared.state.State.{State}
 use Rattle.hd_task.specs.declared.task.Task.{Task}
