@@ -7,6 +7,7 @@
 mod closed;
 mod notes;
 mod numbering;
+mod reading;
 mod row;
 mod rows;
 mod short;

@@ -1,12 +1,12 @@
 -- How a node that is taken out is settled, from the parts.
-use Rattle.std.proofs.Common.{◌≡◌, ℕ, zero, suc, ◌+◌, ◌-◌, ◌^◌, ◌<◌, ◌≤◌, nat_le, min, Bool, true, false, cond, not, Option, Some, None, Result, Ok, Err, OnOk, OnErr, IfSome, List, [], ◌∷◌, ◌++◌, map, filter, length, slice_get, refl, sym, ap, ap₂, ◌∙◌, subst, arith, append_assoc, append-nil}
+use Rattle.std.proofs.Common.{◌≡◌, ℕ, zero, suc, ◌+◌, ◌-◌, ◌^◌, ◌<◌, ◌≤◌, nat_le, min, Bool, true, false, cond, not, Option, Some, None, Result, Ok, Err, OnOk, OnErr, IfSome, List, [], ◌∷◌, ◌++◌, map, filter, length, drop, get_or, slice_get, refl, sym, ap, ap₂, ◌∙◌, subst, arith, append_assoc, append-nil}
 use Rattle.std.specs.List.{AllByRecursion, insert, remove}
 use Rattle.std.proofs.lemmas.Bool.{le-leb, leb-true}
 use Rattle.std.proofs.lemmas.List.{map-append}
 use Rattle.std.specs.Prelude.{option_map}
-use Rattle.std.proofs.lemmas.Option.{none-some, same_Some, slice_get-map, get_or_from_slice_get}
+use Rattle.std.proofs.lemmas.Option.{none-some, same_Some, slice_get-map, slice_get-get_or, get_or_from_slice_get}
 use Rattle.hd_base.proofs.Truth.{each_way}
-use Rattle.hd_base.proofs.Lists.{AllByRecursion-push, AllByRecursion-slice_get}
+use Rattle.hd_base.proofs.Lists.{AllByRecursion-slice_get}
 use Rattle.hd_task.specs.declared.state.State.{State}
 use Rattle.hd_task.specs.declared.task.Task.{Task}
 use Rattle.hd_task.specs.Plans.{node}
@@ -21,11 +21,11 @@ use Rattle.hd_node.specs.Expansion.{ExpansionView}
 use Rattle.hd_node.specs.Parcel.{ParcelView}
 use Rattle.hd_entries.specs.Settling.{reaches}
 use Rattle.hd_entries.specs.Holding.{Released, parcel_of, IsParcelOf}
-use Rattle.hd_closed.specs.Closed.{Closed, closed_at, nothing, BeginsWith, IsNamedBy, IsDearer}
+use Rattle.hd_closed.specs.Closed.{Closed, closed_at, state_at, nothing, BeginsWith, IsNamedBy, IsDearer}
 use Rattle.hd_closed.proofs.Chains.{get_front}
 use Rattle.hd_open.specs.Totals.{IsNotAfter, IsBest}
 use Rattle.hd_worker.specs.declared.node.Node.{Node}
-use Rattle.hd_worker.specs.Nodes.{released_of, waiting_by, IsNodeOfParcel, IsNodeOf, node_by, MovesFirst}
+use Rattle.hd_worker.specs.Nodes.{kid_of, released_of, waiting_by, IsNodeOf}
 use Rattle.hd_turns.specs.Worker.{is_own, is_foreign}
 use Rattle.hd_worker.specs.Frontier.{FrontierView, with_room, received, opens}
 use Rattle.hd_turns.specs.Settling.{IsOutcomeOf, Again, Beyond, Anew, is_beyond, closed_by}
@@ -47,10 +47,10 @@ reached_same (Some limit) s cost (Some v) small =
 -- the best of nodes is the best of what they release
 pub best_released :
     (t : Task) (states : List State) (nodes : List Node) (k : ℕ) → AllByRecursion (IsNodeOf t states) nodes → IsBest (λ n. n.total) nodes k
-    → IsBest (total_at t) (map released_of nodes) k
+    → IsBest (total_at t) (map (released_of states) nodes) k
 best_released t states nodes k all best = record {
-  node = released_of best.node;
-  there = slice_get-map released_of nodes k ∙ ap (λ (o : Option Node). option_map released_of o) best.there;
+  node = released_of states best.node;
+  there = slice_get-map (released_of states) nodes k ∙ ap (λ (o : Option Node). option_map (released_of states) o) best.there;
   least = λ j other at.
       let from = node_of j other at in
       let mine = (AllByRecursion-slice_get (IsNodeOf t states) nodes k best.node all best.there).total_is in
@@ -59,12 +59,12 @@ best_released t states nodes k all best = record {
       (subst (λ (o : Option ℕ). IsNotAfter best.node.total k o j) (its ∙ ap (total_at t) from.2) (best.least j from.0 from.1));
 }
   where
-    node_of : (j : ℕ) (r : Released) → slice_get (map released_of nodes) j ≡ Some r → (n : Node) × (slice_get nodes j ≡ Some n) × (released_of n ≡ r)
-    node_of j r at = by (slice_get nodes j) refl (sym (slice_get-map released_of nodes j) ∙ at)
+    node_of : (j : ℕ) (r : Released) → slice_get (map (released_of states) nodes) j ≡ Some r → (n : Node) × (slice_get nodes j ≡ Some n) × (released_of states n ≡ r)
+    node_of j r at = by (slice_get nodes j) refl (sym (slice_get-map (released_of states) nodes j) ∙ at)
       where
-        by : (o : Option Node) → slice_get nodes j ≡ o → option_map released_of o ≡ Some r → (n : Node) × (slice_get nodes j ≡ Some n) × (released_of n ≡ r)
+        by : (o : Option Node) → slice_get nodes j ≡ o → option_map (released_of states) o ≡ Some r → (n : Node) × (slice_get nodes j ≡ Some n) × (released_of states n ≡ r)
         by None is e = absurd (none-some r e)
-        by (Some n) is e = (n, is, same_Some (released_of n) r e)
+        by (Some n) is e = (n, is, same_Some (released_of states n) r e)
 
 -- ---- outcomes
 
@@ -128,38 +128,76 @@ module _ (t : Task) (closed : List Closed) (seen : Option ℕ) (r : Released) (s
 
 -- ---- parcels become nodes
 
-pub waiting_moved :
-    (nodes nodes' : List Node) (fresh fresh' : List ParcelView) (place : ℕ) (total : Option ℕ) → MovesFirst nodes fresh place total nodes' fresh' → waiting_by nodes' fresh' ≡ waiting_by nodes fresh
-waiting_moved nodes nodes' [] fresh' place total m = ap₂ waiting_by m.0 m.1
-waiting_moved nodes nodes' (p ∷ fresh) fresh' place total m =
-    ap₂ waiting_by m.0 m.1
-    ∙ (ap (λ (rs : List Released). rs ++ map parcel_of fresh) (map-append released_of nodes (node_by p place total ∷ []))
-    ∙ append_assoc (map released_of nodes) (parcel_of p ∷ []) (map parcel_of fresh))
+-- a state stays at its place where more come
+state_stays : (states states' : List State) (k : ℕ) (s : State) → BeginsWith states' states → slice_get states k ≡ Some s → slice_get states' k ≡ Some s
+state_stays states states' k s begins at = ap (λ (xs : List State). slice_get xs k) begins.1 ∙ get_front states begins.0 k s at
 
-pub nodes_moved :
-    (t : Task) (states : List State) (nodes nodes' : List Node) (fresh fresh' : List ParcelView) (place : ℕ) (total : Option ℕ) → MovesFirst nodes fresh place total nodes' fresh'
-    → AllByRecursion (IsNodeOf t states) nodes → ((p : ParcelView) (rest : List ParcelView) → fresh ≡ p ∷ rest → IsNodeOfParcel t states p place total) → AllByRecursion (IsNodeOf t states) nodes'
-nodes_moved t states nodes nodes' [] fresh' place total m all first = subst (AllByRecursion (IsNodeOf t states)) (sym m.0) all
-nodes_moved t states nodes nodes' (p ∷ fresh) fresh' place total m all first =
-    subst (AllByRecursion (IsNodeOf t states)) (sym m.0) (AllByRecursion-push (IsNodeOf t states) nodes (node_by p place total) all (first p fresh refl))
+-- the state at a place is the one that stands there
+pub state_found : (states : List State) (place place' : ℕ) (s : State) → slice_get states place ≡ Some s → place' ≡ place → state_at states place' ≡ s
+state_found states place place' s at same = ap (state_at states) same ∙ get_or_from_slice_get states place s nothing at
 
-pub parcels_moved :
-    (t : Task) (nodes nodes' : List Node) (fresh fresh' : List ParcelView) (place : ℕ) (total : Option ℕ) → MovesFirst nodes fresh place total nodes' fresh'
-    → AllByRecursion (IsParcelOf t) fresh → AllByRecursion (IsParcelOf t) fresh'
-parcels_moved t nodes nodes' [] fresh' place total m all = subst (AllByRecursion (IsParcelOf t)) (sym m.1) all
-parcels_moved t nodes nodes' (p ∷ fresh) fresh' place total m all = subst (AllByRecursion (IsParcelOf t)) (sym m.1) all.1
+-- a node of the state at a place, with this estimate
+pub node_made :
+    (t : Task) (states : List State) (n : Node) (place : ℕ) (s : State) (h : Option ℕ) → slice_get states place ≡ Some s → n.state ≡ place → IfSome (slice_get states place) (λ u. h ≡ hmax t u)
+    → n.total ≡ total_of n.cost h → IsNodeOf t states n
+node_made t states n place s h at same estimated is =
+    let found = state_found states place n.state s at same in
+    let its : h ≡ hmax t s = subst (λ (o : Option State). IfSome o (λ u. h ≡ hmax t u)) at estimated in
+    record {
+      there = ap (slice_get states) same ∙ (at ∙ ap (λ (u : State). Some u) (sym found));
+      total_is = is ∙ (ap (total_of n.cost) its ∙ ap (λ (u : State). total_of n.cost (hmax t u)) (sym found));
+    }
+
+-- the first of parcels
+pub first_there : {X : Type 0} (xs : List X) (x : X) → x ≡ get_or xs 0 x → 0 < length xs → slice_get xs 0 ≡ Some x
+first_there {X} xs x is some = slice_get-get_or xs 0 x some ∙ ap (λ (y : X). Some y) (sym is)
+
+-- what a node has of more states is what it has of the first
+state_same : (t : Task) (states states' : List State) (n : Node) → BeginsWith states' states → IsNodeOf t states n → state_at states' n.state ≡ state_at states n.state
+state_same t states states' n begins is =
+    get_or_from_slice_get states' n.state (state_at states n.state) nothing (state_stays states states' n.state (state_at states n.state) begins is.there)
+
+node_stays : (t : Task) (states states' : List State) (n : Node) → BeginsWith states' states → IsNodeOf t states n → IsNodeOf t states' n
+node_stays t states states' n begins is =
+    let same = state_same t states states' n begins is in
+    record {
+      there = state_stays states states' n.state (state_at states n.state) begins is.there ∙ ap (λ (s : State). Some s) (sym same);
+      total_is = is.total_is ∙ ap (λ (s : State). total_of n.cost (hmax t s)) (sym same);
+    }
 
 -- nodes are nodes of more states too
 pub nodes_stay : (t : Task) (states states' : List State) (nodes : List Node) → BeginsWith states' states → AllByRecursion (IsNodeOf t states) nodes → AllByRecursion (IsNodeOf t states') nodes
 nodes_stay t states states' [] begins all = tt
-nodes_stay t states states' (n ∷ nodes) begins all = (
-  record {
-    of_task = all.0.of_task;
-    there = ap (λ (xs : List State). slice_get xs n.state) begins.1 ∙ get_front states begins.0 n.state n.parcel.state all.0.there;
-    total_is = all.0.total_is;
-  },
-  nodes_stay t states states' nodes begins all.1,
-)
+nodes_stay t states states' (n ∷ nodes) begins all = (node_stays t states states' n begins all.0, nodes_stay t states states' nodes begins all.1)
+
+-- and release the same
+released_stay :
+    (t : Task) (states states' : List State) (nodes : List Node) → BeginsWith states' states → AllByRecursion (IsNodeOf t states) nodes
+    → map (released_of states') nodes ≡ map (released_of states) nodes
+released_stay t states states' [] begins all = refl
+released_stay t states states' (n ∷ nodes) begins all =
+    ap₂ (λ (s : State) (rs : List Released). let r : Released = record { kid = kid_of n; state = s; cost = n.cost } in r ∷ rs) (state_same t states states' n begins all.0)
+    (released_stay t states states' nodes begins all.1)
+
+pub waiting_stays :
+    (t : Task) (states states' : List State) (nodes : List Node) (fresh : List ParcelView) → BeginsWith states' states → AllByRecursion (IsNodeOf t states) nodes
+    → waiting_by states' nodes fresh ≡ waiting_by states nodes fresh
+waiting_stays t states states' nodes fresh begins all = ap (λ (rs : List Released). rs ++ map parcel_of fresh) (released_stay t states states' nodes begins all)
+
+-- the first parcel that came is the last open node
+pub waiting_moved :
+    (t : Task) (states states' : List State) (nodes nodes' : List Node) (fresh fresh' : List ParcelView) (n : Node) (p : ParcelView) → BeginsWith states' states → AllByRecursion (IsNodeOf t states) nodes
+    → nodes' ≡ nodes ++ n ∷ [] → fresh' ≡ drop 1 fresh → slice_get fresh 0 ≡ Some p → released_of states' n ≡ parcel_of p → waiting_by states' nodes' fresh' ≡ waiting_by states nodes fresh
+waiting_moved t states states' nodes nodes' [] fresh' n p begins all more rest first is = absurd (none-some p first)
+waiting_moved t states states' nodes nodes' (q ∷ fresh) fresh' n p begins all more rest first is =
+    ap₂ (waiting_by states') more rest
+    ∙ (ap (λ (rs : List Released). rs ++ map parcel_of fresh) (map-append (released_of states') nodes (n ∷ []))
+    ∙ (append_assoc (map (released_of states') nodes) (released_of states' n ∷ []) (map parcel_of fresh)
+    ∙ ap₂ (λ (rs : List Released) (r : Released). rs ++ r ∷ map parcel_of fresh) (released_stay t states states' nodes begins all) (is ∙ ap parcel_of (sym (same_Some q p first)))))
+
+pub parcels_moved : (t : Task) (fresh fresh' : List ParcelView) → fresh' ≡ drop 1 fresh → AllByRecursion (IsParcelOf t) fresh → AllByRecursion (IsParcelOf t) fresh'
+parcels_moved t [] fresh' rest all = subst (AllByRecursion (IsParcelOf t)) (sym rest) all
+parcels_moved t (p ∷ fresh) fresh' rest all = subst (AllByRecursion (IsParcelOf t)) (sym rest) all.1
 
 pub begins_twice : (a b c : List State) → BeginsWith b a → BeginsWith c b → BeginsWith c a
 begins_twice a b c first second =
@@ -192,21 +230,21 @@ on_err (Err e) P Q f p = f p
 
 -- ---- a parcel comes
 
-pub waiting_push : (nodes : List Node) (fresh fresh' : List ParcelView) (p : ParcelView) → fresh' ≡ fresh ++ p ∷ [] → waiting_by nodes fresh' ≡ waiting_by nodes fresh ++ parcel_of p ∷ []
-waiting_push nodes fresh fresh' p e =
-    ap (waiting_by nodes) e
-    ∙ (ap (λ (rs : List Released). map released_of nodes ++ rs) (map-append parcel_of fresh (p ∷ [])) ∙ sym (append_assoc (map released_of nodes) (map parcel_of fresh) (parcel_of p ∷ [])))
+pub waiting_push : (states : List State) (nodes : List Node) (fresh fresh' : List ParcelView) (p : ParcelView) → fresh' ≡ fresh ++ p ∷ [] → waiting_by states nodes fresh' ≡ waiting_by states nodes fresh ++ parcel_of p ∷ []
+waiting_push states nodes fresh fresh' p e =
+    ap (waiting_by states nodes) e
+    ∙ (ap (λ (rs : List Released). map (released_of states) nodes ++ rs) (map-append parcel_of fresh (p ∷ [])) ∙ sym (append_assoc (map (released_of states) nodes) (map parcel_of fresh) (parcel_of p ∷ [])))
 
 -- a node goes, where all parcels are open nodes
-pub waiting_remove : (nodes : List Node) (k : ℕ) → waiting_by (remove nodes k) [] ≡ remove (waiting_by nodes []) k
-waiting_remove nodes k =
-    append-nil (map released_of (remove nodes k)) ∙ (map-remove nodes k ∙ ap (λ (rs : List Released). remove rs k) (sym (append-nil (map released_of nodes))))
+pub waiting_remove : (states : List State) (nodes : List Node) (k : ℕ) → waiting_by states (remove nodes k) [] ≡ remove (waiting_by states nodes []) k
+waiting_remove states nodes k =
+    append-nil (map (released_of states) (remove nodes k)) ∙ (map-remove nodes k ∙ ap (λ (rs : List Released). remove rs k) (sym (append-nil (map (released_of states) nodes))))
   where
-    map-remove : (ns : List Node) (k : ℕ) → map released_of (remove ns k) ≡ remove (map released_of ns) k
+    map-remove : (ns : List Node) (k : ℕ) → map (released_of states) (remove ns k) ≡ remove (map (released_of states) ns) k
     map-remove [] zero = refl
     map-remove [] (suc k) = refl
     map-remove (n ∷ ns) zero = refl
-    map-remove (n ∷ ns) (suc k) = ap (λ (rs : List Released). released_of n ∷ rs) (map-remove ns k)
+    map-remove (n ∷ ns) (suc k) = ap (λ (rs : List Released). released_of states n ∷ rs) (map-remove ns k)
 
 pub nodes_remove : (t : Task) (states : List State) (nodes : List Node) (k : ℕ) → AllByRecursion (IsNodeOf t states) nodes → AllByRecursion (IsNodeOf t states) (remove nodes k)
 nodes_remove t states [] zero all = tt
@@ -244,25 +282,25 @@ opens_none own f =
 
 -- ---- where all parcels are open nodes, and their places
 
-module _ (nodes : List Node) (waiting : List Released) (are : waiting_by nodes [] ≡ waiting) where
-  plain : map released_of nodes ≡ waiting
-  plain = sym (append-nil (map released_of nodes)) ∙ are
+module _ (states : List State) (nodes : List Node) (waiting : List Released) (are : waiting_by states nodes [] ≡ waiting) where
+  plain : map (released_of states) nodes ≡ waiting
+  plain = sym (append-nil (map (released_of states) nodes)) ∙ are
 
-  pub pick_there : (k : ℕ) (n : Node) → slice_get nodes k ≡ Some n → slice_get waiting k ≡ Some (released_of n)
-  pick_there k n at = ap (λ (rs : List Released). slice_get rs k) (sym plain) ∙ (slice_get-map released_of nodes k ∙ ap (option_map released_of) at)
+  pub pick_there : (k : ℕ) (n : Node) → slice_get nodes k ≡ Some n → slice_get waiting k ≡ Some (released_of states n)
+  pick_there k n at = ap (λ (rs : List Released). slice_get rs k) (sym plain) ∙ (slice_get-map (released_of states) nodes k ∙ ap (option_map (released_of states)) at)
 
   pub none_there : (k : ℕ) → slice_get nodes k ≡ None → slice_get waiting k ≡ None
-  none_there k at = ap (λ (rs : List Released). slice_get rs k) (sym plain) ∙ (slice_get-map released_of nodes k ∙ ap (option_map released_of) at)
+  none_there k at = ap (λ (rs : List Released). slice_get rs k) (sym plain) ∙ (slice_get-map (released_of states) nodes k ∙ ap (option_map (released_of states)) at)
 
   pub nothing_there : nodes ≡ [] → waiting ≡ []
-  nothing_there none = sym plain ∙ ap (map released_of) none
+  nothing_there none = sym plain ∙ ap (map (released_of states)) none
 
-  pub pick_gone : (nodes' : List Node) (fresh : List ParcelView) (k : ℕ) → nodes' ≡ remove nodes k → fresh ≡ [] → waiting_by nodes' fresh ≡ remove waiting k
-  pick_gone nodes' fresh k gone none = ap₂ waiting_by gone none ∙ (waiting_remove nodes k ∙ ap (λ (rs : List Released). remove rs k) are)
+  pub pick_gone : (nodes' : List Node) (fresh : List ParcelView) (k : ℕ) → nodes' ≡ remove nodes k → fresh ≡ [] → waiting_by states nodes' fresh ≡ remove waiting k
+  pick_gone nodes' fresh k gone none = ap₂ (waiting_by states) gone none ∙ (waiting_remove states nodes k ∙ ap (λ (rs : List Released). remove rs k) are)
 
-  pub pick_back : (nodes' nodes'' : List Node) (fresh : List ParcelView) (k : ℕ) (n : Node) → slice_get nodes k ≡ Some n → nodes' ≡ remove nodes k → nodes'' ≡ insert nodes' k n → fresh ≡ [] → waiting_by nodes'' fresh ≡ waiting
+  pub pick_back : (nodes' nodes'' : List Node) (fresh : List ParcelView) (k : ℕ) (n : Node) → slice_get nodes k ≡ Some n → nodes' ≡ remove nodes k → nodes'' ≡ insert nodes' k n → fresh ≡ [] → waiting_by states nodes'' fresh ≡ waiting
   pick_back nodes' nodes'' fresh k n at gone back none =
-      ap₂ waiting_by (back ∙ (ap (λ (ns : List Node). insert ns k n) gone ∙ insert-remove nodes k n at)) none ∙ are
+      ap₂ (waiting_by states) (back ∙ (ap (λ (ns : List Node). insert ns k n) gone ∙ insert-remove nodes k n at)) none ∙ are
 
-  pub best_there : (t : Task) (states : List State) (k : ℕ) → AllByRecursion (IsNodeOf t states) nodes → IsBest (λ n. n.total) nodes k → IsBest (total_at t) waiting k
-  best_there t states k all best = subst (λ (rs : List Released). IsBest (total_at t) rs k) plain (best_released t states nodes k all best)
+  pub best_there : (t : Task) (k : ℕ) → AllByRecursion (IsNodeOf t states) nodes → IsBest (λ n. n.total) nodes k → IsBest (total_at t) waiting k
+  best_there t k all best = subst (λ (rs : List Released). IsBest (total_at t) rs k) plain (best_released t states nodes k all best)

@@ -24,9 +24,9 @@ always_err (Err e) P p = p
 
 -- all are open nodes
 pub all_waiting :
-    (f : FrontierView) (nodes nodes' : List Node) (fresh fresh' : List ParcelView)
-    → waiting_by nodes fresh ≡ f.waiting → waiting_by nodes' fresh' ≡ waiting_by nodes fresh → fresh' ≡ [] → waiting_by nodes' [] ≡ f.waiting
-all_waiting f nodes nodes' fresh fresh' is moved none = ap (waiting_by nodes') (sym none) ∙ (moved ∙ is)
+    (f : FrontierView) (states states' : List State) (nodes nodes' : List Node) (fresh fresh' : List ParcelView)
+    → waiting_by states nodes fresh ≡ f.waiting → waiting_by states' nodes' fresh' ≡ waiting_by states nodes fresh → fresh' ≡ [] → waiting_by states' nodes' [] ≡ f.waiting
+all_waiting f states states' nodes nodes' fresh fresh' is moved none = ap (waiting_by states' nodes') (sym none) ∙ (moved ∙ is)
 
 -- nodes of the same task and the same states
 pub nodes_again :

@@ -3,3 +3,4 @@ pub mod Kept
 pub mod Least
 pub mod Lookup
 pub mod Nodes
+pub mod Total

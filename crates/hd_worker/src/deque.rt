@@ -26,6 +26,20 @@ pub(crate) fn reserve_more<T>(
     }
 }
 
+/// An empty queue keeps room for four times as many items, and for four times as many as are to come.
+const KEPT: usize = 256;
+
+/// Gives room of an empty queue back, where it is much more than so much as is needed.
+pub(crate) fn give_back<T>(queue: &mut VecDeque<T>, room: usize)
+    requires { deque_len queue.old + room ≤ deque_capacity queue.old }
+    ensures items { queue.new.items ≡ queue.old.items }
+    ensures kept { deque_len queue.new + room ≤ deque_capacity queue.new }
+{
+    if queue.is_empty() && queue.capacity() / 4 > room.max(KEPT) {
+        queue.shrink_to(room);
+    }
+}
+
 /// One item more, behind the others, where there is room for it.
 pub(crate) fn push_reserved<T: Drop>(queue: &mut VecDeque<T>, item: T)
     requires { deque_len queue.old < deque_capacity queue.old }

@@ -17,7 +17,7 @@ use hd_base::NoMemory;
 use hd_closed::ClosedList;
 use hd_hmax::Hmax;
 use hd_node::{By, Hashed, Outcome, Parcel};
-use hd_open::OpenList;
+use hd_open::{OpenList, Waits};
 use hd_task::Task;
 use std::alloc::Global;
 use std::collections::VecDeque;
@@ -29,7 +29,7 @@ pub(crate) struct Frontier<'t> {
     alloc: Global,
     task: &'t Task,
     known: ClosedList<'t>,
-    nodes: OpenList<Node<'t>>,
+    nodes: OpenList<Node>,
     /// Parcels that came behind the open nodes, and are not estimated yet.
     fresh: VecDeque<Parcel<'t>>,
     /// How many parcels may still come without memory.
@@ -50,7 +50,7 @@ impl<'t> Model for Frontier<'t> {
 
     ghost view = { λ f. record {
       task = f.task.now;
-      waiting = waiting_by f.nodes.nodes f.fresh.items;
+      waiting = waiting_by f.known.states f.nodes.nodes f.fresh.items;
       closed = f.known.closed;
       room = f.room;
     } };
@@ -143,6 +143,7 @@ impl<'t> Frontier<'t> {
             &mut self.known,
             &mut self.nodes,
             &mut self.fresh,
+            self.room,
             estimates,
         )?;
         Ok(self.nodes.best())
@@ -163,6 +164,7 @@ impl<'t> Frontier<'t> {
             &mut self.known,
             &mut self.nodes,
             &mut self.fresh,
+            self.room,
             estimates,
         )?;
         let Some(place) = self.nodes.best() else {
@@ -171,7 +173,7 @@ impl<'t> Frontier<'t> {
         let Some(node) = self.nodes.get(place) else {
             return Ok(None);
         };
-        Ok(node.total)
+        Ok(node.total())
     }
 
     /// Settles the open node at a place, if there is one. Its expansion is named by the place that its outcome has.
@@ -195,6 +197,7 @@ impl<'t> Frontier<'t> {
             &mut self.known,
             &mut self.nodes,
             &mut self.fresh,
+            self.room,
             &mut lookup.hmax,
         )?;
         self.known.reserve()?;
@@ -234,6 +237,7 @@ impl<'t> Frontier<'t> {
             &mut self.known,
             &mut self.nodes,
             &mut self.fresh,
+            self.room,
             &mut lookup.hmax,
         )?;
         self.known.reserve()?;

@@ -12,6 +12,7 @@ mod judging;
 mod lookup;
 mod node;
 mod releasing;
+mod total;
 mod worker;
 
 pub use lookup::Lookup;

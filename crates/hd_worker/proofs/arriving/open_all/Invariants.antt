@@ -15,7 +15,7 @@ invariant-loop-parcel l = record {
   estimates : l.estimates.task ≡ l.fn.estimates.task;
   nodes : AllByRecursion (IsNodeOf l.fn.known.task l.known.states) l.nodes.nodes;
   parcels : AllByRecursion (IsParcelOf l.fn.known.task) l.fresh.items;
-  waiting : waiting_by l.nodes.nodes l.fresh.items ≡ waiting_by l.fn.nodes.nodes l.fn.fresh.items;
+  waiting : waiting_by l.known.states l.nodes.nodes l.fresh.items ≡ waiting_by l.fn.known.states l.fn.nodes.nodes l.fn.fresh.items;
   fewer : deque_len l.fresh ≤ deque_len l.fn.fresh;
   capacity : deque_capacity l.fresh ≡ deque_capacity l.fn.fresh;
 }

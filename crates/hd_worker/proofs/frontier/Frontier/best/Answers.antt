@@ -20,7 +20,7 @@ returns-clause-best c =
     let own = c.self.invariant.of_task ∙ ap (λ (x : FrontierView). x.task) c.self.view_is in
     if_some c.best.result (IsBest (λ (n : Node). n.total) nodes) (IsBest {A = Released} (total_at f.task) f.waiting)
     (λ k best.
-    best_there nodes f.waiting
-    (all_waiting f i.nodes.nodes nodes i.fresh.items c.open_all.new.fresh.items (ap (λ (x : FrontierView). x.waiting) c.self.view_is) c.open_all.ensures.waiting c.in_ok-open_all.ensures.all)
-    f.task states k (subst (λ (t : Task). AllByRecursion (IsNodeOf t states) nodes) own c.open_all.ensures.nodes) best)
+    best_there states nodes f.waiting
+    (all_waiting f i.known.states states i.nodes.nodes nodes i.fresh.items c.open_all.new.fresh.items (ap (λ (x : FrontierView). x.waiting) c.self.view_is) c.open_all.ensures.waiting c.in_ok-open_all.ensures.all)
+    f.task k (subst (λ (t : Task). AllByRecursion (IsNodeOf t states) nodes) own c.open_all.ensures.nodes) best)
     c.best.ensures.best
