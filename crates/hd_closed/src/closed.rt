@@ -9,13 +9,12 @@ ghost use Rattle.hd_closed.specs.Shut.{HasNumbered, AreNumbered, is_cheaper, no_
 
 use crate::notes::{Note, add, find};
 use crate::numbering::numbered;
-use crate::reading::state_of;
-use crate::rows::Rows;
 use crate::short::{Known, MAX_PLACES, Place};
 use hd_base::NoMemory;
 use hd_hmax::{EstimateValue, Hmax};
 use hd_node::{By, Hashed};
 use hd_pack::Layout;
+use hd_rows::Rows;
 use hd_task::{State, Task};
 use std::alloc::{AllocError, Global};
 use std::marker::Model;
@@ -207,7 +206,7 @@ impl<'t> ClosedList<'t> {
         ensures state { IfOk result (λ s. slice_get self.now.states place ≡ Some s) }
         ensures of_task { IfOk result (IsStateOf self.now.task) }
     {
-        state_of(alloc, &self.rows.at(place), &Layout::new(self.task))
+        self.rows.at(place).state(alloc)
     }
 
     /// The estimate of the state at a place. It is made where it is asked for first, and kept.

@@ -7,9 +7,6 @@
 mod closed;
 mod notes;
 mod numbering;
-mod reading;
-mod row;
-mod rows;
 mod short;
 
 pub use closed::ClosedList;
