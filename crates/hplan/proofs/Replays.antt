@@ -1,5 +1,5 @@
 -- From a schedule that is played to what is told of it.
-use Rattle.std.proofs.Common.{◌≡◌, ◌⊎◌, inl, inr, ℕ, List, [], Option, Some, None, Ok, Err, subst, sym, cc}
+use Rattle.std.proofs.Common.{◌≡◌, ◌⊎◌, inl, inr, ℕ, List, Option, Some, None, Ok, Err, subst, sym}
 use Rattle.std.specs.Prelude.{Result, IfOk, IfErr}
 use Rattle.std.specs.declared.io.ErrorKind.{ErrorKind}
 use Rattle.hd_lifted.specs.declared.task.LiftedTask.{LiftedTask}
@@ -12,12 +12,10 @@ use Rattle.hd_task.specs.Verdicts.{IsOptimal}
 use Rattle.hd_plan.specs.Output.{AppendsShort}
 use Rattle.hd_schedule.specs.declared.error.ScheduleError.{ScheduleError}
 use Rattle.hd_schedule.specs.declared.error.ScheduleError.TheVariants as schedule
-use Rattle.hd_schedule.specs.declared.moves.Move.{Move}
-use Rattle.hd_schedule.specs.Schedule.{schedule_of, IsFault}
+use Rattle.hd_schedule.specs.Schedule.{IsFault}
 use Rattle.hd_replay.specs.declared.report.Report.{Report}
 use Rattle.hd_replay.specs.declared.report.Says.{Says}
 use Rattle.hd_replay.specs.declared.report.Says.TheVariants.{Optimal, NoPlan, RangeLeft}
-use Rattle.hd_replay.specs.Playing.{IsReported}
 use Rattle.hd_replay.specs.Reporting.{IsTrueOf}
 use Rattle.hd_texts.specs.Digest.{digest_of}
 use Rattle.hd_texts.specs.declared.fault.TaskFault.{TaskFault}
@@ -57,16 +55,6 @@ pub report_by : (domain problem schedule : List ℕ) (t : Task) (task : IsTaskOf
 report_by domain problem schedule t task digest (Ok report) is s =
     reported domain problem schedule t task report (subst (λ (d : List ℕ). IsPlayed t d schedule report) is s)
 report_by domain problem schedule t task digest (Err f) is s = tt
-
--- the moves of a text, and what they end with
-pub played : (t : Task) (digest text left : List ℕ) (read lent : List Move) (report : Report) → schedule_of text ≡ Ok read → lent ≡ read
-    → IsReported t digest [] lent left report → IsPlayed t digest text report
-played t digest text left read lent report says same r = record {
-  moves = read;
-  says = says;
-  left = left;
-  reported = subst (λ (ms : List Move). IsReported t digest [] ms left report) same r;
-}
 
 -- ---- none
 
