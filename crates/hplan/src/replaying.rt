@@ -42,12 +42,7 @@ fn played_in(
 }
 
 /// What stands at the end of the schedule of the third text, played on the task of the first two.
-fn report_of(
-    alloc: Global,
-    domain: &[u8],
-    problem: &[u8],
-    schedule: &[u8],
-) -> Result<Report, Fault>
+fn report_of(alloc: Global, domain: &[u8], problem: &[u8], schedule: &[u8]) -> Result<Report, Fault>
     ensures found { IfOk result (IsReportOf domain.now problem.now schedule.now) }
     ensures refusal { IfErr result (HasNoReportYet domain.now problem.now schedule.now) }
 {

@@ -124,8 +124,18 @@ fn a_schedule_is_reported_at_its_end(rt: HostRuntime) -> Result<(), Fail> {
 #[test]
 fn a_task_without_a_plan_is_told(rt: HostRuntime) -> Result<(), Fail> {
     let alloc = rt.alloc();
-    let never = L.replace(alloc, "(:action set-a :parameters () :precondition (not (a)) :effect (a))", "")?;
-    let found = played(&rt, alloc, never.as_str(), L_PROBLEM, "resume 1, expand 0 0, commit 0")?;
+    let never = L.replace(
+        alloc,
+        "(:action set-a :parameters () :precondition (not (a)) :effect (a))",
+        "",
+    )?;
+    let found = played(
+        &rt,
+        alloc,
+        never.as_str(),
+        L_PROBLEM,
+        "resume 1, expand 0 0, commit 0",
+    )?;
     assert_eq!(rt;
         found.as_slice(),
         b"0|expansions 0\nacknowledged 0\nbytes 39\nverdict no-plan\n|".as_slice()
@@ -189,7 +199,10 @@ fn a_line_that_is_no_move_is_told(rt: HostRuntime) -> Result<(), Fail> {
         ("resume", "1||hplan: 19 BadLine(1)\n"),
         ("Resume 1", "1||hplan: 19 BadLine(1)\n"),
         ("resume 1234567890", "1||hplan: 19 BadLine(1)\n"),
-        ("; one\n\nresume 1\nstop 0 0\npull it\n", "1||hplan: 19 BadLine(4)\n"),
+        (
+            "; one\n\nresume 1\nstop 0 0\npull it\n",
+            "1||hplan: 19 BadLine(4)\n",
+        ),
     ] {
         let found = replayed(&rt, alloc, L, L_PROBLEM, schedule)?;
         assert_eq!(rt; found.as_slice(), want.as_bytes());
