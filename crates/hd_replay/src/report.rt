@@ -1,6 +1,6 @@
 //! What stands at the end of a schedule.
 ghost use Rattle.std.specs.Prelude.{◌≡◌, Some};
-ghost use Rattle.hd_replay.specs.ReportText.{says_text};
+ghost use Rattle.hd_replay.specs.ReportText.{says_text, verdict_text, report_text};
 
 use std::fmt;
 
@@ -40,24 +40,29 @@ impl fmt::Display for Says {
     }
 }
 
+/// What is said at an end, if anything is.
+#[derive(Clone, Copy)]
+struct Verdict(Option<Says>);
+
+impl fmt::Display for Verdict {
+    ghost output = { λ verdict. Some (verdict_text verdict.0) };
+
+    fn fmt<W: fmt::Write>(&self, f: &mut fmt::Formatter<W>) -> fmt::Result {
+        match self.0 {
+            Some(says) => write!(f, "{says}"),
+            None => write!(f, "none"),
+        }
+    }
+}
+
 impl fmt::Display for Report {
+    ghost output = { λ report. Some (report_text report) };
+
     /// Four lines, each with its end.
     fn fmt<W: fmt::Write>(&self, f: &mut fmt::Formatter<W>) -> fmt::Result {
-        let Report {
-            expansions,
-            acknowledged,
-            bytes,
-            verdict,
-        } = *self;
-        match verdict {
-            Some(says) => write!(
-                f,
-                "expansions {expansions}\nacknowledged {acknowledged}\nbytes {bytes}\nverdict {says}\n"
-            ),
-            None => write!(
-                f,
-                "expansions {expansions}\nacknowledged {acknowledged}\nbytes {bytes}\nverdict none\n"
-            ),
-        }
+        writeln!(f, "expansions {}", self.expansions)?;
+        writeln!(f, "acknowledged {}", self.acknowledged)?;
+        writeln!(f, "bytes {}", self.bytes)?;
+        writeln!(f, "verdict {}", Verdict(self.verdict))
     }
 }

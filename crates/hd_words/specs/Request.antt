@@ -1,7 +1,7 @@
 -- What a request keeps. (Our own.)
 use Rattle.std.specs.Prelude.{ℕ, ◌≤◌, IfSome}
 use Rattle.hd_words.specs.declared.request.Request.{Request}
-use Rattle.hd_words.specs.declared.request.Request.TheVariants.{Solve, Resume, Certify, Migrate, Inspect, Survey, Ground, Validate}
+use Rattle.hd_words.specs.declared.request.Request.TheVariants.{Solve, Resume, Certify, Migrate, Inspect, Survey, Ground, Validate, Replay}
 use Rattle.hd_words.specs.declared.request.Search.{Search}
 use Rattle.hd_words.specs.declared.request.TheConstants.{MAX_WORKERS, MAX_LIMIT}
 
@@ -28,3 +28,4 @@ IsWithin (Inspect journal) = Unit {0}
 IsWithin (Survey domain problem journal) = Unit {0}
 IsWithin (Ground domain problem) = Unit {0}
 IsWithin (Validate domain problem plan explain) = Unit {0}
+IsWithin (Replay domain problem schedule) = Unit {0}

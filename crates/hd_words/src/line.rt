@@ -73,6 +73,16 @@ Exit status: 0 the plan is valid, at the cost that is printed;
     follow;
   2 the command line is at fault.";
 
+/// What the help of `replay` ends with.
+const REPLAY_HELP: &str = "\
+Plays the moves in SCHEDULE, one on a line, on the search of the two files, whose journal is in memory and empty at first: workers
+one step at a time, flushes, stops at any moment, resumptions. Where nothing runs at the end, one worker resumes. Then four lines
+go to standard output: `expansions N`, `acknowledged N`, `bytes N` (of the journal), and `verdict none`, `verdict optimal COST`,
+`verdict no-plan` or `verdict range-left ENTRY`. The same files give the same lines each time.
+Exit status: 0 the schedule is played, and the lines are printed, whatever the verdict;
+  1 a refusal, told on one line: of a file, or `19 BadLine(N)` of the first line of SCHEDULE that is no move;
+  2 the command line is at fault.";
+
 /// An argument that has to be given, by its place.
 fn file<'a>(alloc: Global, id: &'a str, name: &'a str, help: &'a str) -> Arg<'a> {
     Arg::new(alloc, id)
@@ -216,6 +226,14 @@ fn validate<'a>(alloc: Global) -> Result<Command<'a>, AllocError> {
         .arg(explain(alloc))
 }
 
+/// `replay DOMAIN PROBLEM SCHEDULE`.
+fn replay<'a>(alloc: Global) -> Result<Command<'a>, AllocError> {
+    of_task(alloc, "replay")?
+        .about("Plays a schedule of a search, step by step, with stops, and reports its end")
+        .after_help(REPLAY_HELP)
+        .arg(file(alloc, "schedule", "SCHEDULE", "The file with the schedule"))
+}
+
 /// The whole command line.
 pub fn command_line<'a>(alloc: Global) -> Result<Command<'a>, AllocError> {
     Command::new(alloc, NAME)
@@ -230,5 +248,6 @@ pub fn command_line<'a>(alloc: Global) -> Result<Command<'a>, AllocError> {
         .subcommand(migrate(alloc)?)?
         .subcommand(inspect(alloc)?)?
         .subcommand(ground(alloc)?)?
-        .subcommand(validate(alloc)?)
+        .subcommand(validate(alloc)?)?
+        .subcommand(replay(alloc)?)
 }

@@ -102,6 +102,15 @@ pub enum Request {
         /// Whether the reason of a refusal is told.
         explain: bool,
     },
+    /// To play a schedule of the search of a task.
+    Replay {
+        /// The name of the file with the domain.
+        domain: String,
+        /// The name of the file with the problem.
+        problem: String,
+        /// The name of the file with the schedule.
+        schedule: String,
+    },
 }
 
 /// What `clap` answers in place of matches: its text, and where it goes.
@@ -256,6 +265,25 @@ fn validate_request(
     }))
 }
 
+/// The request to play a schedule, if that is named.
+fn replay_request(
+    alloc: Global,
+    domain: &str,
+    problem: &str,
+    schedule: Option<&str>,
+) -> Result<Option<Request>, AllocError>
+    ensures { IfOk result (λ found. IfSome found IsWithin) }
+{
+    let Some(schedule) = schedule else {
+        return Ok(None);
+    };
+    Ok(Some(Request::Replay {
+        domain: String::from_str(alloc, domain)?,
+        problem: String::from_str(alloc, problem)?,
+        schedule: String::from_str(alloc, schedule)?,
+    }))
+}
+
 /// The request to inspect, if its journal is named, and both files of a task or neither.
 fn inspect_request(alloc: Global, found: &ArgMatches<'_>) -> Result<Option<Request>, AllocError>
     ensures { IfOk result (λ found. IfSome found IsWithin) }
@@ -301,6 +329,7 @@ fn named_request(
             let explain = found.get_flag("explain");
             validate_request(alloc, domain, problem, found.get_str("plan"), explain)
         }
+        "replay" => replay_request(alloc, domain, problem, found.get_str("schedule")),
         _ => Ok(None),
     }
 }

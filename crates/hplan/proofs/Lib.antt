@@ -10,6 +10,7 @@ pub mod Legal
 pub mod Moving
 pub mod Shelves
 pub mod Solving
+pub mod Replays
 pub mod StepTexts
 pub mod Surveys
 pub mod TaskLines

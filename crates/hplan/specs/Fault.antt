@@ -13,11 +13,17 @@ use Rattle.hd_search.specs.Fault as search
 use Rattle.hd_parallel.specs.declared.fault.ThreadsFault.{ThreadsFault}
 use Rattle.hd_parallel.specs.declared.fault.ThreadsFault.TheVariants.{Run}
 use Rattle.hd_parallel.specs.declared.fault.ThreadsFault.TheVariants as threads
+use Rattle.hd_replay.specs.declared.fault.ReplayFault.{ReplayFault}
+use Rattle.hd_replay.specs.declared.fault.ReplayFault.TheVariants as replaying
+use Rattle.hd_replay.specs.Faults as replay
 use Rattle.hd_certify.specs.declared.error.CertifyError.{CertifyError}
 use Rattle.hd_certify.specs.declared.error.CertifyError.TheVariants as certifying
 use Rattle.hd_plan.specs.declared.error.PlanTextError.{PlanTextError}
 use Rattle.hd_plan.specs.declared.error.PlanTextError.TheVariants as plan_text
 use Rattle.hd_plan.specs.Error as plan_reader
+use Rattle.hd_schedule.specs.declared.error.ScheduleError.{ScheduleError}
+use Rattle.hd_schedule.specs.declared.error.ScheduleError.TheVariants as schedule
+use Rattle.hd_schedule.specs.Error as schedule_reader
 use Rattle.hd_plan.specs.declared.output.WriteError.{WriteError}
 use Rattle.hd_plan.specs.declared.output.WriteError.TheVariants as unwritten
 use Rattle.hd_validate.specs.declared.error.PlanError.{PlanError}
@@ -27,16 +33,18 @@ use Rattle.hd_texts.specs.declared.fault.TaskFault.TheVariants as texts
 use Rattle.hd_texts.specs.Fault as task
 use Rattle.hd_validate.specs.Error as validator
 use Rattle.hplan.specs.declared.fault.Fault.{Fault}
-use Rattle.hplan.specs.declared.fault.Fault.TheVariants.{Task, PlanText, Plan, Device, Journal, Search, NoThread, NoMemory}
+use Rattle.hplan.specs.declared.fault.Fault.TheVariants.{Task, PlanText, Schedule, Plan, Device, Journal, Search, Replay, NoThread, NoMemory}
 
 -- the printed form: that of the crate whose fault it is
 abbrev pub text_of : Fault → List ℕ
 text_of (Task fault) = task.text_of fault
 text_of (PlanText error) = plan_reader.text_of error
+text_of (Schedule error) = schedule_reader.text_of error
 text_of (Plan error) = validator.text_of error
 text_of Device = codes "35 Device"
 text_of (Journal error) = journal.text_of error
 text_of (Search fault) = search.text_of fault
+text_of (Replay fault) = replay.text_of fault
 text_of NoThread = codes "NoThread"
 text_of NoMemory = codes "NoMemory"
 
@@ -51,10 +59,12 @@ task_in texts.NoMemory = NoMemory
 abbrev pub IsOfTexts : Fault → Type 0
 IsOfTexts (Task fault) = Unit {0}
 IsOfTexts (PlanText error) = ⊥
+IsOfTexts (Schedule error) = ⊥
 IsOfTexts (Plan error) = ⊥
 IsOfTexts Device = ⊥
 IsOfTexts (Journal error) = ⊥
 IsOfTexts (Search fault) = ⊥
+IsOfTexts (Replay fault) = ⊥
 IsOfTexts NoThread = ⊥
 IsOfTexts NoMemory = ⊥
 
@@ -62,6 +72,11 @@ IsOfTexts NoMemory = ⊥
 abbrev pub plan_read_in : PlanTextError → Fault
 plan_read_in (plan_text.BadLine line) = PlanText (plan_text.BadLine line)
 plan_read_in plan_text.NoMemory = NoMemory
+
+-- an error of a schedule's text
+abbrev pub schedule_in : ScheduleError → Fault
+schedule_in (schedule.BadLine line) = Schedule (schedule.BadLine line)
+schedule_in schedule.NoMemory = NoMemory
 
 -- why a plan is not valid; want of memory is no fault of it
 abbrev pub judged_in : PlanError → Fault
@@ -103,6 +118,13 @@ abbrev pub certify_in : CertifyError → Fault
 certify_in certifying.Full = Search searching.Full
 certify_in (certifying.Damaged at) = Search (searching.Damaged at)
 certify_in certifying.NoMemory = NoMemory
+
+-- why a schedule is not played to its end; want of memory is no fault of it
+abbrev pub replay_in : ReplayFault → Fault
+replay_in (replaying.Recovery fault) = Replay (replaying.Recovery fault)
+replay_in (replaying.Journal error) = Replay (replaying.Journal error)
+replay_in replaying.Full = Replay replaying.Full
+replay_in replaying.NoMemory = NoMemory
 
 -- ---- files, readers and writers
 

@@ -9,6 +9,7 @@ pub mod PlanFiles
 pub mod PlanText
 pub mod Printing
 pub mod Reasons
+pub mod Replaying
 pub mod Surveying
 pub mod TaskText
 pub mod Verdict

@@ -1,13 +1,15 @@
 //! Why there is no answer.
 ghost use Rattle.std.specs.IoError.{error_kind};
 ghost use Rattle.std.specs.Prelude.{◌≡◌, Some};
-ghost use Rattle.hplan.specs.Fault.{text_of, task_in, plan_read_in, judged_in, journal_in, run_in, search_in, certify_in, store_in, TellsKind, TellsUnwritten};
+ghost use Rattle.hplan.specs.Fault.{text_of, task_in, plan_read_in, schedule_in, judged_in, journal_in, run_in, search_in, certify_in, replay_in, store_in, TellsKind, TellsUnwritten};
 ghost use Rattle.hplan.specs.declared.fault.Fault.TheVariants as faults;
 
 use hd_certify::CertifyError;
 use hd_journal::JournalError;
 use hd_parallel::ThreadsFault;
 use hd_plan::{PlanTextError, WriteError};
+use hd_replay::ReplayFault;
+use hd_schedule::ScheduleError;
 use hd_search::RunFault;
 use hd_store::StoreError;
 use hd_texts::TaskFault;
@@ -23,6 +25,8 @@ pub enum Fault {
     Task(TaskFault),
     /// A plan's text could not be read.
     PlanText(PlanTextError),
+    /// A schedule's text could not be read.
+    Schedule(ScheduleError),
     /// A plan was read, and is not valid.
     Plan(PlanError),
     /// A file could not be opened, read or written.
@@ -31,6 +35,8 @@ pub enum Fault {
     Journal(JournalError),
     /// The search has ended without an answer.
     Search(RunFault),
+    /// A schedule was not played to its end.
+    Replay(ReplayFault),
     /// The system has started no thread for a worker of the search.
     NoThread,
     /// Memory ran out.
@@ -44,10 +50,12 @@ impl fmt::Display for Fault {
         match self {
             Fault::Task(fault) => write!(f, "{fault}"),
             Fault::PlanText(error) => write!(f, "{error}"),
+            Fault::Schedule(error) => write!(f, "{error}"),
             Fault::Plan(error) => write!(f, "{error}"),
             Fault::Device => write!(f, "35 Device"),
             Fault::Journal(error) => write!(f, "{error}"),
             Fault::Search(fault) => write!(f, "{fault}"),
+            Fault::Replay(fault) => write!(f, "{fault}"),
             Fault::NoThread => write!(f, "NoThread"),
             Fault::NoMemory => write!(f, "NoMemory"),
         }
@@ -90,6 +98,16 @@ pub fn plan_read_in(error: PlanTextError) -> Fault
     match error {
         PlanTextError::BadLine(_) => Fault::PlanText(error),
         PlanTextError::NoMemory => Fault::NoMemory,
+    }
+}
+
+/// An error of a schedule's text.
+pub fn schedule_in(error: ScheduleError) -> Fault
+    ensures { result ≡ schedule_in error }
+{
+    match error {
+        ScheduleError::BadLine(_) => Fault::Schedule(error),
+        ScheduleError::NoMemory => Fault::NoMemory,
     }
 }
 
@@ -156,6 +174,18 @@ pub fn certify_in(error: CertifyError) -> Fault
         CertifyError::NoMemory => Fault::NoMemory,
         CertifyError::Full => Fault::Search(RunFault::Full),
         CertifyError::Damaged(at) => Fault::Search(RunFault::Damaged(at)),
+    }
+}
+
+/// Why a schedule is not played to its end.
+pub fn replay_in(fault: ReplayFault) -> Fault
+    ensures { result ≡ replay_in fault }
+{
+    match fault {
+        ReplayFault::NoMemory => Fault::NoMemory,
+        ReplayFault::Recovery(_) | ReplayFault::Journal(_) | ReplayFault::Full => {
+            Fault::Replay(fault)
+        }
     }
 }
 

@@ -1,5 +1,6 @@
 //! The planner hplan: from a command line to a plan (`solve`, `resume`), what a journal shows by itself
-//! (`certify`) or is (`inspect`), its entries in a journal of the second version (`migrate`), the actions of a task (`ground`), or the verdict on a plan (`validate`).
+//! (`certify`) or is (`inspect`), its entries in a journal of the second version (`migrate`), the actions of a task (`ground`), the verdict on a
+//! plan (`validate`), or what stands at the end of a schedule of a search (`replay`).
 #![tactic(auto)]
 
 mod certifying;
@@ -16,6 +17,7 @@ mod output;
 mod places;
 mod program;
 mod reasons;
+mod replaying;
 mod survey_text;
 mod surveying;
 mod text;
@@ -34,6 +36,7 @@ pub use migrating::migrate;
 pub use places::{Places, Shelf, SystemFiles};
 pub use program::{command, start};
 pub use reasons::explain;
+pub use replaying::replay;
 pub use surveying::survey;
 pub use told::Ending;
 pub use validating::validate;

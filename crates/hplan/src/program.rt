@@ -14,6 +14,7 @@ use crate::migrating::migrate;
 use crate::output::write_out;
 use crate::places::{Places, SystemFiles};
 use crate::reasons::explain;
+use crate::replaying::replay;
 use crate::surveying::survey;
 use crate::told::Ending;
 use crate::validating::validate;
@@ -221,33 +222,49 @@ fn survey_files<P: Places, O: Write>(
     flush(out)
 }
 
-/// The bytes of a domain's file, a problem's and a plan's.
+/// The bytes of a domain's file, a problem's, and a plan's or a schedule's.
 #[derive(Drop)]
-struct PlanFiles {
+struct ThreeFiles {
     domain: Vec<u8>,
     problem: Vec<u8>,
-    plan: Vec<u8>,
+    third: Vec<u8>,
 }
 
 /// Reads three files.
-fn read_plan_files<P: Places>(
+fn read_three_files<P: Places>(
     alloc: Global,
     places: &mut P,
     domain: &str,
     problem: &str,
-    plan: &str,
-) -> Result<PlanFiles, Fault> {
-    Ok(PlanFiles {
+    third: &str,
+) -> Result<ThreeFiles, Fault> {
+    Ok(ThreeFiles {
         domain: read(alloc, places, domain)?,
         problem: read(alloc, places, problem)?,
-        plan: read(alloc, places, plan)?,
+        third: read(alloc, places, third)?,
     })
 }
 
 /// Writes the verdict on the plan in the third file.
-fn judge<O: Write>(alloc: Global, files: &PlanFiles, out: &mut O) -> Result<(), Fault> {
-    let (domain, problem, plan) = (&files.domain, &files.problem, &files.plan);
+fn judge<O: Write>(alloc: Global, files: &ThreeFiles, out: &mut O) -> Result<(), Fault> {
+    let (domain, problem, plan) = (&files.domain, &files.problem, &files.third);
     validate(alloc, domain, problem, plan, &mut Watched::of(&mut *out))?;
+    flush(out)
+}
+
+/// Reads three files, and writes what the schedule in the third comes to.
+fn replay_files<P: Places, O: Write>(
+    alloc: Global,
+    places: &mut P,
+    domain: &str,
+    problem: &str,
+    schedule: &str,
+    out: &mut O,
+) -> Result<(), Fault> {
+    let files = read_three_files(alloc, places, domain, problem, schedule)?;
+    let (domain, problem, schedule) = (&files.domain, &files.problem, &files.third);
+    let watched = &mut Watched::of(&mut *out);
+    replay(alloc, domain, problem, schedule, watched)?;
     flush(out)
 }
 
@@ -262,8 +279,8 @@ fn status_of<E: Write>(err: &mut E, done: Result<(), Fault>) -> u8
 }
 
 /// Tells the reason of a plan's fault on one line, if it has one, and there is memory for it.
-fn tell_reason<E: Write>(alloc: Global, files: &PlanFiles, err: &mut E) {
-    if let Ok(Some(reason)) = explain(alloc, &files.domain, &files.problem, &files.plan) {
+fn tell_reason<E: Write>(alloc: Global, files: &ThreeFiles, err: &mut E) {
+    if let Ok(Some(reason)) = explain(alloc, &files.domain, &files.problem, &files.third) {
         let _ = put(err, reason.as_bytes());
         let _ = put(err, b"\n");
     }
@@ -272,7 +289,7 @@ fn tell_reason<E: Write>(alloc: Global, files: &PlanFiles, err: &mut E) {
 /// The exit status of a judged plan: a fault is told, and behind that of a plan its reason, where it is asked for.
 fn judge_files<O: Write, E: Write>(
     alloc: Global,
-    files: &PlanFiles,
+    files: &ThreeFiles,
     explained: bool,
     out: &mut O,
     err: &mut E,
@@ -366,23 +383,32 @@ fn answer<P: Places, O: Write, E: Write, R: Threads + Wait + Sync + Eprint + Clo
             explain,
         } => {
             let names = (domain.as_str(), problem.as_str(), plan.as_str());
-            match read_plan_files(alloc, places, names.0, names.1, names.2) {
+            match read_three_files(alloc, places, names.0, names.1, names.2) {
                 Ok(files) => judge_files(alloc, &files, *explain, out, err),
                 Err(fault) => refuse(err, &fault),
             }
+        }
+        Request::Replay {
+            domain,
+            problem,
+            schedule,
+        } => {
+            let names = (domain.as_str(), problem.as_str(), schedule.as_str());
+            let done = replay_files(alloc, places, names.0, names.1, names.2, out);
+            status_of(err, done)
         }
     }
 }
 
 /// Runs the words of a command line, of which the first is the program's name, and answers the exit status.
 ///
-/// The status is 0 for a plan, the actions of a task, a valid plan, a journal that shows a verdict or was migrated, the help and the version, 1 for a fault and
-/// a journal that shows no verdict, 2 for a faulty command line, 10 where there is no plan, 11 where a number left the range and 12 where the search has
+/// The status is 0 for a plan, the actions of a task, a valid plan, a journal that shows a verdict or was migrated, a schedule that was played, the help and the
+/// version, 1 for a fault and a journal that shows no verdict, 2 for a faulty command line, 10 where there is no plan, 11 where a number left the range and 12 where the search has
 /// stopped at its limit.
 ///
 /// What was asked for goes to `out`, and everything else to `err`. Faults are looked for in this order: the command line;
-/// the domain's file, the problem's, the plan's; the domain's text, the problem's; their names, types and metric; the grounding (not to
-/// validate); the plan's text; the journal; the work itself.
+/// the domain's file, the problem's, the plan's or the schedule's; the domain's text, the problem's; their names, types and metric; the grounding (not to
+/// validate); the plan's or the schedule's text; the journal; the work itself.
 pub fn command<P: Places, O: Write, E: Write, R: Threads + Wait + Sync + Eprint + Clock>(
     rt: &R,
     alloc: Global,

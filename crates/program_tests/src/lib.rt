@@ -22,6 +22,8 @@ mod line;
 mod migrated;
 #[cfg(test)]
 mod numeric;
+#[cfg(test)]
+mod replayed;
 pub mod running;
 #[cfg(test)]
 mod surveyed;

@@ -2,6 +2,7 @@
 use crate::line::{line_by, line_of};
 use hd_words::{Request, Search, WordsError, read_words};
 use std::alloc::{AllocError, Global};
+use std::process::Abort;
 use std::test::Fail;
 
 /// How a search is to go.
@@ -79,6 +80,13 @@ fn read_line(alloc: Global, line: &[String]) -> Result<String, AllocError> {
             let how = if explain { " with reasons" } else { "" };
             format!(in alloc; "validate {domain} {problem} {plan}{how}")
         }
+        Ok(
+            Request::Replay {
+                domain,
+                problem,
+                schedule,
+            },
+        ) => format!(in alloc; "replay {domain} {problem} {schedule}"),
         Err(WordsError::Shown(text)) => format!(in alloc; "shown: {text}"),
         Err(WordsError::Fault(text)) => format!(in alloc; "fault: {text}"),
         Err(WordsError::NoMemory) => String::from_str(alloc, "no memory"),
@@ -151,14 +159,21 @@ fn commands_take_files_and_how_a_search_goes(rt: HostRuntime) -> Result<(), Fail
             ["validate", "--explain", "d", "p", "s"].as_slice(),
             "validate d p s with reasons",
         ),
+        (["replay", "d", "p", "s"].as_slice(), "replay d p s"),
     ] {
         assert_eq!(rt; read(alloc, words)?.as_str(), want);
     }
     Ok(())
 }
 
+/// Asserts that words are a fault, whose text begins so.
+fn assert_fault(rt: &impl Abort, alloc: Global, words: &[&str], want: &str) -> Result<(), Fail> {
+    assert!(rt; read(alloc, words)?.starts_with(want), "at {want}");
+    Ok(())
+}
+
 #[test]
-fn other_words_are_faults(rt: HostRuntime) -> Result<(), Fail> {
+fn numbers_out_of_range_are_faults(rt: HostRuntime) -> Result<(), Fail> {
     let alloc = rt.alloc();
     for (words, want) in [
         (
@@ -187,12 +202,22 @@ fn other_words_are_faults(rt: HostRuntime) -> Result<(), Fail> {
             "fault: error: invalid value '1099511627775' for '--limit <N>': 1099511627775 is not in 1..=1099511627774",
         ),
         (
-            ["resume", "d", "p"].as_slice(),
-            "fault: error: the following required arguments were not provided:\n  --journal <FILE>",
-        ),
-        (
             ["resume", "d", "p", "--journal", "j", "--workers", "65"].as_slice(),
             "fault: error: invalid value '65' for '--workers <N>': 65 is not in 1..=64",
+        ),
+    ] {
+        assert_fault(&rt, alloc, words, want)?;
+    }
+    Ok(())
+}
+
+#[test]
+fn words_left_out_are_faults(rt: HostRuntime) -> Result<(), Fail> {
+    let alloc = rt.alloc();
+    for (words, want) in [
+        (
+            ["resume", "d", "p"].as_slice(),
+            "fault: error: the following required arguments were not provided:\n  --journal <FILE>",
         ),
         (
             ["migrate", "d", "p", "--journal", "j"].as_slice(),
@@ -207,6 +232,29 @@ fn other_words_are_faults(rt: HostRuntime) -> Result<(), Fail> {
             "fault: error: the following required arguments were not provided:\n  --journal <FILE>",
         ),
         (
+            ["validate", "d", "p"].as_slice(),
+            "fault: error: the following required arguments were not provided:\n  <PLAN>",
+        ),
+        (
+            ["replay", "d", "p"].as_slice(),
+            "fault: error: the following required arguments were not provided:\n  <SCHEDULE>",
+        ),
+        (
+            ["solve", "d"].as_slice(),
+            "fault: error: the following required arguments were not provided:\n  <PROBLEM>",
+        ),
+        ([].as_slice(), "fault: A planner for numeric planning tasks"),
+    ] {
+        assert_fault(&rt, alloc, words, want)?;
+    }
+    Ok(())
+}
+
+#[test]
+fn other_words_are_faults(rt: HostRuntime) -> Result<(), Fail> {
+    let alloc = rt.alloc();
+    for (words, want) in [
+        (
             ["ground", "d", "p", "--journal", "j"].as_slice(),
             "fault: error: unexpected argument '--journal' found",
         ),
@@ -216,6 +264,10 @@ fn other_words_are_faults(rt: HostRuntime) -> Result<(), Fail> {
         ),
         (
             ["ground", "d", "p", "--workers", "1"].as_slice(),
+            "fault: error: unexpected argument '--workers' found",
+        ),
+        (
+            ["replay", "d", "p", "s", "--workers", "1"].as_slice(),
             "fault: error: unexpected argument '--workers' found",
         ),
         (
@@ -231,20 +283,27 @@ fn other_words_are_faults(rt: HostRuntime) -> Result<(), Fail> {
             "fault: error: unexpected value 'no' for '--explain' found",
         ),
         (
-            ["validate", "d", "p"].as_slice(),
-            "fault: error: the following required arguments were not provided:\n  <PLAN>",
-        ),
-        (
-            ["solve", "d"].as_slice(),
-            "fault: error: the following required arguments were not provided:\n  <PROBLEM>",
-        ),
-        (
             ["fly"].as_slice(),
             "fault: error: unrecognized subcommand 'fly'",
         ),
-        ([].as_slice(), "fault: A planner for numeric planning tasks"),
     ] {
-        assert!(rt; read(alloc, words)?.starts_with(want), "at {want}");
+        assert_fault(&rt, alloc, words, want)?;
+    }
+    Ok(())
+}
+
+/// Asserts that words have a text shown that begins so, and has these parts.
+fn assert_shown(
+    rt: &impl Abort,
+    alloc: Global,
+    words: &[&str],
+    start: &str,
+    contained: &[&str],
+) -> Result<(), Fail> {
+    let help = read(alloc, words)?;
+    assert!(rt; help.starts_with(start), "at {start}");
+    for part in contained {
+        assert!(rt; help.contains(part), "at {part}");
     }
     Ok(())
 }
@@ -260,12 +319,12 @@ fn help_and_version_are_shown(rt: HostRuntime) -> Result<(), Fail> {
         (
             ["--help"].as_slice(),
             "shown: A planner for numeric planning tasks",
-            ["solve", "ground", "validate"],
+            ["solve", "ground", "validate", "replay"].as_slice(),
         ),
         (
             ["solve", "--help"].as_slice(),
             "shown: Prints a plan of least cost",
-            ["--workers <N>", "--limit <N>", "12 `stopped at the limit`"],
+            ["--workers <N>", "--limit <N>", "12 `stopped at the limit`"].as_slice(),
         ),
         (
             ["resume", "--help"].as_slice(),
@@ -274,8 +333,19 @@ fn help_and_version_are_shown(rt: HostRuntime) -> Result<(), Fail> {
                 "--journal <FILE>",
                 "--limit <N>",
                 "Exit status: 0, 10, 11 and 12",
-            ],
+            ]
+            .as_slice(),
         ),
+    ] {
+        assert_shown(&rt, alloc, words, start, contained)?;
+    }
+    Ok(())
+}
+
+#[test]
+fn help_on_journals_is_shown(rt: HostRuntime) -> Result<(), Fail> {
+    let alloc = rt.alloc();
+    for (words, start, contained) in [
         (
             ["certify", "--help"].as_slice(),
             "shown: Tells what the journal of a search shows",
@@ -303,6 +373,16 @@ fn help_and_version_are_shown(rt: HostRuntime) -> Result<(), Fail> {
                 "Exit status: 0 what the file is",
             ],
         ),
+    ] {
+        assert_shown(&rt, alloc, words, start, &contained)?;
+    }
+    Ok(())
+}
+
+#[test]
+fn help_on_texts_is_shown(rt: HostRuntime) -> Result<(), Fail> {
+    let alloc = rt.alloc();
+    for (words, start, contained) in [
         (
             ["ground", "--help"].as_slice(),
             "shown: Prints the actions of a task",
@@ -317,12 +397,17 @@ fn help_and_version_are_shown(rt: HostRuntime) -> Result<(), Fail> {
             "shown: Tells whether a plan is valid",
             ["<PROBLEM>", "<PLAN>", "Exit status: 0 the plan is valid"],
         ),
+        (
+            ["replay", "--help"].as_slice(),
+            "shown: Plays a schedule of a search",
+            [
+                "<PROBLEM>",
+                "<SCHEDULE>",
+                "Exit status: 0 the schedule is played",
+            ],
+        ),
     ] {
-        let help = read(alloc, words)?;
-        assert!(rt; help.starts_with(start), "at {start}");
-        for part in contained {
-            assert!(rt; help.contains(part), "at {part}");
-        }
+        assert_shown(&rt, alloc, words, start, &contained)?;
     }
     Ok(())
 }
