@@ -59,7 +59,8 @@ fn write_by_four<R: Threads + Wait + Sync>(
         thread::scope_env(),
         rt,
         move |scope| -> bool
-            requires { IsSync R.row × IsOutside lock.now.place a × IsOutside lock.now.place b × IsOutside lock.now.place c × IsOutside lock.now.place d }
+            requires { IsSync R.row × IsOutside lock.now.place a × IsOutside lock.now.place b
+                × IsOutside lock.now.place c × IsOutside lock.now.place d }
         {
             let a = start(rt, scope, lock, a, 0);
             let b = start(rt, scope, lock, b, 1);
