@@ -1,6 +1,5 @@
 pub mod Committing
 pub mod Ending
-pub mod Faults
 pub mod Placing
 pub mod Posting
 pub mod Shared
