@@ -1,9 +1,8 @@
 -- What two texts without a fault stand for is well formed.
 use Rattle.hd_base.proofs.Lists.{AllByRecursion-append}
 use Rattle.hd_base.proofs.Options.{IsSomeAnd-weaker, option_or_none, true-from_none}
-use Rattle.std.proofs.Common.{◌≡◌, ℕ, ◌+◌, ◌≤◌, Bool, true, false, List, [], ◌∷◌, ◌++◌, map, length, Option, Some, None, refl, sym, ap, ◌∙◌, arith}
+use Rattle.std.proofs.Common.{◌≡◌, ℕ, ◌+◌, ◌≤◌, Bool, true, false, List, [], ◌∷◌, ◌++◌, map, length, None, refl, sym, ap, ◌∙◌, arith}
 use Rattle.std.proofs.lemmas.List.{length-append, map-append, append-nil, length-map}
-use Rattle.std.proofs.lemmas.Option.{none-some}
 use Rattle.std.specs.Prelude.{slice_get, if◌then◌else◌}
 use Rattle.hd_base.specs.Numbers.{in_range}
 use Rattle.std.specs.List.{AllZip, AllByRecursion}
@@ -22,22 +21,15 @@ use Rattle.hd_lifted.specs.declared.task.LiftedTask.{LiftedTask}
 use Rattle.hd_lifted.specs.declared.task.Object as objects
 use Rattle.hd_lifted.specs.declared.task.Signature.{Signature}
 use Rattle.hd_lifted.specs.Objects.{IsOfType}
-use Rattle.hd_check.specs.declared.fault.Source.{Source}
-use Rattle.hd_check.specs.declared.fault.Source.TheVariants.{Domain, Problem}
-use Rattle.hd_check.specs.declared.fault.Fault.{Fault}
 use Rattle.hd_check.specs.declared.fault.Fault.TheVariants.{InitOutOfRange}
-use Rattle.hd_check.specs.declared.fault.CheckError.TheVariants.{In}
 use Rattle.hd_names.specs.declared.scope.Scope.{Scope}
 use Rattle.hd_names.specs.declared.table.Table.{Table}
 use Rattle.hd_base.specs.Options.{◌or◌}
-use Rattle.hd_names.specs.Names.{type_number, types_of, names_of, declared_fault, number_in}
-use Rattle.hd_names.specs.Scope.{scope_of, with_objects, scope_fault, signatures_fault, signature_table, type_names, parents_of}
+use Rattle.hd_names.specs.Names.{type_number, types_of, names_of, number_in}
+use Rattle.hd_names.specs.Scope.{scope_of, with_objects, signature_table, type_names, parents_of}
 use Rattle.hd_check.specs.Terms.{applied_fault, lifted_applied}
-use Rattle.hd_check.specs.Conditions.{condition_fault}
 use Rattle.hd_check.specs.Effects.{is_metric}
-use Rattle.hd_check.specs.Schemas.{actions_fault}
 use Rattle.hd_check.specs.Initial.{no_parameters, object_in, ground_form, ground_of, key_of, range_fault, second_value, fluent_of, with_value, value_fault, initial_fault, atoms_in, values_in}
-use Rattle.hd_check.specs.MetricName.{metric_name_fault}
 use Rattle.hd_check.specs.Whole.{lifted_object, lifted_signature, domain_in, lifted_domain, problem_in, lifted_problem, task_with, task_behind, task_below, lifted_task, fault_below, IsFaultless}
 use Rattle.hd_lifted.specs.WellFormed.{IsArgumentOf, IsApplied, IsGround, IsFirstValue, IsWellFormed}
 use Rattle.hd_check.proofs.Arguments.{Agrees, Lists, applied}

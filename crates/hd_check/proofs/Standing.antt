@@ -3,7 +3,7 @@ use Rattle.std.proofs.Common.{◌≡◌, ℕ, List, [], Option, None, Result, Ok
 use Rattle.hd_pddl.specs.declared.tree.DomainAst.{DomainAst}
 use Rattle.hd_pddl.specs.declared.tree.ProblemAst.{ProblemAst}
 use Rattle.hd_lifted.specs.declared.task.LiftedTask.{LiftedTask}
-use Rattle.hd_names.specs.Scope.{type_names, parents_of, scope_fault, scope_of}
+use Rattle.hd_names.specs.Scope.{type_names, scope_fault, scope_of}
 use Rattle.hd_base.specs.Options.{◌or◌}
 use Rattle.hd_names.specs.declared.scope.Scope.{Scope}
 use Rattle.hd_check.specs.declared.checking.TypesPart.{TypesPart}
@@ -14,7 +14,7 @@ use Rattle.hd_check.specs.declared.fault.CheckError.TheVariants.{In, NoMemory}
 use Rattle.hd_check.specs.declared.fault.Source.TheVariants.{Domain, Problem}
 use Rattle.hd_check.specs.Fault.{TellsOf, name_fault}
 use Rattle.hd_check.specs.Schemas.{actions_fault}
-use Rattle.hd_check.specs.Whole.{in_text, mismatch, listed_fault, Answers, Stands, before_cycles, on_cycle, behind_cycles, fault_before_cycles, problem_fault, metric_fault, fault_below, fault_behind_cycles, domain_in, lifted_domain, parts_in, task_of, task_behind, task_below, lifted_task, ChecksUses, AreTypes, TellsTypes, by_name, by_cycle, TellsCycleIn, cycle, no_memory}
+use Rattle.hd_check.specs.Whole.{in_text, mismatch, listed_fault, Answers, before_cycles, on_cycle, behind_cycles, fault_before_cycles, problem_fault, metric_fault, fault_below, fault_behind_cycles, domain_in, lifted_domain, parts_in, task_of, task_behind, task_below, lifted_task, ChecksUses, AreTypes, TellsTypes, by_name, by_cycle, TellsCycleIn, cycle, no_memory}
 
 -- ---- the first of two faults
 

@@ -1,5 +1,5 @@
 -- What a part answers, told of its text; and what names tell, as faults of a text.
-use Rattle.std.proofs.Common.{◌≡◌, ℕ, List, Option, Some, None, Result, Ok, Err, refl, sym, ap, subst}
+use Rattle.std.proofs.Common.{◌≡◌, ℕ, List, Option, Some, None, Result, Ok, Err, refl, sym, ap}
 use Rattle.std.proofs.lemmas.Option.{none-some}
 use Rattle.hd_terms.specs.declared.tree.Typed.{Typed}
 use Rattle.hd_check.specs.declared.fault.Source.{Source}
