@@ -12,18 +12,18 @@ const METRIC: &str =
 /// The first place of a domain where `c` is misused.
 fn place_in_domain(alloc: Global, text: &str) -> Result<Option<usize>, Fail> {
     let (domain, problem) = trees(alloc, text, METRIC)?;
-    let place = misused_in_domain(&problem.metric, &domain);
+    let misuse = misused_in_domain(&problem.metric, &domain);
     drop(domain);
     drop(problem);
-    Ok(place)
+    Ok(misuse.map(|misuse| misuse.at))
 }
 
 /// The first place of a problem where its metric's function is misused.
 fn place_in_problem(alloc: Global, text: &str) -> Result<Option<usize>, Fail> {
     let problem = read_problem(alloc, text.as_bytes())?;
-    let place = misused_in_problem(&problem.metric, &problem);
+    let misuse = misused_in_problem(&problem.metric, &problem);
     drop(problem);
-    Ok(place)
+    Ok(misuse.map(|misuse| misuse.at))
 }
 
 #[test]

@@ -3,7 +3,7 @@ use crate::texts::{name, seed, trees};
 use hd_base::{Name, Seed};
 use hd_forms::NameAt;
 use hd_names::{
-    Fault, Names, Scope, Stop, declare, duplicate, hierarchy_of, known, number_of_type,
+    NameFault, NameStop, Names, Scope, declare, duplicate, hierarchy_of, known, number_of_type,
     numbers_of_types, scope_of, spelled, table_of, types_of, with_objects,
 };
 use hd_pddl::{DomainAst, ProblemAst, read_domain};
@@ -55,17 +55,17 @@ fn names_are_spelled_as_they_are_written(rt: HostRuntime) -> Result<(), Fail> {
 }
 
 /// The name and the place of a repeated name.
-fn repeated(stop: &Stop) -> Option<(&str, usize)> {
+fn repeated(stop: &NameStop) -> Option<(&str, usize)> {
     match stop {
-        Stop::At(Fault::Duplicate(name, at)) => Some((name.as_str(), *at)),
+        NameStop::At(NameFault::Duplicate(name, at)) => Some((name.as_str(), *at)),
         _ => None,
     }
 }
 
 /// The name and the place of a name that is not declared.
-fn missing(stop: &Stop) -> Option<(&str, usize)> {
+fn missing(stop: &NameStop) -> Option<(&str, usize)> {
     match stop {
-        Stop::At(Fault::UnknownName(name, at)) => Some((name.as_str(), *at)),
+        NameStop::At(NameFault::UnknownName(name, at)) => Some((name.as_str(), *at)),
         _ => None,
     }
 }
@@ -146,7 +146,7 @@ fn scope(
     seed: Seed,
     domain: &DomainAst,
     problem: &ProblemAst,
-) -> Result<Scope, Stop> {
+) -> Result<Scope, NameStop> {
     let types = types_of(alloc, seed, domain.types.as_slice())?;
     let hierarchy = hierarchy_of(alloc, &types, domain.types.as_slice())?;
     let scope = scope_of(alloc, types, hierarchy, domain, &problem.metric)?;
@@ -199,7 +199,7 @@ fn a_scope_has_types_objects_predicates_and_functions(rt: HostRuntime) -> Result
 }
 
 /// The numbers of the types of the constants, found in each way there is.
-fn numbers_agree(alloc: Global, types: &Names, constants: &[Typed]) -> Result<bool, Stop> {
+fn numbers_agree(alloc: Global, types: &Names, constants: &[Typed]) -> Result<bool, NameStop> {
     let numbers = numbers_of_types(alloc, types, constants)?;
     let table = table_of(alloc, ItemKind::Name, types, constants)?;
     Ok(
@@ -212,7 +212,7 @@ fn numbers_agree(alloc: Global, types: &Names, constants: &[Typed]) -> Result<bo
     )
 }
 
-fn constants_have_types(alloc: Global, domain: &DomainAst) -> Result<bool, Stop> {
+fn constants_have_types(alloc: Global, domain: &DomainAst) -> Result<bool, NameStop> {
     let types = types_of(alloc, seed(), domain.types.as_slice())?;
     numbers_agree(alloc, &types, domain.constants.as_slice())
 }

@@ -13,18 +13,19 @@ use Rattle.hd_pddl.specs.declared.tree.Signature as trees
 use Rattle.hd_lifted.specs.declared.schema.Schema.{Schema}
 use Rattle.hd_lifted.specs.declared.task.Object.{Object}
 use Rattle.hd_lifted.specs.declared.task.Signature.{Signature}
-use Rattle.hd_check.specs.declared.fault.Source.TheVariants.{Domain, Problem}
 use Rattle.hd_check.specs.declared.fault.CheckError.{CheckError}
-use Rattle.hd_names.specs.declared.fault.Fault.TheVariants.{Duplicate}
+use Rattle.hd_names.specs.declared.fault.NameFault.TheVariants.{Duplicate}
 use Rattle.hd_names.specs.declared.scope.Scope.{Scope}
 use Rattle.hd_base.specs.Options.{◌or◌}
 use Rattle.hd_base.specs.Names.{is_named}
 use Rattle.hd_names.specs.Names.{spelled, names_of, declared_fault, duplicate_in, unknown_type}
-use Rattle.hd_names.specs.Scope.{type_names, parents_of, signatures_fault, scope_fault, scope_of, with_objects}
+use Rattle.hd_names.specs.Scope.{type_names, parents_of, signatures_fault, scope_of, with_objects}
 use Rattle.hd_check.specs.Schemas.{action_fault, actions_fault, schema_with, lifted_schema}
 use Rattle.hd_lifted.specs.WellFormed.{AreNew, HasDistinctNames}
-use Rattle.hd_check.specs.Whole.{lifted_object, lifted_signature, domain_in, lifted_domain, problem_in, lifted_problem, task_with, task_behind, task_below, lifted_task, in_text, domain_fault, fault_in_problem, problem_fault, metric_fault, fault_behind, fault_below, IsFaultless, Stands, before_cycles, on_cycle, behind_cycles}
-use Rattle.hd_check.proofs.Faultless.{text_none}
+use Rattle.hd_check.specs.Whole.{lifted_object, lifted_signature, domain_in, lifted_domain, problem_in, lifted_problem, task_with, task_behind, task_below, lifted_task, fault_below, IsFaultless, Stands, before_cycles, on_cycle, behind_cycles}
+use Rattle.hd_check.specs.Fault.{name_fault}
+use Rattle.hd_check.proofs.NoFaults.{domain_scope, all_clear}
+use Rattle.hd_check.proofs.Telling.{name_none}
 
 -- where a fault stands there is a fault
 pub exclusive : (d : DomainAst) (p : ProblemAst) (e : CheckError) → Stands d p e → IsFaultless d p → ⊥
@@ -63,9 +64,9 @@ actions_new : (s : Scope) (given : List (List ℕ)) (as' : List Action) → acti
 unfolding lifted_schema schema_with
 actions_new s given [] e = tt
 actions_new s given (a ∷ as') e =
-    let parts = option_or_none (duplicate_in kinds.Name given a.name) (action_fault s a or actions_fault s (given ++ a.name.name ∷ []) as') e in
+    let parts = option_or_none (name_fault (duplicate_in kinds.Name given a.name)) (action_fault s a or actions_fault s (given ++ a.name.name ∷ []) as') e in
     let later = option_or_none (action_fault s a) (actions_fault s (given ++ a.name.name ∷ []) as') parts.1 in (
-      false-from_none (is_named given a.name.name) (Duplicate (spelled kinds.Name a.name.name) a.name.at) parts.0,
+      false-from_none (is_named given a.name.name) (Duplicate (spelled kinds.Name a.name.name) a.name.at) (name_none (duplicate_in kinds.Name given a.name) parts.0),
       actions_new s (given ++ a.name.name ∷ []) as' later.1,
     )
 
@@ -77,17 +78,9 @@ objects_named types (t ∷ ts) = ap (λ (names : List (List ℕ)). t.name.name �
 
 below : (types : List (List ℕ)) (parents : List ℕ) (d : DomainAst) (p : ProblemAst) → fault_below types parents d p ≡ None
     → HasDistinctNames (task_below types parents d p)
-unfolding scope_of with_objects scope_fault fault_below fault_behind problem_fault fault_in_problem domain_fault lifted_domain domain_in lifted_problem problem_in task_with task_behind task_below
+unfolding scope_of with_objects lifted_domain domain_in lifted_problem problem_in task_with task_behind task_below
 below types parents d p e =
-    let s = scope_of types parents d p.metric in
-    let parts = option_or_none (in_text Domain (domain_fault types parents d p.metric)) (fault_behind (lifted_domain types parents d p.metric) d p) e in
-    let domain = option_or_none (scope_fault types d) (actions_fault (scope_of types parents d p.metric) [] d.actions) (text_none Domain (domain_fault types parents d p.metric) parts.0) in
-    let declared = option_or_none (declared_fault kinds.Name types [] d.constants) (signatures_fault types [] d.predicates or signatures_fault types [] d.functions) domain.0 in
-    let signatures = option_or_none (signatures_fault types [] d.predicates) (signatures_fault types [] d.functions) declared.1 in
-    let behind = option_or_none (in_text Problem (problem_fault (scope_of types parents d p.metric) p)) (metric_fault d p) parts.1 in
-    let problem =
-    option_or_none (declared_fault kinds.Name (scope_of types parents d p.metric).types (scope_of types parents d p.metric).objects.names p.objects)
-    (fault_in_problem (with_objects (scope_of types parents d p.metric) p.objects) p) (text_none Problem (problem_fault (scope_of types parents d p.metric) p) behind.0) in
+    let clear = all_clear types parents d p e in
     let named : map (λ (o : Object). o.name) (map (lifted_object types) d.constants ++ map (lifted_object types) p.objects) ≡ names_of d.constants ++ names_of p.objects =
     map-append (λ (o : Object). o.name) (map (lifted_object types) d.constants) (map (lifted_object types) p.objects)
     ∙ ap (λ (names : List (List ℕ)). names ++ map (λ (o : Object). o.name) (map (lifted_object types) p.objects)) (objects_named types d.constants)
@@ -95,10 +88,10 @@ below types parents d p e =
     record {
       objects =
           subst (λ (names : List (List ℕ)). AreNew [] names) (sym named)
-          (new-append [] (names_of d.constants) (names_of p.objects) (declared_new kinds.Name types [] d.constants declared.0) (declared_new kinds.Name types (names_of d.constants) p.objects problem.0));
-      predicates = signatures_new types [] d.predicates signatures.0;
-      functions = signatures_new types [] d.functions signatures.1;
-      schemas = actions_new (scope_of types parents d p.metric) [] d.actions domain.1;
+          (new-append [] (names_of d.constants) (names_of p.objects) (declared_new kinds.Name types [] d.constants clear.names.constants) (declared_new kinds.Name types (names_of d.constants) p.objects clear.problem.objects));
+      predicates = signatures_new types [] d.predicates clear.names.predicates;
+      functions = signatures_new types [] d.functions clear.names.functions;
+      schemas = actions_new (domain_scope types parents d p) [] d.actions clear.actions;
     }
 
 pub distinct_names : (d : DomainAst) (p : ProblemAst) → IsFaultless d p → HasDistinctNames (lifted_task d p)

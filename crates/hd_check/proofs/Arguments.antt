@@ -20,11 +20,14 @@ use Rattle.hd_lifted.specs.Types.{IsSubtype, is_subtype}
 use Rattle.hd_lifted.proofs.Types.{is_subtype-sound}
 use Rattle.hd_names.specs.declared.scope.Scope.{Scope}
 use Rattle.hd_names.specs.declared.table.Table.{Table}
-use Rattle.hd_names.specs.declared.fault.Fault.TheVariants.{UnknownName, WrongArity}
+use Rattle.hd_names.specs.declared.fault.NameFault.TheVariants.{UnknownName}
+use Rattle.hd_check.specs.declared.fault.Fault.TheVariants.{WrongArity}
 use Rattle.hd_base.specs.Options.{◌or◌}
 use Rattle.hd_base.specs.Names.{is_named}
 use Rattle.hd_names.specs.Names.{number_in, unknown_in, spelled}
 use Rattle.hd_check.specs.Terms.{lifted_term, term_fault, type_of_term, type_fault, wrong_type, argument_fault, arguments_fault, parameters_of, arity_fault, applied_fault, lifted_applied}
+use Rattle.hd_check.specs.Fault.{name_fault}
+use Rattle.hd_check.proofs.Telling.{name_none}
 use Rattle.hd_lifted.specs.WellFormed.{IsArgumentOf, IsApplied}
 
 -- ---- numbers of names
@@ -80,7 +83,7 @@ pub placed : (t : LiftedTask) (s : Scope) (ps : Table ℕ) → Agrees t s → le
     → term_fault s ps x ≡ None → IsSubtype t.hierarchy (type_of_term s ps x) wanted
     → IsArgumentOf t ps.items (lifted_term s ps x) wanted
 placed t s ps g long (Name n) wanted e below =
-    let named = true-from_none (is_named s.objects.names n.name) (UnknownName (spelled kinds.Name n.name) n.at) e in
+    let named = true-from_none (is_named s.objects.names n.name) (UnknownName (spelled kinds.Name n.name) n.at) (name_none (unknown_in kinds.Name s.objects.names n) e) in
     let within = named-number s.objects.names n.name named in
     let few : number_in s.objects.names n.name < length s.objects.items = omega (arith, within, g.long) in
     let there : IsSomeAnd (slice_get (g.own ++ g.more) (number_in s.objects.names n.name)) (λ (o : Object). o.of ≡ slice_index_or s.objects.items (number_in s.objects.names n.name) 0) =
@@ -89,7 +92,7 @@ placed t s ps g long (Name n) wanted e below =
     of_type t (number_in s.objects.names n.name) (type_of_term s ps (Name n)) wanted (slice_get (g.own ++ g.more) (number_in s.objects.names n.name))
     (ap (λ (os : List Object). slice_get os (number_in s.objects.names n.name)) g.objects) there below
 placed t s ps g long (Variable n) wanted e below =
-    let named = true-from_none (is_named ps.names n.name) (UnknownName (spelled kinds.Variable n.name) n.at) e in
+    let named = true-from_none (is_named ps.names n.name) (UnknownName (spelled kinds.Variable n.name) n.at) (name_none (unknown_in kinds.Variable ps.names n) e) in
     let within = named-number ps.names n.name named in
     let few : number_in ps.names n.name < length ps.items = omega (arith, within, long) in
     subst (λ (o : Option ℕ). IsSomeAnd o (λ u. IsSubtype t.hierarchy u wanted))
@@ -117,9 +120,9 @@ pub applied : (t : LiftedTask) (s : Scope) (ps : Table ℕ) → Agrees t s → l
     → (symbols : List Signature) (table : Table (List ℕ)) → Lists symbols table → (a : Atom)
     → applied_fault table s ps a ≡ None → IsApplied t symbols ps.items (lifted_applied table s ps a)
 applied t s ps g long symbols table lists a e =
-    let parts = option_or_none (unknown_in kinds.Name table.names a.name) (arity_fault table a or arguments_fault s ps a.terms (parameters_of table a.name)) e in
+    let parts = option_or_none (name_fault (unknown_in kinds.Name table.names a.name)) (arity_fault table a or arguments_fault s ps a.terms (parameters_of table a.name)) e in
     let later = option_or_none (arity_fault table a) (arguments_fault s ps a.terms (parameters_of table a.name)) parts.1 in
-    let named = true-from_none (is_named table.names a.name.name) (UnknownName (spelled kinds.Name a.name.name) a.name.at) parts.0 in
+    let named = true-from_none (is_named table.names a.name.name) (UnknownName (spelled kinds.Name a.name.name) a.name.at) (name_none (unknown_in kinds.Name table.names a.name) parts.0) in
     let within = named-number table.names a.name.name named in
     let few : number_in table.names a.name.name < length table.items = omega (arith, within, lists.long) in
     let same : length a.terms ≡ length (parameters_of table a.name) =

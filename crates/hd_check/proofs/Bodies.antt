@@ -27,6 +27,7 @@ use Rattle.hd_check.specs.Conditions.{part_fault, condition_fault, comparison_fa
 use Rattle.hd_check.specs.Effects.{effects_fault, change_fault, lifted_effect, adds_in, deletes_in, changes_in}
 use Rattle.hd_check.specs.Schemas.{parameters_in, body_fault, action_fault, actions_fault, schema_with, lifted_schema}
 use Rattle.hd_lifted.specs.WellFormed.{IsArgument, IsApplied, IsExpression, IsEquality, IsComparison, IsCondition, IsEffect, IsSchema}
+use Rattle.hd_check.specs.Fault.{name_fault}
 use Rattle.hd_check.proofs.Arguments.{Agrees, placed, applied}
 
 -- ---- conditions
@@ -129,7 +130,7 @@ schema_of t s ps g long a e =
 schema : (t : LiftedTask) (s : Scope) → Agrees t s → (a : Action) → action_fault s a ≡ None → IsSchema t (lifted_schema s a)
 unfolding action_fault lifted_schema
 schema t s g a e =
-    let parts = option_or_none (declared_fault kinds.Variable s.types [] a.parameters) (body_fault s (parameters_in s a) a) e in
+    let parts = option_or_none (name_fault (declared_fault kinds.Variable s.types [] a.parameters)) (body_fault s (parameters_in s a) a) e in
     schema_of t s (parameters_in s a) g (length-map a.parameters (λ (x : Typed). type_number s.types x.of) ∙ sym (length-map a.parameters (λ (x : Typed). x.name.name))) a parts.1
 
 -- actions without a fault
@@ -137,6 +138,6 @@ pub schemas : (t : LiftedTask) (s : Scope) → Agrees t s → (names : List (Lis
     → actions_fault s names as' ≡ None → AllByRecursion (IsSchema t) (map (lifted_schema s) as')
 schemas t s g names [] e = tt
 schemas t s g names (a ∷ as') e =
-    let parts = option_or_none (duplicate_in kinds.Name names a.name) (action_fault s a or actions_fault s (names ++ a.name.name ∷ []) as') e in
+    let parts = option_or_none (name_fault (duplicate_in kinds.Name names a.name)) (action_fault s a or actions_fault s (names ++ a.name.name ∷ []) as') e in
     let later = option_or_none (action_fault s a) (actions_fault s (names ++ a.name.name ∷ []) as') parts.1 in
     (schema t s g a later.0, schemas t s g (names ++ a.name.name ∷ []) as' later.1)

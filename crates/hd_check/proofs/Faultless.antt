@@ -1,9 +1,8 @@
 -- What two texts without a fault stand for is well formed.
 use Rattle.hd_base.proofs.Lists.{AllByRecursion-append}
 use Rattle.hd_base.proofs.Options.{IsSomeAnd-weaker, option_or_none, true-from_none}
-use Rattle.std.proofs.Common.{◌≡◌, ℕ, ◌+◌, ◌≤◌, Bool, true, false, List, [], ◌∷◌, ◌++◌, map, length, Option, Some, None, refl, sym, ap, ◌∙◌, arith}
+use Rattle.std.proofs.Common.{◌≡◌, ℕ, ◌+◌, ◌≤◌, Bool, true, false, List, [], ◌∷◌, ◌++◌, map, length, None, refl, sym, ap, ◌∙◌, arith}
 use Rattle.std.proofs.lemmas.List.{length-append, map-append, append-nil, length-map}
-use Rattle.std.proofs.lemmas.Option.{none-some}
 use Rattle.std.specs.Prelude.{slice_get, if◌then◌else◌}
 use Rattle.hd_base.specs.Numbers.{in_range}
 use Rattle.std.specs.List.{AllZip, AllByRecursion}
@@ -22,26 +21,20 @@ use Rattle.hd_lifted.specs.declared.task.LiftedTask.{LiftedTask}
 use Rattle.hd_lifted.specs.declared.task.Object as objects
 use Rattle.hd_lifted.specs.declared.task.Signature.{Signature}
 use Rattle.hd_lifted.specs.Objects.{IsOfType}
-use Rattle.hd_check.specs.declared.fault.Source.{Source}
-use Rattle.hd_check.specs.declared.fault.Source.TheVariants.{Domain, Problem}
-use Rattle.hd_names.specs.declared.fault.Fault.{Fault}
-use Rattle.hd_names.specs.declared.fault.Fault.TheVariants.{InitOutOfRange}
-use Rattle.hd_check.specs.declared.fault.CheckError.TheVariants.{In}
+use Rattle.hd_check.specs.declared.fault.Fault.TheVariants.{InitOutOfRange}
 use Rattle.hd_names.specs.declared.scope.Scope.{Scope}
 use Rattle.hd_names.specs.declared.table.Table.{Table}
 use Rattle.hd_base.specs.Options.{◌or◌}
-use Rattle.hd_names.specs.Names.{type_number, types_of, names_of, declared_fault, number_in}
-use Rattle.hd_names.specs.Scope.{scope_of, with_objects, scope_fault, signatures_fault, signature_table, type_names, parents_of}
+use Rattle.hd_names.specs.Names.{type_number, types_of, names_of, number_in}
+use Rattle.hd_names.specs.Scope.{scope_of, with_objects, signature_table, type_names, parents_of}
 use Rattle.hd_check.specs.Terms.{applied_fault, lifted_applied}
-use Rattle.hd_check.specs.Conditions.{condition_fault}
 use Rattle.hd_check.specs.Effects.{is_metric}
-use Rattle.hd_check.specs.Schemas.{actions_fault}
 use Rattle.hd_check.specs.Initial.{no_parameters, object_in, ground_form, ground_of, key_of, range_fault, second_value, fluent_of, with_value, value_fault, initial_fault, atoms_in, values_in}
-use Rattle.hd_check.specs.MetricName.{metric_name_fault}
-use Rattle.hd_check.specs.Whole.{lifted_object, lifted_signature, domain_in, lifted_domain, problem_in, lifted_problem, task_with, task_behind, task_below, lifted_task, in_text, domain_fault, fault_in_problem, problem_fault, metric_fault, fault_behind, fault_below, IsFaultless}
+use Rattle.hd_check.specs.Whole.{lifted_object, lifted_signature, domain_in, lifted_domain, problem_in, lifted_problem, task_with, task_behind, task_below, lifted_task, fault_below, IsFaultless}
 use Rattle.hd_lifted.specs.WellFormed.{IsArgumentOf, IsApplied, IsGround, IsFirstValue, IsWellFormed}
 use Rattle.hd_check.proofs.Arguments.{Agrees, Lists, applied}
 use Rattle.hd_check.proofs.Bodies.{condition, schemas}
+use Rattle.hd_check.proofs.NoFaults.{domain_scope, problem_scope, all_clear}
 use Rattle.hd_check.proofs.HaveTypes.{objects_within, signatures_within, schemas_within}
 use Rattle.hd_names.proofs.Cycles.{types_long}
 
@@ -155,38 +148,22 @@ problem_agrees types parents d p = record {
 
 -- ---- the whole
 
-pub text_none : (source : Source) (f : Option Fault) → in_text source f ≡ None → f ≡ None
-text_none source None e = refl
-text_none source (Some f) e = absurd (none-some (In source f) (sym e))
-
 below : (types : List (List ℕ)) (parents : List ℕ) (d : DomainAst) (p : ProblemAst) → length types ≡ length parents + 1
     → fault_below types parents d p ≡ None → IsWellFormed (task_below types parents d p)
-unfolding scope_of with_objects scope_fault fault_below fault_behind problem_fault fault_in_problem domain_fault lifted_domain domain_in lifted_problem problem_in task_with task_behind task_below
+unfolding scope_of with_objects lifted_domain domain_in lifted_problem problem_in task_with task_behind task_below
 below types parents d p long e =
-    let parts = option_or_none (in_text Domain (domain_fault types parents d p.metric)) (fault_behind (lifted_domain types parents d p.metric) d p) e in
-    let domain = option_or_none (scope_fault types d) (actions_fault (scope_of types parents d p.metric) [] d.actions) (text_none Domain (domain_fault types parents d p.metric) parts.0) in
-    let declared = option_or_none (declared_fault kinds.Name types [] d.constants) (signatures_fault types [] d.predicates or signatures_fault types [] d.functions) domain.0 in
-    let signatures = option_or_none (signatures_fault types [] d.predicates) (signatures_fault types [] d.functions) declared.1 in
-    let behind = option_or_none (in_text Problem (problem_fault (scope_of types parents d p.metric) p)) (metric_fault d p) parts.1 in
-    let problem =
-    option_or_none (declared_fault kinds.Name (scope_of types parents d p.metric).types (scope_of types parents d p.metric).objects.names p.objects)
-    (fault_in_problem (with_objects (scope_of types parents d p.metric) p.objects) p) (text_none Problem (problem_fault (scope_of types parents d p.metric) p) behind.0) in
-    let inner =
-    option_or_none (initial_fault (with_objects (scope_of types parents d p.metric) p.objects) [] p.init)
-    (condition_fault (with_objects (scope_of types parents d p.metric) p.objects) no_parameters p.goal or metric_name_fault (with_objects (scope_of types parents d p.metric) p.objects).functions p.metric) problem.1 in
-    let last =
-    option_or_none (condition_fault (with_objects (scope_of types parents d p.metric) p.objects) no_parameters p.goal)
-    (metric_name_fault (with_objects (scope_of types parents d p.metric) p.objects).functions p.metric) inner.1 in
-    let first = initial (task_below types parents d p) (with_objects (scope_of types parents d p.metric) p.objects) (problem_agrees types parents d p) [] p.init inner.0 in
+    let clear = all_clear types parents d p e in
+    let first = initial (task_below types parents d p) (problem_scope types parents d p) (problem_agrees types parents d p) [] p.init clear.problem.initial in
     record {
       objects =
           AllByRecursion-append (λ (o : objects.Object). o.of ≤ length parents) (map (lifted_object types) d.constants) (map (lifted_object types) p.objects)
-          (objects_within (length parents) types long kinds.Name [] d.constants declared.0) (objects_within (length parents) types long kinds.Name (names_of d.constants) p.objects problem.0);
-      predicates = signatures_within (length parents) types long [] d.predicates signatures.0;
-      functions = signatures_within (length parents) types long [] d.functions signatures.1;
-      parameters = schemas_within (length parents) (scope_of types parents d p.metric) long [] d.actions domain.1;
-      schemas = schemas (task_below types parents d p) (scope_of types parents d p.metric) (domain_agrees types parents d p) [] d.actions domain.1;
-      goal = condition (task_below types parents d p) (with_objects (scope_of types parents d p.metric) p.objects) no_parameters (problem_agrees types parents d p) refl p.goal last.0;
+          (objects_within (length parents) types long kinds.Name [] d.constants clear.names.constants)
+          (objects_within (length parents) types long kinds.Name (names_of d.constants) p.objects clear.problem.objects);
+      predicates = signatures_within (length parents) types long [] d.predicates clear.names.predicates;
+      functions = signatures_within (length parents) types long [] d.functions clear.names.functions;
+      parameters = schemas_within (length parents) (domain_scope types parents d p) long [] d.actions clear.actions;
+      schemas = schemas (task_below types parents d p) (domain_scope types parents d p) (domain_agrees types parents d p) [] d.actions clear.actions;
+      goal = condition (task_below types parents d p) (problem_scope types parents d p) no_parameters (problem_agrees types parents d p) refl p.goal clear.problem.goal;
       atoms = first.atoms;
       values = first.values;
     }

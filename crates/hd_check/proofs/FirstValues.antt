@@ -7,27 +7,24 @@ use Rattle.std.proofs.lemmas.Slice.Eq.{bytes_eq-Decides}
 use Rattle.std.specs.Prelude.{if◌then◌else◌}
 use Rattle.std.specs.List.{AllByRecursion, list_any}
 use Rattle.std.specs.Str.{bytes_eq}
-use Rattle.hd_terms.specs.declared.typed.ItemKind.TheVariants as kinds
 use Rattle.hd_pddl.specs.declared.tree.DomainAst.{DomainAst}
 use Rattle.hd_pddl.specs.declared.tree.ProblemAst.{ProblemAst}
 use Rattle.hd_pddl.specs.declared.tree.Init.{Init}
 use Rattle.hd_pddl.specs.declared.tree.Init.TheVariants as inits
 use Rattle.hd_lifted.specs.declared.schema.Ground.{Ground}
 use Rattle.hd_lifted.specs.declared.task.InitialValue.{InitialValue}
-use Rattle.hd_names.specs.declared.fault.Fault.TheVariants.{Duplicate}
-use Rattle.hd_check.specs.declared.fault.Source.TheVariants.{Domain, Problem}
+use Rattle.hd_names.specs.declared.fault.NameFault.TheVariants.{Duplicate}
+use Rattle.hd_check.specs.declared.fault.Fault.TheVariants.{OfName}
 use Rattle.hd_names.specs.declared.scope.Scope.{Scope}
 use Rattle.hd_base.specs.Options.{◌or◌}
-use Rattle.hd_names.specs.Names.{declared_fault, number_in}
-use Rattle.hd_names.specs.Scope.{scope_of, with_objects, type_names, parents_of}
+use Rattle.hd_names.specs.Names.{number_in}
+use Rattle.hd_names.specs.Scope.{type_names, parents_of}
 use Rattle.hd_check.specs.Terms.{applied_fault}
-use Rattle.hd_check.specs.Conditions.{condition_fault}
 use Rattle.hd_check.specs.Effects.{is_metric}
 use Rattle.hd_check.specs.Initial.{no_parameters, key_of, range_fault, second_value, fluent_of, with_value, value_fault, initial_fault, values_in}
-use Rattle.hd_check.specs.MetricName.{metric_name_fault}
-use Rattle.hd_check.specs.Whole.{domain_in, lifted_domain, problem_in, lifted_problem, task_with, task_behind, task_below, lifted_task, in_text, domain_fault, fault_in_problem, problem_fault, metric_fault, fault_behind, fault_below, IsFaultless}
+use Rattle.hd_check.specs.Whole.{domain_in, lifted_domain, problem_in, lifted_problem, task_with, task_behind, task_below, lifted_task, fault_below, IsFaultless}
 use Rattle.hd_lifted.specs.WellFormed.{AreOfDifferentFluents}
-use Rattle.hd_check.proofs.Faultless.{text_none}
+use Rattle.hd_check.proofs.NoFaults.{problem_scope, all_clear}
 
 -- a value's fluent is none of these
 abbrev IsNew : List (List ℕ) → InitialValue → Type 0
@@ -73,24 +70,15 @@ values s given (inits.Value v ∷ is) e =
     let first = option_or_none (applied_fault s.functions s no_parameters v.fluent) (second_value given (key_of (fluent_of s v)) v.fluent or range_fault v) parts.0 in
     let later = option_or_none (second_value given (key_of (fluent_of s v)) v.fluent) (range_fault v) first.1 in
     let new : list_any (bytes_eq (key_of (fluent_of s v))) given ≡ false =
-    false-from_none (list_any (bytes_eq (key_of (fluent_of s v))) given) (Duplicate v.fluent.name.name v.fluent.name.at) later.0 in
+    false-from_none (list_any (bytes_eq (key_of (fluent_of s v))) given) (OfName (Duplicate v.fluent.name.name v.fluent.name.at)) later.0 in
     let old = older given (fluent_of s v) (values_in s is) rest.new in
     with_one given (is_metric s.metric (number_in s.functions.names v.fluent.name.name)) (record { fluent = fluent_of s v; value = v.value })
     (values_in s is) new old.0 old.1 rest.different
 
 below : (types : List (List ℕ)) (parents : List ℕ) (d : DomainAst) (p : ProblemAst) → fault_below types parents d p ≡ None
     → AreOfDifferentFluents (task_below types parents d p).values
-unfolding fault_below fault_behind problem_fault fault_in_problem domain_fault lifted_domain domain_in lifted_problem problem_in task_with task_behind task_below
-below types parents d p e =
-    let parts = option_or_none (in_text Domain (domain_fault types parents d p.metric)) (fault_behind (lifted_domain types parents d p.metric) d p) e in
-    let behind = option_or_none (in_text Problem (problem_fault (scope_of types parents d p.metric) p)) (metric_fault d p) parts.1 in
-    let problem =
-    option_or_none (declared_fault kinds.Name (scope_of types parents d p.metric).types (scope_of types parents d p.metric).objects.names p.objects)
-    (fault_in_problem (with_objects (scope_of types parents d p.metric) p.objects) p) (text_none Problem (problem_fault (scope_of types parents d p.metric) p) behind.0) in
-    let inner =
-    option_or_none (initial_fault (with_objects (scope_of types parents d p.metric) p.objects) [] p.init)
-    (condition_fault (with_objects (scope_of types parents d p.metric) p.objects) no_parameters p.goal or metric_name_fault (with_objects (scope_of types parents d p.metric) p.objects).functions p.metric) problem.1 in
-    (values (with_objects (scope_of types parents d p.metric) p.objects) [] p.init inner.0).different
+unfolding lifted_domain domain_in lifted_problem problem_in task_with task_behind task_below
+below types parents d p e = (values (problem_scope types parents d p) [] p.init (all_clear types parents d p e).problem.initial).different
 
 pub different_fluents : (d : DomainAst) (p : ProblemAst) → IsFaultless d p → AreOfDifferentFluents (lifted_task d p).values
 different_fluents d p clean = below (type_names d.types) (parents_of d.types) d p clean.behind_cycles

@@ -11,7 +11,7 @@ use Rattle.hd_pddl.specs.declared.tree.Signature as trees
 use Rattle.hd_lifted.specs.declared.schema.Schema.{Schema}
 use Rattle.hd_lifted.specs.declared.task.Object.{Object}
 use Rattle.hd_lifted.specs.declared.task.Signature.{Signature}
-use Rattle.hd_names.specs.declared.fault.Fault.TheVariants.{UnknownName}
+use Rattle.hd_names.specs.declared.fault.NameFault.TheVariants.{UnknownName}
 use Rattle.hd_names.specs.declared.scope.Scope.{Scope}
 use Rattle.hd_base.specs.Options.{◌or◌}
 use Rattle.hd_base.specs.Names.{is_named}
@@ -19,6 +19,8 @@ use Rattle.hd_names.specs.Names.{spelled, type_number, types_of, declared_fault,
 use Rattle.hd_names.specs.Scope.{signatures_fault}
 use Rattle.hd_check.specs.Schemas.{parameters_in, body_fault, action_fault, actions_fault, schema_with, lifted_schema}
 use Rattle.hd_check.specs.Whole.{lifted_object, lifted_signature}
+use Rattle.hd_check.specs.Fault.{name_fault}
+use Rattle.hd_check.proofs.Telling.{name_none}
 use Rattle.hd_check.proofs.Arguments.{named-number}
 
 -- numbers up to this one
@@ -61,7 +63,7 @@ pub schemas_within : (m : ℕ) (s : Scope) → length s.types ≡ m + 1 → (giv
 unfolding lifted_schema schema_with action_fault
 schemas_within m s long given [] e = tt
 schemas_within m s long given (a ∷ as') e =
-    let parts = option_or_none (duplicate_in kinds.Name given a.name) (action_fault s a or actions_fault s (given ++ a.name.name ∷ []) as') e in
+    let parts = option_or_none (name_fault (duplicate_in kinds.Name given a.name)) (action_fault s a or actions_fault s (given ++ a.name.name ∷ []) as') e in
     let later = option_or_none (action_fault s a) (actions_fault s (given ++ a.name.name ∷ []) as') parts.1 in
-    let own = option_or_none (declared_fault kinds.Variable s.types [] a.parameters) (body_fault s (parameters_in s a) a) later.0 in
-    (types_within m s.types long kinds.Variable [] a.parameters own.0, schemas_within m s long (given ++ a.name.name ∷ []) as' later.1)
+    let own = option_or_none (name_fault (declared_fault kinds.Variable s.types [] a.parameters)) (body_fault s (parameters_in s a) a) later.0 in
+    (types_within m s.types long kinds.Variable [] a.parameters (name_none (declared_fault kinds.Variable s.types [] a.parameters) own.0), schemas_within m s long (given ++ a.name.name ∷ []) as' later.1)

@@ -8,5 +8,6 @@ pub mod HaveTypes
 pub mod MetricNames
 pub mod MetricUse
 pub mod NoCosts
+pub mod NoFaults
 pub mod Standing
 pub mod Telling

@@ -26,7 +26,7 @@ use Rattle.hd_pddl.specs.declared.tree.Init.{Init}
 use Rattle.hd_pddl.specs.declared.tree.Init.TheVariants as inits
 use Rattle.hd_lifted.specs.declared.task.InitialValue.{InitialValue}
 use Rattle.hd_lifted.specs.Effects.{is_cost}
-use Rattle.hd_names.specs.declared.fault.Fault.TheVariants.{UnknownName}
+use Rattle.hd_names.specs.declared.fault.NameFault.TheVariants.{UnknownName}
 use Rattle.hd_names.specs.declared.scope.Scope.{Scope}
 use Rattle.hd_names.specs.declared.table.Table.{Table}
 use Rattle.hd_base.specs.Options.{◌or◌}
@@ -38,6 +38,8 @@ use Rattle.hd_check.specs.Effects.{effect_fault, effects_fault, change_fault, is
 use Rattle.hd_check.specs.Schemas.{parameters_in, body_fault, action_fault, actions_fault, schema_with, lifted_schema}
 use Rattle.hd_check.specs.Initial.{fluent_of, values_in}
 use Rattle.hd_metric.specs.Metric.{read_in, read_by_part, read_by_condition, change_of_metric, misused_by_change, misused_by_effect, misused_by_action, misused_by_actions}
+use Rattle.hd_check.specs.Fault.{name_fault}
+use Rattle.hd_check.proofs.Telling.{name_none}
 use Rattle.hd_lifted.specs.MetricUse.{IsFreeOf, ComparesWithout, IsCostOf, CountsCost}
 
 -- ---- numbers of names
@@ -68,8 +70,8 @@ other_number names m n f is named other same = false≢true (sym other ∙ same_
 
 fluent_named : (s : Scope) (ps : Table ℕ) (a : Atom) → applied_fault s.functions s ps a ≡ None → is_named s.functions.names a.name.name ≡ true
 fluent_named s ps a e =
-    let parts = option_or_none (unknown_in kinds.Name s.functions.names a.name) (arity_fault s.functions a or arguments_fault s ps a.terms (parameters_of s.functions a.name)) e in
-    true-from_none (is_named s.functions.names a.name.name) (UnknownName (spelled kinds.Name a.name.name) a.name.at) parts.0
+    let parts = option_or_none (name_fault (unknown_in kinds.Name s.functions.names a.name)) (arity_fault s.functions a or arguments_fault s ps a.terms (parameters_of s.functions a.name)) e in
+    true-from_none (is_named s.functions.names a.name.name) (UnknownName (spelled kinds.Name a.name.name) a.name.at) (name_none (unknown_in kinds.Name s.functions.names a.name) parts.0)
 
 -- ---- what reads it
 
@@ -182,7 +184,7 @@ action_counts : (s : Scope) (m : List ℕ) (f : ℕ) → position (bytes_eq m) s
     → s.metric ≡ Some f → (a : Action) → action_fault s a ≡ None → misused_by_action m a ≡ None → CountsCost f (lifted_schema s a)
 unfolding action_fault lifted_schema
 action_counts s m f is metric a e r =
-    let parts = option_or_none (declared_fault kinds.Variable s.types [] a.parameters) (body_fault s (parameters_in s a) a) e in
+    let parts = option_or_none (name_fault (declared_fault kinds.Variable s.types [] a.parameters)) (body_fault s (parameters_in s a) a) e in
     schema_counts s (parameters_in s a) m f is metric a parts.1 r
 
 -- actions that use the metric's function as they may
@@ -191,7 +193,7 @@ pub actions_count : (s : Scope) (m : List ℕ) (f : ℕ) → position (bytes_eq 
     → misused_by_actions m as' ≡ None → AllByRecursion (CountsCost f) (map (lifted_schema s) as')
 actions_count s m f is metric names [] e r = tt
 actions_count s m f is metric names (a ∷ as') e r =
-    let parts = option_or_none (duplicate_in kinds.Name names a.name) (action_fault s a or actions_fault s (names ++ a.name.name ∷ []) as') e in
+    let parts = option_or_none (name_fault (duplicate_in kinds.Name names a.name)) (action_fault s a or actions_fault s (names ++ a.name.name ∷ []) as') e in
     let later = option_or_none (action_fault s a) (actions_fault s (names ++ a.name.name ∷ []) as') parts.1 in
     let uses = option_or_none (misused_by_action m a) (misused_by_actions m as') r in
     (action_counts s m f is metric a later.0 uses.0, actions_count s m f is metric (names ++ a.name.name ∷ []) as' later.1 uses.1)

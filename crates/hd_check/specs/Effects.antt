@@ -15,11 +15,11 @@ use Rattle.hd_check.specs.Lifting.{within}
 use Rattle.hd_check.specs.declared.context.Context.{Context}
 use Rattle.hd_names.specs.declared.scope.Scope.{Scope}
 use Rattle.hd_names.specs.declared.table.Table.{Table}
-use Rattle.hd_names.specs.declared.fault.Fault.{Fault}
+use Rattle.hd_check.specs.declared.fault.Fault.{Fault}
 use Rattle.hd_base.specs.Answers.{ChecksInto}
 use Rattle.hd_base.specs.Options.{◌or◌}
-use Rattle.hd_names.specs.declared.fault.Stop.{Stop}
-use Rattle.hd_names.specs.Fault.{StopsAt}
+use Rattle.hd_check.specs.declared.fault.Stop.{Stop}
+use Rattle.hd_check.specs.Fault.{StopsAt}
 use Rattle.hd_names.specs.Names.{number_in}
 use Rattle.hd_check.specs.Terms.{applied_fault, lifted_applied, expression_fault, lifted_expression}
 

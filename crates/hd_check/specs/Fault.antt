@@ -1,12 +1,29 @@
--- Faults of a domain's and a problem's text, and how they are printed. (Our own.)
-use Rattle.std.specs.Prelude.{◌≡◌, ℕ, List, ◌++◌, Option, Some, codes}
-use Rattle.hd_names.specs.declared.fault.Stop.{Stop}
-use Rattle.hd_names.specs.declared.fault.Stop.TheVariants as stops
-use Rattle.hd_names.specs.Fault.{text_of}
+-- Faults of a domain's and a problem's text, how they are printed, and where a part of a check stops. (Our own.)
+use Rattle.std.specs.Prelude.{◌≡◌, ℕ, List, ◌++◌, Option, Some, codes, decimal}
+use Rattle.std.specs.Option.{option_map}
+use Rattle.hd_metric.specs.Fault as metric
+use Rattle.hd_metric.specs.declared.fault.BadMetric.{BadMetric}
+use Rattle.hd_names.specs.Fault as names
+use Rattle.hd_names.specs.declared.fault.NameFault.{NameFault}
+use Rattle.hd_names.specs.declared.fault.NameStop.{NameStop}
+use Rattle.hd_names.specs.declared.fault.NameStop.TheVariants as named
+use Rattle.hd_check.specs.declared.fault.Fault.{Fault}
+use Rattle.hd_check.specs.declared.fault.Fault.TheVariants.{OfName, WrongArity, WrongType, OfMetric, DomainMismatch, InitOutOfRange}
+use Rattle.hd_check.specs.declared.fault.Stop.{Stop}
+use Rattle.hd_check.specs.declared.fault.Stop.TheVariants as stops
 use Rattle.hd_check.specs.declared.fault.Source.{Source}
 use Rattle.hd_check.specs.declared.fault.Source.TheVariants.{Domain, Problem}
 use Rattle.hd_check.specs.declared.fault.CheckError.{CheckError}
 use Rattle.hd_check.specs.declared.fault.CheckError.TheVariants as errors
+
+-- the printed form of a fault: its number and its name, and in parentheses the name at fault, if there is one, and the place
+abbrev pub text_of : Fault → List ℕ
+text_of (OfName fault) = names.text_of fault
+text_of (WrongArity name at) = codes "10 WrongArity(" ++ name ++ codes ", " ++ decimal at ++ codes ")"
+text_of (WrongType name at) = codes "11 WrongType(" ++ name ++ codes ", " ++ decimal at ++ codes ")"
+text_of (OfMetric fault) = metric.text_of fault
+text_of (DomainMismatch at) = codes "14 DomainMismatch(" ++ decimal at ++ codes ")"
+text_of (InitOutOfRange at) = codes "18 InitOutOfRange(" ++ decimal at ++ codes ")"
 
 -- which text a fault is in
 abbrev pub source_text : Source → List ℕ
@@ -17,6 +34,25 @@ source_text Problem = codes "problem: "
 abbrev pub error_text : CheckError → List ℕ
 error_text (errors.In source fault) = source_text source ++ text_of fault
 error_text errors.NoMemory = codes "NoMemory"
+
+-- ---- what stops a part of a check, and the whole
+
+-- a fault of a name, and a wrong use of the metric's function, as faults of a text
+abbrev pub name_fault : Option NameFault → Option Fault
+name_fault fault = option_map OfName fault
+
+abbrev pub metric_use_fault : Option BadMetric → Option Fault
+metric_use_fault fault = option_map OfMetric fault
+
+-- what stopped names stops the part in which they stand
+abbrev pub of_names : NameStop → Stop
+of_names (named.At fault) = stops.At (OfName fault)
+of_names named.NoMemory = stops.NoMemory
+
+-- the stop is at the first fault; want of memory says nothing
+abbrev pub StopsAt : Stop → Option Fault → Type 0
+StopsAt (stops.At f) fault = fault ≡ Some f
+StopsAt stops.NoMemory fault = Unit {0}
 
 -- what stopped the check of this text
 abbrev pub error_in : Source → Stop → CheckError

@@ -15,12 +15,13 @@ use Rattle.hd_check.specs.declared.initial.Initial.{Initial}
 use Rattle.hd_check.specs.declared.initial.Found.{Found}
 use Rattle.hd_names.specs.declared.scope.Scope.{Scope}
 use Rattle.hd_names.specs.declared.table.Table.{Table}
-use Rattle.hd_names.specs.declared.fault.Fault.{Fault}
-use Rattle.hd_names.specs.declared.fault.Fault.TheVariants.{Duplicate, InitOutOfRange}
+use Rattle.hd_check.specs.declared.fault.Fault.{Fault}
+use Rattle.hd_check.specs.declared.fault.Fault.TheVariants.{OfName, InitOutOfRange}
+use Rattle.hd_names.specs.declared.fault.NameFault.TheVariants.{Duplicate}
 use Rattle.hd_base.specs.Answers.{Checks, ChecksInto}
 use Rattle.hd_base.specs.Options.{◌or◌}
-use Rattle.hd_names.specs.declared.fault.Stop.{Stop}
-use Rattle.hd_names.specs.Fault.{StopsAt}
+use Rattle.hd_check.specs.declared.fault.Stop.{Stop}
+use Rattle.hd_check.specs.Fault.{StopsAt}
 use Rattle.hd_names.specs.Names.{number_in}
 use Rattle.hd_check.specs.Terms.{applied_fault, lifted_applied}
 use Rattle.hd_check.specs.Effects.{is_metric}
@@ -52,7 +53,7 @@ range_fault v = if in_range v.value then None else Some (InitOutOfRange v.at)
 
 -- a fluent can't be one of those that have a value
 abbrev pub second_value : List (List ℕ) → List ℕ → Atom → Option Fault
-second_value given key a = if is_named given key then Some (Duplicate a.name.name a.name.at) else None
+second_value given key a = if is_named given key then Some (OfName (Duplicate a.name.name a.name.at)) else None
 
 -- the fluent that has this first value
 abbrev pub fluent_of : Scope → trees.InitialValue → Ground

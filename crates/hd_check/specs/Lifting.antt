@@ -2,11 +2,11 @@
 use Rattle.std.specs.Prelude.{ℕ, Option, Result}
 use Rattle.hd_base.specs.Answers.{Checks}
 use Rattle.hd_check.specs.declared.context.Context.{Context}
-use Rattle.hd_names.specs.declared.fault.Fault.{Fault}
-use Rattle.hd_names.specs.declared.fault.Stop.{Stop}
+use Rattle.hd_check.specs.declared.fault.Fault.{Fault}
+use Rattle.hd_check.specs.declared.fault.Stop.{Stop}
 use Rattle.hd_names.specs.declared.scope.Scope.{Scope}
 use Rattle.hd_names.specs.declared.table.Table.{Table}
-use Rattle.hd_names.specs.Fault.{StopsAt}
+use Rattle.hd_check.specs.Fault.{StopsAt}
 
 -- what a definition says by the scope and the parameters of a context
 abbrev pub within : {A : Type 0} → Context → (Scope → Table ℕ → A) → A

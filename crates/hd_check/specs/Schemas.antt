@@ -6,11 +6,11 @@ use Rattle.hd_lifted.specs.declared.schema.Schema.{Schema}
 use Rattle.hd_check.specs.declared.schemas.Body.{Body}
 use Rattle.hd_names.specs.declared.scope.Scope.{Scope}
 use Rattle.hd_names.specs.declared.table.Table.{Table}
-use Rattle.hd_names.specs.declared.fault.Fault.{Fault}
+use Rattle.hd_check.specs.declared.fault.Fault.{Fault}
 use Rattle.hd_base.specs.Answers.{Checks}
 use Rattle.hd_base.specs.Options.{◌or◌}
-use Rattle.hd_names.specs.declared.fault.Stop.{Stop}
-use Rattle.hd_names.specs.Fault.{StopsAt}
+use Rattle.hd_check.specs.declared.fault.Stop.{Stop}
+use Rattle.hd_check.specs.Fault.{StopsAt, name_fault}
 use Rattle.hd_names.specs.Names.{declared_fault, duplicate_in}
 use Rattle.hd_names.specs.Scope.{typed_table}
 use Rattle.hd_check.specs.Conditions.{condition_fault, lifted_condition}
@@ -26,13 +26,13 @@ body_fault s ps a = condition_fault s ps a.precondition or effects_fault s ps a.
 
 -- the first fault of an action: of the parameters, then of what stands in it
 unfoldable pub action_fault : Scope → Action → Option Fault
-action_fault s a = declared_fault kinds.Variable s.types [] a.parameters or body_fault s (parameters_in s a) a
+action_fault s a = name_fault (declared_fault kinds.Variable s.types [] a.parameters) or body_fault s (parameters_in s a) a
 
 -- the first fault of actions behind others of these names: of each its name, then what stands in it
 abbrev pub actions_fault : Scope → List (List ℕ) → List Action → Option Fault
 actions_fault s names [] = None
 actions_fault s names (a ∷ as') =
-    duplicate_in kinds.Name names a.name or action_fault s a or actions_fault s (names ++ a.name.name ∷ []) as'
+    name_fault (duplicate_in kinds.Name names a.name) or action_fault s a or actions_fault s (names ++ a.name.name ∷ []) as'
 
 -- what an action's precondition and effect stand for
 abbrev pub body_of : Scope → Table ℕ → Action → Body

@@ -18,12 +18,12 @@ use Rattle.hd_check.specs.Lifting.{within}
 use Rattle.hd_check.specs.declared.context.Context.{Context}
 use Rattle.hd_names.specs.declared.scope.Scope.{Scope}
 use Rattle.hd_names.specs.declared.table.Table.{Table}
-use Rattle.hd_names.specs.declared.fault.Fault.{Fault}
-use Rattle.hd_names.specs.declared.fault.Fault.TheVariants.{WrongArity, WrongType}
+use Rattle.hd_check.specs.declared.fault.Fault.{Fault}
+use Rattle.hd_check.specs.declared.fault.Fault.TheVariants.{WrongArity, WrongType}
 use Rattle.hd_base.specs.Answers.{Checks}
 use Rattle.hd_base.specs.Options.{◌or◌}
-use Rattle.hd_names.specs.declared.fault.Stop.{Stop}
-use Rattle.hd_names.specs.Fault.{StopsAt}
+use Rattle.hd_check.specs.declared.fault.Stop.{Stop}
+use Rattle.hd_check.specs.Fault.{StopsAt, name_fault}
 use Rattle.hd_names.specs.Names.{number_in, unknown_in, spelled}
 
 -- ---- terms, among these parameters
@@ -35,8 +35,8 @@ lifted_term s ps (Variable n) = Parameter (number_in ps.names n.name)
 
 -- the name has to be declared
 abbrev pub term_fault : Scope → Table ℕ → Term → Option Fault
-term_fault s ps (Name n) = unknown_in kinds.Name s.objects.names n
-term_fault s ps (Variable n) = unknown_in kinds.Variable ps.names n
+term_fault s ps (Name n) = name_fault (unknown_in kinds.Name s.objects.names n)
+term_fault s ps (Variable n) = name_fault (unknown_in kinds.Variable ps.names n)
 
 -- the type that is declared of an object or a parameter
 abbrev pub type_at : Scope → Table ℕ → Argument → ℕ
@@ -83,7 +83,7 @@ arity_fault symbols a =
 -- the first fault: the name, then how many arguments there are, then the arguments
 abbrev pub applied_fault : Table (List ℕ) → Scope → Table ℕ → Atom → Option Fault
 applied_fault symbols s ps a =
-    unknown_in kinds.Name symbols.names a.name or arity_fault symbols a
+    name_fault (unknown_in kinds.Name symbols.names a.name) or arity_fault symbols a
     or arguments_fault s ps a.terms (parameters_of symbols a.name)
 
 -- what it stands for

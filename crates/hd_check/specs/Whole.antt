@@ -17,26 +17,28 @@ use Rattle.hd_check.specs.declared.checking.TypesPart.{TypesPart}
 use Rattle.hd_check.specs.declared.checking.DomainPart.{DomainPart}
 use Rattle.hd_check.specs.declared.checking.Ends.{Ends}
 use Rattle.hd_check.specs.declared.checking.ProblemPart.{ProblemPart}
+use Rattle.hd_check.specs.declared.checking.Parts.{Parts}
 use Rattle.hd_check.specs.declared.checking.Declared.{Declared}
 use Rattle.hd_check.specs.declared.fault.Source.{Source}
 use Rattle.hd_check.specs.declared.fault.Source.TheVariants.{Domain, Problem}
-use Rattle.hd_names.specs.declared.fault.Fault.{Fault}
-use Rattle.hd_names.specs.declared.fault.Fault.TheVariants.{DomainMismatch}
-use Rattle.hd_names.specs.declared.fault.Stop.{Stop}
+use Rattle.hd_check.specs.declared.fault.Fault.{Fault}
+use Rattle.hd_check.specs.declared.fault.Fault.TheVariants.{OfName, DomainMismatch}
+use Rattle.hd_check.specs.declared.fault.Stop.{Stop}
+use Rattle.hd_names.specs.declared.fault.NameFault.{NameFault}
+use Rattle.hd_names.specs.declared.fault.NameStop.{NameStop}
 use Rattle.hd_check.specs.declared.fault.CheckError.{CheckError}
 use Rattle.hd_check.specs.declared.fault.CheckError.TheVariants.{In, NoMemory}
 use Rattle.hd_names.specs.declared.scope.Scope.{Scope}
 use Rattle.hd_base.specs.Answers.{Checks}
-use Rattle.hd_names.specs.Fault.{StopsAt}
 use Rattle.hd_base.specs.Options.{◌or◌}
-use Rattle.hd_check.specs.Fault.{TellsOf, error_in}
+use Rattle.hd_check.specs.Fault.{TellsOf, name_fault, metric_use_fault, of_names, error_in}
 use Rattle.hd_names.specs.Names.{type_number, types_of, declared_fault}
 use Rattle.hd_names.specs.Scope.{type_names, types_fault, parents_of, TellsCycle, scope_fault, scope_of, with_objects}
 use Rattle.hd_check.specs.Schemas.{actions_fault, lifted_schema}
 use Rattle.hd_check.specs.Conditions.{condition_fault, lifted_condition}
 use Rattle.hd_check.specs.Initial.{no_parameters, initial_fault, lifted_initial}
 use Rattle.hd_metric.specs.Metric.{misused_in_domain, misused_in_problem}
-use Rattle.hd_check.specs.MetricName.{metric_name_fault, bad_metric}
+use Rattle.hd_check.specs.MetricName.{metric_name_fault}
 
 -- ---- what they stand for
 
@@ -77,6 +79,10 @@ problem_in s p = record { scope = s; ends = ends_in s p }
 unfoldable pub lifted_problem : Scope → ProblemAst → ProblemPart
 lifted_problem s p = problem_in (with_objects s p.objects) p
 
+-- what a domain's actions and a problem's part stand for, where the domain's part stands for this
+abbrev pub parts_in : DomainPart → ProblemAst → Parts
+parts_in first p = record { schemas = first.schemas; problem = lifted_problem first.scope p }
+
 -- the constants and the objects
 abbrev pub all_objects : List (List ℕ) → DomainAst → ProblemAst → List Object
 all_objects types d p = lifted_objects types d.constants ++ lifted_objects types p.objects
@@ -107,6 +113,10 @@ task_by schemas part declared = record {
 unfoldable pub task_with : DomainAst → ProblemAst → List Schema → ProblemPart → LiftedTask
 task_with d p schemas part = task_by schemas part (declared_in part.scope.types d p)
 
+-- the lifted task of these parts
+abbrev pub task_of : DomainAst → ProblemAst → Parts → LiftedTask
+task_of d p parts = task_with d p parts.schemas parts.problem
+
 -- the lifted task of a problem whose domain's part stands for this
 unfoldable pub task_behind : DomainPart → DomainAst → ProblemAst → LiftedTask
 task_behind part d p = task_with d p part.schemas (lifted_problem part.scope p)
@@ -130,13 +140,13 @@ in_text source (Some f) = Some (In source f)
 abbrev pub mismatch : DomainAst → ProblemAst → Option Fault
 mismatch d p = if bytes_eq p.domain.name d.name.name then None else Some (DomainMismatch p.domain.at)
 
+-- the first fault of the names of the types that are listed
+abbrev pub listed_fault : List Typed → Option Fault
+listed_fault ts = name_fault (types_fault (codes "object" ∷ []) ts)
+
 -- the first fault that comes before the cycles of types: the domain's name, and the names of types
 unfoldable pub fault_before_cycles : DomainAst → ProblemAst → Option CheckError
-fault_before_cycles d p = in_text Problem (mismatch d p) or in_text Domain (types_fault (codes "object" ∷ []) d.types)
-
--- the first fault of the rest of the domain, the metric aside
-unfoldable pub domain_fault : List (List ℕ) → List ℕ → DomainAst → Option NameAt → Option Fault
-domain_fault types parents d metric = scope_fault types d or actions_fault (scope_of types parents d metric) [] d.actions
+fault_before_cycles d p = in_text Problem (mismatch d p) or in_text Domain (listed_fault d.types)
 
 -- the first fault of a problem's goal and of its metric's name in this scope, which has the problem's objects
 abbrev pub goal_fault : Scope → ProblemAst → Option Fault
@@ -149,21 +159,22 @@ fault_in_problem s p = initial_fault s [] p.init or goal_fault s p
 -- the first fault of a problem, up to the metric's name, by the scope of its domain
 unfoldable pub problem_fault : Scope → ProblemAst → Option Fault
 problem_fault s p =
-    declared_fault kinds.Name s.types s.objects.names p.objects or fault_in_problem (with_objects s p.objects) p
+    name_fault (declared_fault kinds.Name s.types s.objects.names p.objects) or fault_in_problem (with_objects s p.objects) p
 
 -- the first misuse of the metric's function
 unfoldable pub metric_fault : DomainAst → ProblemAst → Option CheckError
 metric_fault d p =
-    in_text Domain (bad_metric (misused_in_domain p.metric d)) or in_text Problem (bad_metric (misused_in_problem p.metric p))
+    in_text Domain (metric_use_fault (misused_in_domain p.metric d))
+    or in_text Problem (metric_use_fault (misused_in_problem p.metric p))
 
--- the first fault of a problem whose domain's part stands for this, and of the metric
-unfoldable pub fault_behind : DomainPart → DomainAst → ProblemAst → Option CheckError
-fault_behind part d p = in_text Problem (problem_fault part.scope p) or metric_fault d p
-
--- the first fault that comes behind the cycles of types, which have these names and parents
+-- the first fault that comes behind the cycles of types, which have these names and parents: of the domain's names, of its actions,
+-- of the problem, and of the metric
 unfoldable pub fault_below : List (List ℕ) → List ℕ → DomainAst → ProblemAst → Option CheckError
 fault_below types parents d p =
-    in_text Domain (domain_fault types parents d p.metric) or fault_behind (lifted_domain types parents d p.metric) d p
+    in_text Domain (name_fault (scope_fault types d))
+    or in_text Domain (actions_fault (scope_of types parents d p.metric) [] d.actions)
+    or in_text Problem (problem_fault (scope_of types parents d p.metric) p)
+    or metric_fault d p
 
 -- the first fault that comes behind the cycles of types
 abbrev pub fault_behind_cycles : DomainAst → ProblemAst → Option CheckError
@@ -172,7 +183,7 @@ fault_behind_cycles d p = fault_below (type_names d.types) (parents_of d.types) 
 -- a fault stands in the texts, at the place that is told: it is the first, but for the cycles of types, of which any may be told
 pub data Stands (d : DomainAst) (p : ProblemAst) : CheckError → Type 0 where
   before_cycles : (e : CheckError) → fault_before_cycles d p ≡ Some e → Stands d p e
-  on_cycle : (f : Fault) → fault_before_cycles d p ≡ None → TellsCycle d.types f → Stands d p (In Domain f)
+  on_cycle : (f : NameFault) → fault_before_cycles d p ≡ None → TellsCycle d.types f → Stands d p (In Domain (OfName f))
   behind_cycles :
       (e : CheckError) → fault_before_cycles d p ≡ None → IsAcyclic (parents_of d.types) → fault_behind_cycles d p ≡ Some e
       → Stands d p e
@@ -200,55 +211,63 @@ HoldsOfFaultless P = (d : DomainAst) (p : ProblemAst) → IsFaultless d p → P 
 
 -- ---- what a check answers
 
--- the names of the types, where no fault comes before the cycles of types
-abbrev pub ChecksNames : Result (List (List ℕ)) CheckError → DomainAst → ProblemAst → Type 0
-ChecksNames result d p = Checks TellsOf result (fault_before_cycles d p) (type_names d.types)
+-- the names of the types, or the first fault of them
+abbrev pub ChecksNames : Result (List (List ℕ)) CheckError → List Typed → Type 0
+ChecksNames result ts = Checks TellsOf result (in_text Domain (listed_fault ts)) (type_names ts)
 
--- the hierarchy of the types, or a type on a cycle, told of the domain; want of memory says nothing
-abbrev pub ClimbsText : Result (List ℕ) CheckError → List Typed → Type 0
-ClimbsText (Ok h) ts = (h ≡ parents_of ts) × IsAcyclic (parents_of ts)
-ClimbsText (Err (In source fault)) ts = (source ≡ Domain) × TellsCycle ts fault
-ClimbsText (Err NoMemory) ts = Unit {0}
+-- an error tells a type on a cycle; want of memory says nothing
+pub data TellsCycleIn (ts : List Typed) : CheckError → Type 0 where
+  cycle : (f : NameFault) → TellsCycle ts f → TellsCycleIn ts (In Domain (OfName f))
+  no_memory : TellsCycleIn ts NoMemory
 
--- these are the types of a domain, no fault comes before their cycles, and none lies on a cycle
-pub record AreTypes (types : TypesPart) (d : DomainAst) (p : ProblemAst) : Type 0 where
-  pub before_cycles : fault_before_cycles d p ≡ None
-  pub names : types.names ≡ type_names d.types
-  pub hierarchy : types.hierarchy ≡ parents_of d.types
-  pub acyclic : IsAcyclic (parents_of d.types)
+-- the hierarchy of the types, or a type on a cycle
+abbrev pub ClimbsIn : Result (List ℕ) CheckError → List Typed → Type 0
+ClimbsIn (Ok h) ts = (h ≡ parents_of ts) × IsAcyclic (parents_of ts)
+ClimbsIn (Err e) ts = TellsCycleIn ts e
 
--- the types, or a fault that stands in the texts up to the cycles of types; want of memory says nothing
-abbrev pub ChecksTypes : Result TypesPart CheckError → DomainAst → ProblemAst → Type 0
-ChecksTypes (Ok types) d p = AreTypes types d p
-ChecksTypes (Err (In source fault)) d p = Stands d p (In source fault)
-ChecksTypes (Err NoMemory) d p = Unit {0}
+-- these are the types that are listed, and no fault is in them
+pub record AreTypes (types : TypesPart) (ts : List Typed) : Type 0 where
+  pub faultless : in_text Domain (listed_fault ts) ≡ None
+  pub names : types.names ≡ type_names ts
+  pub hierarchy : types.hierarchy ≡ parents_of ts
+  pub acyclic : IsAcyclic (parents_of ts)
+
+-- an error tells the first fault of the types' names, or where there is none a type on a cycle; want of memory says nothing
+pub data TellsTypes (ts : List Typed) : CheckError → Type 0 where
+  by_name : (e : CheckError) → TellsOf e (in_text Domain (listed_fault ts)) → TellsTypes ts e
+  by_cycle : (e : CheckError) → in_text Domain (listed_fault ts) ≡ None → TellsCycleIn ts e → TellsTypes ts e
+
+-- the types that are listed, or a fault of them
+abbrev pub ChecksTypes : Result TypesPart CheckError → List Typed → Type 0
+ChecksTypes (Ok types) ts = AreTypes types ts
+ChecksTypes (Err e) ts = TellsTypes ts e
+
+-- what names stand for in a domain of these types
+abbrev pub ChecksScope : Result Scope CheckError → TypesPart → DomainAst → Option NameAt → Type 0
+ChecksScope result types d metric =
+    Checks TellsOf result (in_text Domain (name_fault (scope_fault types.names d))) (scope_of types.names types.hierarchy d metric)
 
 -- what a domain's actions stand for in this scope
-abbrev pub ChecksActions : Result DomainPart Stop → Scope → DomainAst → Type 0
-ChecksActions result s d = Checks StopsAt result (actions_fault s [] d.actions) (domain_in s d)
+abbrev pub ChecksActions : Result DomainPart CheckError → Scope → DomainAst → Type 0
+ChecksActions result s d = Checks TellsOf result (in_text Domain (actions_fault s [] d.actions)) (domain_in s d)
 
--- what a domain's part stands for, whose types have these names and parents
-abbrev pub ChecksDomain : Result DomainPart Stop → List (List ℕ) → List ℕ → DomainAst → Option NameAt → Type 0
-ChecksDomain result types parents d metric =
-    Checks StopsAt result (domain_fault types parents d metric) (lifted_domain types parents d metric)
+-- what a problem's part stands for, where the domain's part stands for this
+abbrev pub ChecksProblem : Result Parts CheckError → DomainPart → ProblemAst → Type 0
+ChecksProblem result first p = Checks TellsOf result (in_text Problem (problem_fault first.scope p)) (parts_in first p)
 
--- the lifted task whose parts stand for these, where the metric's function is not misused
-abbrev pub ChecksUses : Result LiftedTask CheckError → List Schema → ProblemPart → DomainAst → ProblemAst → Type 0
-ChecksUses result schemas part d p = Checks TellsOf result (metric_fault d p) (task_with d p schemas part)
-
--- the lifted task of a problem whose domain's part stands for this
-abbrev pub ChecksBehind : Result LiftedTask CheckError → DomainPart → DomainAst → ProblemAst → Type 0
-ChecksBehind result part d p = Checks TellsOf result (fault_behind part d p) (task_behind part d p)
-
--- the lifted task of a domain and a problem whose types are these
-abbrev pub ChecksBelow : Result LiftedTask CheckError → TypesPart → DomainAst → ProblemAst → Type 0
-ChecksBelow result types d p =
-    Checks TellsOf result (fault_below types.names types.hierarchy d p) (task_below types.names types.hierarchy d p)
+-- the lifted task of these parts, where the metric's function is not misused
+abbrev pub ChecksUses : Result LiftedTask CheckError → Parts → DomainAst → ProblemAst → Type 0
+ChecksUses result parts d p = Checks TellsOf result (metric_fault d p) (task_of d p parts)
 
 -- what a part answers, told of its text
 abbrev pub of_text : {R : Type 0} → Source → Result R Stop → Result R CheckError
 of_text source (Ok r) = Ok r
 of_text source (Err stop) = Err (error_in source stop)
+
+-- so of what names of a text stand for
+abbrev pub names_in : {R : Type 0} → Source → Result R NameStop → Result R CheckError
+names_in source (Ok r) = Ok r
+names_in source (Err stop) = Err (error_in source (of_names stop))
 
 -- the lifted task where no fault stands, else a fault that does; want of memory says nothing
 abbrev pub Answers : DomainAst → ProblemAst → Result LiftedTask CheckError → Type 0

@@ -2,23 +2,25 @@
 ghost use Rattle.std.specs.Prelude.{◌≡◌, ◌++◌, IfOk};
 ghost use Rattle.hd_base.specs.Answers.{Checks};
 ghost use Rattle.hd_check.specs.Lifting.{LiftsIn};
-ghost use Rattle.hd_check.specs.Fault.{TellsOf};
-ghost use Rattle.hd_check.specs.MetricName.{bad_metric};
+ghost use Rattle.hd_check.specs.Fault.{TellsOf, metric_use_fault};
+ghost use Rattle.hd_check.specs.declared.fault.Source.TheVariants as sources;
 ghost use Rattle.hd_names.specs.Scope.{type_names};
-ghost use Rattle.hd_check.specs.Whole.{of_text, in_text, lifted_objects, lifted_signatures, all_objects, declared_in, goal_in, ends_in, goal_fault, problem_in, task_by, lifted_problem, task_with, fault_in_problem, problem_fault, metric_fault, ChecksNames, ClimbsText, ChecksTypes, ChecksActions, ChecksDomain, ChecksUses, ChecksBehind, ChecksBelow, Answers};
+ghost use Rattle.hd_check.specs.Whole.{of_text, names_in, in_text, mismatch, goal_in, ends_in, goal_fault, problem_in, lifted_problem, fault_in_problem, problem_fault, metric_fault};
+ghost use Rattle.hd_check.specs.Whole.{lifted_objects, lifted_signatures, all_objects, declared_in, task_by, task_of};
+ghost use Rattle.hd_check.specs.Whole.{ChecksNames, ClimbsIn, ChecksTypes, ChecksScope, ChecksActions, ChecksProblem, ChecksUses, Answers};
 
 use crate::conditions::condition_of;
 use crate::context::Context;
-use crate::fault::{CheckError, Source, error_in};
+use crate::fault::{CheckError, Fault, Source, Stop, error_in};
 use crate::initial::{Initial, initial_of, no_parameters};
 use crate::metric::check_metric_name;
 use crate::schemas::schemas_of;
 use hd_base::{Seed, Sequence};
 use hd_forms::NameAt;
 use hd_lifted::{Checked, Condition, Hierarchy, LiftedTask, Object, Schema, Signature};
-use hd_metric::{misused_in_domain, misused_in_problem};
+use hd_metric::{BadMetric, misused_in_domain, misused_in_problem};
 use hd_names::{
-    Fault, Names, Scope, Stop, hierarchy_of, number_of_type, numbers_of_types, scope_of, types_of,
+    NameStop, Names, Scope, hierarchy_of, number_of_type, numbers_of_types, scope_of, types_of,
     with_objects,
 };
 use hd_pddl::{DomainAst, ProblemAst};
@@ -53,6 +55,13 @@ pub struct ProblemPart {
     pub ends: Ends,
 }
 
+/// What a domain's actions and a problem's part stand for.
+#[derive(Debug, Drop)]
+pub struct Parts {
+    pub schemas: Sequence<Schema>,
+    pub problem: ProblemPart,
+}
+
 /// The objects, predicates and functions of a task.
 #[derive(Debug, Drop)]
 pub struct Declared {
@@ -71,79 +80,90 @@ fn of_text<T>(source: Source, answer: Result<T, Stop>) -> Result<T, CheckError>
     }
 }
 
-/// The names of the types, where the problem belongs to the domain.
-#[tactic(auto, unfolding(crate::specs::Whole::fault_before_cycles), using(crate::proofs::Telling::told_of))]
-fn check_names(
-    alloc: Global,
-    seed: Seed,
-    domain: &DomainAst,
-    problem: &ProblemAst,
-) -> Result<Names, CheckError>
-    ensures { ChecksNames result domain.now problem.now }
+/// What names of a text stand for, told of it.
+fn names_in<T>(source: Source, answer: Result<T, NameStop>) -> Result<T, CheckError>
+    ensures { result ≡ names_in source answer }
+{
+    match answer {
+        Ok(value) => Ok(value),
+        Err(stop) => Err(error_in(source, Stop::from(stop))),
+    }
+}
+
+/// Asks that the problem belongs to the domain.
+fn check_domain_name(domain: &DomainAst, problem: &ProblemAst) -> Result<(), CheckError>
+    ensures { Checks TellsOf result (in_text sources.Problem (mismatch domain.now problem.now)) tt }
 {
     if problem.domain.name == domain.name.name {
-        let types = types_of(alloc, seed, domain.types.as_slice());
-        of_text(Source::Domain, types)
+        Ok(())
     } else {
         let fault = Fault::DomainMismatch(problem.domain.at);
         Err(CheckError::In(Source::Problem, fault))
     }
 }
 
+/// The names of a domain's types.
+#[tactic(auto, using(crate::proofs::Telling::told_names))]
+fn type_names(alloc: Global, seed: Seed, listed: &[Typed]) -> Result<Names, CheckError>
+    ensures { ChecksNames result listed.now }
+{
+    names_in(Source::Domain, types_of(alloc, seed, listed))
+}
+
 /// The hierarchy of the types of these names.
-#[tactic(auto, using(crate::proofs::Standing::climbs_text))]
-fn hierarchy_in(alloc: Global, names: &Names, domain: &DomainAst) -> Result<Hierarchy, CheckError>
-    requires { names.now ≡ type_names domain.now.types }
-    ensures { ClimbsText result domain.now.types }
+#[tactic(auto, using(crate::proofs::Telling::told_cycle))]
+fn hierarchy_in(alloc: Global, names: &Names, listed: &[Typed]) -> Result<Hierarchy, CheckError>
+    requires { names.now ≡ type_names listed.now }
+    ensures { ClimbsIn result listed.now }
 {
-    let hierarchy = hierarchy_of(alloc, names, domain.types.as_slice());
-    of_text(Source::Domain, hierarchy)
+    names_in(Source::Domain, hierarchy_of(alloc, names, listed))
 }
 
-/// The types, where the problem belongs to the domain and no type lies on a cycle.
-#[tactic(auto, using(crate::proofs::Standing::tells_before, crate::proofs::Standing::tells_cycle))]
-fn types_part(
-    alloc: Global,
-    seed: Seed,
-    domain: &DomainAst,
-    problem: &ProblemAst,
-) -> Result<TypesPart, CheckError>
-    ensures { ChecksTypes result domain.now problem.now }
+/// The types that a domain lists, where no type lies on a cycle.
+#[tactic(auto, using(crate::proofs::Telling::told_name, crate::proofs::Telling::told_later_cycle))]
+fn types_part(alloc: Global, seed: Seed, listed: &[Typed]) -> Result<TypesPart, CheckError>
+    ensures { ChecksTypes result listed.now }
 {
-    let names = check_names(alloc, seed, domain, problem)?;
-    match hierarchy_in(alloc, &names, domain) {
+    let names = type_names(alloc, seed, listed)?;
+    match hierarchy_in(alloc, &names, listed) {
         Ok(hierarchy) => Ok(TypesPart { names, hierarchy }),
-        Err(error) => Err(error),
-    }
-}
-
-/// What a domain's actions stand for in this scope.
-#[tactic(auto, unfolding(crate::specs::Whole::domain_in))]
-fn domain_in(alloc: Global, scope: Scope, domain: &DomainAst) -> Result<DomainPart, Stop>
-    ensures { ChecksActions result scope domain.now }
-{
-    match schemas_of(alloc, &scope, domain.actions.as_slice()) {
-        Ok(schemas) => Ok(DomainPart { scope, schemas }),
-        Err(stop) => {
-            drop(scope);
-            Err(stop)
+        Err(error) => {
+            drop(names);
+            Err(error)
         }
     }
 }
 
-/// What a domain's part stands for.
-#[tactic(auto, unfolding(crate::specs::Whole::lifted_domain, crate::specs::Whole::domain_fault))]
-fn domain_part(
+/// What names stand for in a domain of these types.
+#[tactic(auto, using(crate::proofs::Telling::told_names))]
+fn scope_part(
     alloc: Global,
-    types: Names,
-    hierarchy: Hierarchy,
+    types: TypesPart,
     domain: &DomainAst,
     metric: &Option<NameAt>,
-) -> Result<DomainPart, Stop>
-    ensures { ChecksDomain result types hierarchy domain.now metric.now }
+) -> Result<Scope, CheckError>
+    ensures { ChecksScope result types domain.now metric.now }
 {
-    let scope = scope_of(alloc, types, hierarchy, domain, metric)?;
-    domain_in(alloc, scope, domain)
+    let TypesPart { names, hierarchy } = types;
+    names_in(
+        Source::Domain,
+        scope_of(alloc, names, hierarchy, domain, metric),
+    )
+}
+
+/// What a domain's actions stand for in this scope.
+#[tactic(auto, unfolding(crate::specs::Whole::domain_in), using(crate::proofs::Telling::told_of))]
+fn domain_in(alloc: Global, scope: Scope, domain: &DomainAst) -> Result<DomainPart, CheckError>
+    ensures { ChecksActions result scope domain.now }
+{
+    let schemas = schemas_of(alloc, &scope, domain.actions.as_slice());
+    match of_text(Source::Domain, schemas) {
+        Ok(schemas) => Ok(DomainPart { scope, schemas }),
+        Err(error) => {
+            drop(scope);
+            Err(error)
+        }
+    }
 }
 
 /// What a problem's goal stands for in this scope, where the metric's function is declared.
@@ -197,20 +217,35 @@ fn problem_in(alloc: Global, scope: Scope, problem: &ProblemAst) -> Result<Probl
 }
 
 /// What a problem's part stands for, by the scope of its domain.
-#[tactic(auto, unfolding(crate::specs::Whole::lifted_problem, crate::specs::Whole::problem_fault))]
-fn problem_part(alloc: Global, scope: Scope, problem: &ProblemAst) -> Result<ProblemPart, Stop>
+#[tactic(auto, unfolding(crate::specs::Whole::lifted_problem, crate::specs::Whole::problem_fault), using(crate::proofs::Telling::stops_first))]
+fn lifted_problem(alloc: Global, scope: Scope, problem: &ProblemAst) -> Result<ProblemPart, Stop>
     ensures { LiftsIn result problem_fault lifted_problem scope problem.now }
 {
     let scope = with_objects(alloc, scope, problem.objects.as_slice())?;
     problem_in(alloc, scope, problem)
 }
 
-/// Tells that the metric's function is misused at this place, if there is one.
-fn check_metric(source: Source, place: Option<usize>) -> Result<(), CheckError>
-    ensures { Checks TellsOf result (in_text source (bad_metric place)) tt }
+/// What a domain's actions and a problem's part stand for, where the domain's part stands for this.
+#[tactic(auto, using(crate::proofs::Telling::told_of))]
+fn parts_in(alloc: Global, first: DomainPart, problem: &ProblemAst) -> Result<Parts, CheckError>
+    ensures { ChecksProblem result first problem.now }
 {
-    match place {
-        Some(at) => Err(CheckError::In(source, Fault::BadMetric(at))),
+    let DomainPart { scope, schemas } = first;
+    match of_text(Source::Problem, lifted_problem(alloc, scope, problem)) {
+        Ok(problem) => Ok(Parts { schemas, problem }),
+        Err(error) => {
+            drop(schemas);
+            Err(error)
+        }
+    }
+}
+
+/// Tells that the metric's function is misused so, if it is.
+fn check_use(source: Source, misuse: Option<BadMetric>) -> Result<(), CheckError>
+    ensures { Checks TellsOf result (in_text source (metric_use_fault misuse)) tt }
+{
+    match misuse {
+        Some(misuse) => Err(CheckError::In(source, Fault::OfMetric(misuse))),
         None => Ok(()),
     }
 }
@@ -318,16 +353,14 @@ fn task_of(
     alloc: Global,
     domain: &DomainAst,
     problem: &ProblemAst,
-    schemas: Sequence<Schema>,
-    part: ProblemPart,
+    parts: Parts,
 ) -> Result<LiftedTask, AllocError>
-    ensures { IfOk result (λ task. task ≡ task_with domain.now problem.now schemas part) }
+    ensures { IfOk result (λ task. task ≡ task_of domain.now problem.now parts) }
 {
-    match declared_in(alloc, &part.scope.types, domain, problem) {
-        Ok(declared) => Ok(task_by(schemas, part, declared)),
+    match declared_in(alloc, &parts.problem.scope.types, domain, problem) {
+        Ok(declared) => Ok(task_by(parts.schemas, parts.problem, declared)),
         Err(error) => {
-            drop(part);
-            drop(schemas);
+            drop(parts);
             Err(error)
         }
     }
@@ -338,69 +371,31 @@ fn task_of(
 fn check_uses(domain: &DomainAst, problem: &ProblemAst) -> Result<(), CheckError>
     ensures { Checks TellsOf result (metric_fault domain.now problem.now) tt }
 {
-    check_metric(Source::Domain, misused_in_domain(&problem.metric, domain))?;
-    check_metric(
-        Source::Problem,
-        misused_in_problem(&problem.metric, problem),
-    )
+    let metric = &problem.metric;
+    check_use(Source::Domain, misused_in_domain(metric, domain))?;
+    check_use(Source::Problem, misused_in_problem(metric, problem))
 }
 
-/// The lifted task of parts without a fault, where the metric's function is used as it may be.
+/// The lifted task of these parts, where the metric's function is used as it may be.
 fn task_by_uses(
     alloc: Global,
-    schemas: Sequence<Schema>,
-    part: ProblemPart,
+    parts: Parts,
     domain: &DomainAst,
     problem: &ProblemAst,
 ) -> Result<LiftedTask, CheckError>
-    ensures { ChecksUses result schemas part domain.now problem.now }
+    ensures { ChecksUses result parts domain.now problem.now }
 {
     match check_uses(domain, problem) {
-        Ok(()) => Ok(task_of(alloc, domain, problem, schemas, part)?),
+        Ok(()) => Ok(task_of(alloc, domain, problem, parts)?),
         Err(error) => {
-            drop(part);
-            drop(schemas);
+            drop(parts);
             Err(error)
         }
     }
 }
 
-/// The lifted task of a problem whose domain's part stands for this.
-#[tactic(auto, unfolding(crate::specs::Whole::task_behind, crate::specs::Whole::fault_behind), using(crate::proofs::Telling::told_of))]
-fn task_behind(
-    alloc: Global,
-    part: DomainPart,
-    domain: &DomainAst,
-    problem: &ProblemAst,
-) -> Result<LiftedTask, CheckError>
-    ensures { ChecksBehind result part domain.now problem.now }
-{
-    let DomainPart { scope, schemas } = part;
-    let second = problem_part(alloc, scope, problem);
-    match of_text(Source::Problem, second) {
-        Ok(second) => task_by_uses(alloc, schemas, second, domain, problem),
-        Err(error) => Err(error),
-    }
-}
-
-/// The lifted task of a domain and a problem whose types are these.
-#[tactic(auto, unfolding(crate::specs::Whole::task_below, crate::specs::Whole::fault_below), using(crate::proofs::Telling::told_of))]
-fn task_below(
-    alloc: Global,
-    types: TypesPart,
-    domain: &DomainAst,
-    problem: &ProblemAst,
-) -> Result<LiftedTask, CheckError>
-    ensures { ChecksBelow result types domain.now problem.now }
-{
-    let TypesPart { names, hierarchy } = types;
-    let first = domain_part(alloc, names, hierarchy, domain, &problem.metric);
-    let first = of_text(Source::Domain, first)?;
-    task_behind(alloc, first, domain, problem)
-}
-
-/// The lifted task of a domain and a problem without a fault.
-#[tactic(auto, using(crate::proofs::Standing::stops_before, crate::proofs::Standing::answers_below))]
+/// The lifted task of a domain and a problem without a fault. Its six parts are asked in the order of the faults, and each but the
+/// first takes over what the one before it found.
 fn lifted_task(
     alloc: Global,
     seed: Seed,
@@ -409,8 +404,12 @@ fn lifted_task(
 ) -> Result<LiftedTask, CheckError>
     ensures { Answers domain.now problem.now result }
 {
-    let types = types_part(alloc, seed, domain, problem)?;
-    task_below(alloc, types, domain, problem)
+    check_domain_name(domain, problem)?;
+    let types = types_part(alloc, seed, domain.types.as_slice())?;
+    let scope = scope_part(alloc, types, domain, &problem.metric)?;
+    let first = domain_in(alloc, scope, domain)?;
+    let parts = parts_in(alloc, first, problem)?;
+    task_by_uses(alloc, parts, domain, problem)
 }
 
 /// Checks a domain and a problem: their names, types and metric. Its tables hash by the seed, which changes no answer.

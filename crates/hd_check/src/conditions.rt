@@ -5,10 +5,10 @@ ghost use Rattle.hd_check.specs.Conditions.{LiftsLiteral, LiftsEquality, Gathers
 
 use crate::context::Context;
 use crate::expressions::expression_of;
+use crate::fault::Stop;
 use crate::terms::{applied_of, term_of};
 use hd_base::Sequence;
 use hd_lifted::{Comparison, Condition, Equality, Literal};
-use hd_names::Stop;
 use hd_terms::{Atom, Term};
 use std::alloc::Global;
 

@@ -6,10 +6,10 @@ ghost use Rattle.hd_check.specs.Effects.{GathersDeletes, GathersAdds, GathersCha
 
 use crate::context::Context;
 use crate::expressions::expression_of;
+use crate::fault::Stop;
 use crate::terms::applied_of;
 use hd_base::{Boxed, Sequence};
 use hd_lifted::{Applied, Change, NumericEffect};
-use hd_names::Stop;
 use hd_terms::{Effect, FluentChange};
 use std::alloc::Global;
 

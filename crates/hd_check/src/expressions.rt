@@ -3,9 +3,9 @@ ghost use Rattle.hd_check.specs.Lifting.{Lifts};
 ghost use Rattle.hd_check.specs.Terms.{expression_fault, lifted_expression};
 
 use crate::context::Context;
+use crate::fault::Stop;
 use crate::terms::applied_of;
 use hd_lifted::{Boxed, Expr, Operand};
-use hd_names::Stop;
 use hd_terms::{ExprParts, Leaf};
 use std::alloc::Global;
 

@@ -1,9 +1,12 @@
-//! Why a domain and a problem are not accepted.
+//! What may be wrong with a domain and a problem that were read, and why they are not accepted.
 ghost use Rattle.std.specs.Prelude.{◌≡◌, Some};
-ghost use Rattle.hd_check.specs.Fault.{error_text, source_text, error_in};
+ghost use Rattle.hd_check.specs.Fault.{text_of, error_text, source_text, of_names, error_in};
 ghost use Rattle.hd_check.specs.declared.fault.CheckError.TheVariants as errors;
+ghost use Rattle.hd_check.specs.declared.fault.Stop.TheVariants as stops;
 
-use hd_names::{Fault, Stop};
+use hd_base::Name;
+use hd_metric::BadMetric;
+use hd_names::{NameFault, NameStop};
 use std::alloc::{AllocError, AllocFailed};
 use std::fmt;
 use thiserror::Error;
@@ -15,6 +18,32 @@ pub enum Source {
     Domain,
     /// The problem's text.
     Problem,
+}
+
+/// A fault of a text, with the place of its first byte there, counted from 0.
+#[derive(Debug, PartialEq, Eq, Drop)]
+pub enum Fault {
+    /// A name that is not declared or is declared twice, or a type on a cycle.
+    OfName(NameFault),
+    /// A predicate or a function with more or fewer arguments than it has parameters.
+    WrongArity(Name, usize),
+    /// An argument whose type is not the parameter's and no subtype of it. A variable's name has its `?`.
+    WrongType(Name, usize),
+    /// A wrong use of the metric's function.
+    OfMetric(BadMetric),
+    /// The problem belongs to a domain of another name.
+    DomainMismatch(usize),
+    /// A first value out of the range.
+    InitOutOfRange(usize),
+}
+
+/// Why a part could not be checked to its end.
+#[derive(Debug, PartialEq, Eq, Drop)]
+pub enum Stop {
+    /// The first fault.
+    At(Fault),
+    /// Memory ran out.
+    NoMemory,
 }
 
 /// Why a domain and a problem are not accepted.
@@ -37,6 +66,21 @@ impl fmt::Display for Source {
     }
 }
 
+impl fmt::Display for Fault {
+    ghost output = { λ fault. Some (text_of fault) };
+
+    fn fmt<W: fmt::Write>(&self, f: &mut fmt::Formatter<W>) -> fmt::Result {
+        match self {
+            Fault::OfName(fault) => write!(f, "{fault}"),
+            Fault::WrongArity(name, at) => write!(f, "10 WrongArity({name}, {at})"),
+            Fault::WrongType(name, at) => write!(f, "11 WrongType({name}, {at})"),
+            Fault::OfMetric(fault) => write!(f, "{fault}"),
+            Fault::DomainMismatch(at) => write!(f, "14 DomainMismatch({at})"),
+            Fault::InitOutOfRange(at) => write!(f, "18 InitOutOfRange({at})"),
+        }
+    }
+}
+
 impl fmt::Display for CheckError {
     ghost output = { λ error. Some (error_text error) };
 
@@ -45,6 +89,33 @@ impl fmt::Display for CheckError {
             CheckError::In(source, fault) => write!(f, "{source}{fault}"),
             CheckError::NoMemory => write!(f, "NoMemory"),
         }
+    }
+}
+
+impl From<NameStop> for Stop {
+    ghost from_gives = { λ told stop. stop ≡ of_names told };
+
+    fn from(told: NameStop) -> Stop {
+        match told {
+            NameStop::At(fault) => Stop::At(Fault::OfName(fault)),
+            NameStop::NoMemory => Stop::NoMemory,
+        }
+    }
+}
+
+impl From<AllocError> for Stop {
+    ghost from_gives = { λ _ stop. stop ≡ stops.NoMemory };
+
+    fn from(_error: AllocError) -> Stop {
+        Stop::NoMemory
+    }
+}
+
+impl<T: Drop> From<AllocFailed<T>> for Stop {
+    ghost from_gives = { λ _ stop. stop ≡ stops.NoMemory };
+
+    fn from(_error: AllocFailed<T>) -> Stop {
+        Stop::NoMemory
     }
 }
 

@@ -1,17 +1,18 @@
 //! What holds at first.
 ghost use Rattle.std.specs.Prelude.{◌≡◌, IfOk};
 ghost use Rattle.hd_base.specs.Answers.{Checks};
-ghost use Rattle.hd_names.specs.Fault.{StopsAt};
+ghost use Rattle.hd_check.specs.Fault.{StopsAt};
 ghost use Rattle.hd_check.specs.Initial.{no_parameters, object_in, ground_form, range_fault};
 ghost use Rattle.hd_check.specs.Initial.{LiftsGround, Notes, LiftsFluent, NotesFluent, Gathers, NotesSaid, GathersAtoms, GathersValues, LiftsInitial};
 
 use crate::context::Context;
 use crate::effects::is_metric;
+use crate::fault::{Fault, Stop};
 use crate::keys::Keys;
 use crate::terms::applied_of;
 use hd_base::{Sequence, Tuple, in_range};
 use hd_lifted::{Applied, Argument, Ground, InitialValue};
-use hd_names::{Fault, Scope, Stop, Table, duplicate};
+use hd_names::{Scope, Table, duplicate};
 use hd_pddl::Init;
 use hd_terms::{Atom, ItemKind};
 use smallvec::SmallVec;
@@ -89,13 +90,14 @@ fn check_range(value: &hd_pddl::InitialValue) -> Result<(), Stop>
 }
 
 /// Asks that a fluent has no value yet, and notes that it has one now.
+#[tactic(auto, using(crate::proofs::Telling::stops_part))]
 fn note_value(alloc: Global, given: &mut Keys, fluent: &Ground, said: &Atom) -> Result<(), Stop>
     ensures { Notes result given.old given.new fluent.now said.now }
 {
     if given.add(alloc, fluent)? {
         Ok(())
     } else {
-        Err(duplicate(alloc, ItemKind::Name, &said.name))
+        Err(Stop::from(duplicate(alloc, ItemKind::Name, &said.name)))
     }
 }
 

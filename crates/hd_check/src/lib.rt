@@ -17,6 +17,5 @@ mod schemas;
 mod terms;
 
 pub use checking::check;
-pub use fault::{CheckError, Source};
+pub use fault::{CheckError, Fault, Source};
 pub use hd_lifted::Checked;
-pub use hd_names::Fault;

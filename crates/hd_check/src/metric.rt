@@ -1,16 +1,18 @@
 //! The metric's name.
 ghost use Rattle.hd_base.specs.Answers.{Checks};
-ghost use Rattle.hd_names.specs.Fault.{StopsAt};
+ghost use Rattle.hd_check.specs.Fault.{StopsAt};
 ghost use Rattle.hd_check.specs.MetricName.{metric_name_fault};
 
+use crate::fault::Stop;
 use crate::terms::{parameters_at, wrong_arity};
 use hd_base::Sequence;
 use hd_forms::NameAt;
-use hd_names::{Stop, Table, known};
+use hd_names::{Table, known};
 use hd_terms::ItemKind;
 use std::alloc::Global;
 
 /// Asks that the metric's function is declared, without parameters.
+#[tactic(auto, using(crate::proofs::Telling::stops_first))]
 pub fn check_metric_name(
     alloc: Global,
     functions: &Table<Sequence<usize>>,

@@ -6,9 +6,10 @@ ghost use Rattle.hd_check.specs.Schemas.{body_fault, body_of, schema_by, action_
 use crate::conditions::condition_of;
 use crate::context::Context;
 use crate::effects::{Effects, effects_of};
+use crate::fault::Stop;
 use hd_base::{Name, Sequence};
 use hd_lifted::{Condition, Schema};
-use hd_names::{Scope, Stop, Table, declare, table_of};
+use hd_names::{Scope, Table, declare, table_of};
 use hd_pddl::Action;
 use hd_terms::ItemKind;
 use std::alloc::{AllocError, Global};
@@ -92,7 +93,7 @@ fn schema_with(
 }
 
 /// What an action stands for.
-#[tactic(auto, unfolding(crate::specs::Schemas::lifted_schema, crate::specs::Schemas::action_fault))]
+#[tactic(auto, unfolding(crate::specs::Schemas::lifted_schema, crate::specs::Schemas::action_fault), using(crate::proofs::Telling::stops_first))]
 fn schema_of(alloc: Global, scope: &Scope, action: &Action) -> Result<Schema, Stop>
     ensures { LiftsIn result action_fault lifted_schema scope.now action.now }
 {
@@ -102,6 +103,7 @@ fn schema_of(alloc: Global, scope: &Scope, action: &Action) -> Result<Schema, St
 }
 
 /// What actions stand for, in their order.
+#[tactic(auto, using(crate::proofs::Telling::stops_first))]
 pub fn schemas_of(
     alloc: Global,
     scope: &Scope,

@@ -1,19 +1,21 @@
 //! Terms, atoms and fluents.
 ghost use Rattle.std.specs.Prelude.{◌≡◌, Some, length};
-ghost use Rattle.hd_names.specs.Fault.{StopsAt};
+ghost use Rattle.hd_check.specs.Fault.{StopsAt};
 ghost use Rattle.hd_check.specs.Lifting.{Lifts, within};
 ghost use Rattle.hd_check.specs.Terms.{lifted_term, term_fault, type_at, wrong_type, parameters_at, LiftsArgument, LiftsArguments, LiftsApplied};
-ghost use Rattle.hd_names.specs.declared.fault.Fault.TheVariants.{WrongArity};
+ghost use Rattle.hd_check.specs.declared.fault.Fault.TheVariants.{WrongArity};
 
 use crate::context::Context;
+use crate::fault::{Fault, Stop};
 use hd_base::Sequence;
 use hd_forms::NameAt;
 use hd_lifted::{Applied, Argument};
-use hd_names::{Fault, Stop, Table, known, spelled};
+use hd_names::{Table, known, spelled};
 use hd_terms::{Atom, ItemKind, Term};
 use std::alloc::Global;
 
 /// What a term stands for.
+#[tactic(auto, using(crate::proofs::Telling::stops_part))]
 pub fn term_of(alloc: Global, context: Context<'_>, term: &Term) -> Result<Argument, Stop>
     ensures { Lifts result term_fault lifted_term context.entry term.now }
 {
@@ -120,6 +122,7 @@ pub fn wrong_arity(alloc: Global, name: &NameAt) -> Stop
 }
 
 /// What an atom, or a fluent, stands for, by the predicates or the functions.
+#[tactic(auto, using(crate::proofs::Telling::stops_first))]
 pub fn applied_of(
     alloc: Global,
     symbols: &Table<Sequence<usize>>,

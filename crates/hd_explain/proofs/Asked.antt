@@ -29,7 +29,8 @@ use Rattle.hd_judge.proofs.Asked.{IsMetBy, IsTaken, IsGoalMet, met-holds, unaske
 use Rattle.hd_explain.specs.declared.reason.Reason.{Reason}
 use Rattle.hd_explain.specs.declared.reason.Reason.TheVariants as reasons
 use Rattle.hd_explain.specs.Reasons.{IsReasonOfLiterals, IsReasonOfComparisons, HoldWithin}
-use Rattle.hd_explain.specs.EffectReasons.{amount_stays, new_value_stays, IsReasonOfEffects, StaysWithin}
+use Rattle.hd_judge.specs.Effects.{amount_stays}
+use Rattle.hd_explain.specs.EffectReasons.{new_value_stays, IsReasonOfEffects, StaysWithin}
 use Rattle.hd_explain.specs.Steps.{IsReasonOfStep, GoesThrough, IsReasonOfGoal, GoalIsMet}
 use Rattle.hd_explain.specs.Plans.{fault_of, is_explained}
 use Rattle.hd_explain.proofs.Finding.{fails_where_some, both_first, both_second}

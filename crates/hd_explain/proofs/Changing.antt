@@ -15,8 +15,8 @@ use Rattle.hd_lifted.specs.Effects.{is_cost, with_effect, value_after, effect_st
 use Rattle.hd_kept.proofs.Sound.{same-refl}
 use Rattle.hd_kept.proofs.Passing.{passes-from_all}
 use Rattle.hd_judge.specs.declared.changes.Changes.{Changes}
-use Rattle.hd_judge.specs.Effects.{AreChangesOf, changes_fluent, new_value_in, change_fits}
-use Rattle.hd_explain.specs.EffectReasons.{amount_stays, new_value_stays, leaving_effect}
+use Rattle.hd_judge.specs.Effects.{AreChangesOf, amount_stays, changes_fluent, new_value_in, change_fits}
+use Rattle.hd_explain.specs.EffectReasons.{new_value_stays, leaving_effect}
 
 -- tests that agree on the elements find the same
 find_same : {X : Type 0} (p q : X → Bool) (xs : List X) → ((x : X) → Contains xs x → p x ≡ q x) → find p xs ≡ find q xs

@@ -6,7 +6,6 @@ use Rattle.hd_lifted.specs.declared.schema.NumericEffect.{NumericEffect}
 use Rattle.hd_lifted.specs.declared.schema.Schema.{Schema}
 use Rattle.hd_lifted.specs.declared.task.LiftedTask.{LiftedTask}
 use Rattle.hd_lifted.specs.States.{Values, ground_form_of}
-use Rattle.hd_lifted.specs.Expressions.{stays_in_range}
 use Rattle.hd_lifted.specs.Effects.{is_cost, value_after, effects_stay, step_cost, is_negative}
 use Rattle.hd_lifted.specs.Steps.{Reached, cost_after}
 use Rattle.hd_explain.specs.declared.reason.Reason.{Reason}
@@ -15,12 +14,8 @@ use Rattle.hd_explain.specs.declared.reason.StepCost.{StepCost}
 use Rattle.hd_explain.specs.declared.reason.NewValue.{NewValue}
 use Rattle.hd_explain.specs.declared.reason.Departure.{Departure}
 use Rattle.hd_judge.specs.declared.changes.Changes.{Changes}
-use Rattle.hd_judge.specs.Effects.{change_fits, new_value_in}
+use Rattle.hd_judge.specs.Effects.{amount_stays, change_fits, new_value_in}
 use Rattle.hd_explain.specs.Departures.{IsDeparture}
-
--- each subexpression of an effect's amount is in the range
-abbrev pub amount_stays : Values → List ℕ → NumericEffect → Bool
-amount_stays v objects e = stays_in_range v objects e.amount
 
 -- the first effect whose amount has a subexpression out of the range
 abbrev pub departing_effect : Values → List ℕ → List NumericEffect → Option NumericEffect

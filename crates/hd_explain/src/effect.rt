@@ -3,9 +3,9 @@ ghost use Rattle.std.specs.Prelude.{◌≡◌, true, false, is_some, if◌then�
 ghost use Rattle.std.specs.List.{list_all};
 ghost use Rattle.hd_lifted.specs.Effects.{effects_clash};
 ghost use Rattle.hd_kept.specs.Met.{met_by_effect};
-ghost use Rattle.hd_judge.specs.Effects.{HaveValues, AreChangesOf};
+ghost use Rattle.hd_judge.specs.Effects.{HaveValues, AreChangesOf, amount_stays};
 ghost use Rattle.hd_judge.specs.Tables.{reached_in};
-ghost use Rattle.hd_explain.specs.EffectReasons.{amount_stays, ExplainsAmount, ExplainsAmounts, JudgesLeaving, ExplainsValues, ExplainsCost, IsReasonOfEffects, StaysWithin};
+ghost use Rattle.hd_explain.specs.EffectReasons.{ExplainsAmount, ExplainsAmounts, JudgesLeaving, ExplainsValues, ExplainsCost, IsReasonOfEffects, StaysWithin};
 
 use crate::reading::is_cost;
 use crate::reason::{Departure, NewValue, Reason, StepCost};

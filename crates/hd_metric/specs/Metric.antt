@@ -2,6 +2,7 @@
 -- amount. (Our own.)
 use Rattle.std.specs.Prelude.{ℕ, nat_abs, ◌==◌, Bool, false, not, ◌&&◌, if◌then◌else◌, List, [], ◌∷◌, Option, Some, None}
 use Rattle.std.specs.List.{list_any}
+use Rattle.std.specs.Option.{option_map}
 use Rattle.std.specs.Str.{bytes_eq}
 use Rattle.hd_forms.specs.declared.names.NameAt.{NameAt}
 use Rattle.hd_forms.specs.declared.word.Change.{Change}
@@ -20,6 +21,7 @@ use Rattle.hd_pddl.specs.declared.tree.ProblemAst.{ProblemAst}
 use Rattle.hd_pddl.specs.declared.tree.Init.{Init}
 use Rattle.hd_pddl.specs.declared.tree.Init.TheVariants as inits
 use Rattle.hd_base.specs.Options.{◌or◌}
+use Rattle.hd_metric.specs.declared.fault.BadMetric.{BadMetric}
 
 -- ---- the first place where the function f is used as it may not be
 
@@ -99,12 +101,21 @@ missing_in m is = if list_any (is_value_of m.name) is then None else Some m.at
 
 -- ---- the whole
 
--- the first place in a domain where the metric's function is misused
-abbrev pub misused_in_domain : Option NameAt → DomainAst → Option ℕ
-misused_in_domain None d = None
-misused_in_domain (Some m) d = misused_by_actions m.name d.actions
+-- the wrong use that is at this place
+abbrev pub bad_metric : ℕ → BadMetric
+bad_metric at = record { at = at }
 
--- the first such place in a problem: a first value that is not 0, the goal, and the metric where there is no first value
-abbrev pub misused_in_problem : Option NameAt → ProblemAst → Option ℕ
+-- the first place in a problem where the metric's function is misused: a first value that is not 0, the goal, and the metric where
+-- there is no first value
+abbrev pub misused_by_problem : NameAt → ProblemAst → Option ℕ
+misused_by_problem m p = nonzero_in m.name p.init or read_by_condition m.name p.goal or missing_in m p.init
+
+-- the first misuse of the metric's function in a domain
+abbrev pub misused_in_domain : Option NameAt → DomainAst → Option BadMetric
+misused_in_domain None d = None
+misused_in_domain (Some m) d = option_map bad_metric (misused_by_actions m.name d.actions)
+
+-- the first such misuse in a problem
+abbrev pub misused_in_problem : Option NameAt → ProblemAst → Option BadMetric
 misused_in_problem None p = None
-misused_in_problem (Some m) p = nonzero_in m.name p.init or read_by_condition m.name p.goal or missing_in m p.init
+misused_in_problem (Some m) p = option_map bad_metric (misused_by_problem m p)

@@ -1,8 +1,10 @@
 //! How a metric's function may be used.
 ghost use Rattle.std.specs.Prelude.{◌≡◌};
 ghost use Rattle.std.specs.List.{list_any};
-ghost use Rattle.hd_metric.specs.Metric.{read_in, read_by_part, read_by_condition, change_of_metric, misused_by_part, misused_by_effect, misused_by_action, misused_by_actions, is_value_of, nonzero_at, nonzero_in, missing_in, misused_in_domain, misused_in_problem};
+ghost use Rattle.std.specs.Option.{option_map};
+ghost use Rattle.hd_metric.specs.Metric.{read_in, read_by_part, read_by_condition, change_of_metric, misused_by_part, misused_by_effect, misused_by_action, misused_by_actions, is_value_of, nonzero_at, nonzero_in, missing_in, bad_metric, misused_by_problem, misused_in_domain, misused_in_problem};
 
+use crate::fault::BadMetric;
 use hd_base::Name;
 use hd_forms::{Change, NameAt};
 use hd_pddl::{Action, DomainAst, Init, ProblemAst};
@@ -197,29 +199,46 @@ fn missing_in(metric: &NameAt, init: &[Init]) -> Option<usize>
     }
 }
 
-/// The first place in a domain where the metric's function is misused.
-pub fn misused_in_domain(metric: &Option<NameAt>, domain: &DomainAst) -> Option<usize>
+/// The first place in a problem where the metric's function is misused.
+fn misused_by_problem(metric: &NameAt, problem: &ProblemAst) -> Option<usize>
+    ensures { result ≡ misused_by_problem metric.now problem.now }
+{
+    let init = problem.init.as_slice();
+    if let Some(at) = nonzero_in(&metric.name, init) {
+        return Some(at);
+    }
+    if let Some(at) = read_by_condition(&metric.name, problem.goal.as_slice()) {
+        return Some(at);
+    }
+    missing_in(metric, init)
+}
+
+/// The misuse that is at this place, if there is one.
+fn bad_metric(place: Option<usize>) -> Option<BadMetric>
+    ensures { result ≡ option_map bad_metric place }
+{
+    match place {
+        Some(at) => Some(BadMetric { at }),
+        None => None,
+    }
+}
+
+/// The first misuse of the metric's function in a domain.
+pub fn misused_in_domain(metric: &Option<NameAt>, domain: &DomainAst) -> Option<BadMetric>
     ensures { result ≡ misused_in_domain metric.now domain.now }
 {
     let Some(name) = metric else {
         return None;
     };
-    misused_by_actions(&name.name, domain.actions.as_slice())
+    bad_metric(misused_by_actions(&name.name, domain.actions.as_slice()))
 }
 
-/// The first such place in a problem.
-pub fn misused_in_problem(metric: &Option<NameAt>, problem: &ProblemAst) -> Option<usize>
+/// The first such misuse in a problem.
+pub fn misused_in_problem(metric: &Option<NameAt>, problem: &ProblemAst) -> Option<BadMetric>
     ensures { result ≡ misused_in_problem metric.now problem.now }
 {
     let Some(name) = metric else {
         return None;
     };
-    let init = problem.init.as_slice();
-    if let Some(at) = nonzero_in(&name.name, init) {
-        return Some(at);
-    }
-    if let Some(at) = read_by_condition(&name.name, problem.goal.as_slice()) {
-        return Some(at);
-    }
-    missing_in(name, init)
+    bad_metric(misused_by_problem(name, problem))
 }

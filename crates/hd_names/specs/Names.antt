@@ -9,9 +9,9 @@ use Rattle.hd_forms.specs.declared.names.NameAt.{NameAt}
 use Rattle.hd_terms.specs.declared.typed.ItemKind.{ItemKind}
 use Rattle.hd_terms.specs.declared.typed.ItemKind.TheVariants as kinds
 use Rattle.hd_terms.specs.declared.tree.Typed.{Typed}
-use Rattle.hd_names.specs.declared.fault.Fault.{Fault}
-use Rattle.hd_names.specs.declared.fault.Fault.TheVariants.{UnknownName, Duplicate}
-use Rattle.hd_names.specs.declared.fault.Stop.{Stop}
+use Rattle.hd_names.specs.declared.fault.NameFault.{NameFault}
+use Rattle.hd_names.specs.declared.fault.NameFault.TheVariants.{UnknownName, Duplicate}
+use Rattle.hd_names.specs.declared.fault.NameStop.{NameStop}
 use Rattle.hd_names.specs.Fault.{StopsAt}
 
 -- the names with one more, if it is none of them yet
@@ -33,15 +33,15 @@ spelled kinds.Name n = n
 spelled kinds.Variable n = 63 ∷ n
 
 -- a name that is used has to be one of these
-abbrev pub unknown_in : ItemKind → List (List ℕ) → NameAt → Option Fault
+abbrev pub unknown_in : ItemKind → List (List ℕ) → NameAt → Option NameFault
 unknown_in k names n = if is_named names n.name then None else Some (UnknownName (spelled k n.name) n.at)
 
 -- a name that is declared can't be one of these
-abbrev pub duplicate_in : ItemKind → List (List ℕ) → NameAt → Option Fault
+abbrev pub duplicate_in : ItemKind → List (List ℕ) → NameAt → Option NameFault
 duplicate_in k names n = if is_named names n.name then Some (Duplicate (spelled k n.name) n.at) else None
 
 -- a type, where one is given, has to be one of these
-abbrev pub unknown_type : List (List ℕ) → Option NameAt → Option Fault
+abbrev pub unknown_type : List (List ℕ) → Option NameAt → Option NameFault
 unknown_type types None = None
 unknown_type types (Some n) = unknown_in kinds.Name types n
 
@@ -51,7 +51,7 @@ type_number types None = 0
 type_number types (Some n) = number_in types n.name
 
 -- the first fault of declared names behind others: of each its name comes before its type
-abbrev pub declared_fault : ItemKind → List (List ℕ) → List (List ℕ) → List Typed → Option Fault
+abbrev pub declared_fault : ItemKind → List (List ℕ) → List (List ℕ) → List Typed → Option NameFault
 declared_fault k types names [] = None
 declared_fault k types names (t ∷ ts) =
     duplicate_in k names t.name or unknown_type types t.of or declared_fault k types (names ++ t.name.name ∷ []) ts
@@ -67,22 +67,22 @@ types_of types ts = map (λ t. type_number types t.of) ts
 -- ---- what calls answer: a value where there is no fault, else a stop at the fault
 
 -- a name that is used is known by its number
-abbrev pub Knows : Result ℕ Stop → ItemKind → List (List ℕ) → NameAt → Type 0
+abbrev pub Knows : Result ℕ NameStop → ItemKind → List (List ℕ) → NameAt → Type 0
 Knows result k names n = Checks StopsAt result (unknown_in k names n) (number_in names n.name)
 
 -- so is a type, where one is given
-abbrev pub KnowsType : Result ℕ Stop → List (List ℕ) → Option NameAt → Type 0
+abbrev pub KnowsType : Result ℕ NameStop → List (List ℕ) → Option NameAt → Type 0
 KnowsType result types n = Checks StopsAt result (unknown_type types n) (type_number types n)
 
 -- one name more is declared behind the old ones, and leaves the new ones
-abbrev pub Declares : {R : Type 0} → Result R Stop → List (List ℕ) → ItemKind → List (List ℕ) → NameAt → Type 0
+abbrev pub Declares : {R : Type 0} → Result R NameStop → List (List ℕ) → ItemKind → List (List ℕ) → NameAt → Type 0
 Declares result new k old n = ChecksInto StopsAt result new (duplicate_in k old n) (old ++ n.name ∷ [])
 
 -- names with their types are declared behind the old ones, and leave the new ones
 abbrev pub DeclaresNames
-    : {R : Type 0} → Result R Stop → List (List ℕ) → ItemKind → List (List ℕ) → List (List ℕ) → List Typed → Type 0
+    : {R : Type 0} → Result R NameStop → List (List ℕ) → ItemKind → List (List ℕ) → List (List ℕ) → List Typed → Type 0
 DeclaresNames result new k types old ts = ChecksInto StopsAt result new (declared_fault k types old ts) (old ++ names_of ts)
 
 -- so they give the numbers of their types
-abbrev pub DeclaresTypes : Result (List ℕ) Stop → ItemKind → List (List ℕ) → List (List ℕ) → List Typed → Type 0
+abbrev pub DeclaresTypes : Result (List ℕ) NameStop → ItemKind → List (List ℕ) → List (List ℕ) → List Typed → Type 0
 DeclaresTypes result k types names ts = Checks StopsAt result (declared_fault k types names ts) (types_of types ts)

@@ -12,10 +12,10 @@ use Rattle.hd_pddl.specs.declared.tree.DomainAst.{DomainAst}
 use Rattle.hd_pddl.specs.declared.tree.Signature.{Signature}
 use Rattle.hd_names.specs.declared.scope.Scope.{Scope}
 use Rattle.hd_names.specs.declared.table.Table.{Table}
-use Rattle.hd_names.specs.declared.fault.Fault.{Fault}
-use Rattle.hd_names.specs.declared.fault.Fault.TheVariants.{TypeCycle}
-use Rattle.hd_names.specs.declared.fault.Stop.{Stop}
-use Rattle.hd_names.specs.declared.fault.Stop.TheVariants as stops
+use Rattle.hd_names.specs.declared.fault.NameFault.{NameFault}
+use Rattle.hd_names.specs.declared.fault.NameFault.TheVariants.{TypeCycle}
+use Rattle.hd_names.specs.declared.fault.NameStop.{NameStop}
+use Rattle.hd_names.specs.declared.fault.NameStop.TheVariants as stops
 use Rattle.hd_lifted.specs.Types.{IsOnCycle, IsAcyclic}
 use Rattle.hd_names.specs.Fault.{StopsAt}
 use Rattle.hd_names.specs.Names.{with_name, names_of, types_of, declared_fault, duplicate_in}
@@ -45,7 +45,7 @@ abbrev pub parents_of : List Typed → List ℕ
 parents_of ts = types_of (type_names ts) ts ++ parents_of_others ts
 
 -- a listed type that lies on a cycle: the types are numbered from 1 as they are listed
-pub record TellsCycle (ts : List Typed) (f : Fault) : Type 0 where
+pub record TellsCycle (ts : List Typed) (f : NameFault) : Type 0 where
   pub place : ℕ
   pub listed : Typed
   pub stands : slice_get ts place ≡ Some listed
@@ -53,17 +53,17 @@ pub record TellsCycle (ts : List Typed) (f : Fault) : Type 0 where
   pub fault : f ≡ TypeCycle listed.name.name listed.name.at
 
 -- the stop is at a type on a cycle; want of memory says nothing
-abbrev pub StopsOnCycle : Stop → List Typed → Type 0
+abbrev pub StopsOnCycle : NameStop → List Typed → Type 0
 StopsOnCycle (stops.At f) ts = TellsCycle ts f
 StopsOnCycle stops.NoMemory ts = Unit {0}
 
 -- the hierarchy of the types, or a type on a cycle; want of memory says nothing
-abbrev pub Climbs : Result (List ℕ) Stop → List Typed → Type 0
+abbrev pub Climbs : Result (List ℕ) NameStop → List Typed → Type 0
 Climbs (Ok h) ts = (h ≡ parents_of ts) × IsAcyclic (parents_of ts)
 Climbs (Err stop) ts = StopsOnCycle stop ts
 
 -- the first type that is listed twice, or is `object`
-abbrev pub types_fault : List (List ℕ) → List Typed → Option Fault
+abbrev pub types_fault : List (List ℕ) → List Typed → Option NameFault
 types_fault names [] = None
 types_fault names (t ∷ ts) = duplicate_in kinds.Name names t.name or types_fault (names ++ t.name.name ∷ []) ts
 
@@ -81,7 +81,7 @@ signature_table types ss = record {
 }
 
 -- the first fault of predicates, or of functions, behind others of these names: of each its name, then its parameters
-abbrev pub signatures_fault : List (List ℕ) → List (List ℕ) → List Signature → Option Fault
+abbrev pub signatures_fault : List (List ℕ) → List (List ℕ) → List Signature → Option NameFault
 signatures_fault types names [] = None
 signatures_fault types names (s ∷ ss) =
     duplicate_in kinds.Name names s.name or declared_fault kinds.Variable types [] s.parameters
@@ -117,7 +117,7 @@ with_objects s os = record {
 }
 
 -- the first fault of a domain's constants, predicates and functions
-unfoldable pub scope_fault : List (List ℕ) → DomainAst → Option Fault
+unfoldable pub scope_fault : List (List ℕ) → DomainAst → Option NameFault
 scope_fault types d =
     declared_fault kinds.Name types [] d.constants or signatures_fault types [] d.predicates
     or signatures_fault types [] d.functions
@@ -125,24 +125,24 @@ scope_fault types d =
 -- ---- what calls answer: a value where there is no fault, else a stop at the fault
 
 -- listed types are declared behind the old names, and leave the new ones
-abbrev pub DeclaresListed : {R : Type 0} → Result R Stop → List (List ℕ) → List (List ℕ) → List Typed → Type 0
+abbrev pub DeclaresListed : {R : Type 0} → Result R NameStop → List (List ℕ) → List (List ℕ) → List Typed → Type 0
 DeclaresListed result new old ts = ChecksInto StopsAt result new (types_fault old ts) (old ++ names_of ts)
 
 -- the names of all types
-abbrev pub ChecksTypes : Result (List (List ℕ)) Stop → List Typed → Type 0
+abbrev pub ChecksTypes : Result (List (List ℕ)) NameStop → List Typed → Type 0
 ChecksTypes result ts = Checks StopsAt result (types_fault (codes "object" ∷ []) ts) (type_names ts)
 
 -- the table of declared names, and of predicates or functions
-abbrev pub ChecksTable : Result (Table ℕ) Stop → ItemKind → List (List ℕ) → List Typed → Type 0
+abbrev pub ChecksTable : Result (Table ℕ) NameStop → ItemKind → List (List ℕ) → List Typed → Type 0
 ChecksTable result k types ts = Checks StopsAt result (declared_fault k types [] ts) (typed_table types ts)
 
-abbrev pub ChecksSignatures : Result (Table (List ℕ)) Stop → List (List ℕ) → List Signature → Type 0
+abbrev pub ChecksSignatures : Result (Table (List ℕ)) NameStop → List (List ℕ) → List Signature → Type 0
 ChecksSignatures result types ss = Checks StopsAt result (signatures_fault types [] ss) (signature_table types ss)
 
 -- the scope of a domain, and that scope with objects behind its constants
-abbrev pub ChecksScope : Result Scope Stop → List (List ℕ) → List ℕ → DomainAst → Option NameAt → Type 0
+abbrev pub ChecksScope : Result Scope NameStop → List (List ℕ) → List ℕ → DomainAst → Option NameAt → Type 0
 ChecksScope result types parents d metric = Checks StopsAt result (scope_fault types d) (scope_of types parents d metric)
 
-abbrev pub ChecksObjects : Result Scope Stop → Scope → List Typed → Type 0
+abbrev pub ChecksObjects : Result Scope NameStop → Scope → List Typed → Type 0
 ChecksObjects result s os =
     Checks StopsAt result (declared_fault kinds.Name s.types s.objects.names os) (with_objects s os)

@@ -4,7 +4,7 @@ ghost use Rattle.hd_terms.specs.declared.typed.ItemKind.TheVariants as kinds;
 ghost use Rattle.hd_names.specs.Names.{DeclaresNames, DeclaresTypes};
 ghost use Rattle.hd_names.specs.Scope.{ChecksTable, ChecksSignatures};
 
-use crate::fault::Stop;
+use crate::fault::NameStop;
 use crate::names::{Names, declare, type_of};
 use crate::table::Table;
 use hd_base::Sequence;
@@ -19,7 +19,7 @@ pub fn declare_all(
     types: &Names,
     names: &mut Names,
     declared: &[Typed],
-) -> Result<Sequence<usize>, Stop>
+) -> Result<Sequence<usize>, NameStop>
     ensures names { DeclaresNames result names.new kind types.now names.old declared.now }
     ensures types { DeclaresTypes result kind types.now names.old declared.now }
 {
@@ -39,7 +39,7 @@ pub fn table_of(
     kind: ItemKind,
     types: &Names,
     declared: &[Typed],
-) -> Result<Table<usize>, Stop>
+) -> Result<Table<usize>, NameStop>
     ensures { ChecksTable result kind types.now declared.now }
 {
     let mut names = types.none_alike(alloc);
@@ -52,7 +52,7 @@ fn parameter_types(
     alloc: Global,
     types: &Names,
     declared: &[Typed],
-) -> Result<Sequence<usize>, Stop>
+) -> Result<Sequence<usize>, NameStop>
     ensures { DeclaresTypes result kinds.Variable types.now [] declared.now }
 {
     let mut names = types.none_alike(alloc);
@@ -64,7 +64,7 @@ pub fn signatures_of(
     alloc: Global,
     types: &Names,
     declared: &[Signature],
-) -> Result<Table<Sequence<usize>>, Stop>
+) -> Result<Table<Sequence<usize>>, NameStop>
     ensures { ChecksSignatures result types.now declared.now }
 {
     let mut names = types.none_alike(alloc);

@@ -1,5 +1,5 @@
-//! What the names of a domain and a problem stand for: types, objects, predicates and functions by number; and the faults that
-//! a check tells.
+//! What the names of a domain and a problem stand for: types, objects, predicates and functions by number; and the faults of
+//! names.
 #![tactic(auto)]
 
 mod declared;
@@ -10,7 +10,7 @@ mod table;
 mod types;
 
 pub use declared::table_of;
-pub use fault::{Fault, Stop};
+pub use fault::{NameFault, NameStop};
 pub use names::{Names, declare, duplicate, known, spelled};
 pub use scope::{Scope, scope_of, with_objects};
 pub use table::Table;

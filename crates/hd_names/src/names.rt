@@ -5,9 +5,9 @@ ghost use Rattle.std.specs.Str.{bytes_eq};
 ghost use Rattle.hd_base.specs.Names.{is_named};
 ghost use Rattle.hd_names.specs.Fault.{StopsAt};
 ghost use Rattle.hd_names.specs.Names.{number_in, spelled, with_name, Knows, KnowsType, Declares};
-ghost use Rattle.hd_names.specs.declared.fault.Fault.TheVariants.{UnknownName, Duplicate};
+ghost use Rattle.hd_names.specs.declared.fault.NameFault.TheVariants.{UnknownName, Duplicate};
 
-use crate::fault::{Fault, Stop};
+use crate::fault::{NameFault, NameStop};
 use hd_base::{Name, Seed};
 use hd_forms::NameAt;
 use hd_terms::{ItemKind, TypeName};
@@ -107,27 +107,27 @@ pub fn spelled(alloc: Global, kind: ItemKind, name: &Name) -> Result<Name, Alloc
 }
 
 /// Tells that a name is not declared.
-fn unknown(alloc: Global, kind: ItemKind, name: &NameAt) -> Stop
+fn unknown(alloc: Global, kind: ItemKind, name: &NameAt) -> NameStop
     ensures { StopsAt result (Some (UnknownName (spelled kind name.now.name) name.now.at)) }
 {
     match spelled(alloc, kind, &name.name) {
-        Ok(spelling) => Stop::At(Fault::UnknownName(spelling, name.at)),
-        Err(_) => Stop::NoMemory,
+        Ok(spelling) => NameStop::At(NameFault::UnknownName(spelling, name.at)),
+        Err(_) => NameStop::NoMemory,
     }
 }
 
 /// Tells that a name is declared twice.
-pub fn duplicate(alloc: Global, kind: ItemKind, name: &NameAt) -> Stop
+pub fn duplicate(alloc: Global, kind: ItemKind, name: &NameAt) -> NameStop
     ensures { StopsAt result (Some (Duplicate (spelled kind name.now.name) name.now.at)) }
 {
     match spelled(alloc, kind, &name.name) {
-        Ok(spelling) => Stop::At(Fault::Duplicate(spelling, name.at)),
-        Err(_) => Stop::NoMemory,
+        Ok(spelling) => NameStop::At(NameFault::Duplicate(spelling, name.at)),
+        Err(_) => NameStop::NoMemory,
     }
 }
 
 /// The number of a name that is used.
-pub fn known(alloc: Global, kind: ItemKind, names: &Names, name: &NameAt) -> Result<usize, Stop>
+pub fn known(alloc: Global, kind: ItemKind, names: &Names, name: &NameAt) -> Result<usize, NameStop>
     ensures { Knows result kind names.now name.now }
 {
     match names.place_of(&name.name) {
@@ -137,7 +137,12 @@ pub fn known(alloc: Global, kind: ItemKind, names: &Names, name: &NameAt) -> Res
 }
 
 /// One name more, which can't be one of them yet.
-pub fn declare(alloc: Global, kind: ItemKind, names: &mut Names, name: &NameAt) -> Result<(), Stop>
+pub fn declare(
+    alloc: Global,
+    kind: ItemKind,
+    names: &mut Names,
+    name: &NameAt,
+) -> Result<(), NameStop>
     ensures { Declares result names.new kind names.old name.now }
 {
     if names.add(alloc, &name.name)? {
@@ -148,7 +153,7 @@ pub fn declare(alloc: Global, kind: ItemKind, names: &mut Names, name: &NameAt) 
 }
 
 /// The number of a type that is named: `object`, which is 0, where none is.
-pub fn type_of(alloc: Global, types: &Names, of: &Option<TypeName>) -> Result<usize, Stop>
+pub fn type_of(alloc: Global, types: &Names, of: &Option<TypeName>) -> Result<usize, NameStop>
     ensures { KnowsType result types.now of.now }
 {
     match of {

@@ -3,7 +3,7 @@ ghost use Rattle.std.specs.Prelude.{◌≡◌};
 ghost use Rattle.hd_names.specs.Scope.{metric_in, ChecksScope, ChecksObjects};
 
 use crate::declared::{declare_all, signatures_of, table_of};
-use crate::fault::Stop;
+use crate::fault::NameStop;
 use crate::names::Names;
 use crate::table::Table;
 use hd_base::Sequence;
@@ -51,7 +51,7 @@ pub fn scope_of(
     hierarchy: Hierarchy,
     domain: &DomainAst,
     metric: &Option<NameAt>,
-) -> Result<Scope, Stop>
+) -> Result<Scope, NameStop>
     ensures { ChecksScope result types hierarchy domain.now metric.now }
 {
     let objects = table_of(alloc, ItemKind::Name, &types, domain.constants.as_slice())?;
@@ -73,7 +73,7 @@ pub fn scope_of(
 /// # Errors
 /// The first fault of these objects.
 #[tactic(auto, unfolding(crate::specs::Scope::with_objects))]
-pub fn with_objects(alloc: Global, scope: Scope, declared: &[Typed]) -> Result<Scope, Stop>
+pub fn with_objects(alloc: Global, scope: Scope, declared: &[Typed]) -> Result<Scope, NameStop>
     ensures { ChecksObjects result scope declared.now }
 {
     let Scope {

@@ -4,9 +4,9 @@ ghost use Rattle.hd_lifted.specs.Types.{IsOnCycle};
 ghost use Rattle.hd_names.specs.Fault.{StopsAt};
 ghost use Rattle.hd_names.specs.Names.{type_number, types_of};
 ghost use Rattle.hd_names.specs.Scope.{with_supertype, with_supertypes, type_names, parents_of, DeclaresListed, ChecksTypes, StopsOnCycle, Climbs};
-ghost use Rattle.hd_names.specs.declared.fault.Fault.TheVariants.{TypeCycle};
+ghost use Rattle.hd_names.specs.declared.fault.NameFault.TheVariants.{TypeCycle};
 
-use crate::fault::{Fault, Stop};
+use crate::fault::{NameFault, NameStop};
 use crate::names::{Names, declare, spelled};
 use hd_base::{Name, Seed, Sequence};
 use hd_forms::NameAt;
@@ -51,7 +51,7 @@ fn add_supertypes(alloc: Global, names: &mut Names, listed: &[Typed]) -> Result<
 }
 
 /// The types that are listed, behind those that are there.
-fn declare_types(alloc: Global, names: &mut Names, listed: &[Typed]) -> Result<(), Stop>
+fn declare_types(alloc: Global, names: &mut Names, listed: &[Typed]) -> Result<(), NameStop>
     ensures { DeclaresListed result names.new names.old listed.now }
 {
     let mut rest = listed;
@@ -63,7 +63,7 @@ fn declare_types(alloc: Global, names: &mut Names, listed: &[Typed]) -> Result<(
 }
 
 /// The names of all types, by number, in a table that hashes by this seed.
-pub fn types_of(alloc: Global, seed: Seed, listed: &[Typed]) -> Result<Names, Stop>
+pub fn types_of(alloc: Global, seed: Seed, listed: &[Typed]) -> Result<Names, NameStop>
     ensures { ChecksTypes result listed.now }
 {
     let mut names = object_alone(alloc, seed)?;
@@ -98,17 +98,17 @@ pub fn numbers_of_types(
 }
 
 /// Tells that a type lies on a cycle.
-fn cycle_at(alloc: Global, name: &NameAt) -> Stop
+fn cycle_at(alloc: Global, name: &NameAt) -> NameStop
     ensures { StopsAt result (Some (TypeCycle name.now.name name.now.at)) }
 {
     match spelled(alloc, ItemKind::Name, &name.name) {
-        Ok(spelling) => Stop::At(Fault::TypeCycle(spelling, name.at)),
-        Err(_) => Stop::NoMemory,
+        Ok(spelling) => NameStop::At(NameFault::TypeCycle(spelling, name.at)),
+        Err(_) => NameStop::NoMemory,
     }
 }
 
 /// Tells that a listed type lies on a cycle, by its number.
-fn cycle_among(alloc: Global, listed: &[Typed], number: usize) -> Stop
+fn cycle_among(alloc: Global, listed: &[Typed], number: usize) -> NameStop
     requires on_cycle { IsOnCycle (parents_of listed.now) number }
     requires listed { (0 < number) × (number ≤ length listed.now) }
     ensures { StopsOnCycle result listed.now }
@@ -130,7 +130,7 @@ fn parents_of(alloc: Global, types: &Names, listed: &[Typed]) -> Result<Vec<usiz
 }
 
 /// The hierarchy of the types, of which none may lie on a cycle.
-pub fn hierarchy_of(alloc: Global, types: &Names, listed: &[Typed]) -> Result<Hierarchy, Stop>
+pub fn hierarchy_of(alloc: Global, types: &Names, listed: &[Typed]) -> Result<Hierarchy, NameStop>
     requires { types.now ≡ type_names listed.now }
     ensures { Climbs result listed.now }
 {

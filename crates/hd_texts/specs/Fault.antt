@@ -7,7 +7,6 @@ use Rattle.hd_check.specs.declared.fault.Source.{Source}
 use Rattle.hd_check.specs.declared.fault.CheckError.{CheckError}
 use Rattle.hd_check.specs.declared.fault.CheckError.TheVariants as checking
 use Rattle.hd_check.specs.Fault as checker
-use Rattle.hd_names.specs.Fault as names
 use Rattle.hd_ground.specs.declared.error.GroundError.{GroundError}
 use Rattle.hd_ground.specs.declared.error.GroundError.TheVariants as grounding
 use Rattle.hd_ground.specs.Error as grounder
@@ -17,7 +16,7 @@ use Rattle.hd_texts.specs.declared.fault.TaskFault.TheVariants.{Read, Check, Gro
 -- the printed form: which text, where it is of one, then the fault's own form
 abbrev pub text_of : TaskFault → List ℕ
 text_of (Read source error) = checker.source_text source ++ reader.text_of error
-text_of (Check source fault) = checker.source_text source ++ names.text_of fault
+text_of (Check source fault) = checker.source_text source ++ checker.text_of fault
 text_of (Ground error) = grounder.text_of error
 text_of NoMemory = codes "NoMemory"
 

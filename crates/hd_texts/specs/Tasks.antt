@@ -10,7 +10,7 @@ use Rattle.hd_pddl.specs.declared.tree.DomainAst.{DomainAst}
 use Rattle.hd_pddl.specs.declared.tree.ProblemAst.{ProblemAst}
 use Rattle.hd_check.specs.declared.fault.Source.{Source}
 use Rattle.hd_check.specs.declared.fault.Source.TheVariants.{Domain, Problem}
-use Rattle.hd_names.specs.declared.fault.Fault as checker
+use Rattle.hd_check.specs.declared.fault.Fault as checker
 use Rattle.hd_check.specs.declared.fault.CheckError.TheVariants.{In}
 use Rattle.hd_check.specs.Whole.{IsFaultless, lifted_task, Stands}
 use Rattle.hd_lifted.specs.declared.task.LiftedTask.{LiftedTask}

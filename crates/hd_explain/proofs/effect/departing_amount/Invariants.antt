@@ -1,7 +1,8 @@
 use Rattle.std.proofs.Common.{◌≡◌, length}
 use Rattle.std.specs.List.{list_all}
 use Rattle.hd_judge.specs.Tables.{reached_in}
-use Rattle.hd_explain.specs.EffectReasons.{amount_stays, departing_effect}
+use Rattle.hd_judge.specs.Effects.{amount_stays}
+use Rattle.hd_explain.specs.EffectReasons.{departing_effect}
 use Rattle.hd_explain.proofs.effect.departing_amount.Given as goal
 
 abbrev pub invariant-loop-rest : goal.invariant-loop-rest

@@ -5,7 +5,7 @@ use Rattle.std.specs.Str.{bytes_eq}
 use Rattle.hd_base.specs.Names.{is_named}
 use Rattle.hd_names.specs.Fault.{StopsAt}
 use Rattle.hd_names.specs.Names.{or_zero, spelled, unknown_in}
-use Rattle.hd_names.specs.declared.fault.Fault.TheVariants.{UnknownName}
+use Rattle.hd_names.specs.declared.fault.NameFault.TheVariants.{UnknownName}
 use Rattle.hd_names.proofs.NameLists.{is_some-position}
 use Rattle.hd_names.proofs.names.known.Goals as goal
 
