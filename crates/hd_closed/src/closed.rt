@@ -9,12 +9,12 @@ ghost use Rattle.hd_closed.specs.Shut.{HasNumbered, AreNumbered, is_cheaper, no_
 
 use crate::notes::{Note, add, find};
 use crate::numbering::numbered;
-use crate::rows::Rows;
 use crate::short::{Known, MAX_PLACES, Place};
 use hd_base::NoMemory;
 use hd_hmax::{EstimateValue, Hmax};
 use hd_node::{By, Hashed};
 use hd_pack::Layout;
+use hd_rows::Rows;
 use hd_task::Task;
 use std::alloc::{AllocError, Global};
 use std::marker::Model;

@@ -7,8 +7,6 @@
 mod closed;
 mod notes;
 mod numbering;
-mod row;
-mod rows;
 mod short;
 
 pub use closed::ClosedList;

@@ -1,0 +1,2 @@
+mod Packed
+mod Writing
