@@ -11,6 +11,7 @@ pub mod Judging
 pub mod Marking
 pub mod Naming
 pub mod Posting
+pub mod Reaching
 pub mod Same
 pub mod Slots
 pub mod Walking

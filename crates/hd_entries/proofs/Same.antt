@@ -33,3 +33,11 @@ packings_tell false s u is equal =
       | true ↦ λ e. is ∙ (ap (same_packing s) (sym (same_state-true s u e)) ∙ same_equiv.refl s)
       | false ↦ λ e. refl
     ] refl
+
+pub packings_tell_back : (r : Bool) (s u : State) → r ≡ same_packing s u → (r ≡ true → s ≡ u) → r ≡ same_state u s
+packings_tell_back true s u is equal = sym (subst (λ x. same_state x s ≡ true) (equal refl) (same_state-refl s))
+packings_tell_back false s u is equal =
+    elim (same_state u s) as (λ b. same_state u s ≡ b → false ≡ b) [
+      | true ↦ λ e. is ∙ (ap (same_packing s) (same_state-true u s e) ∙ same_equiv.refl s)
+      | false ↦ λ e. refl
+    ] refl

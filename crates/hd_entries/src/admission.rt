@@ -1,5 +1,5 @@
 //! Whether a batch is refused: the book is only read.
-ghost use Rattle.std.specs.Prelude.{◌≡◌, ◌≤◌, true, Some, is_some, IfOk, IfErr, IfSome, OnOk, OnErr, None, length, take, drop, ◌⊎◌};
+ghost use Rattle.std.specs.Prelude.{◌≡◌, ◌≤◌, true, Some, IfOk, IfErr, OnOk, OnErr, None, length, take, drop, ◌⊎◌};
 ghost use Rattle.hd_task.specs.Plans.{IsStateOf, node, step_by};
 ghost use Rattle.hd_node.specs.Outcome.{kid_of};
 ghost use Rattle.hd_entries.specs.Settling.{expansions, knows_parent, is_posted, node_of, node_by, same_state, dominates, reaches, refusal_by};
@@ -15,49 +15,51 @@ use crate::expanded::ExpandedPlans;
 use hd_hmax::EstimateValue;
 use hd_kids::KidTable;
 use hd_node::{By, Outcome};
-use hd_pack::{Layout, Led, Packed, leads, pack};
+use hd_pack::{Layout, Packed, pack};
+use hd_rows::{Draft, Row};
 use hd_task::{ActionId, Kid, NoMemory, ROOT_ACTION, ROOT_PARENT, Task};
-use hd_zobrist::Words;
 use std::alloc::Global;
 
-/// Where an action leads from an entry, if it is applicable there.
+/// Whether an action is applicable at an entry; where it is, the place becomes where it leads.
+///
+/// # Errors
+/// `NoMemory` where there is no room for the state after it: only where the place was of no such state before.
 fn step_from(
     alloc: Global,
     task: &Task,
-    words: &Words,
     entry: &Entry,
     action: u32,
-) -> Result<Option<Place>, NoMemory>
+    place: &mut Place,
+) -> Result<bool, NoMemory>
     requires of_task { IsStateOf task.now entry.now.state }
-    ensures applicable { IfOk result (λ r. is_some r
+    ensures applicable { IfOk result (λ r. r
         ≡ is_applicable task.now (Some (node_at entry.now)) action) }
-    ensures leads { IfOk result (λ r. IfSome r (λ p.
-        step_by task.now (node_at entry.now) action ≡ Some (node p.state p.cost))) }
+    ensures leads { IfOk result (λ r. r ≡ true
+        → step_by task.now (node_at entry.now) action
+        ≡ Some (node place.new.state place.new.cost)) }
 {
     if action as usize >= task.actions.len() {
-        return Ok(None);
+        return Ok(false);
     }
-    let (state, hash) = (entry.state.state(), entry.state.hash());
-    match leads(
-        alloc,
-        task,
-        words,
-        state,
-        hash,
-        entry.cost,
-        ActionId(action),
-    )? {
-        Led::No => Ok(None),
-        Led::Departs => Ok(None),
-        Led::Next(state, _, cost) => Ok(Some(Place { state, cost })),
+    let before = Row::of_packed(Layout::new(task), entry.state.state());
+    let led = place
+        .state
+        .lead(alloc, task, &before, entry.cost, ActionId(action))?;
+    match led {
+        Some(cost) => {
+            place.cost = cost;
+            Ok(true)
+        }
+        None => Ok(false),
     }
 }
 
-/// Whether two packed states are equal.
-fn is_same(one: &Packed, other: &Packed) -> bool
-    ensures { result ≡ same_state one.now other.now }
+/// Whether a packed state and one that was reached are equal.
+fn is_same(one: &Packed, other: &Draft) -> bool
+    ensures there { result ≡ same_state one.now other.now }
+    ensures back { result ≡ same_state other.now one.now }
 {
-    *one == *other
+    other.row().is_packed(one)
 }
 
 /// Whether a node has a place's state at no greater cost.
@@ -77,23 +79,28 @@ impl<'t> ExpandedPlans<'t> {
             || (kid.parent as usize) < self.entries.len()
     }
 
-    /// Where a posted kid leads, by the book's own application.
-    fn reach(&self, kid: Kid) -> Result<Place, NoMemory>
+    /// The place becomes where a posted kid leads, by the book's own application.
+    ///
+    /// # Errors
+    /// `NoMemory` where there is no room for the state: only for the root, or where the place was of no such state before.
+    fn reach(&self, kid: Kid, reached: &mut Place) -> Result<(), NoMemory>
         requires held { IsExpanded self.now }
         requires known { knows_parent (unmarked self.now) kid ≡ true }
         requires posted { is_posted (unmarked self.now) kid ≡ true }
-        ensures { IfOk result (λ c. node_of (unmarked self.now) kid
-            ≡ Some (node c.state c.cost)) }
+        ensures { OnOk result (node_of (unmarked self.now) kid
+            ≡ Some (node reached.new.state reached.new.cost)) }
     {
         if kid.parent == ROOT_PARENT {
-            let state = pack(self.alloc, &Layout::new(self.task), &self.task.initial)?;
-            return Ok(Place { state, cost: 0 });
+            let layout = Layout::new(self.task);
+            let initial = pack(self.alloc, &layout, &self.task.initial)?;
+            let state = Row::of_packed(layout, &initial);
+            reached.state.set(self.alloc, &state)?;
+            reached.cost = 0;
+            return Ok(());
         }
         let parent = self.entries.at(kid.parent as usize);
-        match step_from(self.alloc, self.task, &self.words, parent, kid.action)? {
-            Some(place) => Ok(place),
-            None => unreachable!(),
-        }
+        let leads = step_from(self.alloc, self.task, parent, kid.action, reached)?;
+        if leads { Ok(()) } else { unreachable!() }
     }
 
     /// Whether what a duplicate names has a state at no greater cost.
@@ -147,7 +154,7 @@ impl<'t> ExpandedPlans<'t> {
     {
         match outcome {
             Outcome::Expanded(expansion) => {
-                if is_same(&reached.state, expansion.state()) && reached.cost == expansion.cost() {
+                if is_same(expansion.state(), &reached.state) && reached.cost == expansion.cost() {
                     None
                 } else {
                     Some(Refusal::StateDiffers)
@@ -161,7 +168,7 @@ impl<'t> ExpandedPlans<'t> {
                 }
             }
             Outcome::Bounded(_, estimate) => {
-                if !is_same(&reached.state, estimate.state()) {
+                if !is_same(estimate.state(), &reached.state) {
                     Some(Refusal::StateDiffers)
                 } else if self.reaches(reached, estimate.value()) {
                     None
@@ -172,13 +179,15 @@ impl<'t> ExpandedPlans<'t> {
         }
     }
 
-    /// The place of an outcome's kid, where the outcome is right. The kids of the outcomes before it in its batch are settled already.
+    /// The place of an outcome's kid, where the outcome is right. The kids of the outcomes before it in its batch are settled already. Where its kid
+    /// leads is written to a place.
     ///
     /// # Errors
     /// Why it is refused, or `NoMemory`.
     fn judged(
         &self,
         kids: &KidTable,
+        reached: &mut Place,
         earlier: &[Outcome<'t>],
         outcome: &Outcome<'t>,
     ) -> Result<usize, Refusal>
@@ -199,8 +208,8 @@ impl<'t> ExpandedPlans<'t> {
         if kids.is_settled(place) {
             return Err(Refusal::SettledBefore);
         }
-        let reached = self.reach(kid)?;
-        match self.refusal_by(earlier, outcome, &reached) {
+        self.reach(kid, reached)?;
+        match self.refusal_by(earlier, outcome, reached) {
             Some(refusal) => Err(refusal),
             None => Ok(place),
         }
@@ -213,6 +222,7 @@ impl<'t> ExpandedPlans<'t> {
     pub(crate) fn settle_from(
         &self,
         kids: &mut KidTable,
+        reached: &mut Place,
         outcomes: &[Outcome<'t>],
         number: usize,
     ) -> Result<(), Refusal>
@@ -231,9 +241,9 @@ impl<'t> ExpandedPlans<'t> {
         if number == outcomes.len() {
             return Ok(());
         }
-        let place = self.judged(kids, &outcomes[..number], &outcomes[number])?;
+        let place = self.judged(kids, reached, &outcomes[..number], &outcomes[number])?;
         kids.settle(place);
-        match self.settle_from(kids, outcomes, number + 1) {
+        match self.settle_from(kids, reached, outcomes, number + 1) {
             Ok(()) => Ok(()),
             Err(refusal) => {
                 kids.reopen(place);

@@ -89,7 +89,8 @@ impl<'t> Content<'t> {
             &mut self.kids,
             outcomes,
         )?;
-        match self.expanded.settle_from(&mut self.kids, outcomes, 0) {
+        let expanded = &self.expanded;
+        match expanded.settle_from(&mut self.kids, &mut self.reached, outcomes, 0) {
             Ok(()) => Ok(parcels),
             Err(refusal) => Err(refusal),
         }

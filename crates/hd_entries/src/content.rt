@@ -1,4 +1,5 @@
 //! The parts of what is held of a search.
+use crate::entry::Place;
 use crate::expanded::ExpandedPlans;
 use hd_kids::KidTable;
 use hd_task::{NoMemory, Task};
@@ -11,6 +12,8 @@ pub(crate) struct Content<'t> {
     pub(crate) expanded: ExpandedPlans<'t>,
     /// What the expanded plans have posted, and what of it is settled.
     pub(crate) kids: KidTable,
+    /// Where the kid leads that was judged last: a commit takes no memory for it.
+    pub(crate) reached: Place,
     /// How many entries there may be.
     pub(crate) most: u64,
 }
@@ -38,6 +41,7 @@ impl<'t> Content<'t> {
         Ok(Content {
             expanded: ExpandedPlans::none(alloc, task, words),
             kids,
+            reached: Place::empty(alloc),
             most,
         })
     }

@@ -1,7 +1,10 @@
 //! Expanded plans.
+ghost use Rattle.std.specs.Prelude.{◌≡◌};
+
 use hd_node::Hashed;
-use hd_pack::Packed;
+use hd_rows::Draft;
 use hd_task::Kid;
+use std::alloc::Global;
 
 /// An expanded plan: the kid that names it, and where it leads.
 #[derive(Debug, Drop)]
@@ -11,11 +14,23 @@ pub(crate) struct Entry {
     pub(crate) cost: u64,
 }
 
-/// Where a kid leads, and what its plan costs.
+/// Where a kid leads, and what its plan costs. It is written over from one kid to the next.
 #[derive(Debug, Drop)]
 pub(crate) struct Place {
-    pub(crate) state: Packed,
+    pub(crate) state: Draft,
     pub(crate) cost: u64,
+}
+
+impl Place {
+    /// Nowhere yet. It takes no memory.
+    pub(crate) fn empty(alloc: Global) -> Place
+        ensures { result.cost ≡ 0 }
+    {
+        Place {
+            state: Draft::empty(alloc),
+            cost: 0,
+        }
+    }
 }
 
 /// The bound, and the least-numbered entry at it.

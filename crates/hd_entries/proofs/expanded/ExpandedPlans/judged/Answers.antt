@@ -73,7 +73,7 @@ reach-requires-clause-posted c =
     ap (is_posted b) c.kid-kid.ensures ∙ posted
 
 pub refusal_by-requires-clause-leads : goal.refusal_by-requires-clause-leads
-refusal_by-requires-clause-leads c = ap (node_of (unmarked c.args.self.now)) (sym c.kid-kid.ensures) ∙ c.in_ok-reached.ensures
+refusal_by-requires-clause-leads c = ap (node_of (unmarked c.args.self.now)) (sym c.kid-kid.ensures) ∙ c.in_ok-reach.ensures
 
 pub returns-in-Some-refusal_by-clause-refused : goal.returns-in-Some-refusal_by-clause-refused
 returns-in-Some-refusal_by-clause-refused c =
@@ -93,25 +93,3 @@ returns-in-Some-refusal_by-clause-refused c =
     ap (λ (p : ℕ). get_or c.args.kids.now.marks p true) (sym place) ∙ (sym c.is_settled.ensures ∙ c.if-is_settled.false)
     in
     inr (sym (late (knows_parent b k) (is_posted b k) (is_marked b k) (refusal_by b earlier o) known posted unmarked_kid) ∙ (sym c.refusal_by.ensures ∙ c.in-Some-refusal_by.is))
-
-pub returns-clause-right : goal.returns-clause-right
-returns-clause-right c =
-    let x = c.args.self.now in
-    let b = state_with x c.args.kids.now.marks in
-    let earlier = c.args.earlier.now in
-    let o = c.args.outcome.now in
-    let k = kid_of o in
-    let P = posted_by x.task.now (expansions b) in
-    let known : knows_parent b k ≡ true = ap (knows_parent b) (sym c.kid-kid.ensures) ∙ (sym c.knows_parent.ensures ∙ c.if-not-knows_parent.false) in
-    let there : position (same_kid k) P ≡ Some c.in-Some.place =
-    ap₂ (λ (q : Kid) (ks : List Kid). position (same_kid q) ks) (sym c.kid-kid.ensures) (sym c.requires.posts.posted) ∙ (sym c.place_of.ensures.place ∙ c.in-Some.is)
-    in
-    let posted : is_posted b k ≡ true = (found_at (same_kid k) P c.in-Some.place there).0 in
-    let place : c.in-Some.place ≡ place_of b k = (found_at (same_kid k) P c.in-Some.place there).1 in
-    let unmarked_kid : is_marked b k ≡ false =
-    ap (λ (p : ℕ). get_or c.args.kids.now.marks p true) (sym place) ∙ (sym c.is_settled.ensures ∙ c.if-is_settled.false)
-    in
-    record {
-      nothing = sym (late (knows_parent b k) (is_posted b k) (is_marked b k) (refusal_by b earlier o) known posted unmarked_kid) ∙ (sym c.refusal_by.ensures ∙ c.in-None.is);
-      stands = place;
-    }

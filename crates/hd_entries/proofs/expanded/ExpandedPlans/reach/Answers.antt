@@ -1,15 +1,12 @@
-use Rattle.std.proofs.Common.{◌≡◌, ◌∙◌, sym, ap, Option, Some, is_some, subst, true≢false}
-use Rattle.std.specs.Prelude.{IfSome}
-use Rattle.hd_task.specs.Plans.{node, step_by}
-use Rattle.hd_entries.specs.declared.entry.Place.{Place}
-use Rattle.hd_entries.specs.Holding.{node_at}
+use Rattle.std.proofs.Common.{◌∙◌, sym, ap, Some, true≢false}
+use Rattle.hd_task.specs.Plans.{node}
 use Rattle.hd_entries.proofs.Held.{root_kid, entry_kid, root_leads, entry_state, entry_posted, entry_leads}
 use Rattle.hd_entries.proofs.expanded.ExpandedPlans.reach.Goals as goal
 
 pub returns-then-kid-eq-ROOT_PARENT : goal.returns-then-kid-eq-ROOT_PARENT
 returns-then-kid-eq-ROOT_PARENT c =
     root_leads c.args.self.now c.requires.held c.args.kid (root_kid c.args.self.now c.requires.held c.args.kid c.requires.known c.if-kid-eq-ROOT_PARENT.true)
-    ∙ ap (λ s. Some (node s 0)) (sym c.in_ok-state.ensures)
+    ∙ ap (λ s. Some (node s 0)) (sym (c.in_ok-set.ensures.ok ∙ c.of_packed-state.ensures ∙ c.in_ok-initial.ensures))
 
 pub at-parent-requires : goal.at-parent-requires
 at-parent-requires c = entry_kid c.args.self.now c.requires.held c.args.kid c.requires.known c.if-kid-eq-ROOT_PARENT.false
@@ -25,14 +22,13 @@ unreachable-requires c =
     let lt = entry_kid x c.requires.held c.args.kid c.requires.known c.if-kid-eq-ROOT_PARENT.false in
     let e = c.at-parent.result.now in
     true≢false
-    (sym (c.in_ok-place.ensures.applicable ∙ (entry_posted x c.requires.held c.args.kid e e lt c.at-parent.ensures ∙ c.requires.posted))
-    ∙ ap is_some c.in-None.is)
+    (sym (c.in_ok-leads.ensures.applicable ∙ (entry_posted x c.requires.held c.args.kid e e lt c.at-parent.ensures ∙ c.requires.posted))
+    ∙ c.if-leads.false)
 
 pub returns : goal.returns
 returns c =
     let x = c.args.self.now in
     let lt = entry_kid x c.requires.held c.args.kid c.requires.known c.if-kid-eq-ROOT_PARENT.false in
     let e = c.at-parent.result.now in
-    let p = c.in-Some.place in
-    entry_leads x c.requires.held c.args.kid e e (node p.state p.cost) lt c.at-parent.ensures
-    (subst (λ (r : Option Place). IfSome r (λ (q : Place). step_by x.task.now (node_at e) c.args.kid.action ≡ Some (node q.state q.cost))) c.in-Some.is c.in_ok-place.ensures.leads)
+    let p = c.step_from.new.place in
+    entry_leads x c.requires.held c.args.kid e e (node p.state p.cost) lt c.at-parent.ensures (c.in_ok-leads.ensures.leads c.if-leads.true)
