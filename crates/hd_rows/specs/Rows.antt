@@ -4,11 +4,12 @@ use Rattle.hd_task.specs.declared.state.State.{State}
 use Rattle.hd_task.specs.declared.task.TheConstants.{MAX_ATOMS, MAX_FLUENTS}
 use Rattle.hd_pack.specs.Packing.{bytes_for, unpacked, IsPacking}
 
--- how many atoms and fluents each state has, and the states
+-- how many atoms and fluents each state has, the states, and how many can be pushed without asking for memory
 pub record RowsView : Type 0 where
   pub atoms : ℕ
   pub fluents : ℕ
   pub states : List State
+  pub room : ℕ
 
 -- a state has as many atoms and fluents
 pub record IsOfRows (r : RowsView) (s : State) : Type 0 where

@@ -3,10 +3,12 @@
 //! [`Rows`] has them in one block, which grows. A [`Row`] is such a state, and a [`Draft`] one that is written over.
 #![tactic(auto)]
 
+mod blocks;
 mod draft;
 mod row;
 mod rows;
 
+pub use blocks::RowBlocks;
 pub use draft::Draft;
 pub use row::Row;
-pub use rows::{MAX_ROWS, Rows};
+pub use rows::Rows;

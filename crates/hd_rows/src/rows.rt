@@ -1,16 +1,14 @@
 //! Packed states of one task, one after the other in one block of bytes.
-ghost use Rattle.std.specs.Prelude.{◌≡◌, ◌+◌, ◌*◌, ◌<◌, ◌≤◌, ◌++◌, [], ◌∷◌, Some, true, false, length, take, drop, slice_get, OnOk, OnErr};
+ghost use Rattle.std.specs.Prelude.{◌≡◌, ◌+◌, ◌*◌, ◌<◌, ◌≤◌, ◌-◌, ◌++◌, [], ◌∷◌, Some, true, false, length, take, drop, slice_get, IfOk, IsOk, OnOk, OnErr};
 ghost use Rattle.hd_rows.specs.Rows.{IsOfRows};
-ghost use Rattle.hd_rows.specs.declared.rows.TheConstants.{MAX_ROWS};
+ghost use Rattle.hd_chunks.specs.declared.chunks.TheConstants.{CHUNK, MOST_ITEMS};
 
 use crate::row::{Row, read_values};
 use hd_base::NoMemory;
+use hd_chunks::CHUNK;
 use hd_pack::{Layout, Packed};
 use std::alloc::Global;
 use std::marker::Model;
-
-/// How many states there may be: more than fit a machine.
-pub const MAX_ROWS: usize = 1 << 56;
 
 /// Packed states of as many atoms and fluents each. Contracts see these numbers and the states.
 #[derive(Debug, Drop)]
@@ -20,10 +18,13 @@ pub struct Rows {
     /// How many bytes each state takes.
     width: usize,
     count: usize,
+    /// For how many more there is memory.
+    room: usize,
     bytes: Vec<u8>,
 }
 
 impl Model for Rows {
+    ghost use Rattle.std.specs.Prelude.{◌+◌, ◌*◌, ◌≤◌, vec_len, vec_capacity};
     ghost use Rattle.hd_rows.specs.Rows.{RowsView, states_in, AreRows};
 
     ghost Value = { RowsView };
@@ -32,9 +33,11 @@ impl Model for Rows {
       atoms = r.atoms;
       fluents = r.fluents;
       states = states_in r.atoms r.width r.bytes.items r.count;
+      room = r.room;
     } };
 
-    ghost invariant = { λ r. AreRows r.atoms r.fluents r.width r.bytes.items r.count };
+    ghost invariant = { λ r. AreRows r.atoms r.fluents r.width r.bytes.items r.count
+        × (vec_len r.bytes + r.room * r.width ≤ vec_capacity r.bytes) };
 }
 
 /// The bytes of the row at a place.
@@ -60,8 +63,30 @@ impl Rows {
             fluents: layout.fluents(),
             width: layout.bytes(),
             count: 0,
+            room: 0,
             bytes: Vec::new(alloc),
         }
+    }
+
+    /// No states, with room for as many as a chunk has items.
+    ///
+    /// # Errors
+    /// `NoMemory` where there is none.
+    pub(crate) fn block(alloc: Global, layout: Layout) -> Result<Rows, NoMemory>
+        ensures atoms { IfOk result (λ r. r.atoms ≡ layout.atoms) }
+        ensures fluents { IfOk result (λ r. r.fluents ≡ layout.fluents) }
+        ensures states { IfOk result (λ r. r.states ≡ []) }
+        ensures room { IfOk result (λ r. r.room ≡ CHUNK) }
+    {
+        let width = layout.bytes();
+        Ok(Rows {
+            atoms: layout.atoms(),
+            fluents: layout.fluents(),
+            width,
+            count: 0,
+            room: CHUNK,
+            bytes: Vec::with_capacity(alloc, CHUNK * width)?,
+        })
     }
 
     /// The state at a place.
@@ -89,16 +114,19 @@ impl Rows {
     /// # Errors
     /// `NoMemory` where there is no room for it.
     pub fn push(&mut self, state: &Packed) -> Result<(), NoMemory>
-        requires few { length self.old.states < MAX_ROWS }
+        requires few { length self.old.states < MOST_ITEMS }
         requires of_rows { IsOfRows self.old state.now }
         ensures atoms { self.new.atoms ≡ self.old.atoms }
         ensures fluents { self.new.fluents ≡ self.old.fluents }
         ensures ok { OnOk result (self.new.states ≡ self.old.states ++ state.now ∷ []) }
+        ensures room { OnOk result (self.new.room ≡ self.old.room - 1) }
+        ensures enough { 0 < self.old.room → IsOk result }
         ensures err { OnErr result (self.new ≡ self.old) }
     {
         read_values(state, self.fluents);
         self.bytes.extend_from_slice(state.bytes())?;
         self.count += 1;
+        self.room = self.room.saturating_sub(1);
         Ok(())
     }
 }
