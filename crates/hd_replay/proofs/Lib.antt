@@ -1,8 +1,10 @@
 pub mod Begins
+pub mod Calm
 pub mod Kids
 pub mod Played
 pub mod Plays
 pub mod Restarts
+pub mod Room
 pub mod Standing
 pub mod Said
 pub mod Steps

@@ -7,10 +7,12 @@ use Rattle.hd_store.specs.declared.store.Store.{Ghosts}
 use Rattle.hd_store.specs.declared.memory.MemoryDisk.{MemoryDisk}
 use Rattle.hd_store.specs.Device.{content_of}
 use Rattle.hd_store.specs.MemoryDisk.{device_of, IsStarted}
+use Rattle.hd_image.specs.declared.header.TheConstants.{DIGEST_LEN}
 use Rattle.hd_image.specs.Image.{most_of}
 use Rattle.hd_zobrist.specs.declared.owners.TheConstants.{MAX_WORKERS}
 use Rattle.hd_journal.specs.declared.journal.Journal.{Journal}
 use Rattle.hd_journal.specs.Group.{GroupView}
+use Rattle.hd_journal.specs.Journal.{device_of as journal_device}
 use Rattle.hd_schedule.specs.declared.moves.Move.{Move}
 use Rattle.hd_schedule.specs.declared.moves.Move.TheVariants as moves
 use Rattle.hd_schedule.specs.declared.moves.StopAt.{StopAt}
@@ -20,11 +22,13 @@ use Rattle.hd_world.specs.Stops.{File, entries_of, AreGroups}
 use Rattle.hd_world.specs.World.{World, Stopped as Rests, Running, MayResume, ResumesTo, IsNot, IsStopped, IsOpened, recovered, StepsTo, Plays}
 use Rattle.hd_running.specs.Sound.{IsSound}
 use Rattle.hd_crash.specs.Filling.{Filled}
-use Rattle.hd_crash.proofs.Playing.{recovered_is, resumed_sound}
+use Rattle.hd_crash.specs.Lasting.{IsSoundWorld}
+use Rattle.hd_crash.proofs.Fillings.{steps_so}
+use Rattle.hd_crash.proofs.Playing.{recovered_is, resumed_sound, step_sound}
 use Rattle.hd_replay.specs.declared.playing.Played.{Played}
 use Rattle.hd_replay.specs.declared.playing.Played.TheVariants.{Stopped, Ended, Failed}
 use Rattle.hd_replay.specs.declared.report.Report.{Report}
-use Rattle.hd_replay.specs.Journals.{StandsAs, Runs, Goes, stop_in}
+use Rattle.hd_replay.specs.Journals.{IsCalm, StandsAs, Runs, Goes, stop_in}
 use Rattle.hd_replay.specs.Opening.{OpensBefore, IsCut, IsRunOf}
 use Rattle.hd_replay.specs.Playing.{ComesTo, AtTheEnd, IsFollowed, IsReported, IsEndOf, IsEndedBy, IsStoppedAt, IsStop, PlaysTo, EndsTo, DoesNothing}
 use Rattle.hd_replay.proofs.Restarts.{sound_groups}
@@ -50,10 +54,16 @@ at_next t digest w moves place v v' m is at step = record {
 -- a stop at a place
 pub stopped_at : (t : Task) (digest : List ℕ) (w : World) (ms : List Move) (place : ℕ) (f : File) (r : Run) (at : StopAt) (disk : MemoryDisk)
     → place < length ms → drop place ms ≡ moves.Stop at ∷ drop (place + 1) ms → IsAt t digest w ms place (Running f r)
-    → IsStop digest f r at disk → IsStoppedAt t digest w ms ms disk (place + 1)
-stopped_at t digest w ms place f r at disk within is here (content, started, stop) =
+    → length digest ≡ DIGEST_LEN → IsSound t f r → IsStop digest f r at disk → IsStoppedAt t digest w ms ms disk (place + 1)
+stopped_at t digest w ms place f r at disk within is here len x (content, started, stop) =
     let next = at_next t digest w ms place (Running f r) (Rests content) (moves.Stop at) is here stop in
-    record { few = omega (arith, within); content = content; started = started; goes = next.goes }
+    record {
+      few = omega (arith, within);
+      content = content;
+      started = started;
+      goes = next.goes;
+      sound = λ _. step_sound t digest len (Running f r) (Rests content) (moves.Stop at) x (steps_so t digest (Running f r) (Rests content) (moves.Stop at) stop);
+    }
 
 -- the end of the moves
 pub ended_at : (t : Task) (digest : List ℕ) (w v : World) (moves : List Move) (place : ℕ) (disk : MemoryDisk) (report : Report)
@@ -67,29 +77,31 @@ ended_at t digest w v moves place disk report none at e = record {
 
 -- what is played from there is played from the first on
 pub plays_from : (t : Task) (digest : List ℕ) (w v : World) (all moves : List Move) (played : Played)
-    → ((u : World) → Plays Filled t digest v moves u → Plays Filled t digest w all u)
+    → ((u : World) → Plays Filled t digest v moves u → Plays Filled t digest w all u) → (IsSoundWorld t digest w → IsSoundWorld t digest v)
     → PlaysTo t digest v moves moves played → PlaysTo t digest w all moves played
-plays_from t digest w v all moves (Stopped disk count) on p = record {
+plays_from t digest w v all moves (Stopped disk count) on sound p = record {
   few = p.few;
   content = p.content;
   started = p.started;
   goes = λ u plays. on u (p.goes u plays);
+  sound = λ x. p.sound (sound x);
 }
-plays_from t digest w v all moves (Ended disk report) on p = record {
+plays_from t digest w v all moves (Ended disk report) on sound p = record {
   file = p.file;
   run = p.run;
   plays = on (Running p.file p.run) p.plays;
   end = p.end;
 }
-plays_from t digest w v all moves (Failed fault) on p = tt
+plays_from t digest w v all moves (Failed fault) on sound p = tt
 
 -- ---- a run's beginning
 
 pub run_begins : {S : Type 0} {G : Ghosts S} (t : Task) (digest : List ℕ) (f : File) (journal : Journal S G) (workers : ℕ) (r : Run)
-    → StandsAs digest f journal → IsRunOf t f workers r → Runs t digest f journal r
-run_begins t digest f journal workers r s begun = record {
+    → StandsAs digest f journal → IsRunOf t f workers r → IsCalm (journal_device journal) → Runs t digest f journal r
+run_begins t digest f journal workers r s begun calm = record {
   sound = subst (IsSound t f) (sym begun.is) (resumed_sound t f workers (sound_groups digest f journal s) begun.recovered);
   stands = s;
+  calm = calm;
 }
 
 pub world_begins : (t : Task) (digest : List ℕ) (f : File) (workers : ℕ) (r : Run) → IsRunOf t f workers r
@@ -109,13 +121,18 @@ resumes_not t digest content workers stop disk may c = IsStopped c.calls c.file 
 
 -- a resumption that a stop cut short
 pub cut_plays : (t : Task) (digest content : List ℕ) (workers : ℕ) (stop : Option StopAt) (ms : List Move) (disk : MemoryDisk) → MayResume workers stop
-    → IsCut digest content stop disk → IsStoppedAt t digest (Rests content) (moves.Resume workers stop ∷ ms) ms disk 0
-cut_plays t digest content workers stop ms disk may c = record {
-  few = omega arith;
-  content = c.left;
-  started = c.started;
-  goes = λ u plays. (Rests c.left, resumes_not t digest content workers stop disk may c, plays);
-}
+    → length digest ≡ DIGEST_LEN → IsCut digest content stop disk → IsStoppedAt t digest (Rests content) (moves.Resume workers stop ∷ ms) ms disk 0
+cut_plays t digest content workers stop ms disk may len c =
+    let step = resumes_not t digest content workers stop disk may c in
+    record {
+      few = omega arith;
+      content = c.left;
+      started = c.started;
+      goes = λ u plays. (Rests c.left, step, plays);
+      sound = λ x.
+          step_sound t digest len (Rests content) (Rests c.left) (moves.Resume workers stop) x
+          (steps_so t digest (Rests content) (Rests c.left) (moves.Resume workers stop) step);
+    }
 
 -- one that went through
 pub resumed_plays : {S : Type 0} {G : Ghosts S} (t : Task) (digest content : List ℕ) (workers : ℕ) (stop : Option StopAt) (ms : List Move) (journal : Journal S G)
@@ -123,8 +140,12 @@ pub resumed_plays : {S : Type 0} {G : Ghosts S} (t : Task) (digest content : Lis
     → PlaysTo t digest (recovered t digest workers o.file) ms ms played
     → PlaysTo t digest (Rests content) (moves.Resume workers stop ∷ ms) ms played
 resumed_plays t digest content workers stop ms journal o played may p =
-    plays_from t digest (Rests content) (recovered t digest workers o.file) (moves.Resume workers stop ∷ ms) ms played
-    (λ u plays. (recovered t digest workers o.file, resumes_on t digest content workers stop journal o may, plays)) p
+    let v = recovered t digest workers o.file in
+    let step = resumes_on t digest content workers stop journal o may in
+    plays_from t digest (Rests content) v (moves.Resume workers stop ∷ ms) ms played (λ u plays. (v, step, plays))
+    (λ x.
+    step_sound t digest o.stands.is_of.digest_len (Rests content) v (moves.Resume workers stop) x
+    (steps_so t digest (Rests content) v (moves.Resume workers stop) step)) p
 
 -- ---- a place in a list of moves
 
@@ -138,6 +159,7 @@ pub record IsRestingAt (t : Task) (digest first : List ℕ) (ms : List Move) (pl
   pub content : List ℕ
   pub started : IsStarted disk content
   pub at : IsAt t digest (Rests first) ms place (Rests content)
+  pub sound : IsSoundWorld t digest (Rests first) → IsSoundWorld t digest (Rests content)
 
 -- behind moves that a stop ends, or behind one that does nothing
 pub rests_next : (t : Task) (digest first : List ℕ) (ms rest : List Move) (place count : ℕ) (m : Move) (disk left : MemoryDisk)
@@ -154,6 +176,7 @@ rests_next t digest first ms rest place count m disk left x is rest_is s = recor
         (subst (λ (xs : List Move). Plays Filled t digest (Rests s.content) xs u)
         (sym (ap (drop count) rest_is ∙ (drop-drop count (place + 1) ms ∙ ap (λ (n : ℕ). drop n ms) (omega arith)))) plays)));
   };
+  sound = λ y. s.sound (x.sound y);
 }
 
 -- a run goes on at the last of the moves
@@ -196,6 +219,7 @@ nothing_played t digest content m rest disk nothing started = record {
   content = content;
   started = started;
   goes = λ u plays. (Rests content, nothing t digest content, plays);
+  sound = λ x. x;
 }
 
 -- the last resumption

@@ -37,7 +37,8 @@ use Rattle.hd_crash.proofs.Playing.{step_sound}
 use Rattle.hd_replay.specs.declared.run.Out.{Out}
 use Rattle.hd_replay.specs.declared.run.Out.TheVariants.{Nothing, Pulled, Flushed}
 use Rattle.hd_replay.specs.Held.{IsSoundRun, pulled_in, flushed_in}
-use Rattle.hd_replay.specs.Journals.{StandsAs, Runs, Flushes, Goes, calls_in, stop_in}
+use Rattle.hd_replay.specs.Journals.{IsCalm, StandsAs, Runs, Flushes, Goes, calls_in, stop_in}
+use Rattle.hd_replay.proofs.Calm.{appended_calm}
 use Rattle.hd_replay.proofs.Kids.{journal_count}
 
 -- ---- a group that was pulled
@@ -135,14 +136,15 @@ pulled_some r g e = ap (pulled_to r) e
 
 -- behind a step that goes on, the run is sound again
 pub goes_by : {S : Type 0} {G : Ghosts S} (t : Task) (digest : List ℕ) (f f' : File) (r r' : Run) (m : Move) (journal journal' : Journal S G)
-    → Runs t digest f journal r → StandsAs digest f' journal' → StepsTo Filled t digest (Running f r) m (Running f' r')
+    → Runs t digest f journal r → StandsAs digest f' journal' → IsCalm (device_of journal') → StepsTo Filled t digest (Running f r) m (Running f' r')
     → Goes t digest f r m journal' r'
-goes_by t digest f f' r r' m journal journal' x stands step = record {
+goes_by t digest f f' r r' m journal journal' x stands calm step = record {
   file = f';
   steps = step;
   runs = record {
     sound = step_sound t digest x.stands.is_of.digest_len (Running f r) (Running f' r') m x.sound (steps_so t digest (Running f r) (Running f' r') m step);
     stands = stands;
+    calm = calm;
   };
 }
 
@@ -259,13 +261,14 @@ on_ok P Q (Ok x) f p = f p
 on_ok P Q (Err e) f p = p
 
 module _ {S : Type 0} {G : Ghosts S} (t : Task) (digest : List ℕ) (f : File) (r r' : Run) (journal journal' : Journal S G) (x : Runs t digest f journal r) where
-  pub flush_goes : Flushes digest f r journal' r' → Goes t digest f r moves.Flush journal' r'
-  flush_goes fl = goes_by t digest f fl.file r r' moves.Flush journal journal' x fl.stands (sym fl.flushed)
+  pub flush_goes : Flushes digest f journal r journal' r' → Goes t digest f r moves.Flush journal' r'
+  flush_goes fl = goes_by t digest f fl.file r r' moves.Flush journal journal' x fl.stands (fl.calm x.calm) (sym fl.flushed)
 
   pub turn_goes : (m : Move) → (m ≡ moves.Flush → ⊥) → stop_in r.group m ≡ None → journal' ≡ journal → TurnsTo r.book.state.task r m r'
       → Goes t digest f r m journal' r'
   turn_goes m not_so none same turn =
       goes_by t digest f f r r' m journal journal' x (subst (StandsAs digest f) (sym same) x.stands)
+      (subst (λ (j : Journal S G). IsCalm (device_of j)) (sym same) x.calm)
       (turn_steps t digest f r r' x.sound m (not_flush m not_so) none (subst (λ (u : Task). TurnsTo u r m r') x.sound.truth.of_task turn))
 
 -- ---- moves of the group, where a run is seen through its view
@@ -320,16 +323,17 @@ ack_same r mid r' out is back group flushed not_so =
 
 pub flush_same : {S : Type 0} {G : Ghosts S} (digest : List ℕ) (f : File) (r mid r' : Run) (journal : Journal S G) (out : Out) → StandsAs digest f journal → mid ≡ bare r
     → r' ≡ with_group_out_of mid out → pulled_in out ≡ r.group → flushed_in out ≡ r.flushed → ((g : GroupView) → out ≡ Pulled g → ⊥)
-    → Flushes digest f r journal r'
+    → Flushes digest f journal r journal r'
 flush_same digest f r mid r' journal out s is back group flushed not_so = record {
   file = f;
   flushed = flushed_none f r (sym group ∙ not_pulled out not_so) ∙ ap (Running f) (sym (back_same r mid r' out is back group flushed));
   stands = s;
+  calm = λ calm. calm;
 }
 
 pub flush_turns : {S : Type 0} {G : Ghosts S} (digest : List ℕ) (f : File) (r mid r' : Run) (journal journal' : Journal S G) (g h : GroupView)
     → StandsAs digest f journal → r.group ≡ Some g → mid ≡ bare r → h ≡ g → r' ≡ with_group_out_of mid (Flushed h) → journals.IsAppended journal g journal'
-    → IsOf digest (f.groups ++ g.kids ∷ []) journal' → IsSettled (device_of journal') → Flushes digest f r journal' r'
+    → IsOf digest (f.groups ++ g.kids ∷ []) journal' → IsSettled (device_of journal') → Flushes digest f journal r journal' r'
 flush_turns digest f r mid r' journal journal' g h s e is same back a of_groups settled = record {
   file = with_group g.kids f;
   flushed =
@@ -337,6 +341,7 @@ flush_turns digest f r mid r' journal journal' g h s e is same back a of_groups 
       ∙ ap (Running (with_group g.kids f))
       (sym (back ∙ (ap (λ (x : Run). with_group_out_of x (Flushed h)) is ∙ ap (λ (k : GroupView). with_group_out_of r (Flushed k)) same)));
   stands = record { is_of = of_groups; version = a.version ∙ s.version; settled = settled };
+  calm = λ calm. appended_calm journal journal' g calm a;
 }
 
 -- ---- a stop that falls

@@ -32,3 +32,10 @@ abbrev pub of_recovery : RecoverFault → ReplayFault
 of_recovery recovery.Full = Full
 of_recovery (recovery.Damaged at) = Recovery (recovery.Damaged at)
 of_recovery recovery.NoMemory = NoMemory
+
+-- it comes though nothing on the disk is against it: the journal has no room for the entries of one batch more, or memory ran out
+abbrev pub IsOfRoom : ReplayFault → Type 0
+IsOfRoom (Recovery fault) = ⊥
+IsOfRoom (Journal error) = ⊥
+IsOfRoom Full = Unit {0}
+IsOfRoom NoMemory = Unit {0}

@@ -25,16 +25,24 @@ pub record StandsAs {S : Type 0} {G : Ghosts S} (digest : List ℕ) (f : File) (
   pub version : journal.version ≡ f.version
   pub settled : IsSettled (device_of journal)
 
+-- nothing has failed on a device, and nothing is to fail
+pub record IsCalm (d : Device) : Type 0 where
+  pub failures : d.failures ≡ 0
+  pub changes : d.changes ≡ Well
+  pub reads : d.reads ≡ Well
+
 -- a sound run goes on over a journal
 pub record Runs {S : Type 0} {G : Ghosts S} (t : Task) (digest : List ℕ) (f : File) (journal : Journal S G) (r : Run) : Type 0 where
   pub sound : IsSound t f r
   pub stands : StandsAs digest f journal
+  pub calm : IsCalm (device_of journal)
 
 -- what a flush makes of a run and of its journal
-pub record Flushes {S : Type 0} {G : Ghosts S} (digest : List ℕ) (f : File) (r : Run) (journal' : Journal S G) (r' : Run) : Type 0 where
+pub record Flushes {S : Type 0} {G : Ghosts S} (digest : List ℕ) (f : File) (journal : Journal S G) (r : Run) (journal' : Journal S G) (r' : Run) : Type 0 where
   pub file : File
   pub flushed : flushed_to f r r.group ≡ Running file r'
   pub stands : StandsAs digest file journal'
+  pub calm : IsCalm (device_of journal) → IsCalm (device_of journal')
 
 -- a move of a run that goes on behind it
 pub record Goes {S : Type 0} {G : Ghosts S} (t : Task) (digest : List ℕ) (f : File) (r : Run) (m : Move) (journal' : Journal S G) (r' : Run) : Type 0 where

@@ -7,6 +7,7 @@ use Rattle.hd_store.specs.MemoryDisk.{IsStarted}
 use Rattle.hd_image.specs.Image.{most_of}
 use Rattle.hd_journal.specs.declared.journal.Journal.{Journal}
 use Rattle.hd_journal.specs.Calls.{Call}
+use Rattle.hd_journal.specs.Journal.{device_of}
 use Rattle.hd_schedule.specs.declared.moves.StopAt.{StopAt}
 use Rattle.hd_world.specs.Seats.{Run}
 use Rattle.hd_world.specs.Starting.{run_after}
@@ -15,7 +16,7 @@ use Rattle.hd_world.specs.World.{IsBehind, is_recovered}
 use Rattle.hd_crash.specs.Filling.{Filled}
 use Rattle.hd_replay.specs.declared.opening.Opened.{Opened}
 use Rattle.hd_replay.specs.declared.opening.Opened.TheVariants.{Whole, Cut}
-use Rattle.hd_replay.specs.Journals.{StandsAs}
+use Rattle.hd_replay.specs.Journals.{IsCalm, StandsAs}
 
 -- a journal was opened on a disk that holds this, and no stop falls within the calls that opened it
 pub record OpensBefore {S : Type 0} {G : Ghosts S} (digest content : List ℕ) (stop : Option StopAt) (journal : Journal S G) : Type 0 where
@@ -41,6 +42,11 @@ pub record IsCut (digest content : List ℕ) (stop : Option StopAt) (disk : Memo
 abbrev pub IsOpenedBy : List ℕ → List ℕ → Option StopAt → Opened → Type 0
 IsOpenedBy digest content stop (Whole journal) = OpensBefore digest content stop journal
 IsOpenedBy digest content stop (Cut disk) = IsCut digest content stop disk
+
+-- nothing is to fail on the disk of a journal that was opened
+abbrev pub IsCalmOpened : Opened → Type 0
+IsCalmOpened (Whole journal) = IsCalm (device_of journal)
+IsCalmOpened (Cut disk) = Unit {0}
 
 -- the run that begins with a journal's entries, which are not too many, and of which none is faulty
 pub record IsRunOf (t : Task) (f : File) (workers : ℕ) (r : Run) : Type 0 where

@@ -11,9 +11,11 @@ use Rattle.hd_world.specs.Seats.{Run}
 use Rattle.hd_world.specs.Stops.{File, bytes_of}
 use Rattle.hd_world.specs.World.{World, Stopped as Rests, Running, StopsIn, StepsTo, Plays}
 use Rattle.hd_crash.specs.Filling.{Filled}
+use Rattle.hd_crash.specs.Lasting.{IsSoundWorld}
 use Rattle.hd_replay.specs.declared.playing.Played.{Played}
 use Rattle.hd_replay.specs.declared.playing.Played.TheVariants.{Stopped, Ended, Failed}
 use Rattle.hd_replay.specs.declared.report.Report.{Report}
+use Rattle.hd_replay.specs.Faults.{IsOfRoom}
 use Rattle.hd_replay.specs.Reporting.{IsReportOf, IsTrueOf}
 
 -- ---- a schedule's end
@@ -50,6 +52,7 @@ pub record IsStoppedAt (t : Task) (digest : List ℕ) (w : World) (all moves : L
   pub content : List ℕ
   pub started : IsStarted disk content
   pub goes : (u : World) → Plays Filled t digest (Rests content) (drop count moves) u → Plays Filled t digest w all u
+  pub sound : IsSoundWorld t digest w → IsSoundWorld t digest (Rests content)
 
 -- all were played, and a run goes on: its report, and its disk
 pub record IsEndedBy (t : Task) (digest : List ℕ) (w : World) (all : List Move) (disk : MemoryDisk) (report : Report) : Type 0 where
@@ -69,6 +72,12 @@ abbrev pub EndsTo : Task → List ℕ → File → Run → Played → Type 0
 EndsTo t digest f r (Stopped disk count) = ⊥
 EndsTo t digest f r (Ended disk report) = IsEndOf t digest f r disk report
 EndsTo t digest f r (Failed fault) = Unit {0}
+
+-- where moves fail, they fail for want of room
+abbrev pub FailsForRoom : Played → Type 0
+FailsForRoom (Stopped disk count) = Unit {0}
+FailsForRoom (Ended disk report) = Unit {0}
+FailsForRoom (Failed fault) = IsOfRoom fault
 
 -- a stop left this disk
 abbrev pub IsStop : List ℕ → File → Run → StopAt → MemoryDisk → Type 0

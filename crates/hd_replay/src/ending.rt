@@ -1,7 +1,8 @@
 //! How a run ends: all but the disk is lost, and each ticket and group is spent.
-ghost use Rattle.std.specs.Prelude.{◌≡◌, ◌≤◌, List, ℕ, true, IfOk};
+ghost use Rattle.std.specs.Prelude.{◌≡◌, ◌≤◌, List, ℕ, true, IfOk, IfErr};
 ghost use Rattle.hd_task.specs.declared.task.Task.{Task};
-ghost use Rattle.hd_world.specs.Stops.{File};
+ghost use Rattle.hd_world.specs.Stops.{File, is_next};
+ghost use Rattle.hd_replay.specs.Faults.{IsOfRoom};
 ghost use Rattle.hd_replay.specs.Journals.{Runs, StandsAs, Stopping, StopsAs, calls_in};
 ghost use Rattle.hd_replay.specs.Playing.{IsStop};
 
@@ -67,8 +68,9 @@ fn open_until(
     at: StopAt,
 ) -> Result<Journal<MemoryDisk>, ReplayFault>
     requires { 1 ≤ at.call }
-    ensures { (f : File) → StandsAs digest.now f journal
+    ensures stopping { (f : File) → StandsAs digest.now f journal
         → IfOk result (Stopping digest.now f at.call) }
+    ensures room { (f : File) → StandsAs digest.now f journal → IfErr result IsOfRoom }
 {
     let mut disk = settled(alloc, journal.into_store(), at.byte)?;
     disk.stop_at(u64::from(at.call));
@@ -88,9 +90,11 @@ fn append_until(
     group: Group,
     byte: u8,
 ) -> Result<MemoryDisk, ReplayFault>
-    ensures { (digest : List ℕ) (f : File) (call : ℕ) → 1 ≤ call → call ≤ 4
+    ensures stops { (digest : List ℕ) (f : File) (call : ℕ) → 1 ≤ call → call ≤ 4
         → Stopping digest f call journal
         → IfOk result (StopsAs digest f group call byte) }
+    ensures room { (digest : List ℕ) (f : File) (call : ℕ) → Stopping digest f call journal
+        → is_next f group ≡ true → IfErr result IsOfRoom }
 {
     let mut journal = journal;
     match journal.append(group) {
@@ -122,8 +126,10 @@ fn stop_within(
 ) -> Result<MemoryDisk, ReplayFault>
     requires some { 1 ≤ at.call }
     requires few { at.call ≤ 4 }
-    ensures { (f : File) → StandsAs digest.now f journal
+    ensures stops { (f : File) → StandsAs digest.now f journal
         → IfOk result (StopsAs digest.now f group at.call at.byte) }
+    ensures room { (f : File) → StandsAs digest.now f journal → is_next f group ≡ true
+        → IfErr result IsOfRoom }
 {
     match open_until(alloc, digest, journal, at) {
         Ok(journal) => append_until(alloc, journal, group, at.byte),
@@ -146,8 +152,10 @@ pub(crate) fn stop<L: Ledger>(
     at: StopAt,
 ) -> Result<MemoryDisk, ReplayFault>
     requires falls { at.call ≤ calls_in run.group }
-    ensures { (t : Task) (f : File) → Runs t digest.now f journal run.entry
+    ensures stops { (t : Task) (f : File) → Runs t digest.now f journal run.entry
         → IfOk result (IsStop digest.now f run.entry at) }
+    ensures room { (t : Task) (f : File) → Runs t digest.now f journal run.entry
+        → IfErr result IsOfRoom }
 {
     let mut run = run;
     let out = run.take_out();

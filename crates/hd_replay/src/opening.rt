@@ -1,9 +1,11 @@
 //! How a resumption opens the journal on a disk.
-ghost use Rattle.std.specs.Prelude.{◌≡◌, ◌≤◌, List, ℕ, Some, None, IfOk, IfSome};
+ghost use Rattle.std.specs.Prelude.{◌≡◌, ◌≤◌, List, ℕ, Some, None, IfOk, IfErr, IfSome};
 ghost use Rattle.hd_store.specs.MemoryDisk.{IsStarted};
-ghost use Rattle.hd_world.specs.Stops.{File};
-ghost use Rattle.hd_replay.specs.Journals.{StandsAs};
-ghost use Rattle.hd_replay.specs.Opening.{OpensBefore, IsOpenedBy};
+ghost use Rattle.hd_journal.specs.Journal.{device_of};
+ghost use Rattle.hd_world.specs.Stops.{File, IsUnopened};
+ghost use Rattle.hd_replay.specs.Faults.{IsOfRoom};
+ghost use Rattle.hd_replay.specs.Journals.{IsCalm, StandsAs};
+ghost use Rattle.hd_replay.specs.Opening.{OpensBefore, IsOpenedBy, IsCalmOpened};
 
 use crate::fault::{ReplayFault, told_of_journal};
 use crate::settling::settled;
@@ -30,8 +32,12 @@ pub(crate) fn open(
     digest: &[u8; DIGEST_LEN],
     disk: MemoryDisk,
 ) -> Result<Journal<MemoryDisk>, ReplayFault>
-    ensures { (content : List ℕ) → IsStarted disk content
+    ensures opened { (content : List ℕ) → IsStarted disk content
         → IfOk result (OpensBefore digest.now content None) }
+    ensures calm { (content : List ℕ) → IsStarted disk content
+        → IfOk result (λ journal. IsCalm (device_of journal)) }
+    ensures room { (content : List ℕ) → IsStarted disk content
+        → (IsUnopened digest.now content → ⊥) → IfErr result IsOfRoom }
 {
     match Journal::open(alloc, disk, digest) {
         Ok(journal) => Ok(journal),
@@ -48,7 +54,10 @@ fn open_again(
     digest: &[u8; DIGEST_LEN],
     journal: Journal<MemoryDisk>,
 ) -> Result<Journal<MemoryDisk>, ReplayFault>
-    ensures { (f : File) → StandsAs digest.now f journal → IfOk result (StandsAs digest.now f) }
+    ensures stands { (f : File) → StandsAs digest.now f journal
+        → IfOk result (StandsAs digest.now f) }
+    ensures calm { IfOk result (λ journal. IsCalm (device_of journal)) }
+    ensures room { (f : File) → StandsAs digest.now f journal → IfErr result IsOfRoom }
 {
     let disk = settled(alloc, journal.into_store(), 0)?;
     match Journal::open(alloc, disk, digest) {
@@ -68,8 +77,11 @@ fn open_until(
     at: StopAt,
 ) -> Result<Opened, ReplayFault>
     requires { 1 ≤ at.call }
-    ensures { (content : List ℕ) → IsStarted disk content
+    ensures opened { (content : List ℕ) → IsStarted disk content
         → IfOk result (IsOpenedBy digest.now content (Some at)) }
+    ensures calm { IfOk result IsCalmOpened }
+    ensures room { (content : List ℕ) → IsStarted disk content
+        → (IsUnopened digest.now content → ⊥) → IfErr result IsOfRoom }
 {
     let mut disk = disk;
     disk.stop_at(u64::from(at.call));
@@ -91,8 +103,11 @@ pub(crate) fn open_for(
     stop: Option<StopAt>,
 ) -> Result<Opened, ReplayFault>
     requires { IfSome stop (λ at. 1 ≤ at.call) }
-    ensures { (content : List ℕ) → IsStarted disk content
+    ensures opened { (content : List ℕ) → IsStarted disk content
         → IfOk result (IsOpenedBy digest.now content stop) }
+    ensures calm { (content : List ℕ) → IsStarted disk content → IfOk result IsCalmOpened }
+    ensures room { (content : List ℕ) → IsStarted disk content
+        → (IsUnopened digest.now content → ⊥) → IfErr result IsOfRoom }
 {
     match stop {
         Some(at) => open_until(alloc, digest, disk, at),

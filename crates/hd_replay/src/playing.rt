@@ -1,13 +1,16 @@
 //! Schedules played, from one resumption to the next.
-ghost use Rattle.std.specs.Prelude.{◌≡◌, ◌+◌, ◌≤◌, ◌<◌, ◌∷◌, List, [], ℕ, None, length, drop, IfOk};
+ghost use Rattle.std.specs.Prelude.{◌≡◌, ◌+◌, ◌≤◌, ◌<◌, ◌∷◌, List, [], ℕ, None, true, length, drop, IfOk, IfErr};
 ghost use Rattle.hd_task.specs.declared.task.Task.{Task};
 ghost use Rattle.hd_zobrist.specs.declared.owners.TheConstants.{MAX_WORKERS};
 ghost use Rattle.hd_schedule.specs.declared.moves.Move.TheVariants.{Resume};
 ghost use Rattle.hd_store.specs.MemoryDisk.{IsStarted};
 ghost use Rattle.hd_world.specs.Stops.{File};
-ghost use Rattle.hd_world.specs.World.{Stopped as Rests, Running, MayResume, recovered};
-ghost use Rattle.hd_replay.specs.Journals.{Runs, StandsAs, calls_in};
-ghost use Rattle.hd_replay.specs.Playing.{IsEndOf, IsEndedBy, EndsTo, PlaysTo};
+ghost use Rattle.hd_world.specs.World.{Stopped as Rests, Running, MayResume, is_recovered, recovered};
+ghost use Rattle.hd_journal.specs.Journal.{device_of};
+ghost use Rattle.hd_crash.specs.Lasting.{IsResting};
+ghost use Rattle.hd_replay.specs.Faults.{IsOfRoom};
+ghost use Rattle.hd_replay.specs.Journals.{IsCalm, Runs, StandsAs, calls_in};
+ghost use Rattle.hd_replay.specs.Playing.{IsEndOf, IsEndedBy, EndsTo, PlaysTo, FailsForRoom};
 
 use crate::ending::{end, stop};
 use crate::fault::ReplayFault;
@@ -43,8 +46,9 @@ fn report<L: Ledger>(
     run: Run<'_, L>,
     journal: Journal<MemoryDisk>,
 ) -> Result<(MemoryDisk, Report), ReplayFault>
-    ensures { (t : Task) (digest : List ℕ) (f : File) → Runs t digest f journal run.entry
+    ensures ends { (t : Task) (digest : List ℕ) (f : File) → Runs t digest f journal run.entry
         → IfOk result (λ r. IsEndOf t digest f run.entry r.0 r.1) }
+    ensures room { IfErr result IsOfRoom }
 {
     let counts = run.book.counts();
     let said = says_of(&run.book);
@@ -67,8 +71,9 @@ fn report<L: Ledger>(
 
 /// What a run comes to at the end of moves.
 fn ended<L: Ledger>(run: Run<'_, L>, journal: Journal<MemoryDisk>) -> Played
-    ensures { (t : Task) (digest : List ℕ) (f : File) → Runs t digest f journal run.entry
+    ensures ends { (t : Task) (digest : List ℕ) (f : File) → Runs t digest f journal run.entry
         → EndsTo t digest f run.entry result }
+    ensures room { FailsForRoom result }
 {
     match report(run, journal) {
         Ok((disk, report)) => Played::Ended(disk, report),
@@ -101,8 +106,9 @@ fn play<L: Ledger>(
     moves: &[Move],
 ) -> Played
     requires runs { (t : Task) × (f : File) × Runs t digest.now f journal run }
-    ensures { (t : Task) (f : File) → Runs t digest.now f journal run.entry
+    ensures plays { (t : Task) (f : File) → Runs t digest.now f journal run.entry
         → PlaysTo t digest.now (Running f run.entry) moves.now moves.now result }
+    ensures room { FailsForRoom result }
 {
     let mut run = run;
     let mut journal = journal;
@@ -138,9 +144,12 @@ fn play_over<L: Ledger>(
     requires some { 1 ≤ workers }
     requires few { workers ≤ MAX_WORKERS }
     requires stands { (f : File) × StandsAs digest.now f journal }
-    ensures { (f : File) → StandsAs digest.now f journal
+    requires calm { IsCalm (device_of journal) }
+    ensures plays { (f : File) → StandsAs digest.now f journal
         → PlaysTo task.now digest.now (recovered task.now digest.now workers f)
         moves.now moves.now result }
+    ensures room { (f : File) → StandsAs digest.now f journal
+        → is_recovered task.now f ≡ true → FailsForRoom result }
 {
     match run_of::<L>(blank, alloc, task, &journal, workers) {
         Ok(run) => play(alloc, digest, run, journal, moves),
@@ -164,9 +173,11 @@ pub(crate) fn play_from<L: Ledger>(
     requires part { 0 < L.parts }
     requires may { MayResume workers until }
     requires starts { (content : List ℕ) × IsStarted disk content }
-    ensures { (content : List ℕ) → IsStarted disk content
+    ensures plays { (content : List ℕ) → IsStarted disk content
         → PlaysTo task.now digest.now (Rests content) (Resume workers until ∷ moves.now)
         moves.now result }
+    ensures room { (content : List ℕ) → IsStarted disk content
+        → IsResting task.now digest.now content → FailsForRoom result }
 {
     match open_for(alloc, digest, disk, until) {
         Ok(Opened::Whole(journal)) => {
@@ -191,9 +202,11 @@ pub(crate) fn play_last<L: Ledger>(
     requires name { blank.name ≡ L.name }
     requires parts { blank.parts ≡ L.parts }
     requires part { 0 < L.parts }
-    ensures { (content : List ℕ) → IsStarted disk content
+    ensures ends { (content : List ℕ) → IsStarted disk content
         → IfOk result (λ r. IsEndedBy task.now digest.now (Rests content)
         (Resume 1 None ∷ []) r.0 r.1) }
+    ensures room { (content : List ℕ) → IsStarted disk content
+        → IsResting task.now digest.now content → IfErr result IsOfRoom }
 {
     let journal = open(alloc, digest, disk)?;
     let run = run_of::<L>(blank, alloc, task, &journal, 1)?;

@@ -1,11 +1,13 @@
 //! The call that plays a schedule.
-ghost use Rattle.std.specs.Prelude.{◌≡◌, ◌∷◌, List, [], ℕ, IfOk, IfSome, IfNone};
+ghost use Rattle.std.specs.Prelude.{◌≡◌, ◌∷◌, List, [], ℕ, IfOk, IfErr, IfSome, IfNone};
 ghost use Rattle.hd_schedule.specs.declared.moves.Move.TheVariants.{Resume};
 ghost use Rattle.hd_store.specs.Device.{content_of};
 ghost use Rattle.hd_store.specs.MemoryDisk.{device_of, IsStarted};
 ghost use Rattle.hd_crash.specs.Filling.{Filled};
+ghost use Rattle.hd_crash.specs.Lasting.{IsResting};
 ghost use Rattle.hd_world.specs.World.{Stopped as Rests, MayResume};
-ghost use Rattle.hd_replay.specs.Playing.{DoesNothing, IsReported, PlaysTo};
+ghost use Rattle.hd_replay.specs.Faults.{IsOfRoom};
+ghost use Rattle.hd_replay.specs.Playing.{DoesNothing, FailsForRoom, IsReported, PlaysTo};
 
 use crate::fault::ReplayFault;
 use crate::playing::{Played, move_at, moves_from, play_from, play_last};
@@ -68,8 +70,10 @@ fn play_next(
     moves: &[Move],
 ) -> Played
     requires starts { (content : List ℕ) × IsStarted disk content }
-    ensures { (content : List ℕ) → IsStarted disk content
+    ensures plays { (content : List ℕ) → IsStarted disk content
         → PlaysTo task.now digest.now (Rests content) (next ∷ moves.now) moves.now result }
+    ensures room { (content : List ℕ) → IsStarted disk content
+        → IsResting task.now digest.now content → FailsForRoom result }
 {
     match resumption_in(next) {
         Some((workers, until)) => play_from::<Brand>(
@@ -98,9 +102,11 @@ fn play_all(
     moves: &[Move],
 ) -> Result<(MemoryDisk, Report), ReplayFault>
     requires starts { (content : List ℕ) × IsStarted disk content }
-    ensures { (content : List ℕ) → IsStarted disk content
+    ensures reported { (content : List ℕ) → IsStarted disk content
         → IfOk result (λ r. IsReported task.now digest.now content moves.now
         (content_of (device_of r.0)) r.1) }
+    ensures room { (content : List ℕ) → IsStarted disk content
+        → IsResting task.now digest.now content → IfErr result IsOfRoom }
 {
     let mut held = disk;
     let mut at = 0;
@@ -139,6 +145,8 @@ pub fn replay(
     // So it begins with nothing on an empty disk.
     ensures empty { IsStarted disk.old [] → IfOk result (IsReported task.now digest.now []
         moves.now (content_of (device_of disk.new))) }
+    // From there nothing goes wrong but that there is no room for more entries, or no memory.
+    ensures room { IsStarted disk.old [] → IfErr result IsOfRoom }
 {
     let taken = mem::replace(disk, MemoryDisk::new(alloc));
     let held = settled(alloc, taken, 0)?;

@@ -1,8 +1,10 @@
 //! How a run begins: the search of a journal's entries is shared among workers.
-ghost use Rattle.std.specs.Prelude.{◌≡◌, ◌≤◌, ◌<◌, List, ℕ, [], None, length, map, replicate, IfOk};
+ghost use Rattle.std.specs.Prelude.{◌≡◌, ◌≤◌, ◌<◌, List, ℕ, [], None, true, length, map, replicate, IfOk, IfErr};
 ghost use Rattle.hd_zobrist.specs.declared.owners.TheConstants.{MAX_WORKERS};
 ghost use Rattle.hd_world.specs.Moves.{bound_in};
 ghost use Rattle.hd_world.specs.Stops.{File};
+ghost use Rattle.hd_world.specs.World.{is_recovered};
+ghost use Rattle.hd_replay.specs.Faults.{IsOfRoom};
 ghost use Rattle.hd_replay.specs.Seats.{seat_with};
 ghost use Rattle.hd_replay.specs.Journals.{StandsAs};
 ghost use Rattle.hd_replay.specs.Opening.{IsRunOf};
@@ -109,8 +111,10 @@ pub(crate) fn run_of<'t, L: Ledger>(
     requires part { 0 < L.parts }
     requires some { 1 ≤ workers }
     requires few { workers ≤ MAX_WORKERS }
-    ensures { (digest : List ℕ) (f : File) → StandsAs digest f journal.now
+    ensures begins { (digest : List ℕ) (f : File) → StandsAs digest f journal.now
         → IfOk result (IsRunOf task.now f workers) }
+    ensures room { (digest : List ℕ) (f : File) → StandsAs digest f journal.now
+        → is_recovered task.now f ≡ true → IfErr result IsOfRoom }
 {
     match recover::<L>(
         blank,

@@ -1,8 +1,9 @@
 //! The moves of a run that do not end it.
-ghost use Rattle.std.specs.Prelude.{◌≡◌, List, ℕ, None, OnOk};
+ghost use Rattle.std.specs.Prelude.{◌≡◌, List, ℕ, None, OnOk, IfErr};
 ghost use Rattle.hd_task.specs.declared.task.Task.{Task};
 ghost use Rattle.hd_world.specs.Moves.{TurnsTo};
 ghost use Rattle.hd_world.specs.Stops.{File};
+ghost use Rattle.hd_replay.specs.Faults.{IsOfRoom};
 ghost use Rattle.hd_replay.specs.Held.{IsSoundRun};
 ghost use Rattle.hd_replay.specs.Journals.{Runs, Goes, stop_in};
 
@@ -19,7 +20,8 @@ use std::sync::ledger::Ledger;
 /// `Full`, where the book takes no more entries, or `NoMemory`.
 fn turn<L: Ledger>(run: &mut Run<'_, L>, next: Move) -> Result<(), ReplayFault>
     requires sound { IsSoundRun run.old }
-    ensures { OnOk result (TurnsTo run.old.book.state.task run.old next run.new) }
+    ensures turned { OnOk result (TurnsTo run.old.book.state.task run.old next run.new) }
+    ensures room { IfErr result IsOfRoom }
 {
     match next {
         Move::Pop { worker } => {
@@ -74,8 +76,9 @@ pub(crate) fn step<L: Ledger>(
     requires runs { (t : Task) × (digest : List ℕ) × (f : File)
         × Runs t digest f journal.old run.old }
     requires no_stop { stop_in run.old.group next ≡ None }
-    ensures { (t : Task) (digest : List ℕ) (f : File) → Runs t digest f journal.old run.old
+    ensures goes { (t : Task) (digest : List ℕ) (f : File) → Runs t digest f journal.old run.old
         → OnOk result (Goes t digest f run.old next journal.new run.new) }
+    ensures room { IfErr result IsOfRoom }
 {
     match next {
         Move::Flush => run.flush(journal),

@@ -1,11 +1,14 @@
 //! How a run's entries come into its journal. A move that is not possible changes nothing.
 ghost use Rattle.std.specs.Prelude.{◌≡◌, ◌||◌, List, ℕ, is_some, IfErr, OnOk};
 ghost use Rattle.hd_schedule.specs.declared.moves.Move.TheVariants as moves;
+ghost use Rattle.hd_journal.specs.Journal.{device_of};
+ghost use Rattle.hd_world.specs.Headline.{IfNext};
 ghost use Rattle.hd_world.specs.Moves.{TurnsTo};
 ghost use Rattle.hd_world.specs.Stops.{File};
+ghost use Rattle.hd_replay.specs.Faults.{IsOfRoom};
 ghost use Rattle.hd_replay.specs.declared.fault.ReplayFault.TheVariants as faults;
 ghost use Rattle.hd_replay.specs.Held.{IsSoundRun};
-ghost use Rattle.hd_replay.specs.Journals.{StandsAs, Flushes};
+ghost use Rattle.hd_replay.specs.Journals.{IsCalm, StandsAs, Flushes};
 
 use crate::fault::{ReplayFault, told_of_journal};
 use crate::run::{Out, Run};
@@ -67,7 +70,9 @@ impl<'t, L: Ledger> Run<'t, L> {
     /// Why it is not appended: it is pulled still.
     pub(crate) fn flush(&mut self, journal: &mut Journal<MemoryDisk>) -> Result<(), ReplayFault>
         ensures flushed { (digest : List ℕ) (f : File) → StandsAs digest f journal.old
-            → OnOk result (Flushes digest f self.old journal.new self.new) }
+            → OnOk result (Flushes digest f journal.old self.old journal.new self.new) }
+        ensures room { (digest : List ℕ) (f : File) → StandsAs digest f journal.old
+            → IsCalm (device_of journal.old) → IfNext f self.old.group → IfErr result IsOfRoom }
     {
         match self.take_out() {
             Out::Pulled(group) => match journal.append(group) {

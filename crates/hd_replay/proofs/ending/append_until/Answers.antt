@@ -5,12 +5,12 @@ use Rattle.hd_crash.specs.Filling.{Filled}
 use Rattle.hd_replay.proofs.Restarts.{append_cut, never_appended}
 use Rattle.hd_replay.proofs.ending.append_until.Goals as goal
 
-pub returns-in_ok-settled-in-Ok : goal.returns-in_ok-settled-in-Ok
-returns-in_ok-settled-in-Ok c = λ digest f call some few s.
+pub returns-in_ok-settled-in-Ok-clause-stops : goal.returns-in_ok-settled-in-Ok-clause-stops
+returns-in_ok-settled-in-Ok-clause-stops c = λ digest f call some few s.
     absurd (never_appended digest f c.args.group call c.args.journal c.append.new.self s some few c.in-Ok.ensures.appended)
 
-pub returns-in_ok-settled-in-Err-default-Device : goal.returns-in_ok-settled-in-Err-default-Device
-returns-in_ok-settled-in-Err-default-Device c = λ digest f call some few s.
+pub returns-in_ok-settled-in-Err-default-Device-clause-stops : goal.returns-in_ok-settled-in-Err-default-Device-clause-stops
+returns-in_ok-settled-in-Err-default-Device-clause-stops c = λ digest f call some few s.
     let e = c.in-Err-default-Device in
     let left = c.in_ok-settled-in-Err-default-Device.ensures in
     append_cut digest f c.args.group call c.args.journal c.append.new.self s c.args.byte c.in_ok-settled-in-Err-default-Device.field-0 left.0 some

@@ -7,8 +7,8 @@ use Rattle.hd_replay.proofs.Restarts.{left_bytes, stands_in, sound_groups, plann
 use Rattle.hd_replay.proofs.Stopping.{planned}
 use Rattle.hd_replay.proofs.ending.open_until.Goals as goal
 
-pub returns-in-Ok : goal.returns-in-Ok
-returns-in-Ok c = λ f s.
+pub returns-in-Ok-clause-stopping : goal.returns-in-Ok-clause-stopping
+returns-in-Ok-clause-stopping c = λ f s.
     let digest = c.args.digest.now in
     let len : length digest ≡ DIGEST_LEN = search rules in
     let left = c.in_ok-disk.ensures in

@@ -5,8 +5,8 @@ use Rattle.hd_journal.specs.Moments.{IsSettled}
 use Rattle.hd_replay.proofs.Restarts.{left_bytes, stands_in, stands_again}
 use Rattle.hd_replay.proofs.opening.open_again.Goals as goal
 
-pub returns-in-Ok : goal.returns-in-Ok
-returns-in-Ok c = λ f s.
+pub returns-in-Ok-clause-stands : goal.returns-in-Ok-clause-stands
+returns-in-Ok-clause-stands c = λ f s.
     let left = c.in_ok-disk.ensures in
     let bytes = left_bytes c.args.digest.now f c.args.journal s (device_of c.into_store.result) 0 left.0 c.into_store.ensures left.1 in
     let again =

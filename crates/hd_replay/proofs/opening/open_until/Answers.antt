@@ -7,8 +7,8 @@ use Rattle.hd_replay.proofs.Restarts.{planned_by, opened_before, opens_again, br
 use Rattle.hd_replay.proofs.Stopping.{planned}
 use Rattle.hd_replay.proofs.opening.open_until.Goals as goal
 
-pub returns-in_ok-open_again-in-Ok : goal.returns-in_ok-open_again-in-Ok
-returns-in_ok-open_again-in-Ok c = λ content started.
+pub returns-in_ok-open_again-in-Ok-clause-opened : goal.returns-in_ok-open_again-in-Ok-clause-opened
+returns-in_ok-open_again-in-Ok-clause-opened c = λ content started.
     let digest = c.args.digest.now in
     let at = c.args.at in
     let disk = device_of c.stop_at.new.self in
@@ -18,10 +18,10 @@ returns-in_ok-open_again-in-Ok c = λ content started.
     opened_before digest content at disk c.in-Ok.journal c.requires plan c.in-Ok.ensures.opened c.in-Ok.ensures.whole
     (c.in-Ok.ensures.settled (subst IsSettled (sym plan) tt)) in
     opens_again digest content (Some at) c.in-Ok.journal c.in_ok-open_again-in-Ok.field-0 first
-    (c.in_ok-open_again-in-Ok.ensures first.file first.stands)
+    (c.in_ok-open_again-in-Ok.ensures.stands first.file first.stands)
 
-pub returns-in_ok-settled-in-Err-default-Device : goal.returns-in_ok-settled-in-Err-default-Device
-returns-in_ok-settled-in-Err-default-Device c = λ content started.
+pub returns-in_ok-settled-in-Err-default-Device-clause-opened : goal.returns-in_ok-settled-in-Err-default-Device-clause-opened
+returns-in_ok-settled-in-Err-default-Device-clause-opened c = λ content started.
     let digest = c.args.digest.now in
     let at = c.args.at in
     let disk = device_of c.stop_at.new.self in

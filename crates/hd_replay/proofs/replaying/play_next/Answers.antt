@@ -4,7 +4,7 @@ use Rattle.hd_world.specs.World.{Stopped}
 use Rattle.hd_replay.specs.Playing.{PlaysTo}
 use Rattle.hd_replay.proofs.replaying.play_next.Goals as goal
 
-pub returns-in-Some : goal.returns-in-Some
-returns-in-Some c = λ content started.
+pub returns-in-Some-clause-plays : goal.returns-in-Some-clause-plays
+returns-in-Some-clause-plays c = λ content started.
     subst (λ (m : Move). PlaysTo c.args.task.now c.args.digest.now (Stopped content) (m ∷ c.args.moves.now) c.args.moves.now c.play_from.result)
-    (sym c.in-Some.ensures.some) (c.play_from.ensures content started)
+    (sym c.in-Some.ensures.some) (c.play_from.ensures.plays content started)

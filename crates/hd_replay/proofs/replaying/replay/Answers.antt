@@ -14,4 +14,4 @@ returns-clause-reported c = λ content filled.
     let taken : Filled old 0 held.0 = subst (λ (d : MemoryDisk). Filled (device_of d) 0 held.0) c.replace-taken.ensures.value held.1 in
     let same : held.0 ≡ content = filled_once old.start old.steps 0 held.0 content taken filled in
     subst (λ (first : List ℕ). IsReported c.args.task.now c.args.digest.now first c.args.moves.now (content_of (device_of c.in_ok-left.left)) c.in_ok-left.report) same
-    (c.in_ok-left.ensures held.0 held.2)
+    (c.in_ok-left.ensures.reported held.0 held.2)

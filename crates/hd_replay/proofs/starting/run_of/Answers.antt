@@ -11,8 +11,8 @@ pub begun-requires-clause-all : goal.begun-requires-clause-all
 begun-requires-clause-all g c =
     team_count c.args.task.now (map kid_of c.entries.result.now) c.args.workers c.in-Ok.recovered.workers.items c.in-Ok.ensures.workers
 
-pub returns-in_ok-begun-in-Ok : goal.returns-in_ok-begun-in-Ok
-returns-in_ok-begun-in-Ok g c = λ digest f s.
+pub returns-in_ok-begun-in-Ok-clause-begins : goal.returns-in_ok-begun-in-Ok-clause-begins
+returns-in_ok-begun-in-Ok-clause-begins g c = λ digest f s.
     let kids = map kid_of c.entries.result.now in
     let these : kids ≡ entries_of f = ap (map kid_of) c.entries.ensures ∙ journal_kids digest f c.args.journal.now s in
     let few : length kids ≤ c.most.result = omega (arith, c.in-Ok.ensures.within, length-map c.entries.result.now kid_of) in

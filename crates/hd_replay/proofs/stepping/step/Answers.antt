@@ -9,20 +9,20 @@ turn-requires g c =
     let x = c.requires.runs in
     record { sound = sound_run x.0 x.1 x.2 c.args.journal.now c.args.run.now x.3 }
 
-pub returns-in-Flush : goal.returns-in-Flush
-returns-in-Flush g c = λ t digest f x.
+pub returns-in-Flush-clause-goes : goal.returns-in-Flush-clause-goes
+returns-in-Flush-clause-goes g c = λ t digest f x.
     let r = c.args.run.now in
     let r' = c.flush.new.self in
     let j = c.args.journal.now in
     let j' = c.flush.new.journal in
-    on_ok (Flushes digest f r j' r') (Goes t digest f r c.args.next j' r') c.flush.result
-    (λ (fl : Flushes digest f r j' r'). subst (λ m. Goes t digest f r m j' r') (sym c.in-Flush.is) (flush_goes t digest f r r' j j' x fl))
+    on_ok (Flushes digest f j r j' r') (Goes t digest f r c.args.next j' r') c.flush.result
+    (λ (fl : Flushes digest f j r j' r'). subst (λ m. Goes t digest f r m j' r') (sym c.in-Flush.is) (flush_goes t digest f r r' j j' x fl))
     (c.flush.ensures.flushed digest f x.stands)
 
-pub returns-in_default : goal.returns-in_default
-returns-in_default g c = λ t digest f x.
+pub returns-in_default-clause-goes : goal.returns-in_default-clause-goes
+returns-in_default-clause-goes g c = λ t digest f x.
     let r = c.args.run.now in
     let r' = c.turn.new.run in
     let j = c.args.journal.now in
     on_ok (TurnsTo r.book.state.task r c.args.next r') (Goes t digest f r c.args.next j r') c.turn.result
-    (turn_goes t digest f r r' j j x c.args.next c.in_default.not-Flush c.requires.no_stop refl) c.turn.ensures
+    (turn_goes t digest f r r' j j x c.args.next c.in_default.not-Flush c.requires.no_stop refl) c.turn.ensures.turned
