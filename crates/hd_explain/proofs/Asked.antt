@@ -1,9 +1,8 @@
 -- Which fault the questions about a step and the goal tell, where there is a reason, and where there is none.
-use Rattle.std.proofs.Common.{◌≡◌, ℕ, Bool, true, false, not, ◌&&◌, List, [], Option, Some, None, inl, inr, refl, sym, ap, ap₂, ◌∙◌, pos}
-use Rattle.std.specs.Prelude.{◌⊎◌, slice_get, option_map, if◌then◌else◌, ℤ, ◌+ℤ◌}
+use Rattle.std.proofs.Common.{◌≡◌, ℕ, Bool, true, false, not, ◌&&◌, List, [], Option, Some, None, inl, inr, refl, sym, ap, ap₂, ◌∙◌}
+use Rattle.std.specs.Prelude.{◌⊎◌, slice_get, option_map, if◌then◌else◌, ◌+ℤ◌}
 use Rattle.std.specs.List.{list_all}
 use Rattle.std.specs.Option.{option_or}
-use Rattle.std.proofs.lemmas.Bool.{and_from}
 use Rattle.std.proofs.lemmas.Option.{none-some, same_Some}
 use Rattle.hd_base.specs.Numbers.{fits}
 use Rattle.hd_base.specs.Values.{of_both}
@@ -13,7 +12,7 @@ use Rattle.hd_lifted.specs.declared.schema.Schema.{Schema}
 use Rattle.hd_lifted.specs.declared.task.LiftedTask.{LiftedTask}
 use Rattle.hd_lifted.specs.declared.instance.Instance.{Instance}
 use Rattle.hd_lifted.specs.States.{State}
-use Rattle.hd_lifted.specs.Conditions.{literal_holds, equality_holds, comparison_holds, comparison_stays, literals_hold, comparisons_hold, comparisons_stay, holds}
+use Rattle.hd_lifted.specs.Conditions.{literal_holds, equality_holds, comparison_holds, comparison_stays, literals_hold, comparisons_hold, holds}
 use Rattle.hd_lifted.specs.Effects.{state_after, step_cost, is_negative, effects_stay}
 use Rattle.hd_lifted.specs.Steps.{Reached, step, cost_after}
 use Rattle.hd_lifted.specs.Plans.{IsInstance}
@@ -25,11 +24,11 @@ use Rattle.hd_judge.specs.Fault.{unless}
 use Rattle.hd_judge.specs.Questions.{first_undefined, costs_negative}
 use Rattle.hd_judge.specs.Asking.{asked_of_fluents, asked_of_comparisons, asked_before, asked_after, asked_by, asked_of_step, asked_of_goal}
 use Rattle.hd_judge.specs.Validity.{TellsStep, no_instance, fails}
-use Rattle.hd_judge.proofs.Asked.{IsMetBy, IsTaken, IsGoalMet, met-holds, unasked-from_taken, unasked-from_goal_met}
+use Rattle.hd_judge.proofs.Asked.{IsMetBy, met-holds, unasked-from_taken, unasked-from_goal_met}
 use Rattle.hd_explain.specs.declared.reason.Reason.{Reason}
 use Rattle.hd_explain.specs.declared.reason.Reason.TheVariants as reasons
 use Rattle.hd_explain.specs.Reasons.{IsReasonOfLiterals, IsReasonOfComparisons, HoldWithin}
-use Rattle.hd_explain.specs.EffectReasons.{amount_stays, new_value_stays, IsReasonOfEffects, StaysWithin}
+use Rattle.hd_explain.specs.EffectReasons.{amount_stays, new_value_stays, IsReasonOfEffects}
 use Rattle.hd_explain.specs.Steps.{IsReasonOfStep, GoesThrough, IsReasonOfGoal, GoalIsMet}
 use Rattle.hd_explain.specs.Plans.{fault_of, is_explained}
 use Rattle.hd_explain.proofs.Finding.{fails_where_some, both_first, both_second}

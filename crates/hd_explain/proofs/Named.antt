@@ -1,6 +1,6 @@
 -- Why a plan of steps is not valid: of one step, of the goal, and of the whole.
 use Rattle.std.proofs.Common.{◌≡◌, ◌≤◌, ℕ, ◌+◌, ◌-◌, take, drop, List, [], ◌∷◌, Some, None, length, get_or, arith, inl, inr, refl, sym, ap, ◌∙◌, subst}
-use Rattle.std.specs.Prelude.{Bool, true, false, if◌then◌else◌}
+use Rattle.std.specs.Prelude.{true, false}
 use Rattle.std.proofs.lemmas.List.{take_rest}
 use Rattle.hd_plan.specs.declared.step.Step.{Step}
 use Rattle.hd_lifted.specs.declared.task.LiftedTask.{LiftedTask}

@@ -1,5 +1,5 @@
 -- The steps of a plan name the instances of its actions.
-use Rattle.std.proofs.Common.{◌≡◌, ℕ, List, [], ◌∷◌, map, Some, slice_get, refl, sym, ap, ◌∙◌, subst}
+use Rattle.std.proofs.Common.{◌≡◌, ℕ, List, [], ◌∷◌, map, Some, slice_get, sym, ap, ◌∙◌, subst}
 use Rattle.std.specs.Prelude.{option_map, unwrap_or}
 use Rattle.std.specs.List.{AllZip, AllByRecursion}
 use Rattle.std.specs.Option.{IsSomeAnd}
@@ -20,7 +20,7 @@ use Rattle.hd_grounding.specs.Grounding.{IsGrounding, names_in}
 use Rattle.hd_grounding.proofs.Grounded.{instance_kept, kept_action}
 use Rattle.hd_transfer.specs.Instances.{instance_of, plan_of}
 use Rattle.hd_transfer.proofs.Runs.{IsNamed, instance_is, plan_of-named}
-use Rattle.hd_validate.specs.Naming.{IsSchemaNamed, IsObjectNamed, HasNamesOf, IsStep}
+use Rattle.hd_validate.specs.Naming.{IsSchemaNamed, IsObjectNamed, IsStep}
 use Rattle.hd_printing.specs.Printing.{step_of, step_by_action, step_at, steps_of, HasTextNames}
 
 -- the name of what stands at a place

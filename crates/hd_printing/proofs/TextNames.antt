@@ -1,5 +1,5 @@
 -- The names of what two texts declare are names of texts, in lower case.
-use Rattle.std.proofs.Common.{◌≡◌, ℕ, List, [], ◌∷◌, map, Some, None, Option, slice_get, refl, sym, subst}
+use Rattle.std.proofs.Common.{◌≡◌, ℕ, List, [], ◌∷◌, map, Some, None, Option, refl, sym, subst}
 use Rattle.std.specs.List.{AllByRecursion}
 use Rattle.hd_base.proofs.Lists.{AllByRecursion-append, AllByRecursion-slice_get}
 use Rattle.hd_forms.specs.declared.names.NameAt.{NameAt}
@@ -27,7 +27,7 @@ use Rattle.hd_lifted.specs.declared.task.Object.{Object}
 use Rattle.hd_names.specs.declared.scope.Scope.{Scope}
 use Rattle.hd_names.specs.Scope.{type_names, parents_of, scope_of}
 use Rattle.hd_check.specs.Schemas.{lifted_schema, schema_with}
-use Rattle.hd_check.specs.Whole.{lifted_object, lifted_objects, all_objects, lifted_domain, domain_in, lifted_problem, task_with, task_behind, task_below, lifted_task}
+use Rattle.hd_check.specs.Whole.{lifted_objects, all_objects, lifted_domain, domain_in, lifted_problem, task_with, task_behind, task_below, lifted_task}
 use Rattle.hd_texts.specs.Tasks.{IsLiftedOf}
 use Rattle.hd_plan.specs.Text.{IsLowerName}
 use Rattle.hd_printing.specs.Printing.{HasTextNames}

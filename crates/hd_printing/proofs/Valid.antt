@@ -1,5 +1,5 @@
 -- A plan of a grounding from which nothing departs is validated in the lifted task.
-use Rattle.std.proofs.Common.{◌≡◌, ◌⊎◌, inl, inr, ℕ, Bool, true, false, not, List, [], ◌∷◌, ◌++◌, map, Contains, Option, Some, None, slice_get, refl, sym, ap, ap₂, ◌∙◌, subst, true≢false, pos}
+use Rattle.std.proofs.Common.{◌≡◌, inl, inr, ℕ, true, false, List, [], ◌∷◌, ◌++◌, Contains, Option, Some, None, slice_get, refl, sym, ap, ap₂, ◌∙◌, subst, true≢false}
 use Rattle.std.specs.Prelude.{option_and_then}
 use Rattle.std.specs.List.{AllByRecursion}
 use Rattle.std.proofs.lemmas.Bool.{false_from_ne_true}
@@ -13,13 +13,11 @@ use Rattle.hd_lifted.specs.declared.instance.Instance.{Instance}
 use Rattle.hd_lifted.specs.Departures as ranges
 use Rattle.hd_lifted.specs.Plans as lifted
 use Rattle.hd_lifted.specs.Plans.{IsInstance}
-use Rattle.hd_lifted.specs.Steps.{Reached}
 use Rattle.hd_task.specs.declared.action.Action.{Action}
 use Rattle.hd_task.specs.declared.task.Task.{Task}
 use Rattle.hd_task.specs.Plans.{Node, start, step_by, exec, exec_from, IsValidAt}
 use Rattle.hd_task.proofs.Runs.{exec_from-none}
 use Rattle.hd_kept.specs.Kept.{IsKept}
-use Rattle.hd_kept.specs.Met.{met_by, met_by_goal}
 use Rattle.hd_kept.specs.Numbering.{IsTaskFluent}
 use Rattle.hd_grounding.specs.Grounding.{IsGrounding}
 use Rattle.hd_grounding.specs.Faults as faults
@@ -28,7 +26,7 @@ use Rattle.hd_grounding.proofs.Grounded.{kept_action, first_there}
 use Rattle.hd_transfer.specs.Instances.{instance_of, plan_of}
 use Rattle.hd_transfer.proofs.Runs.{IsNamed, instance_is, plan_of-named, all_named, valid_there}
 use Rattle.hd_transfer.proofs.Departing.{actions_depart, goals_depart}
-use Rattle.hd_judge.specs.Questions.{is_defined, costs_negative}
+use Rattle.hd_judge.specs.Questions.{costs_negative}
 use Rattle.hd_judge.specs.Validity.{NoStepDeparts, IsValidated}
 use Rattle.hd_validate.specs.Plans.{IsValidatedBy}
 use Rattle.hd_printing.specs.Printing.{steps_of, GoesThrough, GoalStays}
