@@ -1,5 +1,5 @@
 //! Which of two faults is told: the one that is looked for first.
-use crate::told::{assert_edits, edited, told};
+use crate::told::{assert_edits, assert_told, edited, told};
 use std::alloc::Global;
 use std::process::Abort;
 use std::test::Fail;
@@ -125,6 +125,39 @@ const READS: &str = "(define (domain d) (:predicates (a))
   (go)
 ";
 
+/// What gives a fluent its value, in the order in which they are read, and what is told where it is missing.
+const VALUES: [(&str, &str); 12] = [
+    ("(= (f) 1)", "15 Undefined((f))"),
+    ("(= (g) 1)", "15 Undefined((g))"),
+    ("(= (h) 1)", "15 Undefined((h))"),
+    ("(= (i) 0)", "15 Undefined((i))"),
+    ("(= (j) 1)", "15 Undefined((j))"),
+    ("(= (k) 1)", "15 Undefined((k))"),
+    ("(= (l) 2)", "15 Undefined((l))"),
+    ("(= (m) 1)", "15 Undefined((m))"),
+    ("(= (n) 1)", "15 Undefined((n))"),
+    ("(= (o) 1)", "15 Undefined((o))"),
+    ("(= (p) 1)", "15 Undefined((p))"),
+    ("(= (q) 2)", "15 Undefined((q))"),
+];
+
+fn assert_one_missing(rt: &impl Abort, alloc: Global) -> Result<(), Fail> {
+    for (value, expected) in &VALUES {
+        assert_edits(rt, alloc, READS, &[(value, "", expected)])?;
+    }
+    Ok(())
+}
+
+/// Asserts what is told where a value and all that are read after it are missing.
+fn assert_rest_missing(rt: &impl Abort, alloc: Global) -> Result<(), Fail> {
+    let mut text = format!(in alloc; "{READS}")?;
+    for (value, expected) in VALUES.iter().rev() {
+        text = edited(alloc, &text, value, "")?;
+        assert_told(rt, alloc, &text, expected)?;
+    }
+    Ok(())
+}
+
 #[test]
 fn the_first_fluent_without_a_value(rt: HostRuntime) -> Result<(), Fail> {
     assert_edits(
@@ -136,66 +169,8 @@ fn the_first_fluent_without_a_value(rt: HostRuntime) -> Result<(), Fail> {
             ("(go)", "(go)", "cost 2"),
             ("(go)", "", "23 GoalUnmet"),
             ("(go)", "(go)\n(other)", "15 Undefined((r))"),
-            ("(= (f) 1)", "", "15 Undefined((f))"),
-            ("(= (g) 1)", "", "15 Undefined((g))"),
-            ("(= (h) 1)", "", "15 Undefined((h))"),
-            ("(= (i) 0)", "", "15 Undefined((i))"),
-            ("(= (j) 1)", "", "15 Undefined((j))"),
-            ("(= (k) 1)", "", "15 Undefined((k))"),
-            ("(= (l) 2)", "", "15 Undefined((l))"),
-            ("(= (m) 1)", "", "15 Undefined((m))"),
-            ("(= (n) 1)", "", "15 Undefined((n))"),
-            ("(= (o) 1)", "", "15 Undefined((o))"),
-            ("(= (p) 1)", "", "15 Undefined((p))"),
-            ("(= (q) 2)", "", "15 Undefined((q))"),
-            // Several are missing.
-            (
-                "(= (f) 1) (= (g) 1) (= (h) 1) (= (i) 0) (= (j) 1) (= (k) 1) (= (l) 2) (= (m) 1) (= (n) 1) (= (o) 1) (= (p) 1) (= (q) 2)",
-                "",
-                "15 Undefined((f))",
-            ),
-            (
-                "(= (g) 1) (= (h) 1) (= (i) 0) (= (j) 1) (= (k) 1) (= (l) 2) (= (m) 1) (= (n) 1) (= (o) 1) (= (p) 1) (= (q) 2)",
-                "",
-                "15 Undefined((g))",
-            ),
-            (
-                "(= (h) 1) (= (i) 0) (= (j) 1) (= (k) 1) (= (l) 2) (= (m) 1) (= (n) 1) (= (o) 1) (= (p) 1) (= (q) 2)",
-                "",
-                "15 Undefined((h))",
-            ),
-            (
-                "(= (i) 0) (= (j) 1) (= (k) 1) (= (l) 2) (= (m) 1) (= (n) 1) (= (o) 1) (= (p) 1) (= (q) 2)",
-                "",
-                "15 Undefined((i))",
-            ),
-            (
-                "(= (j) 1) (= (k) 1) (= (l) 2) (= (m) 1) (= (n) 1) (= (o) 1) (= (p) 1) (= (q) 2)",
-                "",
-                "15 Undefined((j))",
-            ),
-            (
-                "(= (k) 1) (= (l) 2) (= (m) 1) (= (n) 1) (= (o) 1) (= (p) 1) (= (q) 2)",
-                "",
-                "15 Undefined((k))",
-            ),
-            (
-                "(= (l) 2) (= (m) 1) (= (n) 1) (= (o) 1) (= (p) 1) (= (q) 2)",
-                "",
-                "15 Undefined((l))",
-            ),
-            (
-                "(= (m) 1) (= (n) 1) (= (o) 1) (= (p) 1) (= (q) 2)",
-                "",
-                "15 Undefined((m))",
-            ),
-            (
-                "(= (n) 1) (= (o) 1) (= (p) 1) (= (q) 2)",
-                "",
-                "15 Undefined((n))",
-            ),
-            ("(= (o) 1) (= (p) 1) (= (q) 2)", "", "15 Undefined((o))"),
-            ("(= (p) 1) (= (q) 2)", "", "15 Undefined((p))"),
         ],
-    )
+    )?;
+    assert_one_missing(&rt, rt.alloc())?;
+    assert_rest_missing(&rt, rt.alloc())
 }
