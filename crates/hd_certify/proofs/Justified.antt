@@ -1,5 +1,5 @@
 -- Entries cover what they generate exactly where no kid that is no entry need be expanded.
-use Rattle.std.proofs.Common.{◌≡◌, ℕ, ◌+◌, ◌<◌, ◌≤◌, Bool, true, false, not, ◌⊎◌, inl, inr, ⊎_elim, List, [], ◌∷◌, ◌++◌, map, take, filter, length, get_or, slice_get, Contains, Option, Some, None, IfSome, IfNone, refl, sym, ap, ap₂, ◌∙◌, subst, arith, true≢false, take_all, is_some, ◌↔◌, ◌&&◌}
+use Rattle.std.proofs.Common.{◌≡◌, ℕ, ◌+◌, ◌<◌, Bool, true, false, not, ◌⊎◌, inl, inr, ⊎_elim, List, [], ◌∷◌, ◌++◌, map, take, length, get_or, slice_get, Contains, Option, Some, None, IfSome, IfNone, refl, sym, ap, ap₂, ◌∙◌, subst, arith, true≢false, take_all, is_some, ◌↔◌}
 use Rattle.std.specs.Prelude.{option_and_then, flat_map}
 use Rattle.std.specs.List.{AllByRecursion}
 use Rattle.std.proofs.lemmas.Bool.{leb-true, le-leb, not-true, and_parts}
@@ -16,13 +16,13 @@ use Rattle.hd_task.specs.Plans.{Node, node, exec, start, step_by, IsStateOf}
 use Rattle.hd_task.specs.Departures.{action_departs}
 use Rattle.hd_task.specs.Expansions.{is_applicable, applicable_at, followed_by, children, generated, bound_of}
 use Rattle.hd_task.specs.Entries.{plan_of}
-use Rattle.hd_task.specs.Covers.{IsDominated, IsBounded, Dead, Reaches, IsJustified, IsCovered}
+use Rattle.hd_task.specs.Covers.{IsDominated, IsBounded, Dead, Reaches, IsCovered}
 use Rattle.hd_task.proofs.Runs.{exec-push, exec-state}
 use Rattle.hd_hmax.specs.Rounds.{hmax}
 use Rattle.hd_kids.specs.Kids.{root}
 use Rattle.hd_node.specs.Parcel.{ParcelView}
 use Rattle.hd_node.specs.declared.batch.By.{By}
-use Rattle.hd_closed.specs.Closed.{Closed, state_at, closed_at, IsClosedAt, IsNamedBy, IsDearer, nothing}
+use Rattle.hd_closed.specs.Closed.{Closed, closed_at, IsNamedBy, IsDearer, nothing}
 use Rattle.hd_entries.specs.Kids.{posted_by}
 use Rattle.hd_entries.specs.Marks.{IsSettled}
 use Rattle.hd_entries.specs.Settling.{BookState, expansions, IsKept, entry_node, reaches}

@@ -1,6 +1,6 @@
 -- The parents of entries that name a legal list.
-use Rattle.std.proofs.Common.{◌≡◌, ℕ, ◌+◌, ◌<◌, ◌≤◌, ◌==◌, not, nat_lt, ◌&&◌, ◌||◌, Bool, true, false, cond, Option, Some, None, List, [], ◌∷◌, ◌++◌, map, length, refl, sym, subst, arith, length-append}
-use Rattle.std.specs.Prelude.{option_map, Result, Ok, Err, OnOk, IfOk}
+use Rattle.std.proofs.Common.{◌≡◌, ℕ, ◌+◌, ◌<◌, ◌≤◌, ◌==◌, not, nat_lt, ◌&&◌, ◌||◌, Bool, true, false, cond, Option, Some, None, List, [], ◌∷◌, ◌++◌, map, length, refl, sym, arith, length-append}
+use Rattle.std.specs.Prelude.{option_map}
 use Rattle.std.specs.List.{list_all}
 use Rattle.std.proofs.lemmas.Bool.{and_from, ltb-true, lt-ltb}
 use Rattle.std.proofs.lemmas.Option.{none-some}

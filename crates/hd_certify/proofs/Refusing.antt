@@ -14,11 +14,11 @@ use Rattle.hd_entries.specs.declared.refusal.Refusal.{Refusal}
 use Rattle.hd_entries.specs.declared.refusal.Refusal.TheVariants.{UnknownParent, NotAKid, SettledBefore, StateDiffers, NotDominated, BelowBound, Full, NoMemory}
 use Rattle.hd_entries.specs.Kids.{posted_by}
 use Rattle.hd_entries.specs.Holding.{plans_at}
-use Rattle.hd_entries.specs.Resuming.{has, fault_at, first_fault, resumed_state, AreLegal, IsFaultOf}
+use Rattle.hd_entries.specs.Resuming.{has, fault_at, first_fault, AreLegal, IsFaultOf}
 use Rattle.hd_entries.proofs.Again.{nothing_kept}
 use Rattle.hd_entries.proofs.Faultless.{kept_from, legal_from, no_faults}
 use Rattle.hd_certify.specs.declared.error.CertifyError.TheVariants as CertifyError
-use Rattle.hd_certify.specs.Error.{IsDamagedAt, IsRefusal}
+use Rattle.hd_certify.specs.Error.{IsRefusal}
 
 -- ---- legal lists have no fault
 

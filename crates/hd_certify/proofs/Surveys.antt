@@ -1,7 +1,7 @@
 -- What is counted of entries.
 use Rattle.std.proofs.Common.{◌≡◌, ◌≢◌, inl, inr, ℕ, zero, suc, ◌+◌, ◌<◌, ◌≤◌, ◌==◌, ◌↔◌, Bool, true, false, true≢false, cond, Option, Some, None, List, [], ◌∷◌, ◌++◌, map, take, length, get_or, slice_get, option_and_then, refl, sym, ap, ◌∙◌, subst, arith}
 use Rattle.std.specs.Prelude.{option_map}
-use Rattle.std.proofs.lemmas.Bool.{eqb-true, eqb-false, cases_lt}
+use Rattle.std.proofs.lemmas.Bool.{eqb-true, eqb-false}
 use Rattle.std.proofs.lemmas.Option.{none-some, same_Some, slice_get-map, slice_get-get_or, slice_get_past, slice_get_within, get_or_from_slice_get}
 use Rattle.std.proofs.lemmas.List.{take_more, take_all, map-append, length-append, length-map, length-take, get_or-take}
 use Rattle.hd_task.specs.declared.task.Task.{Task}
@@ -9,7 +9,7 @@ use Rattle.hd_task.specs.declared.plan.Kid.{Kid}
 use Rattle.hd_task.specs.declared.plan.TheConstants.{ROOT_PARENT, ROOT_ACTION}
 use Rattle.hd_task.specs.declared.state.State.{State}
 use Rattle.hd_task.specs.Entries.{plan_from, plan_of}
-use Rattle.hd_task.specs.Plans.{Node, node, exec}
+use Rattle.hd_task.specs.Plans.{node, exec}
 use Rattle.hd_kids.specs.Kids.{root}
 use Rattle.hd_entries.specs.Settling.{BookState, IsKept, expansions, entry_node}
 use Rattle.hd_entries.proofs.Naming.{length-plans_of}
