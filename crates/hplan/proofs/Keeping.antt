@@ -14,10 +14,9 @@ use Rattle.hd_image.specs.Image.{most_of, opened, entry_width, entries_of, entri
 use Rattle.hd_journal.specs.declared.error.JournalError.{JournalError}
 use Rattle.hd_journal.specs.declared.error.JournalError.TheVariants as journal
 use Rattle.hd_journal.specs.declared.journal.Journal as of
-use Rattle.hd_journal.specs.Answers.{StandsIn}
-use Rattle.hd_journal.specs.Journal.{IsOf, device_of, kid_of, kids_of}
+use Rattle.hd_journal.specs.Answers.{IsOpened}
+use Rattle.hd_journal.specs.Journal.{IsOf, device_of, kid_of, kids_of, found_in}
 use Rattle.hd_migrate.specs.Copy.{kids_in}
-use Rattle.hd_entries.specs.Holding.{BeginsWith}
 use Rattle.hd_search.specs.declared.fault.RunFault.{RunFault}
 use Rattle.hd_search.specs.declared.fault.RunFault.TheVariants as searching
 use Rattle.hd_certify.specs.Error.{IsDamagedAt}
@@ -32,7 +31,7 @@ use Rattle.hplan.specs.Fault.{journal_in, run_in, search_in}
 use Rattle.hplan.specs.declared.told.Told.{Told}
 use Rattle.hplan.specs.Answer.{IsSolution, IsKeptSolution}
 use Rattle.hplan.specs.PlanText.{printed}
-use Rattle.hplan.specs.Kept.{FailsIn, InMemory, InFile, IsJournalOf, IsKept, AreKept, TellsOfFile, StandThere, HasFaultyEntry, TellsOfSearch, HasNoSolution, OfMemory, OfThreads, OfFile, OfEntry, OfSearch, IsBegun, IsRefusedRun}
+use Rattle.hplan.specs.Kept.{FailsIn, InMemory, InFile, IsJournalOf, BeganWith, GoesOn, IsKept, AreKept, TellsOfFile, HasFaultyEntry, HasNoSolution, OfMemory, OfThreads, OfFile, OfEntry, OfSearch, IsResumed, IsBegun, IsRefusedRun}
 
 -- ---- a journal that is not begun
 
@@ -54,7 +53,7 @@ kids_of_entries : (v : Version) (at : ℕ) (kids : List Kid) → map kid_of (ent
 kids_of_entries v at [] = refl
 kids_of_entries v at (kid ∷ kids) = ap (λ (ks : List Kid). kid ∷ ks) (kids_of_entries v (at + entry_width v) kids)
 
-kids_of_groups : (v : Version) (gate : ℕ) (groups : List (List Kid)) → map kid_of (entries_in v gate groups) ≡ kids_in groups
+pub kids_of_groups : (v : Version) (gate : ℕ) (groups : List (List Kid)) → map kid_of (entries_in v gate groups) ≡ kids_in groups
 kids_of_groups v gate [] = refl
 kids_of_groups v gate (kids ∷ groups) =
     let next = gate + length (opened v kids) in
@@ -72,7 +71,7 @@ module _ {S : Type 0} {G : Ghosts S} where
   kids_by : (digest : List ℕ) (groups : List (List Kid)) (j : of.Journal S G) → IsOf digest groups j → kids_of j ≡ kids_in groups
   kids_by digest groups j is = ap (map kid_of) is.entries ∙ kids_of_groups j.version FIRST_GATE groups
 
-  journal_by : (digest : List ℕ) (groups : List (List Kid)) (j : of.Journal S G) → IsOf digest groups j
+  abbrev journal_by : (digest : List ℕ) (groups : List (List Kid)) (j : of.Journal S G) → IsOf digest groups j
       → IsJournalOf digest (kids_of j) (content_of (device_of j))
   journal_by digest groups j is = record {
     version = j.version;
@@ -84,45 +83,36 @@ module _ {S : Type 0} {G : Ghosts S} where
 
   -- ---- a journal that is gone on with
 
-  begins_by : (old new : of.Journal S G) (kids : List Kid) → Grows old new → kids_of old ≡ kids → BeginsWith (kids_of new) kids
-  begins_by old new kids grows is = subst (λ (ks : List Kid). BeginsWith (kids_of new) ks) is grows.begins
+  -- it has the entries that were found, and then more
+  goes_on : (digest before : List ℕ) (old new : of.Journal S G) (more : List (List Kid)) → (r : IsResumed digest before old)
+      → new.version ≡ old.version → GoesOn digest before new.version (r.groups ++ more)
+  goes_on digest before old new more r same = record {
+    found = r.found;
+    is_found = r.is_found;
+    version = same ∙ r.version;
+    stood = r.groups;
+    more = more;
+    entries =
+        sym r.entries
+        ∙ (r.is.entries ∙ ap (λ (v : Version). entries_in v FIRST_GATE r.groups) (sym same));
+    begins = refl;
+  }
 
-  pub is_kept : (start : Start) (digest before : List ℕ) (old new : of.Journal S G) → IsBegun start digest before old → Grows old new
+  -- a journal that was begun has become a later one: it has whole groups, behind what it began with
+  grown : (start : Start) (digest before : List ℕ) (old new : of.Journal S G) → IsBegun start digest before old → Grows old new
+      → (groups : List (List Kid)) × IsOf digest groups new × BeganWith start digest before new.version groups
+  grown New digest before old new begun grows =
+      let more = grows.groups digest [] begun.2 in
+      ([] ++ more.0, more.1, (begun.0, grows.version ∙ begun.1))
+  grown Kept digest before old new begun grows =
+      let more = grows.groups digest begun.groups begun.is in
+      (begun.groups ++ more.0, more.1, goes_on digest before old new more.0 begun grows.version)
+
+  abbrev is_kept : (start : Start) (digest before : List ℕ) (old new : of.Journal S G) → IsBegun start digest before old → Grows old new
       → IsKept start digest (kids_of new) before (content_of (device_of new))
-  is_kept New digest before old new begun grows =
-      let more = grows.groups digest [] begun.1 in
-      record { began = begun.0; holds = journal_by digest ([] ++ more.0) new more.1 }
-  is_kept Kept digest before old new begun grows =
-      let first = begun.0 in
-      let more = grows.groups digest first.0 first.1 in
-      record {
-        began = λ v groups stands. begins_by old new (kids_in groups) grows (kids_by digest groups old (begun.1 v groups stands).1);
-        holds = journal_by digest (first.0 ++ more.0) new more.1;
-      }
-
-  -- ---- a search that has no answer
-
-  runs_on : (start : Start) (digest before : List ℕ) (old : of.Journal S G) → IsBegun start digest before old → old.failed ≡ false
-  runs_on New digest before old begun = begun.1.running
-  runs_on Kept digest before old begun = begun.0.1.running
-
-  faulty_entry : (start : Start) (t : Task) (digest before after : List ℕ) (old new : of.Journal S G) (at : ℕ) → IsBegun start digest before old
-      → new ≡ old → content_of (device_of new) ≡ after → IsDamagedAt t old.entries.items at → HasFaultyEntry start t digest before after at
-  faulty_entry New t digest before after old new at begun same left faulty = none_faulty t old.entries.items at begun.1.entries faulty
-  faulty_entry Kept t digest before after old new at begun same left faulty =
-      let there : StandThere digest before old.entries.items =
-      λ v groups stands.
-      let k = begun.1 v groups stands in
-      subst (λ (w : Version). old.entries.items ≡ entries_in w FIRST_GATE groups) k.0 k.1.entries
-      in
-      let stays : content_of (device_of old) ≡ after = subst (λ (j : of.Journal S G). content_of (device_of j) ≡ after) same left in
-      (old.entries.items, there, faulty, subst (IsJournalOf digest (kids_of old)) stays (journal_by digest begun.0.0 old begun.0.1))
-
-  -- the entries that a journal has then are kept
-  are_kept : (start : Start) (digest before after : List ℕ) (old new : of.Journal S G) → IsBegun start digest before old → Grows old new
-      → content_of (device_of new) ≡ after → AreKept start digest before after
-  are_kept start digest before after old new begun grows left =
-      (kids_of new, subst (IsKept start digest (kids_of new) before) left (is_kept start digest before old new begun grows))
+  is_kept start digest before old new begun grows =
+      let all = grown start digest before old new begun grows in
+      record { holds = journal_by digest all.0 new all.1; began = all.2 }
 
   stays : (old new : of.Journal S G) → new ≡ old → Grows old new
   stays old new same = subst (Grows old) (sym same) (record {
@@ -132,6 +122,34 @@ module _ {S : Type 0} {G : Ghosts S} where
     stuck = λ _. refl;
     groups = λ digest groups is. ([], subst (λ (gs : List (List Kid)). IsOf digest gs old) (sym (append-nil groups)) is);
   })
+
+  -- ---- a search that has no answer
+
+  runs_on : (start : Start) (digest before : List ℕ) (old : of.Journal S G) → IsBegun start digest before old → old.failed ≡ false
+  runs_on New digest before old begun = begun.2.running
+  runs_on Kept digest before old begun = begun.is.running
+
+  faulty_entry : (start : Start) (t : Task) (digest before after : List ℕ) (old new : of.Journal S G) (at : ℕ) → IsBegun start digest before old
+      → new ≡ old → content_of (device_of new) ≡ after → IsDamagedAt t old.entries.items at → HasFaultyEntry start t digest before after at
+  faulty_entry New t digest before after old new at begun same left faulty = none_faulty t old.entries.items at begun.2.entries faulty
+  faulty_entry Kept t digest before after old new at begun same left faulty =
+      let kids : kids_of new ≡ map kid_of (found_in begun.found) =
+      ap (λ (j : of.Journal S G). kids_of j) same ∙ ap (map kid_of) begun.entries
+      in
+      let kept : IsKept Kept digest (kids_of new) before (content_of (device_of new)) =
+      is_kept Kept digest before old new begun (stays old new same)
+      in
+      (begun.found,
+      begun.is_found,
+      subst (λ (es : List Entry). IsDamagedAt t es at) begun.entries faulty,
+      subst (λ (ks : List Kid). IsKept Kept digest ks before after) kids
+      (subst (IsKept Kept digest (kids_of new) before) left kept))
+
+  -- the entries that a journal has then are kept
+  are_kept : (start : Start) (digest before after : List ℕ) (old new : of.Journal S G) → IsBegun start digest before old → Grows old new
+      → content_of (device_of new) ≡ after → AreKept start digest before after
+  are_kept start digest before after old new begun grows left =
+      (kids_of new, subst (IsKept start digest (kids_of new) before) left (is_kept start digest before old new begun grows))
 
   refused_first : (start : Start) (t : Task) (digest before after : List ℕ) (old new : of.Journal S G) (why : RunFault)
       → IsBegun start digest before old → new ≡ old → content_of (device_of new) ≡ after → IsFaulty t (most_of old.version) old.entries.items why
@@ -175,13 +193,21 @@ module _ {S : Type 0} {G : Ghosts S} where
 -- ---- a journal that is begun, by what is answered
 
 module _ {S : Type 0} {G : Ghosts S} where
-  pub begun_kept : (digest : List ℕ) (old : Device) (r : Result (of.Journal S G) (S × JournalError))
-      → IfOk r (λ j. (groups : List (List Kid)) × IsOf digest groups j)
-      → ((v : Version) (groups : List (List Kid)) → StandsIn v digest groups (content_of old)
-      → IfOk r (λ j. (j.version ≡ v) × IsOf digest groups j))
-      → IfOk r (IsBegun Kept digest (content_of old))
-  begun_kept digest old (Ok j) whole there = (whole, there)
-  begun_kept digest old (Err e) whole there = tt
+  resumed : (digest : List ℕ) (old : Device) (j : of.Journal S G) → IsOpened digest old j
+      → (groups : List (List Kid)) × IsOf digest groups j → IsResumed digest (content_of old) j
+  resumed digest old j opened whole = record {
+    found = opened.found;
+    is_found = opened.mended.is;
+    version = opened.version;
+    entries = opened.entries;
+    groups = whole.0;
+    is = whole.1;
+  }
+
+  pub begun_kept : (digest : List ℕ) (old : Device) (r : Result (of.Journal S G) (S × JournalError)) → IfOk r (IsOpened digest old)
+      → IfOk r (λ j. (groups : List (List Kid)) × IsOf digest groups j) → IfOk r (IsBegun Kept digest (content_of old))
+  begun_kept digest old (Ok j) opened whole = resumed digest old j opened whole
+  begun_kept digest old (Err e) opened whole = tt
 
   -- ---- what is answered over a journal
 

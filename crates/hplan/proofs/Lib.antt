@@ -10,6 +10,7 @@ pub mod Legal
 pub mod Moving
 pub mod Shelves
 pub mod Solving
+pub mod Standing
 pub mod StepTexts
 pub mod Surveys
 pub mod TaskLines

@@ -17,11 +17,10 @@ use Rattle.hd_plan.specs.declared.output.WriteError.{WriteError}
 use Rattle.hd_plan.specs.declared.output.WriteError.TheVariants as unwritten
 use Rattle.hd_plan.specs.Output.{AppendsShort, KeepsFor, IsNoted}
 use Rattle.hd_texts.specs.declared.fault.TaskFault.{TaskFault}
-use Rattle.hd_texts.specs.declared.fault.TaskFault.TheVariants as texts
-use Rattle.hd_texts.specs.Tasks.{IsTaskOf, Explains, Unlifted, Memory}
+use Rattle.hd_texts.specs.Tasks.{IsTaskOf, Explains}
 use Rattle.hplan.specs.Fault.{task_in, TellsUnwritten}
-use Rattle.hplan.specs.Answer.{plan_in, IsValidInDomain, IsTrueOfDomain, IsKeptSolution, IsKeptAnswer, IsAnswerText, IsUnwritten, Writes, HasNoAnswer, HasNoAnswerYet, OfTexts, OfSearch, OfOutput}
-use Rattle.hplan.specs.Kept.{Keeping, FailsIn}
+use Rattle.hplan.specs.Answer.{plan_in, IsValidInDomain, IsTrueOfDomain, IsKeptSolution, IsKeptAnswer, IsAnswerText, IsUnwritten, Writes, HasNoAnswer, HasNoAnswerYet, OfTexts, OfSearch, OfWriting, OfOutput}
+use Rattle.hplan.specs.Kept.{Keeping, IsLeftAlone, FailsIn}
 use Rattle.hplan.specs.Written.{WritesFrontOfA}
 use Rattle.hd_texts.specs.Digest.{digest_of}
 use Rattle.hplan.proofs.Writing.{untouched, failed}
@@ -63,10 +62,10 @@ err_weaker (Err e) f p = f e p
 
 -- ---- no answer
 
-pub task_unanswered : (k : Keeping) (limit : Option ℕ) (domain problem : List ℕ) (f : TaskFault) (fault : Fault) → fault ≡ task_in f → Explains domain problem f
-    → HasNoAnswerYet k limit domain problem fault
-task_unanswered k limit domain problem f fault is told bytes noted =
-    subst (HasNoAnswer k limit domain problem bytes bytes noted noted) (sym is) (OfTexts (untouched bytes noted) f told)
+pub task_unanswered : (k : Keeping) (limit : Option ℕ) (domain problem : List ℕ) (f : TaskFault) (fault : Fault) → IsLeftAlone k
+    → fault ≡ task_in f → Explains domain problem f → HasNoAnswerYet k limit domain problem fault
+task_unanswered k limit domain problem f fault alone is told bytes noted =
+    subst (HasNoAnswer k limit domain problem bytes bytes noted noted) (sym is) (OfTexts (untouched bytes noted) alone f told)
 
 -- the answer of the search of a task is the answer of the texts that say it
 answered : (k : Keeping) (limit : Option ℕ) (domain problem : List ℕ) (t : Task) (task : IsTaskOf domain problem t) (ending : Ending) (text : List ℕ)
@@ -93,7 +92,7 @@ unwritten_by : (k : Keeping) (limit : Option ℕ) (domain problem : List ℕ) (e
     → TellsUnwritten error f → HasNoAnswer k limit domain problem old new before noted f
 unwritten_by k limit domain problem ending text old new before noted unwritten.NoMemory f s short kept same told =
     subst (HasNoAnswer k limit domain problem old new before noted) (sym told)
-    (OfTexts (record { bytes = kept; fault = same }) texts.NoMemory (Unlifted texts.NoMemory Memory))
+    (OfWriting (record { bytes = kept; fault = same }) text (record { ending = ending; answer = s }))
 unwritten_by k limit domain problem ending text old new before noted (unwritten.Device kind) f s short kept same told =
     OfOutput f
     (failed (IsAnswerText k limit domain problem) text old new noted f (record { ending = ending; answer = s }) short

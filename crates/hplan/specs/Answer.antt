@@ -17,8 +17,9 @@ use Rattle.hd_texts.specs.declared.fault.TaskFault.{TaskFault}
 use Rattle.hd_texts.specs.Tasks.{IsTaskOf, Explains}
 use Rattle.hd_plan.specs.declared.output.WriteError.{WriteError}
 use Rattle.hd_plan.specs.Output.{AppendsShort, KeepsFor, IsNoted}
+use Rattle.hplan.specs.declared.fault.Fault.TheVariants.{NoMemory}
 use Rattle.hplan.specs.Fault.{task_in, TellsUnwritten}
-use Rattle.hplan.specs.Kept.{Keeping, IsKeptIn, FailsIn}
+use Rattle.hplan.specs.Kept.{Keeping, IsKeptIn, IsLeftAlone, FailsIn}
 use Rattle.hplan.specs.PlanText.{plan_text}
 use Rattle.hplan.specs.TaskText.{departure_text}
 use Rattle.hplan.specs.Written.{IsUntouched, FailsToWrite}
@@ -98,13 +99,16 @@ pub record IsAnswerText (k : Keeping) (limit : Option ℕ) (domain problem : Lis
   pub ending : Ending
   pub answer : IsKeptAnswer k limit domain problem ending text
 
--- why two texts have no answer: what is told of the texts; or they say a task, and its search has none; or they have one, of whose text a
--- beginning is written, and what is told of the error that the writer has answered. The writer is untouched where it is not to blame
+-- why two texts have no answer: what is told of the texts, and nothing was begun; or they say a task, and its search has none; or they have
+-- one, and there is no memory for its text; or they have one, of whose text a beginning is written, and what is told of the error that the
+-- writer has answered. The writer is untouched where it is not to blame
 pub data HasNoAnswer (k : Keeping) (limit : Option ℕ) (domain problem : List ℕ) (old new : Option (List ℕ)) (before noted : Option ErrorKind) : Fault → Type 0 where
-  OfTexts : IsUntouched old new before noted → (f : TaskFault) → Explains domain problem f
+  OfTexts : IsUntouched old new before noted → IsLeftAlone k → (f : TaskFault) → Explains domain problem f
       → HasNoAnswer k limit domain problem old new before noted (task_in f)
   OfSearch : IsUntouched old new before noted → (t : Task) (f : Fault) → IsTaskOf domain problem t → FailsIn k t (digest_of domain problem) f
       → HasNoAnswer k limit domain problem old new before noted f
+  OfWriting : IsUntouched old new before noted → (text : List ℕ) → IsAnswerText k limit domain problem text
+      → HasNoAnswer k limit domain problem old new before noted NoMemory
   OfOutput : (f : Fault) → FailsToWrite (IsAnswerText k limit domain problem) old new noted f
       → HasNoAnswer k limit domain problem old new before noted f
 

@@ -1,23 +1,22 @@
 -- Where a search is kept, and what a file holds of it before and afterwards. (Our own.)
-use Rattle.std.specs.Prelude.{◌≡◌, ◌≢◌, ◌⊎◌, ℕ, List, [], map, Option, IfSome}
+use Rattle.std.specs.Prelude.{◌≡◌, ◌≢◌, ◌⊎◌, ℕ, List, [], ◌++◌, map, Option, IfSome}
 use Rattle.std.specs.List.{AllByRecursion}
 use Rattle.hd_task.specs.declared.task.Task.{Task}
 use Rattle.hd_task.specs.declared.plan.Kid.{Kid}
 use Rattle.hd_store.specs.declared.store.Store.{Ghosts}
 use Rattle.hd_store.specs.declared.error.StoreError.{StoreError}
 use Rattle.hd_image.specs.declared.version.Version.{Version}
-use Rattle.hd_image.specs.declared.entry.Entry.{Entry}
+use Rattle.hd_image.specs.declared.version.Version.TheVariants.{Two}
+use Rattle.hd_image.specs.declared.contents.Found.{Found}
 use Rattle.hd_image.specs.declared.header.TheConstants.{FIRST_GATE}
 use Rattle.hd_image.specs.declared.error.ImageError.TheVariants as image
 use Rattle.hd_image.specs.Image.{IsGroup, entries_in, image}
-use Rattle.hd_image.specs.Reading.{IsRefused}
+use Rattle.hd_image.specs.Reading.{IsFound, IsRefused}
 use Rattle.hd_journal.specs.declared.error.JournalError.{JournalError}
 use Rattle.hd_journal.specs.declared.error.JournalError.TheVariants as journal
 use Rattle.hd_journal.specs.declared.journal.Journal as of
-use Rattle.hd_journal.specs.Answers.{StandsIn}
-use Rattle.hd_journal.specs.Journal.{IsOf, kid_of}
+use Rattle.hd_journal.specs.Journal.{IsOf, kid_of, found_in, version_in}
 use Rattle.hd_migrate.specs.Copy.{kids_in}
-use Rattle.hd_entries.specs.Holding.{BeginsWith}
 use Rattle.hd_search.specs.declared.fault.RunFault.{RunFault}
 use Rattle.hd_search.specs.declared.fault.RunFault.TheVariants as searching
 use Rattle.hd_certify.specs.Error.{IsDamagedAt}
@@ -40,15 +39,27 @@ pub record IsJournalOf (digest : List ℕ) (kids : List Kid) (content : List ℕ
   pub bytes : content ≡ image version digest groups
   pub entries : kids ≡ kids_in groups
 
--- what a search that has these entries began with: an empty file, where it is new; else they begin with those of the groups that stood in it
-abbrev pub BeganWith : Start → List ℕ → List Kid → List ℕ → Type 0
-BeganWith New digest kids content = content ≡ []
-BeganWith Kept digest kids content = (v : Version) (groups : List (List Kid)) → StandsIn v digest groups content → BeginsWith kids (kids_in groups)
+-- a journal of these groups, of this version, goes on from a content: it is the task's journal, or one that is being made, of this version;
+-- and the first groups have just the entries that are found in it, at the places that they had there
+pub record GoesOn (digest content : List ℕ) (v : Version) (groups : List (List Kid)) : Type 0 where
+  pub found : Found
+  pub is_found : IsFound digest content found
+  pub version : v ≡ version_in found
+  pub stood : List (List Kid)
+  pub more : List (List Kid)
+  pub entries : found_in found ≡ entries_in v FIRST_GATE stood
+  pub begins : groups ≡ stood ++ more
 
--- a file holds these entries now, and what it held before is among them
+-- what a journal of these groups, of this version, began with: an empty file, where it is new, and then its version is the second; else
+-- what it goes on from
+abbrev pub BeganWith : Start → List ℕ → List ℕ → Version → List (List Kid) → Type 0
+BeganWith New digest content v groups = (content ≡ []) × (v ≡ Two)
+BeganWith Kept digest content v groups = GoesOn digest content v groups
+
+-- a file holds these entries now, and what it held before is among them, where it was
 pub record IsKept (start : Start) (digest : List ℕ) (kids : List Kid) (before after : List ℕ) : Type 0 where
-  pub began : BeganWith start digest kids before
   pub holds : IsJournalOf digest kids after
+  pub began : BeganWith start digest before holds.version holds.groups
 
 -- ---- why a search over a file has no answer
 
@@ -71,23 +82,19 @@ TellsOfFile Kept digest before after journal.JournalExists = ⊥
 TellsOfFile Kept digest before after journal.NotOut = ⊥
 TellsOfFile Kept digest before after journal.NoMemory = Unit {0}
 
--- these are the entries of the groups that stand in a content, if any do
-abbrev pub StandThere : List ℕ → List ℕ → List Entry → Type 0
-StandThere digest content entries =
-    (v : Version) (groups : List (List Kid)) → StandsIn v digest groups content → entries ≡ entries_in v FIRST_GATE groups
-
--- the entry that stands at this place of a file is the first that is faulty, and the file has all of its entries still; a new file has none
+-- the entry that is found at this place of a file is the first that is faulty, and the file has just the entries that were found; a new file
+-- has none
 abbrev pub HasFaultyEntry : Start → Task → List ℕ → List ℕ → List ℕ → ℕ → Type 0
 HasFaultyEntry New t digest before after at = ⊥
 HasFaultyEntry Kept t digest before after at =
-    (entries : List Entry) × StandThere digest before entries × IsDamagedAt t entries at × IsJournalOf digest (map kid_of entries) after
+    (found : Found) × IsFound digest before found × IsDamagedAt t (found_in found) at × IsKept Kept digest (map kid_of (found_in found)) before after
 
 -- some entries are kept in a file
 abbrev pub AreKept : Start → List ℕ → List ℕ → List ℕ → Type 0
 AreKept start digest before after = (kids : List Kid) × IsKept start digest kids before after
 
--- what a fault of the search itself may be: the journal has no room for the entries of one batch more, and those that it has are kept; the
--- device failed; or what the threads share did not fit together. No other is told
+-- what a fault of the search itself may be: there is no room for more entries, and those that there are are kept; the device failed; or what
+-- the threads share did not fit together. No other is told
 abbrev pub TellsOfSearch : Start → List ℕ → List ℕ → List ℕ → RunFault → Type 0
 TellsOfSearch start digest before after searching.Full = AreKept start digest before after
 TellsOfSearch start digest before after (searching.Damaged at) = ⊥
@@ -125,23 +132,35 @@ abbrev pub IsKeptIn : Keeping → List ℕ → List Kid → Type 0
 IsKeptIn InMemory digest kids = (after : List ℕ) × IsKept New digest kids [] after
 IsKeptIn (InFile start old new) digest kids = OnFile old new (IsKept start digest kids)
 
--- a file was not lent, and this is told of it
-abbrev pub IsNotLent : Fault → Type 0
-IsNotLent fault = (error : StoreError) × (fault ≡ store_in error)
+-- nothing was begun where a search is to be kept: a file is as it was
+abbrev pub IsLeftAlone : Keeping → Type 0
+IsLeftAlone InMemory = Unit {0}
+IsLeftAlone (InFile start old new) = new ≡ old
+
+-- a file was not lent, and is as it was, and this is told of it
+abbrev pub IsNotLent : Option (List ℕ) → Option (List ℕ) → Fault → Type 0
+IsNotLent old new fault = (error : StoreError) × (fault ≡ store_in error) × (new ≡ old)
 
 -- why the search of a task that is kept there has no answer
 abbrev pub FailsIn : Keeping → Task → List ℕ → Fault → Type 0
 FailsIn InMemory t digest fault = (after : List ℕ) × HasNoSolution New t digest [] after fault
-FailsIn (InFile start old new) t digest fault = IsNotLent fault ⊎ OnFile old new (λ before after. HasNoSolution start t digest before after fault)
+FailsIn (InFile start old new) t digest fault = IsNotLent old new fault ⊎ OnFile old new (λ before after. HasNoSolution start t digest before after fault)
 
 -- ---- a journal that is begun
 
--- a journal was begun, or is gone on with: it has no groups, or those that stood there
+-- a journal is gone on with: it has the version and just the entries that were found, in whole groups
+pub record IsResumed {S : Type 0} {G : Ghosts S} (digest before : List ℕ) (begun : of.Journal S G) : Type 0 where
+  pub found : Found
+  pub is_found : IsFound digest before found
+  pub version : begun.version ≡ version_in found
+  pub entries : begun.entries.items ≡ found_in found
+  pub groups : List (List Kid)
+  pub is : IsOf digest groups begun
+
+-- a journal was begun, where the file was empty, of the second version and without groups; or one is gone on with
 abbrev pub IsBegun : {S : Type 0} {G : Ghosts S} → Start → List ℕ → List ℕ → of.Journal S G → Type 0
-IsBegun New digest before begun = (before ≡ []) × IsOf digest [] begun
-IsBegun Kept digest before begun =
-    ((groups : List (List Kid)) × IsOf digest groups begun)
-    × ((v : Version) (groups : List (List Kid)) → StandsIn v digest groups before → (begun.version ≡ v) × IsOf digest groups begun)
+IsBegun New digest before begun = (before ≡ []) × (begun.version ≡ Two) × IsOf digest [] begun
+IsBegun Kept digest before begun = IsResumed digest before begun
 
 -- a search over a journal has no answer: memory ran out, or this is told of the fault by which it ended
 abbrev pub IsRefusedRun : {S : Type 0} {G : Ghosts S} → Task → of.Journal S G → of.Journal S G → Fault → Type 0

@@ -77,7 +77,7 @@ pub record IsNotCopied (digest : List ℕ) (kids : List Kid) (fault : Fault) (be
 
 -- the same of a file that had to be lent first
 abbrev pub FailsToCopy : List ℕ → List Kid → Option (List ℕ) → Option (List ℕ) → Fault → Type 0
-FailsToCopy digest kids old new fault = IsNotLent fault ⊎ OnFile old new (IsNotCopied digest kids fault)
+FailsToCopy digest kids old new fault = IsNotLent old new fault ⊎ OnFile old new (IsNotCopied digest kids fault)
 
 -- ---- both
 

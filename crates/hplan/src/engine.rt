@@ -1,5 +1,5 @@
 //! From the bytes of two texts to the bytes of a plan.
-ghost use Rattle.std.specs.Prelude.{◌≡◌, ◌⊎◌, IfOk, IfErr, OnOk, OnErr};
+ghost use Rattle.std.specs.Prelude.{◌≡◌, ◌≢◌, ◌⊎◌, ℕ, true, is_some, List, IfOk, IfErr, OnOk, OnErr};
 ghost use Rattle.std.specs.Io.KnownBytes.{Appends};
 ghost use Rattle.hd_plan.specs.Output.{AppendsShort, KeepsFor, NotesError};
 ghost use Rattle.hplan.specs.Answer.{IsKeptAnswer, IsAnswerText, IsUnwritten, Writes, HasNoAnswer, HasNoAnswerYet};
@@ -66,6 +66,10 @@ fn answer_in_file<P: Places, R: Threads + Wait + Sync + Eprint + Clock>(
         (InFile start (P.file_of places.old name.now) (P.file_of places.new name.now))
         how.limit domain.now problem.now) }
     ensures untouched { IfErr result (λ f. IsOfTexts f → places.new ≡ places.old) }
+    ensures known { is_some (P.file_of places.old name.now) ≡ true
+        → is_some (P.file_of places.new name.now) ≡ true }
+    ensures others { (other : List ℕ) → other ≢ name.now
+        → P.file_of places.new other ≡ P.file_of places.old other }
 {
     match task_of(alloc, domain, problem) {
         Ok(task) => {
@@ -147,8 +151,8 @@ pub fn solve<W: Write, R: Threads + Wait + Sync + Eprint + Clock>(
         ⊎ WritesFrontOfA (IsAnswerText InMemory how.limit domain.now problem.now)
         (W.contents out.old.writer.now) (W.contents out.new.writer.now)) }
 
-    // Why there is no answer, and what is written then. `Device` is told only of an error that the writer has answered, after which a
-    // beginning of the answer's text is written; none that it answers is passed over.
+    // Why there is no answer, and what is written then. `Fault::Device` is told only of an error that the writer has answered, after which a
+    // beginning of the answer's text is written; none that it answers is passed over. A fault of the journal's device is another one.
     ensures refusal { IfErr result (HasNoAnswer InMemory how.limit domain.now problem.now
         (W.contents out.old.writer.now) (W.contents out.new.writer.now)
         out.old.fault out.new.fault) }
@@ -158,9 +162,8 @@ pub fn solve<W: Write, R: Threads + Wait + Sync + Eprint + Clock>(
     write_told(alloc, told, out)
 }
 
-/// The same, where the search is kept in a file: each of its entries is in the journal there before anything follows from it, and all
-/// of them are before anything is written to `out`. A new journal wants a file that is not there or empty; one that is there goes on
-/// from the entries that it has.
+/// The same, where the search is kept in a file: once it has answered, the journal there has all of its entries, also where `out` fails. A
+/// new journal wants a file that is not there or empty; one that is there goes on from the entries that are found in it, in its version.
 ///
 /// # Errors
 /// The same, and, behind the faults of the texts, that the file can't be had, begun or gone on with.
@@ -176,7 +179,7 @@ pub fn solve_kept<P: Places, W: Write, R: Threads + Wait + Sync + Eprint + Clock
     out: &mut Watched<'_, W>,
 ) -> Result<Ending, Fault>
     requires { IsWorkers how.workers }
-    // The text is that of the plan that the entries answer which the file has at the end; they begin with those that it had.
+    // The text is that of the plan that the entries answer which the file has at the end; they begin with those that were found in it.
     ensures whole { IfOk result (Writes
         (InFile start (P.file_of places.old name.now) (P.file_of places.new name.now))
         how.limit domain.now problem.now
@@ -195,6 +198,11 @@ pub fn solve_kept<P: Places, W: Write, R: Threads + Wait + Sync + Eprint + Clock
     ensures no_fault { OnOk result (out.new.fault ≡ out.old.fault) }
     // Texts at fault begin no journal.
     ensures untouched { IfErr result (λ f. IsOfTexts f → places.new ≡ places.old) }
+    // A file whose bytes are known is there still, and all others are as they were.
+    ensures known { is_some (P.file_of places.old name.now) ≡ true
+        → is_some (P.file_of places.new name.now) ≡ true }
+    ensures others { (other : List ℕ) → other ≢ name.now
+        → P.file_of places.new other ≡ P.file_of places.old other }
 {
     let told = answer_in_file(rt, alloc, places, name, start, domain, problem, how)?;
     write_told(alloc, told, out)

@@ -1,5 +1,5 @@
 //! The search of a task by threads over a journal, in memory or in a file.
-ghost use Rattle.std.specs.Prelude.{◌≡◌, List, IfOk, IfErr, OnOk};
+ghost use Rattle.std.specs.Prelude.{◌≡◌, ◌≢◌, ℕ, true, is_some, List, IfOk, IfErr, OnOk};
 ghost use Rattle.hd_task.specs.declared.plan.Kid.{Kid};
 ghost use Rattle.hd_store.specs.Device.{content_of};
 ghost use Rattle.hd_journal.specs.Journal.{kids_of};
@@ -178,6 +178,10 @@ pub fn solution_in_file<P: Places, R: Threads + Wait + Sync + Eprint + Clock>(
     ensures refusal { IfErr result (FailsIn
         (InFile start (P.file_of places.old name.now) (P.file_of places.new name.now))
         task.now digest.now) }
+    ensures known { is_some (P.file_of places.old name.now) ≡ true
+        → is_some (P.file_of places.new name.now) ≡ true }
+    ensures others { (other : List ℕ) → other ≢ name.now
+        → P.file_of places.new other ≡ P.file_of places.old other }
 {
     let is_made = matches!(start, Start::New);
     let disk = match places.store(alloc, name, is_made) {

@@ -1,13 +1,24 @@
 //! Laws over the definitions. Each function does nothing: its contract is the law.
-ghost use Rattle.std.specs.Prelude.{◌≡◌, ◌⊎◌, ℕ, List, [], Option};
+ghost use Rattle.std.specs.Prelude.{◌≡◌, ◌⊎◌, ℕ, List, [], length, Option};
 ghost use Rattle.hd_plan.specs.PlanText.{step_text};
 ghost use Rattle.hd_task.specs.FormText.{form_text};
 ghost use Rattle.hd_task.specs.declared.form.GroundForm.{GroundForm};
 ghost use Rattle.hd_task.specs.declared.form.Names.{Names};
+ghost use Rattle.hd_task.specs.declared.plan.Kid.{Kid};
+ghost use Rattle.hd_image.specs.declared.error.ImageError.{ImageError};
+ghost use Rattle.hd_image.specs.declared.error.ImageError.TheVariants.{NoMemory};
+ghost use Rattle.hd_image.specs.declared.header.TheConstants.{DIGEST_LEN};
+ghost use Rattle.hd_image.specs.declared.version.Version.{Version};
+ghost use Rattle.hd_image.specs.Reading.{IsRefused};
+ghost use Rattle.hd_journal.specs.Answers.{StandsIn};
+ghost use Rattle.hd_migrate.specs.Copy.{kids_in};
+ghost use Rattle.hd_entries.specs.Holding.{BeginsWith};
 ghost use Rattle.hd_printing.specs.Printing.{step_of};
+ghost use Rattle.hplan.specs.declared.kept.Start.TheVariants.{Kept};
 ghost use Rattle.hplan.specs.declared.told.Ending.{Ending};
 ghost use Rattle.hplan.specs.declared.told.Ending.TheVariants.{Optimal};
 ghost use Rattle.hplan.specs.Answer.{IsSolved};
+ghost use Rattle.hplan.specs.Kept.{IsKept};
 ghost use Rattle.hplan.specs.PlanFiles.{IsValidatedFile, IsFileOfValid, IsFileOfOptimal};
 
 /// A step of a plan is printed as the ground form of its action: so a plan's lines are actions as `ground` prints them.
@@ -34,4 +45,15 @@ pub fn written_plans_are_valid()
     ensures given { (limit : Option ℕ) (domain problem text : List ℕ) (ending : Ending)
         → IsSolved limit domain problem ending text
         → (text ≡ []) ⊎ IsFileOfValid domain problem text }
+{}
+
+/// A file whose search goes on is not refused, and what it holds then begins with the groups that stood in it.
+pub fn what_stood_is_gone_on_with()
+    ensures unrefused { (digest : List ℕ) (kids : List Kid) (before after : List ℕ)
+        (error : ImageError) → IsKept Kept digest kids before after
+        → IsRefused digest before error → error ≡ NoMemory }
+    ensures begins { (digest : List ℕ) (kids : List Kid) (before after : List ℕ)
+        (v : Version) (groups : List (List Kid)) → length digest ≡ DIGEST_LEN
+        → IsKept Kept digest kids before after → StandsIn v digest groups before
+        → BeginsWith kids (kids_in groups) }
 {}

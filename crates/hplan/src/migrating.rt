@@ -1,5 +1,5 @@
 //! From the entries of a journal in one file to a journal of them in another.
-ghost use Rattle.std.specs.Prelude.{◌≡◌, ◌≢◌, ◌⊎◌, ℕ, List, true, IfOk, IfErr, OnOk, OnErr};
+ghost use Rattle.std.specs.Prelude.{◌≡◌, ◌≢◌, ◌⊎◌, ℕ, List, true, is_some, IfOk, IfErr, OnOk, OnErr};
 ghost use Rattle.std.specs.List.{list_all};
 ghost use Rattle.hd_image.specs.declared.version.Version.TheVariants.{Two};
 ghost use Rattle.hd_image.specs.Image.{fits_parent};
@@ -110,6 +110,8 @@ fn copy_to<P: Places>(
         (P.file_of places.new name.now) (IsCopied digest.now kids.now)) }
     ensures refusal { IfErr result (FailsToCopy digest.now kids.now
         (P.file_of places.old name.now) (P.file_of places.new name.now)) }
+    ensures known { is_some (P.file_of places.old name.now) ≡ true
+        → is_some (P.file_of places.new name.now) ≡ true }
     ensures others { (other : List ℕ) → other ≢ name.now
         → P.file_of places.new other ≡ P.file_of places.old other }
 {
@@ -146,6 +148,8 @@ fn moved<P: Places>(
         (moving from.now to.now (P.file_of places.old from.now)
         (P.file_of places.old to.now) (P.file_of places.new to.now))) }
     ensures alone { P.file_of places.new from.now ≡ P.file_of places.old from.now }
+    ensures known { is_some (P.file_of places.old to.now) ≡ true
+        → is_some (P.file_of places.new to.now) ≡ true }
     ensures others { (other : List ℕ) → other ≢ to.now
         → P.file_of places.new other ≡ P.file_of places.old other }
 {
@@ -181,6 +185,8 @@ fn migration<P: Places>(
         (moving from.now to.now (P.file_of places.old from.now)
         (P.file_of places.old to.now) (P.file_of places.new to.now))) }
     ensures alone { P.file_of places.new from.now ≡ P.file_of places.old from.now }
+    ensures known { is_some (P.file_of places.old to.now) ≡ true
+        → is_some (P.file_of places.new to.now) ≡ true }
     ensures others { (other : List ℕ) → other ≢ to.now
         → P.file_of places.new other ≡ P.file_of places.old other }
 {
@@ -228,8 +234,10 @@ pub fn migrate<P: Places, W: Write>(
         (W.contents out.old.writer.now) (W.contents out.new.writer.now)
         out.old.fault out.new.fault) }
     ensures no_fault { OnOk result (out.new.fault ≡ out.old.fault) }
-    // The file that is read is as it was, and so is each file but the other.
+    // The file that is read is as it was, and so is each file but the other, which is there still, if its bytes are known.
     ensures alone { P.file_of places.new from.now ≡ P.file_of places.old from.now }
+    ensures known { is_some (P.file_of places.old to.now) ≡ true
+        → is_some (P.file_of places.new to.now) ≡ true }
     ensures others { (other : List ℕ) → other ≢ to.now
         → P.file_of places.new other ≡ P.file_of places.old other }
 {

@@ -1,5 +1,5 @@
 //! Where the program's files are.
-ghost use Rattle.std.specs.Prelude.{◌≡◌, ◌≢◌, List, ℕ, ◌++◌, ◌<◌, [], ◌∷◌, None, Some, IfOk, IfSome, OnOk, OnErr, MatchResult, length, option_map, slice_get, slice_set};
+ghost use Rattle.std.specs.Prelude.{◌≡◌, ◌≢◌, List, ℕ, ◌++◌, ◌<◌, [], ◌∷◌, None, Some, true, is_some, IfOk, IfSome, OnOk, OnErr, MatchResult, length, option_map, slice_get, slice_set};
 ghost use Rattle.hd_store.specs.Device.{content_of};
 ghost use Rattle.hd_store.specs.MemoryDisk.{device_of};
 ghost use Rattle.hplan.specs.Places.{file_in, place_in, shown};
@@ -30,17 +30,22 @@ pub trait Places {
     /// Lends a file, and makes it, empty, if it is to be made and is not there. It is to be given back. All others are as they were.
     ///
     /// # Errors
-    /// A failure where it can't be had. Want of memory.
+    /// A failure where it can't be had. Want of memory. All files are then as they were.
     fn store(&mut self, alloc: Global, name: &str, make: bool) -> Result<Self::Disk, StoreError>
         ensures lent { IfOk result (λ disk. IfSome (file_of self.old name.now)
             (λ bytes. content_of (Self.Disk.device disk) ≡ bytes)) }
+        ensures known { is_some (file_of self.old name.now) ≡ true
+            → is_some (file_of self.new name.now) ≡ true }
         ensures others { (other : List ℕ) → other ≢ name.now
-            → file_of self.new other ≡ file_of self.old other };
+            → file_of self.new other ≡ file_of self.old other }
+        ensures err { OnErr result (self.new ≡ self.old) };
 
-    /// Takes a file back, as it is now. All others are as they were.
+    /// Takes a file back, as it is now: one that is known is known still. All others are as they were.
     fn give_back(&mut self, name: &str, disk: Self::Disk)
         ensures given { IfSome (file_of self.new name.now)
             (λ bytes. content_of (Self.Disk.device disk) ≡ bytes) }
+        ensures known { is_some (file_of self.old name.now) ≡ true
+            → is_some (file_of self.new name.now) ≡ true }
         ensures others { (other : List ℕ) → other ≢ name.now
             → file_of self.new other ≡ file_of self.old other };
 }

@@ -1,3 +1,4 @@
+use Rattle.std.proofs.Common.{refl}
 use Rattle.hplan.proofs.Blaming.{search_not_blamed}
 use Rattle.hplan.proofs.Solving.{all_answered, none_answered, task_unanswered}
 use Rattle.hplan.proofs.engine.answer_in_file.Goals as goal
@@ -14,7 +15,7 @@ returns-in-Ok-clause-refusal g c =
 
 pub returns-in-Err-clause-refusal : goal.returns-in-Err-clause-refusal
 returns-in-Err-clause-refusal g c =
-    task_unanswered _ c.args.how.limit c.args.domain.now c.args.problem.now c.in-Err.fault _ c.from.ensures c.in-Err.ensures.refusal
+    task_unanswered _ c.args.how.limit c.args.domain.now c.args.problem.now c.in-Err.fault _ refl c.from.ensures c.in-Err.ensures.refusal
 
 pub returns-in-Ok-clause-untouched : goal.returns-in-Ok-clause-untouched
 returns-in-Ok-clause-untouched g c =

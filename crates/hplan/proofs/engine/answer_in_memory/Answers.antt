@@ -14,4 +14,4 @@ returns-in-Ok-clause-refusal g c =
 
 pub returns-in-Err-clause-refusal : goal.returns-in-Err-clause-refusal
 returns-in-Err-clause-refusal g c =
-    task_unanswered InMemory c.args.how.limit c.args.domain.now c.args.problem.now c.in-Err.fault _ c.from.ensures c.in-Err.ensures.refusal
+    task_unanswered InMemory c.args.how.limit c.args.domain.now c.args.problem.now c.in-Err.fault _ tt c.from.ensures c.in-Err.ensures.refusal

@@ -9,4 +9,4 @@ returns-in-Kept-clause-begun g c =
     subst
     (λ s. IfOk c.open.result (IsBegun {S = g.row.S.Denot} {G = g.S.Store} s c.args.digest.now (content_of (g.S.Store.device c.args.store))))
     (sym c.in-Kept.is)
-    (begun_kept c.args.digest.now (g.S.Store.device c.args.store) c.open.result c.open.ensures.whole c.open.ensures.groups)
+    (begun_kept c.args.digest.now (g.S.Store.device c.args.store) c.open.result c.open.ensures.opened c.open.ensures.whole)
