@@ -138,12 +138,13 @@ module _ {S : Type 0} {G : Ghosts S} where
       in
       let kept : IsKept Kept digest (kids_of new) before (content_of (device_of new)) =
       is_kept Kept digest before old new begun (stays old new same)
-      in
-      (begun.found,
-      begun.is_found,
-      subst (λ (es : List Entry). IsDamagedAt t es at) begun.entries faulty,
-      subst (λ (ks : List Kid). IsKept Kept digest ks before after) kids
-      (subst (IsKept Kept digest (kids_of new) before) left kept))
+      in (
+        begun.found,
+        begun.is_found,
+        subst (λ (es : List Entry). IsDamagedAt t es at) begun.entries faulty,
+        subst (λ (ks : List Kid). IsKept Kept digest ks before after) kids
+            (subst (IsKept Kept digest (kids_of new) before) left kept),
+      )
 
   -- the entries that a journal has then are kept
   are_kept : (start : Start) (digest before after : List ℕ) (old new : of.Journal S G) → IsBegun start digest before old → Grows old new

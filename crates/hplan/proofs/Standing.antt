@@ -68,10 +68,11 @@ kids_there digest content w v all groups len goes stands =
     sym (kids_of_groups w FIRST_GATE goes.stood)
     ∙ (ap (map kid_of) (sym goes.entries ∙ entries_there digest content goes.found v groups len goes.is_found stands)
     ∙ kids_of_groups v FIRST_GATE groups)
-    in
-    (kids_in goes.more,
-    ap kids_in goes.begins
-    ∙ (flat_map-append (λ (group : List Kid). group) goes.stood goes.more ∙ ap (λ (kids : List Kid). kids ++ kids_in goes.more) first))
+    in (
+      kids_in goes.more,
+      ap kids_in goes.begins
+          ∙ (flat_map-append (λ (group : List Kid). group) goes.stood goes.more ∙ ap (λ (kids : List Kid). kids ++ kids_in goes.more) first),
+    )
 
 pub kept_begins : (digest : List ℕ) (kids : List Kid) (before after : List ℕ) (v : Version) (groups : List (List Kid)) → length digest ≡ DIGEST_LEN
     → IsKept Kept digest kids before after → StandsIn v digest groups before → BeginsWith kids (kids_in groups)
