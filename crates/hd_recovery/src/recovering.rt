@@ -43,7 +43,8 @@ fn workers_of<'t, L: Ledger>(
     requires some { 1 ≤ count }
     requires few { count ≤ MAX_WORKERS }
     requires lead { AllByRecursion (LeadsThere book.now.state) parcels.items }
-    requires book { (most : ℕ) × (entries : List Kid) × (book.now ≡ resumed_book task.now most entries)
+    requires book { (most : ℕ) × (entries : List Kid)
+        × (book.now ≡ resumed_book task.now most entries)
         × (map (λ p. p.kid) parcels.items ≡ open_kids task.now entries) }
     ensures { (most : ℕ) (entries : List Kid) → book.now ≡ resumed_book task.now most entries
         → map (λ p. p.kid) parcels.entry.items ≡ open_kids task.now entries

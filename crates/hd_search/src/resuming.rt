@@ -165,7 +165,8 @@ fn worker_of<'t, L: Ledger>(
 ) -> Result<Worker<'t>, NoMemory>
     requires task { book.now.state.task ≡ task.now }
     requires lead { AllByRecursion (LeadsThere book.now.state) parcels.items }
-    requires open { (most : ℕ) × (entries : List Kid) × (book.now ≡ resumed_book task.now most entries)
+    requires open { (most : ℕ) × (entries : List Kid)
+        × (book.now ≡ resumed_book task.now most entries)
         × (map (λ p. p.kid) parcels.items ≡ open_kids task.now entries) }
     ensures { IfOk result (λ w. Fits book.now.state w []) }
 {
