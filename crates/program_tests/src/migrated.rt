@@ -176,6 +176,12 @@ fn what_is_not_migrated_is_told(rt: HostRuntime) -> Result<(), Fail> {
             "at {printed}"
         );
     }
+    Ok(())
+}
+
+#[test]
+fn no_journal_is_migrated_to_itself(rt: HostRuntime) -> Result<(), Fail> {
+    let alloc = rt.alloc();
     let same = ["migrate", "d", "p", "--journal", "j", "--to", "j"];
     for old in [&WHOLE[..], b""] {
         let mut shelf = files_of(alloc, L_PROBLEM, Some(old), None)?;

@@ -15,78 +15,84 @@ fn how_of(alloc: Global, search: &Search) -> Result<String, AllocError> {
     }
 }
 
-/// How a command line is read: as a request, or where its text goes, and the text.
-fn read_line(alloc: Global, line: &[String]) -> Result<String, AllocError> {
-    match read_words(alloc, line) {
-        Ok(
-            Request::Solve {
-                domain,
-                problem,
-                journal,
-                search,
-            },
-        ) => {
-            let how = how_of(alloc, &search)?;
+/// The text of a request that is for a search, and of each other.
+fn request_text(alloc: Global, request: &Request) -> Result<String, AllocError> {
+    match request {
+        Request::Solve {
+            domain,
+            problem,
+            journal,
+            search,
+        } => {
+            let how = how_of(alloc, search)?;
             match journal {
                 Some(journal) => format!(in alloc; "solve {domain} {problem} in {journal} {how}"),
                 None => format!(in alloc; "solve {domain} {problem} {how}"),
             }
         }
-        Ok(
-            Request::Resume {
-                domain,
-                problem,
-                journal,
-                search,
-            },
-        ) => {
-            let how = how_of(alloc, &search)?;
+        Request::Resume {
+            domain,
+            problem,
+            journal,
+            search,
+        } => {
+            let how = how_of(alloc, search)?;
             format!(in alloc; "resume {domain} {problem} in {journal} {how}")
         }
-        Ok(
-            Request::Certify {
-                domain,
-                problem,
-                journal,
-            },
-        ) => format!(in alloc; "certify {domain} {problem} in {journal}"),
-        Ok(
-            Request::Migrate {
-                domain,
-                problem,
-                journal,
-                to,
-            },
-        ) => format!(in alloc; "migrate {domain} {problem} from {journal} to {to}"),
-        Ok(Request::Inspect { journal }) => format!(in alloc; "inspect {journal}"),
-        Ok(
-            Request::Survey {
-                domain,
-                problem,
-                journal,
-            },
-        ) => format!(in alloc; "inspect {domain} {problem} in {journal}"),
-        Ok(Request::Ground { domain, problem }) => {
-            format!(in alloc; "ground {domain} {problem}")
-        }
-        Ok(
-            Request::Validate {
-                domain,
-                problem,
-                plan,
-                explain,
-            },
-        ) => {
-            let how = if explain { " with reasons" } else { "" };
+        other => journal_text(alloc, other),
+    }
+}
+
+/// The text of a request that is about a journal, or needs none.
+fn journal_text(alloc: Global, request: &Request) -> Result<String, AllocError> {
+    match request {
+        Request::Certify {
+            domain,
+            problem,
+            journal,
+        } => format!(in alloc; "certify {domain} {problem} in {journal}"),
+        Request::Migrate {
+            domain,
+            problem,
+            journal,
+            to,
+        } => format!(in alloc; "migrate {domain} {problem} from {journal} to {to}"),
+        Request::Inspect { journal } => format!(in alloc; "inspect {journal}"),
+        Request::Survey {
+            domain,
+            problem,
+            journal,
+        } => format!(in alloc; "inspect {domain} {problem} in {journal}"),
+        other => files_text(alloc, other),
+    }
+}
+
+/// The text of a request that needs no journal.
+fn files_text(alloc: Global, request: &Request) -> Result<String, AllocError> {
+    match request {
+        Request::Ground { domain, problem } => format!(in alloc; "ground {domain} {problem}"),
+        Request::Validate {
+            domain,
+            problem,
+            plan,
+            explain,
+        } => {
+            let how = if *explain { " with reasons" } else { "" };
             format!(in alloc; "validate {domain} {problem} {plan}{how}")
         }
-        Ok(
-            Request::Replay {
-                domain,
-                problem,
-                schedule,
-            },
-        ) => format!(in alloc; "replay {domain} {problem} {schedule}"),
+        Request::Replay {
+            domain,
+            problem,
+            schedule,
+        } => format!(in alloc; "replay {domain} {problem} {schedule}"),
+        _ => String::from_str(alloc, "another request"),
+    }
+}
+
+/// How a command line is read: as a request, or where its text goes, and the text.
+fn read_line(alloc: Global, line: &[String]) -> Result<String, AllocError> {
+    match read_words(alloc, line) {
+        Ok(request) => request_text(alloc, &request),
         Err(WordsError::Shown(text)) => format!(in alloc; "shown: {text}"),
         Err(WordsError::Fault(text)) => format!(in alloc; "fault: {text}"),
         Err(WordsError::NoMemory) => String::from_str(alloc, "no memory"),
@@ -100,7 +106,7 @@ fn read(alloc: Global, words: &[&str]) -> Result<String, AllocError> {
 }
 
 #[test]
-fn commands_take_files_and_how_a_search_goes(rt: HostRuntime) -> Result<(), Fail> {
+fn searches_take_files_and_how_they_go(rt: HostRuntime) -> Result<(), Fail> {
     let alloc = rt.alloc();
     for (words, want) in [
         (["solve", "d", "p"].as_slice(), "solve d p 4"),
@@ -136,6 +142,16 @@ fn commands_take_files_and_how_a_search_goes(rt: HostRuntime) -> Result<(), Fail
             ["resume", "d", "p", "--journal=j", "--limit=1099511627774"].as_slice(),
             "resume d p in j 4 to 1099511627774",
         ),
+    ] {
+        assert_eq!(rt; read(alloc, words)?.as_str(), want);
+    }
+    Ok(())
+}
+
+#[test]
+fn other_commands_take_files(rt: HostRuntime) -> Result<(), Fail> {
+    let alloc = rt.alloc();
+    for (words, want) in [
         (
             ["certify", "d", "p", "--journal", "j"].as_slice(),
             "certify d p in j",

@@ -81,6 +81,17 @@ fn the_order_of_the_text_decides(rt: HostRuntime) -> Result<(), Fail> {
                  (define (problem p) (:domain d) (:init (= (h) 1)) (:goal ()))",
                 "15 Undefined((g))",
             ),
+        ],
+    )
+}
+
+#[test]
+fn the_first_action_decides_and_then_the_goal(rt: HostRuntime) -> Result<(), Fail> {
+    assert_rows(
+        &rt,
+        rt.alloc(),
+        Telling::Counts,
+        &[
             // The first action by number, then the goal.
             (
                 "(define (domain d) (:functions (f ?x) (g))
