@@ -128,7 +128,8 @@ fn open_all<K, T: Sent<K>, R: Wait>(
     seed: T,
 ) -> Result<(Vec<Queue<K, T>>, Vec<Pass<T, Post<K, T>>>), NoMemory>
     ensures count { IfOk result (λ r. length r.0.items ≡ count) }
-    ensures posts { IfOk result (λ r. map post_of r.1.items ≡ map fresh_post (map name_of r.0.items)) }
+    ensures posts { IfOk result (λ r. map post_of r.1.items
+        ≡ map fresh_post (map name_of r.0.items)) }
     ensures hands { IfOk result (λ r. AllByRecursion (IsHand (T.of seed)) r.1.items) }
 {
     let mut boxes = Vec::new(alloc);

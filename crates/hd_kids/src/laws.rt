@@ -6,6 +6,7 @@ ghost use Rattle.std.specs.List.{AllByRecursion, fold};
 pub fn marks_are_taken_back()
     ensures { (marks : List Bool) (places : List ℕ)
         → AllByRecursion (λ k. slice_index_or marks k true ≡ false) places
-        → fold (λ ms k. slice_set ms k false) (fold (λ ms k. slice_set ms k true) marks places) places
+        → fold (λ ms k. slice_set ms k false)
+        (fold (λ ms k. slice_set ms k true) marks places) places
         ≡ marks }
 {}

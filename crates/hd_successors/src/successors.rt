@@ -27,7 +27,8 @@ pub struct Successors<'t> {
     // The chains begin at the task's atoms.
     ghost atoms: { length watches.last ≡ length task.now.atoms },
     // The actions that watch nothing are always candidates.
-    ghost marks_always: { (i : ℕ) → is_marked always.items i ≡ is_always (slice_get watches.watched i) },
+    ghost marks_always: { (i : ℕ) → is_marked always.items i
+        ≡ is_always (slice_get watches.watched i) },
     ghost room_always: { length always.items ≡ words_for (length watches.watched) },
     ghost room: { length marks.items ≡ words_for (length watches.watched) },
 }

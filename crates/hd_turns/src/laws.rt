@@ -26,7 +26,8 @@ pub fn batches_are_admissible()
 /// A worker that holds nothing is true of each book of its task, and each call leaves it true: a parcel that is taken or put back, parcels
 /// that are released, a bound that is seen and an entry that is closed are to be true of the book themselves.
 pub fn calls_stay_true()
-    ensures empty { (b : BookState) (id workers : ℕ) → IsTrueWorker b (empty_worker b.task id workers) }
+    ensures empty { (b : BookState) (id workers : ℕ)
+        → IsTrueWorker b (empty_worker b.task id workers) }
     ensures take { (b : BookState) (w : WorkerView) (r : Released)
         → IsTrueWorker b w → IsTrueOf b r → IsTrueWorker b (with_parcel r w) }
     ensures expand { (b : BookState) (w w' : WorkerView) (pick : ℕ)
