@@ -5,6 +5,7 @@ use Rattle.std.specs.List.{All}
 use Rattle.hd_task.specs.declared.condition.Literal.{Literal}
 use Rattle.hd_task.specs.declared.action.Action.{Action}
 use Rattle.hd_task.specs.declared.task.Task.{Task}
+use Rattle.hd_task.specs.declared.task.TheConstants.{MAX_AMOUNTS}
 use Rattle.hd_task.specs.Effects.{names_atom}
 use Rattle.hd_hmax.specs.Prices.{price}
 use Rattle.hd_hmax.specs.Rounds.{literal}
@@ -88,6 +89,6 @@ pub record IsTransposed (t : Task) (askers : List (List ℕ)) (counts : List ℕ
 pub record AreRulesOf (t : Task) (n : ℕ) (prices counts : List ℕ) (askers brings : List (List ℕ)) : Type 0 where
   pub atoms : n ≡ length t.atoms
   pub each_price : prices ≡ map (price t) t.actions ++ 0 ∷ []
-  pub small : All (λ p. p ≤ 2 ^ 95) prices
+  pub small : All (λ p. p ≤ 2 ^ 63 * MAX_AMOUNTS) prices
   pub transposed : IsTransposed t askers counts
   pub brought : brings ≡ map (brings_of (length t.atoms) askers) t.actions

@@ -41,7 +41,7 @@ fn sum_of_constants(amounts: &[Expr]) -> Option<i128>
 fn constant_price(action: &Action) -> u128
     requires few { length action.now.costs ≤ MAX_AMOUNTS }
     ensures price { result ≡ constant_price action.now }
-    ensures small { result ≤ 2 ^ 95 }
+    ensures small { result ≤ 2 ^ 63 * MAX_AMOUNTS }
 {
     match sum_of_constants(action.costs.as_slice()) {
         Some(sum) => u128::try_from(sum).unwrap_or(0),
@@ -54,7 +54,7 @@ fn constant_price(action: &Action) -> u128
 fn price(task: &Task, action: &Action) -> u128
     requires few { length action.now.costs ≤ MAX_AMOUNTS }
     ensures price { result ≡ price task.now action.now }
-    ensures small { result ≤ 2 ^ 95 }
+    ensures small { result ≤ 2 ^ 63 * MAX_AMOUNTS }
 {
     if task.metric {
         constant_price(action)
@@ -69,7 +69,7 @@ fn price(task: &Task, action: &Action) -> u128
 /// `NoMemory` where there is no room for a number an action.
 pub(crate) fn prices_of(alloc: Global, task: &Task) -> Result<Vec<u128>, NoMemory>
     ensures prices { IfOk result (λ v. v.items ≡ map (price task.now) task.now.actions) }
-    ensures small { IfOk result (λ v. All (λ p. p ≤ 2 ^ 95) v.items) }
+    ensures small { IfOk result (λ v. All (λ p. p ≤ 2 ^ 63 * MAX_AMOUNTS) v.items) }
 {
     let actions = task.actions.as_slice();
     let mut prices = Vec::with_capacity(alloc, actions.len())?;
