@@ -1,6 +1,5 @@
 -- What stops leave on a disk, however many there were, and what is found there. (Our own.)
-use Rattle.std.specs.Prelude.{◌≡◌, ◌⊎◌, ℕ, List, []}
-use Rattle.std.specs.List.{AllByRecursion}
+use Rattle.std.specs.Prelude.{◌≡◌, ◌⊎◌, ℕ, List}
 use Rattle.hd_task.specs.declared.plan.Kid.{Kid}
 use Rattle.hd_store.specs.Device.{Device}
 use Rattle.hd_store.specs.Stop.{MayLeave}
