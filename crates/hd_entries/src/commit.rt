@@ -34,7 +34,7 @@ pub(crate) fn count_entries(outcomes: &[Outcome]) -> usize
     count
 }
 
-/// Makes room for what outcomes add, so many entries and their kids, and a `Vec` for the parcels of these kids.
+/// Makes room for so many entries and for the kids that outcomes add, and a `Vec` for the parcels of these kids.
 fn make_room<'t>(
     alloc: Global,
     entries: &mut Chunks<Entry>,
@@ -43,13 +43,10 @@ fn make_room<'t>(
     entry_count: usize,
 ) -> Result<Vec<Parcel<'t>>, NoMemory>
     requires fits { kids_in outcomes.now < 2 ^ 64 }
-    requires count { entry_count ≡ length (flat_map entry_of outcomes.now) }
     ensures entries { entries.new.items ≡ entries.old.items }
     ensures kids { IsSame kids.old kids.new }
-    ensures room_entries { OnOk result
-        (length (flat_map entry_of outcomes.now) ≤ entries.new.room) }
-    ensures room_entered { OnOk result
-        (length (flat_map entry_of outcomes.now) ≤ kids.new.entry_room) }
+    ensures room_entries { OnOk result (entry_count ≤ entries.new.room) }
+    ensures room_entered { OnOk result (entry_count ≤ kids.new.entry_room) }
     ensures room_kids { OnOk result (kids_in outcomes.now ≤ kids.new.kid_room) }
     ensures parcels { IfOk result (λ ps.
         (ps.items ≡ []) × (kids_in outcomes.now ≤ vec_capacity ps)) }
