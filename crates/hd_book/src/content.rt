@@ -101,7 +101,8 @@ fn push_entries(kids: &mut Vec<Kid>, entries: &Entries, first: u64, end: u64)
     }
 }
 
-/// Makes room for the ticket of a batch; or refuses it, where the book is halted or the entries have no room.
+/// Makes room for the ticket of a batch; or refuses it, where the book is halted. Whether the entries have room is asked only where there is no
+/// memory: else their own commit asks it.
 fn make_room<'t>(
     entries: &Entries<'t>,
     tickets: &mut Tickets<Parcels<'t>>,
@@ -109,7 +110,6 @@ fn make_room<'t>(
 ) -> Result<(), CommitRefusal>
     ensures same { tickets.new.batches ≡ tickets.old.batches }
     ensures going { OnOk result (tickets.old.batches.halted ≡ false) }
-    ensures fits { OnOk result (has_room entries.now batch.now.outcomes ≡ true) }
     ensures room { OnOk result (tickets.new.room ≡ true) }
     ensures refused { IfErr result
         (IsRefusalTo (book_of entries.now tickets.old.batches) batch.now.outcomes) }
@@ -117,12 +117,13 @@ fn make_room<'t>(
     if tickets.is_halted() {
         return Err(CommitRefusal::Halted);
     }
-    if !entries.has_room(batch) {
-        return Err(CommitRefusal::Refused(Refusal::Full));
+    if tickets.reserve().is_ok() {
+        return Ok(());
     }
-    match tickets.reserve() {
-        Ok(()) => Ok(()),
-        Err(_) => Err(CommitRefusal::Refused(Refusal::NoMemory)),
+    if entries.has_room(batch) {
+        Err(CommitRefusal::Refused(Refusal::NoMemory))
+    } else {
+        Err(CommitRefusal::Refused(Refusal::Full))
     }
 }
 

@@ -78,7 +78,8 @@ impl<'t> Content<'t> {
     /// The answer, whether or not all is settled.
     fn answer(&self) -> Result<Verdict, NoMemory>
         requires held { IsHeld self.now }
-        ensures { IfOk result (IsAnswer self.now.expanded.task.now (expansions (state_of self.now))) }
+        ensures { IfOk result (IsAnswer self.now.expanded.task.now
+            (expansions (state_of self.now))) }
     {
         let plan = self.expanded.best_plan()?;
         match (self.expanded.departure, plan) {

@@ -1,5 +1,5 @@
 //! A commit in two steps: one that may refuse and makes the room, and one that changes the book and can't fail.
-ghost use Rattle.std.specs.Prelude.{◌≡◌, ℕ, ◌+◌, ◌<◌, ◌≤◌, ◌^◌, ◌++◌, [], ◌∷◌, List, Some, None, vec_len, vec_capacity, length, map, flat_map, option_map, IfOk, IfErr, OnOk, OnErr};
+ghost use Rattle.std.specs.Prelude.{◌≡◌, ℕ, ◌+◌, ◌<◌, ◌≤◌, ◌^◌, ◌++◌, [], ◌∷◌, List, Some, None, vec_len, vec_capacity, length, map, flat_map, nat_le, option_map, IfOk, IfErr, OnOk, OnErr};
 ghost use Rattle.std.specs.List.{AllByRecursion};
 ghost use Rattle.hd_task.specs.declared.plan.TheConstants.{ROOT_PARENT};
 ghost use Rattle.hd_kids.specs.Kids.{IsSame};
@@ -7,13 +7,13 @@ ghost use Rattle.hd_entries.specs.Settling.{entry_of, all_settled, IsOf};
 ghost use Rattle.hd_entries.specs.Holding.{kid_at, parcel_of, released_by, state_of, view_of, BeginsWith, IsHeld, IsParcelOf, SettlesEach};
 ghost use Rattle.hd_entries.specs.Admitting.{SameButMarks, HasRoomFor, marks_after};
 ghost use Rattle.hd_entries.specs.Growing.{entered_by, best_by, departure_by, kids_in, posted_all};
-ghost use Rattle.hd_entries.specs.Refusing.{has_room, refusal_to, IsRefusalTo};
+ghost use Rattle.hd_entries.specs.Refusing.{refusal_to, IsRefusalTo};
 ghost use Rattle.hd_entries.specs.declared.refusal.Refusal.TheVariants as Refusal;
 
 use crate::Refusal;
 use crate::content::Content;
 use crate::entry::Entry;
-use crate::settling::{best_after, departure_after, enter, kids_of, post_all};
+use crate::settling::{enter, found_after, kids_of, post_all};
 use hd_chunks::Chunks;
 use hd_kids::KidTable;
 use hd_node::{Batch, Outcome, Parcel};
@@ -21,7 +21,7 @@ use hd_task::NoMemory;
 use std::alloc::Global;
 
 /// How many outcomes are expansions.
-fn count_entries(outcomes: &[Outcome]) -> usize
+pub(crate) fn count_entries(outcomes: &[Outcome]) -> usize
     ensures count { result ≡ length (flat_map entry_of outcomes.now) }
     ensures few { result ≤ length outcomes.now }
 {
@@ -34,38 +34,37 @@ fn count_entries(outcomes: &[Outcome]) -> usize
     count
 }
 
-/// Makes room for what outcomes add, and a `Vec` for the parcels of their kids.
+/// Makes room for so many entries and for the kids that outcomes add, and a `Vec` for the parcels of these kids.
 fn make_room<'t>(
     alloc: Global,
     entries: &mut Chunks<Entry>,
     kids: &mut KidTable,
     outcomes: &[Outcome<'t>],
+    entry_count: usize,
 ) -> Result<Vec<Parcel<'t>>, NoMemory>
     requires fits { kids_in outcomes.now < 2 ^ 64 }
     ensures entries { entries.new.items ≡ entries.old.items }
     ensures kids { IsSame kids.old kids.new }
-    ensures room_entries { OnOk result
-        (length (flat_map entry_of outcomes.now) ≤ entries.new.room) }
-    ensures room_entered { OnOk result
-        (length (flat_map entry_of outcomes.now) ≤ kids.new.entry_room) }
+    ensures room_entries { OnOk result (entry_count ≤ entries.new.room) }
+    ensures room_entered { OnOk result (entry_count ≤ kids.new.entry_room) }
     ensures room_kids { OnOk result (kids_in outcomes.now ≤ kids.new.kid_room) }
     ensures parcels { IfOk result (λ ps.
         (ps.items ≡ []) × (kids_in outcomes.now ≤ vec_capacity ps)) }
 {
-    let (entry_count, kid_count) = (count_entries(outcomes), kids_of(outcomes));
+    let kid_count = kids_of(outcomes);
     entries.reserve(entry_count)?;
     kids.reserve(entry_count, kid_count)?;
     Vec::with_capacity(alloc, kid_count)
 }
 
 impl<'t> Content<'t> {
-    /// Whether there is room for the entries of outcomes.
-    pub(crate) fn has_room(&self, outcomes: &[Outcome<'t>]) -> bool
+    /// Whether there is room for so many entries more.
+    pub(crate) fn has_room(&self, more: usize) -> bool
         requires held { IsHeld self.now }
-        ensures { result ≡ has_room (view_of self.now) outcomes.now }
+        ensures { result ≡ nat_le (length (state_of self.now).entries + more) self.now.most }
     {
         let entries = self.expanded.entries.len() as u64;
-        entries.saturating_add(count_entries(outcomes) as u64) <= self.most
+        entries.saturating_add(more as u64) <= self.most
     }
 
     /// Makes room for a batch of these outcomes, and a `Vec` for the parcels of their kids, and settles their kids; or refuses it.
@@ -80,7 +79,8 @@ impl<'t> Content<'t> {
         ensures err { OnErr result (self.new.kids.marks ≡ self.old.kids.marks) }
         ensures room { IfOk result (HasRoomFor self.new outcomes.now) }
     {
-        if !self.has_room(outcomes) {
+        let entry_count = count_entries(outcomes);
+        if !self.has_room(entry_count) {
             return Err(Refusal::Full);
         }
         let parcels = make_room(
@@ -88,6 +88,7 @@ impl<'t> Content<'t> {
             &mut self.expanded.entries,
             &mut self.kids,
             outcomes,
+            entry_count,
         )?;
         let expanded = &self.expanded;
         match expanded.settle_from(&mut self.kids, &mut self.reached, outcomes, 0) {
@@ -122,8 +123,14 @@ impl<'t> Content<'t> {
     {
         let mut parcels = parcels;
         let first = self.expanded.entries.len();
-        self.expanded.best = best_after(self.expanded.best, first, &outcomes);
-        self.expanded.departure = departure_after(self.expanded.departure, first, &outcomes);
+        let (best, departure) = found_after(
+            self.expanded.best,
+            self.expanded.departure,
+            first,
+            &outcomes,
+        );
+        self.expanded.best = best;
+        self.expanded.departure = departure;
         post_all(&mut self.kids, &outcomes);
         enter(
             self.expanded.task,
@@ -147,7 +154,8 @@ impl<'t> Content<'t> {
         ensures begins { BeginsWith (map kid_at self.new.expanded.entries.items)
             (map kid_at self.old.expanded.entries.items) }
         ensures grown { OnOk result (map kid_at self.new.expanded.entries.items
-            ≡ map kid_at self.old.expanded.entries.items ++ flat_map entry_of batch.entry.outcomes) }
+            ≡ map kid_at self.old.expanded.entries.items
+            ++ flat_map entry_of batch.entry.outcomes) }
         ensures accepted { OnOk result (refusal_to (view_of self.old) batch.entry.outcomes ≡ None) }
         ensures state { OnOk result (state_of self.new
             ≡ all_settled (state_of self.old) batch.entry.outcomes) }

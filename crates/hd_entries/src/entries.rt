@@ -1,4 +1,5 @@
 //! The entries of a search.
+use crate::commit::count_entries;
 use crate::content::Content;
 use crate::{Refusal, Verdict};
 use hd_node::{Batch, Hashed, Parcel};
@@ -80,7 +81,8 @@ impl<'t> Entries<'t> {
     pub fn has_room(&self, batch: &Batch<'t>) -> bool
         ensures { result ≡ has_room self.now batch.now.outcomes }
     {
-        self.content.has_room(batch.outcomes.as_slice())
+        self.content
+            .has_room(count_entries(batch.outcomes.as_slice()))
     }
 
     /// Takes a batch: its expansions become entries, and its kids are settled. Gives the parcels of the kids of its expansions, in order.

@@ -1,6 +1,7 @@
 //! What an accepted batch does to the parts of a book. Nothing here asks for memory: the room was made before.
 ghost use Rattle.std.specs.Prelude.{◌≡◌, ℕ, ◌+◌, ◌<◌, ◌≤◌, ◌^◌, ◌++◌, [], ◌∷◌, List, Some, vec_len, vec_capacity, length, map, flat_map, slice_get, option_map};
 ghost use Rattle.std.specs.List.{AllByRecursion, AllPairs};
+ghost use Rattle.std.specs.Option.{option_or};
 ghost use Rattle.hd_task.specs.declared.plan.TheConstants.{ROOT_PARENT};
 ghost use Rattle.hd_task.specs.Applying.{says_yes};
 ghost use Rattle.hd_task.specs.Expansions.{goal_cost, departure_at};
@@ -59,44 +60,6 @@ fn better(best: Option<Best>, entry: usize, cost: Option<u64>) -> Option<Best>
     }
 }
 
-/// The best after outcomes, where the next entry has the number `first`.
-pub(crate) fn best_after(best: Option<Best>, first: usize, outcomes: &[Outcome]) -> Option<Best>
-    requires fits { first + length outcomes.now < 2 ^ 64 }
-    ensures { result ≡ best_by best first outcomes.now }
-{
-    let mut best = best;
-    let mut entry = first;
-    for outcome in outcomes {
-        if let Outcome::Expanded(expansion) = outcome {
-            best = better(best, entry, goal_cost(expansion));
-            entry += 1;
-        }
-    }
-    best
-}
-
-/// The first departure after outcomes, where the next entry has the number `first`.
-pub(crate) fn departure_after(
-    departure: Option<Departure>,
-    first: usize,
-    outcomes: &[Outcome],
-) -> Option<Departure>
-    requires fits { first + length outcomes.now < 2 ^ 64 }
-    ensures { result ≡ departure_by departure first outcomes.now }
-{
-    let mut departure = departure;
-    let mut entry = first;
-    for outcome in outcomes {
-        if let Outcome::Expanded(expansion) = outcome {
-            if departure.is_none() {
-                departure = first_departure(expansion, entry as u64);
-            }
-            entry += 1;
-        }
-    }
-    departure
-}
-
 /// The first departure of an expansion that is the entry of this number.
 fn first_departure(expansion: &Expansion, entry: u64) -> Option<Departure>
     ensures { result ≡ option_map (departure_at entry) (slice_get expansion.now.departures 0) }
@@ -105,6 +68,45 @@ fn first_departure(expansion: &Expansion, entry: u64) -> Option<Departure>
         Some(by) => Some(Departure { entry, by: *by }),
         None => None,
     }
+}
+
+/// The first departure so far; or, if there is none, that of an expansion that is the entry of this number.
+fn departure_with(
+    departure: Option<Departure>,
+    entry: u64,
+    expansion: &Expansion,
+) -> Option<Departure>
+    ensures { result ≡ option_or departure
+        (option_map (departure_at entry) (slice_get expansion.now.departures 0)) }
+{
+    match departure {
+        Some(departure) => Some(departure),
+        None => first_departure(expansion, entry),
+    }
+}
+
+/// The best and the first departure after outcomes, where the next entry has the number `first`.
+pub(crate) fn found_after(
+    best: Option<Best>,
+    departure: Option<Departure>,
+    first: usize,
+    outcomes: &[Outcome],
+) -> (Option<Best>, Option<Departure>)
+    requires fits { first + length outcomes.now < 2 ^ 64 }
+    ensures best { result.0 ≡ best_by best first outcomes.now }
+    ensures departure { result.1 ≡ departure_by departure first outcomes.now }
+{
+    let mut best = best;
+    let mut departure = departure;
+    let mut entry = first;
+    for outcome in outcomes {
+        if let Outcome::Expanded(expansion) = outcome {
+            best = better(best, entry, goal_cost(expansion));
+            departure = departure_with(departure, entry as u64, expansion);
+            entry += 1;
+        }
+    }
+    (best, departure)
 }
 
 /// Posts the children of an expansion, as the kids of an entry more.

@@ -1,4 +1,4 @@
-use Rattle.std.proofs.Common.{◌≡◌, ◌∙◌, ℕ, Option, sym, ap, subst, refl, true≢false, arith}
+use Rattle.std.proofs.Common.{◌∙◌, ℕ, Option, sym, ap, subst, true≢false, arith}
 use Rattle.hd_task.specs.declared.state.State.{State}
 use Rattle.hd_task.specs.Plans.{node}
 use Rattle.hd_task.specs.Stepping.{step_at}

@@ -1,4 +1,5 @@
-use Rattle.std.proofs.Common.{◌≡◌, ◌∙◌, Bool, true, List, [], map, inl, inr, sym, ap, ap₂}
+use Rattle.std.proofs.Common.{◌≡◌, ◌∙◌, ◌+◌, ℕ, Bool, true, List, [], length, map, inl, inr, sym, ap, ap₂}
+use Rattle.std.specs.Prelude.{nat_le}
 use Rattle.hd_entries.specs.declared.entry.Entry.{Entry}
 use Rattle.hd_entries.specs.Settling.{BookState, first_refusal}
 use Rattle.hd_entries.specs.Holding.{kid_at, state_by, state_of, view_of}
@@ -14,7 +15,7 @@ returns-clause-refused c =
     let t = s.expanded.task.now in
     let os = c.args.outcomes.now in
     let v = view_of s in
-    let room : has_room v os ≡ true = sym c.has_room.ensures ∙ c.if-not-has_room.false in
+    let room : has_room v os ≡ true = ap (λ (n : ℕ). nat_le (length (state_of s).entries + n) s.most) (sym c.count_entries-entry_count.ensures.count) ∙ (sym c.has_room.ensures ∙ c.if-not-has_room.false) in
     let same : state_by t c.make_room.new.entries.items c.make_room.new.kids.marks ≡ state_of s =
     ap₂ (λ (es : List Entry) (ms : List Bool). state_by t es ms) c.make_room.ensures.entries c.make_room.ensures.kids.marks
     in
@@ -32,7 +33,7 @@ returns-in-Ok-clause-accepted c =
     let t = s.expanded.task.now in
     let os = c.args.outcomes.now in
     let v = view_of s in
-    let room : has_room v os ≡ true = sym c.has_room.ensures ∙ c.if-not-has_room.false in
+    let room : has_room v os ≡ true = ap (λ (n : ℕ). nat_le (length (state_of s).entries + n) s.most) (sym c.count_entries-entry_count.ensures.count) ∙ (sym c.has_room.ensures ∙ c.if-not-has_room.false) in
     let same : state_by t c.make_room.new.entries.items c.make_room.new.kids.marks ≡ state_of s =
     ap₂ (λ (es : List Entry) (ms : List Bool). state_by t es ms) c.make_room.ensures.entries c.make_room.ensures.kids.marks
     in
