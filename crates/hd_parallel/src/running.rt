@@ -13,7 +13,7 @@ ghost use Rattle.hd_parallel.specs.Opening.{AreAt, CanCommit};
 
 use crate::ThreadsFault;
 use crate::committing::{Committer, Ended};
-use crate::fault::{first_of, of_answer};
+use crate::fault::first_of;
 use crate::opening::{CommitterPlace, Opened, open_search};
 use crate::scoping::{Search, run_in_scope};
 use hd_journal::Journal;
@@ -137,7 +137,7 @@ fn run_opened<
     let mut place = place;
     match answer(rt, &desk.lock, &mut place.pass, journal, limit) {
         Ok(concluded) => Ok(concluded),
-        Err(fault) => Err(ThreadsFault::Run(of_answer(fault))),
+        Err(fault) => Err(ThreadsFault::Run(fault)),
     }
 }
 
