@@ -1,5 +1,5 @@
 -- What a round of the committer leaves. (Our own.)
-use Rattle.std.specs.Prelude.{◌≡◌, ℕ, true, false, List, length}
+use Rattle.std.specs.Prelude.{◌≡◌, ℕ, ◌<◌, true, false, List, length}
 use Rattle.hd_task.specs.declared.plan.Kid.{Kid}
 use Rattle.hd_store.specs.declared.store.Store.{Ghosts}
 use Rattle.hd_journal.specs.declared.journal.Journal.{Journal}
@@ -10,9 +10,9 @@ use Rattle.hd_search.specs.declared.fault.RunFault.TheVariants.{Full, Damaged, D
 use Rattle.hd_threads.specs.declared.committing.Round.{Round}
 use Rattle.hd_threads.specs.declared.committing.Round.TheVariants.{Flushed, Idle}
 
--- what a round did to the journal's list: its entries with these numbers are new; or nothing is
+-- what a round did to the journal's list: its entries with these numbers are new, and there are some; or nothing is
 abbrev pub HasRun : List Kid → List Kid → Round → Type 0
-HasRun old new (Flushed range) = (range.start ≡ length old) × (range.end ≡ length new)
+HasRun old new (Flushed range) = (range.start ≡ length old) × (range.end ≡ length new) × (range.start < range.end)
 HasRun old new Idle = new ≡ old
 
 -- the journal's list is as before, and so many entries are acknowledged as it has

@@ -26,8 +26,8 @@ pub const BATCH: usize = 64;
 /// What a worker's thread holds from turn to turn: its tickets, the oldest first, how many of its outcomes are not committed, how many nodes
 /// it has settled, and how far it goes while a ticket is out.
 ///
-/// The layer is the greatest least total at which none of its tickets was out: a search on one thread would settle what is open there
-/// too, whatever the tickets release, since no kid's total is less than its parent's. What is settled beyond is ahead of that.
+/// The layer is the greatest least total at which none of its tickets was out: were the worker alone, a search on one thread would settle
+/// what is open there too, whatever the tickets release, since no kid's total is less than its parent's. What is settled beyond is ahead of that.
 ///
 /// It must be ended: it can't be let go.
 #[must_use]
