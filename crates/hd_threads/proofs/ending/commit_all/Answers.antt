@@ -1,4 +1,5 @@
 use Rattle.std.proofs.Common.{◌∙◌}
+use Rattle.std.proofs.lemmas.Result.{err_from_is_err_and}
 use Rattle.hd_search.proofs.Journals.{grows_through}
 use Rattle.hd_threads.proofs.Begins.{begins_along}
 use Rattle.hd_threads.proofs.Later.{stops_later}
@@ -62,4 +63,5 @@ loop-round-preserved g c =
 
 pub returns-in_err-committer_round-clause-told : goal.returns-in_err-committer_round-clause-told
 returns-in_err-committer_round-clause-told g c =
-    stops_later _ _ _ _ _ c.loop-round.invariant.journal c.in_err-committer_round.ensures.told
+    let p = err_from_is_err_and c.from_residual.result c.from_residual.ensures.1 in
+    rw (p.1, p.2) (stops_later _ _ _ _ _ c.loop-round.invariant.journal c.in_err-committer_round.ensures.told)
