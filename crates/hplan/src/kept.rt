@@ -28,7 +28,7 @@ use std::sync::Wait;
 use std::thread::Threads;
 use std::time::Clock;
 
-/// How many open nodes a worker settles before their outcomes are committed, or fewer, where no more are open.
+/// How many open nodes a worker settles while a batch of its waits that are worse than those which it settled while none did.
 const TOGETHER: usize = 64;
 
 /// What a search that is kept in a file begins with.
