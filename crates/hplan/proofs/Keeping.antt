@@ -14,7 +14,10 @@ use Rattle.hd_image.specs.Image.{most_of, opened, entry_width, entries_of, entri
 use Rattle.hd_journal.specs.declared.error.JournalError.{JournalError}
 use Rattle.hd_journal.specs.declared.error.JournalError.TheVariants as journal
 use Rattle.hd_journal.specs.declared.journal.Journal as of
-use Rattle.hd_journal.specs.Answers.{IsOpened}
+use Rattle.hd_image.specs.declared.contents.Found.{Found}
+use Rattle.hd_image.specs.Reading.{IsFound}
+use Rattle.hd_store.specs.declared.error.StoreError.TheVariants as store
+use Rattle.hd_journal.specs.Answers.{IsOpened, IsNotMade, IsNotOpened, IsSeen, MayTellLength, BreaksMending}
 use Rattle.hd_journal.specs.Journal.{IsOf, device_of, kid_of, kids_of, found_in}
 use Rattle.hd_migrate.specs.Copy.{kids_in}
 use Rattle.hd_search.specs.declared.fault.RunFault.{RunFault}
@@ -31,7 +34,7 @@ use Rattle.hplan.specs.Fault.{journal_in, run_in, search_in}
 use Rattle.hplan.specs.declared.told.Told.{Told}
 use Rattle.hplan.specs.Answer.{IsSolution, IsKeptSolution}
 use Rattle.hplan.specs.PlanText.{printed}
-use Rattle.hplan.specs.Kept.{FailsIn, InMemory, InFile, IsJournalOf, BeganWith, GoesOn, IsKept, AreKept, TellsOfFile, HasFaultyEntry, HasNoSolution, OfMemory, OfThreads, OfFile, OfEntry, OfSearch, IsResumed, IsBegun, IsRefusedRun}
+use Rattle.hplan.specs.Kept.{FailsIn, InMemory, InFile, IsJournalOf, BeganWith, GoesOn, IsKept, AreKept, TellsOfFile, HasFaultyEntry, HasNoSolution, OfMemory, OfMemoryLater, OfThreads, OfFile, OfEntry, OfSearch, IsResumed, IsBegun, IsRefusedRun}
 
 -- ---- a journal that is not begun
 
@@ -45,7 +48,7 @@ not_begun start t digest before after journal.Device k = OfFile journal.Device k
 not_begun start t digest before after journal.Failed k = OfFile journal.Failed k
 not_begun start t digest before after journal.JournalExists k = OfFile journal.JournalExists k
 not_begun start t digest before after journal.NotOut k = OfFile journal.NotOut k
-not_begun start t digest before after journal.NoMemory k = OfMemory
+not_begun start t digest before after journal.NoMemory k = OfMemory k
 
 -- ---- the entries of groups
 
@@ -162,7 +165,8 @@ module _ {S : Type 0} {G : Ghosts S} where
   refused_first start t digest before after old new searching.Device begun same left k = absurd (k)
   refused_first start t digest before after old new searching.Failed begun same left k = absurd (k)
   refused_first start t digest before after old new searching.NotOut begun same left k = absurd (k)
-  refused_first start t digest before after old new searching.NoMemory begun same left k = OfMemory
+  refused_first start t digest before after old new searching.NoMemory begun same left k =
+      OfMemoryLater (are_kept start digest before after old new begun (stays old new same) left)
 
   stopped : (start : Start) (t : Task) (digest before after : List ℕ) (old new : of.Journal S G) (why : RunFault)
       → IsBegun start digest before old → content_of (device_of new) ≡ after → StopsRunning old new why
@@ -173,8 +177,10 @@ module _ {S : Type 0} {G : Ghosts S} where
   stopped start t digest before after old new searching.Device begun left k = OfSearch searching.Device tt
   stopped start t digest before after old new searching.Failed begun left k =
       let no : false ≡ true = sym (runs_on start digest before old begun) ∙ k.0 in absurd (cc)
-  stopped start t digest before after old new searching.NotOut begun left k = OfSearch searching.NotOut tt
-  stopped start t digest before after old new searching.NoMemory begun left k = OfMemory
+  stopped start t digest before after old new searching.NotOut begun left k =
+      OfSearch searching.NotOut (are_kept start digest before after old new begun k left)
+  stopped start t digest before after old new searching.NoMemory begun left k =
+      OfMemoryLater (are_kept start digest before after old new begun k left)
 
   told_by : (start : Start) (t : Task) (digest before after : List ℕ) (old new : of.Journal S G) (why : ThreadsFault)
       → IsBegun start digest before old → content_of (device_of new) ≡ after → Tells t old new why
@@ -187,9 +193,53 @@ module _ {S : Type 0} {G : Ghosts S} where
   pub refused_run : (start : Start) (t : Task) (digest before after : List ℕ) (old new : of.Journal S G) (f : Fault)
       → IsBegun start digest before old → content_of (device_of new) ≡ after → IsRefusedRun t old new f
       → HasNoSolution start t digest before after f
-  refused_run start t digest before after old new f begun left (inl is) = subst (HasNoSolution start t digest before after) (sym is) OfMemory
+  refused_run start t digest before after old new f begun left (inl k) =
+      subst (HasNoSolution start t digest before after) (sym k.0)
+      (OfMemoryLater (are_kept start digest before after old new begun k.1 left))
   refused_run start t digest before after old new f begun left (inr k) =
       subst (HasNoSolution start t digest before after) (sym k.1) (told_by start t digest before after old new k.0 begun left k.2)
+
+-- ---- a journal that is not begun, by what is answered
+
+module _ {S : Type 0} {G : Ghosts S} (digest : List ℕ) (old : Device) where
+  not_made : (e : JournalError) (new : Device) → IsNotMade digest old e new → TellsOfFile New digest (content_of old) (content_of new) e
+  not_made journal.NotAJournal new k = k
+  not_made journal.OtherTask new k = k
+  not_made (journal.Damaged at) new k = k
+  not_made journal.Device new k = tt
+  not_made journal.Failed new k = k
+  not_made journal.JournalExists new k = (k.1.0, ap content_of k.1.1)
+  not_made journal.NotOut new k = k
+  not_made journal.NoMemory new k = k.1.0
+
+  pub made_not : (r : Result (of.Journal S G) (S × JournalError)) → IfErr r (λ e. IsNotMade digest old e.1 (G.device e.0))
+      → IfErr r (λ e. TellsOfFile New digest (content_of old) (content_of (G.device e.0)) e.1)
+  made_not (Ok j) k = tt
+  made_not (Err e) k = not_made e.1 (G.device e.0) k
+
+  seen_same : (new : Device) → IsSeen old new → content_of new ≡ content_of old
+  seen_same new k = ap content_of k.1.1
+
+  mended_not : (new : Device) → (MayTellLength old (Ok tt) × (new ≡ old)) ⊎ (IsSeen old new ⊎ BreaksMending digest old store.NoMemory new)
+      → (content_of new ≡ content_of old) ⊎ ((found : Found) × IsFound digest (content_of old) found)
+  mended_not new (inl k) = inl (ap content_of k.1)
+  mended_not new (inr (inl k)) = inl (seen_same new k)
+  mended_not new (inr (inr k)) = inr (k.found, k.is)
+
+  not_opened : (e : JournalError) (new : Device) → IsNotOpened digest old e new → TellsOfFile Kept digest (content_of old) (content_of new) e
+  not_opened journal.NotAJournal new k = (k.0, seen_same new k.1)
+  not_opened journal.OtherTask new k = (k.0, seen_same new k.1)
+  not_opened (journal.Damaged at) new k = (k.0, seen_same new k.1)
+  not_opened journal.Device new k = tt
+  not_opened journal.Failed new k = k
+  not_opened journal.JournalExists new k = k
+  not_opened journal.NotOut new k = k
+  not_opened journal.NoMemory new k = mended_not new k
+
+  pub opened_not : (r : Result (of.Journal S G) (S × JournalError)) → IfErr r (λ e. IsNotOpened digest old e.1 (G.device e.0))
+      → IfErr r (λ e. TellsOfFile Kept digest (content_of old) (content_of (G.device e.0)) e.1)
+  opened_not (Ok j) k = tt
+  opened_not (Err e) k = not_opened e.1 (G.device e.0) k
 
 -- ---- a journal that is begun, by what is answered
 

@@ -21,6 +21,7 @@ use Rattle.hd_search.specs.declared.fault.RunFault.{RunFault}
 use Rattle.hd_search.specs.declared.fault.RunFault.TheVariants as searching
 use Rattle.hd_certify.specs.Error.{IsDamagedAt}
 use Rattle.hd_parallel.specs.declared.fault.ThreadsFault.{ThreadsFault}
+use Rattle.hd_search.specs.Searching.{Grows}
 use Rattle.hd_parallel.specs.Fault.{Tells}
 use Rattle.hplan.specs.declared.fault.Fault.{Fault}
 use Rattle.hplan.specs.declared.fault.Fault.TheVariants.{Journal, Search, NoThread, NoMemory}
@@ -63,7 +64,8 @@ pub record IsKept (start : Start) (digest : List ℕ) (kids : List Kid) (before 
 
 -- ---- why a search over a file has no answer
 
--- what is told of a file that is to be begun, or gone on with: it is not empty; or it is no journal, one of another task or damaged. It is as it was then
+-- what is told of a file that is to be begun, or gone on with: it is not empty; or it is no journal, one of another task or damaged. It is as
+-- it was then. Memory runs out over an empty file; or over one that is left as it was, or holds the task's journal
 abbrev pub TellsOfFile : Start → List ℕ → List ℕ → List ℕ → JournalError → Type 0
 TellsOfFile New digest before after journal.NotAJournal = ⊥
 TellsOfFile New digest before after journal.OtherTask = ⊥
@@ -72,7 +74,7 @@ TellsOfFile New digest before after journal.Device = Unit {0}
 TellsOfFile New digest before after journal.Failed = ⊥
 TellsOfFile New digest before after journal.JournalExists = (before ≢ []) × (after ≡ before)
 TellsOfFile New digest before after journal.NotOut = ⊥
-TellsOfFile New digest before after journal.NoMemory = Unit {0}
+TellsOfFile New digest before after journal.NoMemory = before ≡ []
 TellsOfFile Kept digest before after journal.NotAJournal = IsRefused digest before image.NotAJournal × (after ≡ before)
 TellsOfFile Kept digest before after journal.OtherTask = IsRefused digest before image.OtherTask × (after ≡ before)
 TellsOfFile Kept digest before after (journal.Damaged at) = IsRefused digest before (image.Damaged at) × (after ≡ before)
@@ -80,7 +82,7 @@ TellsOfFile Kept digest before after journal.Device = Unit {0}
 TellsOfFile Kept digest before after journal.Failed = ⊥
 TellsOfFile Kept digest before after journal.JournalExists = ⊥
 TellsOfFile Kept digest before after journal.NotOut = ⊥
-TellsOfFile Kept digest before after journal.NoMemory = Unit {0}
+TellsOfFile Kept digest before after journal.NoMemory = (after ≡ before) ⊎ ((found : Found) × IsFound digest before found)
 
 -- the entry that is found at this place of a file is the first that is faulty, and the file has just the entries that were found; a new file
 -- has none
@@ -93,20 +95,21 @@ HasFaultyEntry Kept t digest before after at =
 abbrev pub AreKept : Start → List ℕ → List ℕ → List ℕ → Type 0
 AreKept start digest before after = (kids : List Kid) × IsKept start digest kids before after
 
--- what a fault of the search itself may be: there is no room for more entries, and those that there are are kept; the device failed; or what
--- the threads share did not fit together. No other is told
+-- what a fault of the search itself may be: there is no room for more entries, or what the threads share did not fit together, and those that
+-- there are are kept; or the device failed. No other is told
 abbrev pub TellsOfSearch : Start → List ℕ → List ℕ → List ℕ → RunFault → Type 0
 TellsOfSearch start digest before after searching.Full = AreKept start digest before after
 TellsOfSearch start digest before after (searching.Damaged at) = ⊥
 TellsOfSearch start digest before after searching.Device = Unit {0}
 TellsOfSearch start digest before after searching.Failed = ⊥
-TellsOfSearch start digest before after searching.NotOut = Unit {0}
+TellsOfSearch start digest before after searching.NotOut = AreKept start digest before after
 TellsOfSearch start digest before after searching.NoMemory = ⊥
 
--- why the search of a task over a file has no answer: memory ran out; a thread did not start, and the entries that there are are kept; or
--- what is told of the file, of an entry in it, or of the search
+-- why the search of a task over a file has no answer: memory ran out before it began, or later, and the entries that there are are kept; a
+-- thread did not start, and they are kept too; or what is told of the file, of an entry in it, or of the search
 pub data HasNoSolution (start : Start) (t : Task) (digest before after : List ℕ) : Fault → Type 0 where
-  OfMemory : HasNoSolution start t digest before after NoMemory
+  OfMemory : TellsOfFile start digest before after journal.NoMemory → HasNoSolution start t digest before after NoMemory
+  OfMemoryLater : AreKept start digest before after → HasNoSolution start t digest before after NoMemory
   OfThreads : AreKept start digest before after → HasNoSolution start t digest before after NoThread
   OfFile : (error : JournalError) → TellsOfFile start digest before after error → HasNoSolution start t digest before after (Journal error)
   OfEntry : (at : ℕ) → HasFaultyEntry start t digest before after at → HasNoSolution start t digest before after (Search (searching.Damaged at))
@@ -162,6 +165,6 @@ abbrev pub IsBegun : {S : Type 0} {G : Ghosts S} → Start → List ℕ → List
 IsBegun New digest before begun = (before ≡ []) × (begun.version ≡ Two) × IsOf digest [] begun
 IsBegun Kept digest before begun = IsResumed digest before begun
 
--- a search over a journal has no answer: memory ran out, or this is told of the fault by which it ended
+-- a search over a journal has no answer: memory ran out, and the journal is the same or a later one; or this is told of the fault by which it ended
 abbrev pub IsRefusedRun : {S : Type 0} {G : Ghosts S} → Task → of.Journal S G → of.Journal S G → Fault → Type 0
-IsRefusedRun t old new fault = (fault ≡ NoMemory) ⊎ ((why : ThreadsFault) × (fault ≡ search_in why) × Tells t old new why)
+IsRefusedRun t old new fault = ((fault ≡ NoMemory) × Grows old new) ⊎ ((why : ThreadsFault) × (fault ≡ search_in why) × Tells t old new why)

@@ -10,6 +10,7 @@ pub mod PlanText
 pub mod Printing
 pub mod Reasons
 pub mod Replaying
+pub mod Requests
 pub mod Surveying
 pub mod TaskText
 pub mod Verdict

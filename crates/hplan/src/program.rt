@@ -1,6 +1,7 @@
 //! The program: from the words of a command line to an exit status.
 ghost use Rattle.std.specs.Prelude.{◌≡◌, MatchResult};
 ghost use Rattle.hd_words.specs.Request.{IsWithin, IsWorkers};
+ghost use Rattle.hplan.specs.Requests.{AsksNoSearch};
 ghost use Rattle.hplan.specs.Status.{status_of_ending, status_of_certificate};
 ghost use Rattle.hplan.specs.declared.program.TheConstants.{DONE, REFUSED};
 
@@ -303,43 +304,50 @@ fn judge_files<O: Write, E: Write>(
     status
 }
 
-/// Does what a request asks.
-fn answer<P: Places, O: Write, E: Write, R: Threads + Wait + Sync + Eprint + Clock>(
+/// The exit status of a search over a journal, if one is named: a new one, or the one that is there.
+fn answer_search<P: Places, O: Write, E: Write, R: Threads + Wait + Sync + Eprint + Clock>(
     rt: &R,
+    alloc: Global,
+    places: &mut P,
+    names: (&str, &str),
+    journal: Option<(&str, Start)>,
+    search: Search,
+    out: &mut O,
+    err: &mut E,
+) -> u8
+    requires { IsWorkers search.workers }
+{
+    let ended = solve_files(rt, alloc, places, names, journal, search, out);
+    status_of_search(err, ended)
+}
+
+/// The exit status of a plan in a file that is judged: a fault is told, and its reason, where it is asked for.
+fn answer_plan<P: Places, O: Write, E: Write>(
+    alloc: Global,
+    places: &mut P,
+    names: (&str, &str, &str),
+    explained: bool,
+    out: &mut O,
+    err: &mut E,
+) -> u8 {
+    match read_three_files(alloc, places, names.0, names.1, names.2) {
+        Ok(files) => judge_files(alloc, &files, explained, out, err),
+        Err(fault) => refuse(err, &fault),
+    }
+}
+
+/// Does what a request asks that is no search.
+fn answer_of_files<P: Places, O: Write, E: Write>(
     alloc: Global,
     request: &Request,
     places: &mut P,
     out: &mut O,
     err: &mut E,
 ) -> u8
-    requires { IsWithin request.now }
+    requires { AsksNoSearch request.now }
 {
     match request {
-        Request::Solve {
-            domain,
-            problem,
-            journal,
-            search,
-        } => {
-            let journal = match journal {
-                Some(name) => Some((name.as_str(), Start::New)),
-                None => None,
-            };
-            let names = (domain.as_str(), problem.as_str());
-            let ended = solve_files(rt, alloc, places, names, journal, *search, out);
-            status_of_search(err, ended)
-        }
-        Request::Resume {
-            domain,
-            problem,
-            journal,
-            search,
-        } => {
-            let journal = Some((journal.as_str(), Start::Kept));
-            let names = (domain.as_str(), problem.as_str());
-            let ended = solve_files(rt, alloc, places, names, journal, *search, out);
-            status_of_search(err, ended)
-        }
+        Request::Solve { .. } | Request::Resume { .. } => unreachable!(),
         Request::Certify {
             domain,
             problem,
@@ -383,10 +391,7 @@ fn answer<P: Places, O: Write, E: Write, R: Threads + Wait + Sync + Eprint + Clo
             explain,
         } => {
             let names = (domain.as_str(), problem.as_str(), plan.as_str());
-            match read_three_files(alloc, places, names.0, names.1, names.2) {
-                Ok(files) => judge_files(alloc, &files, *explain, out, err),
-                Err(fault) => refuse(err, &fault),
-            }
+            answer_plan(alloc, places, names, *explain, out, err)
         }
         Request::Replay {
             domain,
@@ -397,6 +402,51 @@ fn answer<P: Places, O: Write, E: Write, R: Threads + Wait + Sync + Eprint + Clo
             let done = replay_files(alloc, places, names.0, names.1, names.2, out);
             status_of(err, done)
         }
+    }
+}
+
+/// Does what a request asks.
+fn answer<P: Places, O: Write, E: Write, R: Threads + Wait + Sync + Eprint + Clock>(
+    rt: &R,
+    alloc: Global,
+    request: &Request,
+    places: &mut P,
+    out: &mut O,
+    err: &mut E,
+) -> u8
+    requires { IsWithin request.now }
+{
+    match request {
+        Request::Solve {
+            domain,
+            problem,
+            journal,
+            search,
+        } => {
+            let journal = match journal {
+                Some(name) => Some((name.as_str(), Start::New)),
+                None => None,
+            };
+            let names = (domain.as_str(), problem.as_str());
+            answer_search(rt, alloc, places, names, journal, *search, out, err)
+        }
+        Request::Resume {
+            domain,
+            problem,
+            journal,
+            search,
+        } => {
+            let journal = Some((journal.as_str(), Start::Kept));
+            let names = (domain.as_str(), problem.as_str());
+            answer_search(rt, alloc, places, names, journal, *search, out, err)
+        }
+        Request::Certify { .. }
+        | Request::Migrate { .. }
+        | Request::Inspect { .. }
+        | Request::Survey { .. }
+        | Request::Ground { .. }
+        | Request::Validate { .. }
+        | Request::Replay { .. } => answer_of_files(alloc, request, places, out, err),
     }
 }
 

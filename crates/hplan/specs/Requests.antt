@@ -1,0 +1,15 @@
+-- Which requests are of searches. (Our own.)
+use Rattle.hd_words.specs.declared.request.Request.{Request}
+use Rattle.hd_words.specs.declared.request.Request.TheVariants.{Solve, Resume, Certify, Migrate, Inspect, Survey, Ground, Validate, Replay}
+
+-- a request asks for something else than a search
+abbrev pub AsksNoSearch : Request → Type 0
+AsksNoSearch (Solve domain problem journal search) = ⊥
+AsksNoSearch (Resume domain problem journal search) = ⊥
+AsksNoSearch (Certify domain problem journal) = Unit {0}
+AsksNoSearch (Migrate domain problem journal to) = Unit {0}
+AsksNoSearch (Inspect journal) = Unit {0}
+AsksNoSearch (Survey domain problem journal) = Unit {0}
+AsksNoSearch (Ground domain problem) = Unit {0}
+AsksNoSearch (Validate domain problem plan explain) = Unit {0}
+AsksNoSearch (Replay domain problem schedule) = Unit {0}
