@@ -13,12 +13,13 @@ use Rattle.hd_search.specs.Searching.{Grows}
 use Rattle.hd_desk.specs.Views.{BeginsWith}
 use Rattle.hd_threads.specs.declared.placing.Desk.{Desk}
 use Rattle.hd_threads.specs.Committing.{StopsLater}
+use Rattle.hd_threads.specs.Faults.{IsOfAnswer}
 use Rattle.hd_threads.proofs.Begins.{begins_along}
 use Rattle.hd_parallel.specs.declared.fault.ThreadsFault.{ThreadsFault}
 use Rattle.hd_parallel.specs.declared.fault.ThreadsFault.TheVariants.{Run, NoThread}
 use Rattle.hd_parallel.specs.declared.opening.CommitterPlace.{CommitterPlace}
 use Rattle.hd_parallel.specs.Committing.{CanRun}
-use Rattle.hd_parallel.specs.Fault.{first_of, IsFaulty, IsOfThreads, IsOfAnswer, StopsRunning, Stops, Tells}
+use Rattle.hd_parallel.specs.Fault.{first_of, IsFaulty, IsOfThreads, StopsRunning, Stops, Tells}
 use Rattle.hd_parallel.specs.Opening.{CanCommit}
 
 module _ {S : Type 0} {G : Ghosts S} (old new : Journal S G) where
@@ -28,8 +29,8 @@ module _ {S : Type 0} {G : Ghosts S} (old new : Journal S G) where
   committer_stops (Damaged at) told = told
   committer_stops Device told = told
   committer_stops Failed told = told
-  committer_stops NotOut told = tt
-  committer_stops NoMemory told = tt
+  committer_stops NotOut told = told
+  committer_stops NoMemory told = told
 
   -- a fault of the threads, where the committer has ended without one
   threads_stop : (fault : ThreadsFault) → Grows old new → IsOfThreads fault → Stops old new fault
@@ -38,8 +39,8 @@ module _ {S : Type 0} {G : Ghosts S} (old new : Journal S G) where
   threads_stop (Run (Damaged at)) grows told = told
   threads_stop (Run Device) grows told = absurd told
   threads_stop (Run Failed) grows told = absurd told
-  threads_stop (Run NotOut) grows told = tt
-  threads_stop (Run NoMemory) grows told = tt
+  threads_stop (Run NotOut) grows told = grows
+  threads_stop (Run NoMemory) grows told = grows
 
   -- what is told first stands
   pub first_stops : (done : Result (Unit {0}) RunFault) (joined : Result (Unit {0}) ThreadsFault) → OnOk done (Grows old new) → IfErr done (StopsLater old new) → IfErr joined IsOfThreads → IfErr (first_of done joined) (Stops old new)
@@ -53,14 +54,14 @@ module _ {S : Type 0} {G : Ghosts S} (old new : Journal S G) where
   first_grows (Ok d) (Err fault) grows = tt
   first_grows (Err fault) joined grows = tt
 
-  -- a book has no answer
-  pub answer_stops : (fault : RunFault) → IsOfAnswer fault → StopsRunning old new fault
-  answer_stops Full told = absurd told
-  answer_stops (Damaged at) told = told
-  answer_stops Device told = absurd told
-  answer_stops Failed told = absurd told
-  answer_stops NotOut told = tt
-  answer_stops NoMemory told = tt
+  -- a book has no answer, behind threads that ended without a fault
+  pub answer_stops : (fault : RunFault) → Grows old new → IsOfAnswer fault → StopsRunning old new fault
+  answer_stops Full grows told = absurd told
+  answer_stops (Damaged at) grows told = told
+  answer_stops Device grows told = absurd told
+  answer_stops Failed grows told = absurd told
+  answer_stops NotOut grows told = grows
+  answer_stops NoMemory grows told = grows
 
   -- a search stops later
   pub tells_later : (t : Task) (fault : ThreadsFault) → Stops old new fault → Tells t old new fault

@@ -11,6 +11,7 @@ use Rattle.hd_search.specs.declared.fault.RunFault.{RunFault}
 use Rattle.hd_search.specs.declared.fault.RunFault.TheVariants.{Full, Damaged, Device, Failed, NotOut, NoMemory}
 use Rattle.hd_search.specs.Fault as search
 use Rattle.hd_search.specs.Searching.{Grows}
+use Rattle.hd_threads.specs.Faults.{IsOfWorker}
 use Rattle.hd_parallel.specs.declared.fault.ThreadsFault.{ThreadsFault}
 use Rattle.hd_parallel.specs.declared.fault.ThreadsFault.TheVariants.{Run, NoThread}
 
@@ -28,15 +29,6 @@ IsFaulty t most entries Failed = ⊥
 IsFaulty t most entries NotOut = ⊥
 IsFaulty t most entries NoMemory = Unit {0}
 
--- what a worker's fault may be: no worker reads or writes the journal
-abbrev pub IsOfWorker : RunFault → Type 0
-IsOfWorker Full = Unit {0}
-IsOfWorker (Damaged at) = ⊥
-IsOfWorker Device = ⊥
-IsOfWorker Failed = ⊥
-IsOfWorker NotOut = Unit {0}
-IsOfWorker NoMemory = Unit {0}
-
 -- what the fault may be that the threads of workers give: that of a worker, or that one does not start
 abbrev pub IsOfThreads : ThreadsFault → Type 0
 IsOfThreads (Run fault) = IsOfWorker fault
@@ -47,24 +39,15 @@ abbrev pub first_of : Result (Unit {0}) RunFault → Result (Unit {0}) ThreadsFa
 first_of (Ok done) threads = threads
 first_of (Err fault) threads = Err (Run fault)
 
--- why a book has no answer, once all threads have ended: it is not at its end, or there is no memory for a plan
-abbrev pub IsOfAnswer : RunFault → Type 0
-IsOfAnswer Full = ⊥
-IsOfAnswer (Damaged at) = ⊥
-IsOfAnswer Device = ⊥
-IsOfAnswer Failed = ⊥
-IsOfAnswer NotOut = Unit {0}
-IsOfAnswer NoMemory = Unit {0}
-
--- what a fault tells by which a search stops whose threads run, of the journal before it and of the journal afterwards. That there are too many
--- entries is told by a worker alone, and only where the committer has ended without a fault
+-- what a fault tells by which a search stops whose threads run, of the journal before it and of the journal afterwards. Where the device did
+-- not fail, the journal has the entries that it had, and maybe more behind them, in whole groups
 abbrev pub StopsRunning : {S : Type 0} {G : Ghosts S} → Journal S G → Journal S G → RunFault → Type 0
 StopsRunning old new Full = Grows old new
 StopsRunning old new (Damaged at) = ⊥
 StopsRunning old new Device = (old.failed ≡ false) × (new.failed ≡ true)
 StopsRunning old new Failed = (old.failed ≡ true) × (kids_of new ≡ kids_of old)
-StopsRunning old new NotOut = Unit {0}
-StopsRunning old new NoMemory = Unit {0}
+StopsRunning old new NotOut = Grows old new
+StopsRunning old new NoMemory = Grows old new
 
 -- the same of each fault; that a thread does not start is told only where the committer has ended without a fault
 abbrev pub Stops : {S : Type 0} {G : Ghosts S} → Journal S G → Journal S G → ThreadsFault → Type 0

@@ -4,7 +4,7 @@ ghost use Rattle.hd_task.specs.declared.task.Task.{Task};
 ghost use Rattle.hd_image.specs.declared.entry.Entry.{Entry};
 ghost use Rattle.hd_recovery.specs.Fault.{IsRefusal};
 ghost use Rattle.hd_search.specs.declared.fault.RunFault.TheVariants as faults;
-ghost use Rattle.hd_parallel.specs.Fault.{text_of, first_of, IsFaulty, IsOfWorker, IsOfAnswer};
+ghost use Rattle.hd_parallel.specs.Fault.{text_of, first_of, IsFaulty};
 ghost use Rattle.hd_parallel.specs.declared.fault.ThreadsFault.TheVariants.{Run};
 
 use hd_recovery::RecoverFault;
@@ -50,35 +50,6 @@ pub(crate) fn of_recovery(fault: RecoverFault) -> RunFault
         RecoverFault::Full => RunFault::Full,
         RecoverFault::Damaged(at) => RunFault::Damaged(at),
         RecoverFault::NoMemory => RunFault::NoMemory,
-    }
-}
-
-/// What is told of a worker's fault. No worker reads or writes the journal.
-pub(crate) fn of_worker(fault: RunFault) -> RunFault
-    ensures of_worker { IsOfWorker result }
-    ensures same { IsOfWorker fault → result ≡ fault }
-{
-    match fault {
-        RunFault::Full => RunFault::Full,
-        RunFault::NoMemory => RunFault::NoMemory,
-        RunFault::NotOut | RunFault::Damaged(_) | RunFault::Device | RunFault::Failed => {
-            RunFault::NotOut
-        }
-    }
-}
-
-/// What is told of why a book has no answer, once all threads have ended. Nothing is written then.
-pub(crate) fn of_answer(fault: RunFault) -> RunFault
-    ensures of_answer { IsOfAnswer result }
-    ensures same { IsOfAnswer fault → result ≡ fault }
-{
-    match fault {
-        RunFault::NoMemory => RunFault::NoMemory,
-        RunFault::NotOut
-        | RunFault::Full
-        | RunFault::Damaged(_)
-        | RunFault::Device
-        | RunFault::Failed => RunFault::NotOut,
     }
 }
 

@@ -13,7 +13,7 @@ ghost use Rattle.hd_parallel.specs.Opening.{AreAt, CanCommit};
 
 use crate::ThreadsFault;
 use crate::committing::{Committer, Ended};
-use crate::fault::{first_of, of_answer};
+use crate::fault::first_of;
 use crate::opening::{CommitterPlace, Opened, open_search};
 use crate::scoping::{Search, run_in_scope};
 use hd_journal::Journal;
@@ -137,7 +137,7 @@ fn run_opened<
     let mut place = place;
     match answer(rt, &desk.lock, &mut place.pass, journal, limit) {
         Ok(concluded) => Ok(concluded),
-        Err(fault) => Err(ThreadsFault::Run(of_answer(fault))),
+        Err(fault) => Err(ThreadsFault::Run(fault)),
     }
 }
 
@@ -185,8 +185,9 @@ fn run_as<
 
 /// Searches a task to the end by so many workers, each in a thread of its own, over a journal: the search goes on from the entries that the
 /// journal has, from the root where it has none. This thread appends the entries of the workers' batches to the journal, and what these
-/// lead to is open only then. Each worker has the states that it owns by their hashes, and sends what leads to others to their owners; it settles
-/// its best open nodes, `together` of them, before it commits their outcomes; the gate is called around each.
+/// lead to is open only then. Each worker has the states that it owns by their hashes, and sends what leads to others to their owners. It
+/// settles its best open node and commits the outcome; while a batch of its waits to be appended it settles nodes that are no worse than
+/// what it settled while none did, and `together` worse ones besides. The gate is called around each.
 ///
 /// With a limit no batch is committed any more once there are so many entries, those that the journal had among them.
 ///

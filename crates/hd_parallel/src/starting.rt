@@ -1,11 +1,11 @@
 //! The threads of the workers.
 ghost use Rattle.std.specs.Prelude.{IfErr, IfSome};
 ghost use Rattle.std.specs.Thread.{IsSync};
-ghost use Rattle.hd_parallel.specs.Fault.{IsOfWorker, IsOfThreads};
+ghost use Rattle.hd_threads.specs.Faults.{IsOfWorker};
+ghost use Rattle.hd_parallel.specs.Fault.{IsOfThreads};
 ghost use Rattle.hd_parallel.specs.Opening.{IsJob, AreAt};
 
 use crate::ThreadsFault;
-use crate::fault::of_worker;
 use hd_search::RunFault;
 use hd_threads::{Desk, Gate, Workplace, work};
 use std::alloc::Global;
@@ -57,12 +57,9 @@ fn work_by<'s, 't, L: Ledger, A: Ledger, G: Gate, R: Wait>(
         gate,
     } = job;
     let mut place = place;
-    match work(
+    work(
         rt, alloc, desk, &mut place, id, workers, together, limit, gate,
-    ) {
-        Some(fault) => Some(of_worker(fault)),
-        None => None,
-    }
+    )
 }
 
 /// Starts the thread of a worker, if the system does.

@@ -9,6 +9,7 @@ use Rattle.hd_desk.specs.Views.{BeginsWith}
 use Rattle.hd_search.specs.declared.fault.RunFault.{RunFault}
 use Rattle.hd_search.specs.declared.fault.RunFault.TheVariants.{Full, Damaged, Device, Failed, NotOut, NoMemory}
 use Rattle.hd_search.specs.Searching.{Grows}
+use Rattle.hd_search.proofs.Journals.{grows_through}
 use Rattle.hd_threads.specs.Committing.{StopsRound, StopsLater}
 
 -- what the last round tells, of the journal before the first
@@ -17,8 +18,8 @@ stops_later a b c n Full x s = s
 stops_later a b c n (Damaged at) x s = s
 stops_later a b c n Device x s = (sym x.failed ∙ s.0, s.1)
 stops_later a b c n Failed x s = let was = sym x.failed ∙ s.0 in (was, s.1.kids ∙ x.stuck was)
-stops_later a b c n NotOut x s = tt
-stops_later a b c n NoMemory x s = tt
+stops_later a b c n NotOut x s = grows_through a b c x s
+stops_later a b c n NoMemory x s = grows_through a b c x s.1
 
 -- a log that begins with a list and is no longer is that list
 pub same_log : (log kids : List Kid) → BeginsWith log kids → length log ≡ length kids → log ≡ kids

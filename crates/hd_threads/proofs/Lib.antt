@@ -5,5 +5,6 @@ pub mod Later
 pub mod Parcels
 pub mod Places
 pub mod Room
+pub mod Rounds
 pub mod Stays
 pub mod Steps

@@ -1,5 +1,6 @@
 pub mod Committing
 pub mod Ending
+pub mod Faults
 pub mod Placing
 pub mod Posting
 pub mod Shared

@@ -23,9 +23,9 @@ use std::sync::ledger::{Ledger, Share};
 /// What a round of the committer did.
 #[derive(Clone, Debug, PartialEq, Eq, Drop)]
 pub enum Round {
-    /// The entries with these numbers are appended, and acknowledged.
+    /// The entries with these numbers, one at least, are appended, and acknowledged.
     Flushed(Range<u64>),
-    /// Nothing waited.
+    /// Nothing is appended.
     Idle,
 }
 
@@ -150,7 +150,15 @@ fn append_group<'t, L: Ledger, A: Ledger, S: Store, R: Wait>(
     let start = journal.entries().len() as u64;
     match journal.append(group) {
         Ok(flushed) => match acknowledge(rt, lock, pass, share, flushed) {
-            Ok(()) => Ok(Round::Flushed(start..journal.entries().len() as u64)),
+            Ok(()) => {
+                let end = journal.entries().len() as u64;
+                // A group has an entry at least, but that no call tells.
+                if start < end {
+                    Ok(Round::Flushed(start..end))
+                } else {
+                    Ok(Round::Idle)
+                }
+            }
             Err(_) => Err(RunFault::NotOut),
         },
         Err((group, error)) => {

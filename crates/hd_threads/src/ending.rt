@@ -6,6 +6,7 @@ ghost use Rattle.hd_desk.specs.Views.{BeginsWith};
 ghost use Rattle.hd_journal.specs.Journal.{kids_of};
 ghost use Rattle.hd_search.specs.Searching.{Grows};
 ghost use Rattle.hd_threads.specs.Committing.{StopsLater};
+ghost use Rattle.hd_threads.specs.Faults.{IsOfAnswer};
 ghost use Rattle.hd_threads.specs.Ending.{is_reached, outcome_of, IsOutcomeOf, IsTrueOutcome, IsCountedBy};
 
 use crate::SharedBook;
@@ -172,6 +173,7 @@ fn said_by<L: Ledger, A: Ledger, S: Store>(
         IsOutcomeOf book.now.state.task limit (kids_of journal.now) e.outcome) }
     ensures truth { IfOk result (λ e. IsTrueOutcome book.now.state.task e.outcome) }
     ensures counts { IfOk result (λ e. IsCountedBy (kids_of journal.now) e.outcome e.counts) }
+    ensures told { IfErr result IsOfAnswer }
 {
     let counts = book.counts();
     let written = journal.entries().len() as u64;
@@ -212,6 +214,7 @@ pub fn answer<'t, L: Ledger, A: Ledger, S: Store, R: Wait>(
     ensures truth { IfSome (view pass.old).seen.task (λ t. IfOk result (λ e.
         IsTrueOutcome t e.outcome)) }
     ensures counts { IfOk result (λ e. IsCountedBy (kids_of journal.now) e.outcome e.counts) }
+    ensures told { IfErr result IsOfAnswer }
 {
     let book = lock.enter(rt, pass);
     let said = said_by(&book, journal, limit);

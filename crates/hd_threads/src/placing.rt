@@ -1,7 +1,8 @@
 //! What a worker does at its place, call by call.
-ghost use Rattle.std.specs.Prelude.{◌≡◌, ◌<◌, ◌≤◌, length, IfOk, OnOk, OnErr};
+ghost use Rattle.std.specs.Prelude.{◌≡◌, ◌<◌, ◌≤◌, length, IfOk, IfErr, OnOk, OnErr};
 ghost use Rattle.hd_zobrist.specs.declared.owners.TheConstants.{MAX_WORKERS};
 ghost use Rattle.hd_threads.specs.Working.{HasRedeemed};
+ghost use Rattle.hd_threads.specs.Faults.{IsOfWorker};
 ghost use Rattle.hd_threads.specs.Placing.{IsSeated, IsAt, Keeps, IsStill, IsBehind};
 
 use crate::posting::{Sending, send_next, take_next};
@@ -52,6 +53,7 @@ pub(crate) fn redeem<'t, L: Ledger, A: Ledger, R: Wait>(
     ensures keeps { Keeps place.old place.new }
     ensures redeemed { IfOk result
         (HasRedeemed held.kids place.old.worker place.new.worker) }
+    ensures told { IfErr result IsOfWorker }
 {
     redeem_next(rt, &desk.lock, &mut place.pass, &mut place.worker, held)
 }
@@ -89,21 +91,41 @@ pub(crate) fn take<'t, L: Ledger, A: Ledger>(
     take_next(&desk.boxes, &mut place.hands, &mut place.worker, id)
 }
 
-/// Whether a worker has an open node.
+/// What settling a worker's best open node leads to.
+#[derive(Clone, Copy, Debug, PartialEq, Eq)]
+pub(crate) enum Best {
+    /// Nothing is open.
+    Nothing,
+    /// To no kid: its estimate is infinite, or its total is no less than the bound.
+    Bare,
+    /// To kids, but where it is a duplicate; its total is this.
+    Of(u128),
+}
+
+/// What settling a worker's best open node leads to, by the bound as it is now.
 ///
 /// # Errors
 /// `NoMemory` where there is no room for what is kept of estimates.
-pub(crate) fn has_open<'t, L: Ledger, A: Ledger>(
+pub(crate) fn best_of<'t, L: Ledger, A: Ledger>(
     desk: &Desk<'t, L, A>,
     place: &mut Workplace<'t, L, A>,
-) -> Result<bool, NoMemory>
+) -> Result<Best, NoMemory>
     requires at { IsAt desk.now place.old }
     ensures at { IsAt desk.now place.new }
     ensures still { IsStill place.old place.new }
 {
-    let _ = desk;
-    let best = place.worker.best(&mut place.lookup)?;
-    Ok(best.is_some())
+    let Some(total) = least(desk, place)? else {
+        let any = place.worker.best(&mut place.lookup)?;
+        return Ok(if any.is_some() {
+            Best::Bare
+        } else {
+            Best::Nothing
+        });
+    };
+    match desk.bound.load(&mut place.seat) {
+        Some(cost) if u128::from(cost) <= total => Ok(Best::Bare),
+        _ => Ok(Best::Of(total)),
+    }
 }
 
 /// The least cost plus estimate of a worker's open nodes, as [`Worker::least`] tells it.
@@ -156,6 +178,7 @@ pub(crate) fn commit<'t, L: Ledger, A: Ledger, R: Wait>(
     ensures seated { IsSeated desk.now place.new }
     ensures keeps { Keeps place.old place.new }
     ensures behind { IfOk result (IsBehind desk.now place.old place.new) }
+    ensures told { IfErr result IsOfWorker }
 {
     commit_next(
         rt,

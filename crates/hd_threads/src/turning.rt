@@ -1,18 +1,19 @@
 //! One turn of a worker, and turn after turn.
-ghost use Rattle.std.specs.Prelude.{◌≡◌, ◌<◌, ◌≤◌, length, OnOk};
+ghost use Rattle.std.specs.Prelude.{◌≡◌, ◌<◌, ◌≤◌, length, IfErr, IfSome, OnOk};
 ghost use Rattle.std.specs.VecDeque.{deque_len};
 ghost use Rattle.hd_zobrist.specs.declared.owners.TheConstants.{MAX_WORKERS};
 ghost use Rattle.hd_threads.specs.declared.progress.TheConstants.{MOST_TICKETS};
+ghost use Rattle.hd_threads.specs.Faults.{IsOfWorker};
 ghost use Rattle.hd_threads.specs.Placing.{IsSeated, IsAt, Keeps, IsStill};
-ghost use Rattle.hd_threads.specs.Turning.{kids_held, IsGoing};
+ghost use Rattle.hd_threads.specs.Turning.{kids_held, IsEnd, IsGoing};
 
 use crate::ending::is_over;
 use crate::gate::Gate;
 use crate::halting::halt;
 use crate::pausing::Pause;
-use crate::placing::{Desk, Workplace, commit, has_open, least, redeem, send, settle, take};
+use crate::placing::{Best, Desk, Workplace, best_of, commit, least, redeem, send, settle, take};
 use crate::posting::Sending;
-use crate::progress::{MOST_TICKETS, Progress, end};
+use crate::progress::{BATCH, MOST_TICKETS, Progress, end};
 use crate::working::{Committed, Redemption};
 use hd_base::NoMemory;
 use hd_desk::MAILBOX_PLACES;
@@ -90,6 +91,7 @@ fn redeem_oldest<'t, L: Ledger, A: Ledger, R: Wait>(
     ensures at { IsAt desk.now place.new }
     ensures keeps { Keeps place.old place.new }
     ensures room { OnOk result (kids_held progress.new ≤ place.new.worker.room) }
+    ensures told { IfErr result IsEnd }
 {
     let Some(oldest) = progress.oldest() else {
         return Ok(false);
@@ -120,6 +122,7 @@ fn redeem_all<'t, L: Ledger, A: Ledger, R: Wait>(
     ensures at { IsAt desk.now place.new }
     ensures keeps { Keeps place.old place.new }
     ensures room { OnOk result (kids_held progress.new ≤ place.new.worker.room) }
+    ensures told { IfErr result IsEnd }
 {
     let mut released = false;
     for _ticket in 0..MOST_TICKETS {
@@ -178,10 +181,10 @@ fn take_all<'t, L: Ledger, A: Ledger>(
     Ok(taken)
 }
 
-/// Settles a worker's best open node, if one is open, between the calls of the gate: whether one was.
+/// Settles a worker's best open node, one that is there, between the calls of the gate.
 ///
 /// # Errors
-/// `NoMemory` where there is no room for an outcome, or for what is kept of estimates.
+/// `NoMemory` where there is no room for an outcome.
 fn settle_one<'t, L: Ledger, A: Ledger, R: Wait, G: Gate>(
     rt: &R,
     desk: &Desk<'t, L, A>,
@@ -189,24 +192,55 @@ fn settle_one<'t, L: Ledger, A: Ledger, R: Wait, G: Gate>(
     progress: &mut Progress,
     id: usize,
     gate: &G,
-) -> Result<bool, NoMemory>
+) -> Result<(), NoMemory>
     requires at { IsAt desk.now place.old }
     ensures at { IsAt desk.now place.new }
     ensures still { IsStill place.old place.new }
     ensures tickets { progress.new.held ≡ progress.old.held }
 {
-    if !has_open(desk, place)? {
-        return Ok(false);
-    }
     let nth = progress.count();
     gate.before(rt, id, nth);
     let settled = settle(desk, place);
     gate.after(rt, id, nth);
-    settled?;
-    Ok(true)
+    settled
 }
 
-/// Settles a worker's best open nodes, so many of them, or as many as are open: how many these are.
+/// Settles a worker's best open node, if it has room for an outcome, and the node may be settled while its tickets are out: whether it was, and
+/// what it led to.
+///
+/// # Errors
+/// `NoMemory` where there is no room for an outcome, or for what is kept of estimates.
+fn settle_next<'t, L: Ledger, A: Ledger, R: Wait, G: Gate>(
+    rt: &R,
+    desk: &Desk<'t, L, A>,
+    place: &mut Workplace<'t, L, A>,
+    progress: &mut Progress,
+    id: usize,
+    together: usize,
+    gate: &G,
+) -> Result<Best, NoMemory>
+    requires at { IsAt desk.now place.old }
+    ensures at { IsAt desk.now place.new }
+    ensures still { IsStill place.old place.new }
+    ensures tickets { progress.new.held ≡ progress.old.held }
+{
+    if !progress.has_room() {
+        return Ok(Best::Nothing);
+    }
+    let best = best_of(desk, place)?;
+    let settles = match best {
+        Best::Nothing => false,
+        Best::Bare => true,
+        Best::Of(total) => progress.admits(total, together),
+    };
+    if !settles {
+        return Ok(Best::Nothing);
+    }
+    settle_one(rt, desk, place, progress, id, gate)?;
+    Ok(best)
+}
+
+/// Settles a worker's best open nodes up to the first that leads to kids, as far as it may: whether it settled one.
 ///
 /// # Errors
 /// Those of settling one.
@@ -218,18 +252,21 @@ fn settle_some<'t, L: Ledger, A: Ledger, R: Wait, G: Gate>(
     id: usize,
     together: usize,
     gate: &G,
-) -> Result<usize, NoMemory>
+) -> Result<bool, NoMemory>
     requires at { IsAt desk.now place.old }
     ensures at { IsAt desk.now place.new }
     ensures still { IsStill place.old place.new }
     ensures tickets { progress.new.held ≡ progress.old.held }
 {
-    for settled in 0..together {
-        if !settle_one(rt, desk, place, progress, id, gate)? {
-            return Ok(settled);
+    let mut any = false;
+    for _node in 0..BATCH {
+        match settle_next(rt, desk, place, progress, id, together, gate)? {
+            Best::Nothing => break,
+            Best::Bare => any = true,
+            Best::Of(_) => return Ok(true),
         }
     }
-    Ok(together)
+    Ok(any)
 }
 
 /// Tells the gate how a worker stands, if it asks.
@@ -253,16 +290,7 @@ fn tell<'t, L: Ledger, A: Ledger, G: Gate>(
     Ok(())
 }
 
-/// What a worker did without the lock.
-#[derive(Clone, Copy)]
-struct Worked {
-    /// Something.
-    any: bool,
-    /// It settled as many nodes as it may, and further ones may be open.
-    open: bool,
-}
-
-/// What a worker does without the lock: it sends, takes, settles, and tells how it stands where it is asked.
+/// What a worker does without the lock: it sends, takes, settles, and tells how it stands where it is asked. Whether it did anything but tell.
 ///
 /// # Errors
 /// `NoMemory` where there is no room for a parcel that came, or an outcome.
@@ -275,7 +303,7 @@ fn go_on<'t, L: Ledger, A: Ledger, R: Wait, G: Gate>(
     workers: usize,
     together: usize,
     gate: &G,
-) -> Result<Worked, NoMemory>
+) -> Result<bool, NoMemory>
     requires at { IsAt desk.now place.old }
     requires there { id < workers }
     requires most { workers ≤ MAX_WORKERS }
@@ -288,10 +316,7 @@ fn go_on<'t, L: Ledger, A: Ledger, R: Wait, G: Gate>(
     let taken = take_all(desk, place, id)?;
     let settled = settle_some(rt, desk, place, progress, id, together, gate)?;
     tell(desk, place, id, gate)?;
-    Ok(Worked {
-        any: sent || taken || settled > 0,
-        open: settled == together,
-    })
+    Ok(sent || taken || settled)
 }
 
 /// Commits a worker's next batch: whether there was one.
@@ -312,6 +337,7 @@ fn commit_some<'t, L: Ledger, A: Ledger, R: Wait>(
     ensures keeps { Keeps place.old place.new }
     ensures at { OnOk result (IsAt desk.now place.new) }
     ensures room { OnOk result (kids_held progress.new ≤ place.new.worker.room) }
+    ensures told { IfErr result IsEnd }
 {
     match commit(rt, desk, place, limit) {
         Ok(Committed::Taken(held)) => {
@@ -332,9 +358,11 @@ fn commit_some<'t, L: Ledger, A: Ledger, R: Wait>(
 }
 
 /// One turn of the worker of this number, of so many: it redeems its tickets from the oldest on, sends what is in its outbox, takes what
-/// came to it, settles its best open nodes, `together` of them, tells the gate how it stands, if that asks, and commits its next batch, if it
-/// holds fewer than [`MOST_TICKETS`] tickets and has so many outcomes, or some and no node open. The book is locked while a ticket is redeemed and while a batch is committed, and at
-/// no other time; no batch is committed once the book has as many entries as the limit says.
+/// came to it, settles its best open nodes up to the first that leads to kids, tells the gate how it stands, if that asks, and commits its
+/// next batch: at once where no ticket of its is out, else where it has [`BATCH`] outcomes, and holds fewer than [`MOST_TICKETS`] tickets. While
+/// one is out it settles nodes no worse than what it settled when none was, `together` worse ones besides, and no more than it
+/// can commit. The book is locked while a ticket is redeemed and while a batch is committed, and at no other time; no batch is committed
+/// once the book has as many entries as the limit says.
 pub fn worker_turn<'t, L: Ledger, A: Ledger, R: Wait, G: Gate>(
     rt: &R,
     desk: &Desk<'t, L, A>,
@@ -355,7 +383,6 @@ pub fn worker_turn<'t, L: Ledger, A: Ledger, R: Wait, G: Gate>(
     ensures keeps { Keeps place.old place.new }
     ensures going { IsGoing desk.now place.new progress.new result }
 {
-    let together = together.max(1);
     let released = match redeem_all(rt, desk, place, progress) {
         Ok(released) => released,
         Err(fault) => return Turn::Ended(fault),
@@ -364,8 +391,8 @@ pub fn worker_turn<'t, L: Ledger, A: Ledger, R: Wait, G: Gate>(
         stop(rt, desk, place);
         return Turn::Ended(Some(RunFault::NoMemory));
     };
-    let busy = released || worked.any;
-    if !progress.is_due(worked.open, together) {
+    let busy = released || worked;
+    if !progress.is_due() {
         return if busy { Turn::Busy } else { Turn::Idle };
     }
     match commit_some(rt, desk, place, progress, limit) {
@@ -394,6 +421,7 @@ fn turns<'t, L: Ledger, A: Ledger, R: Wait, G: Gate>(
     requires boxes { workers ≤ length desk.now.boxes }
     ensures seated { IsSeated desk.now place.new }
     ensures keeps { Keeps place.old place.new }
+    ensures told { IfSome result IsOfWorker }
 {
     let mut pause = Pause::new();
     for _turn in rt.forever() {
@@ -414,7 +442,7 @@ fn turns<'t, L: Ledger, A: Ledger, R: Wait, G: Gate>(
 }
 
 /// What the thread of a worker does: turn after turn, until the search is over; it waits longer and longer while there is nothing to do. In
-/// the end its tickets are given up. Its fault, if it ends by one.
+/// the end its tickets are given up. Its fault, if it ends by one: `NoMemory`, `Full` or `NotOut`.
 pub fn work<'t, L: Ledger, A: Ledger, R: Wait, G: Gate>(
     rt: &R,
     alloc: Global,
@@ -432,6 +460,7 @@ pub fn work<'t, L: Ledger, A: Ledger, R: Wait, G: Gate>(
     requires boxes { workers ≤ length desk.now.boxes }
     ensures seated { IsSeated desk.now place.new }
     ensures keeps { Keeps place.old place.new }
+    ensures told { IfSome result IsOfWorker }
 {
     let Ok(progress) = Progress::begin(alloc) else {
         stop(rt, desk, place);

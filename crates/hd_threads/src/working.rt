@@ -1,5 +1,5 @@
 //! What a worker does under the lock, and beside it.
-ghost use Rattle.std.specs.Prelude.{◌≡◌, ◌+◌, ◌<◌, ◌≤◌, ◌^◌, [], Some, IfOk, IfSome, OnOk, OnErr};
+ghost use Rattle.std.specs.Prelude.{◌≡◌, ◌+◌, ◌<◌, ◌≤◌, ◌^◌, [], Some, IfOk, IfErr, IfSome, OnOk, OnErr};
 ghost use Rattle.std.specs.List.{AllByRecursion};
 ghost use Rattle.crossbeam_queue.specs.Passes.{view};
 ghost use Rattle.hd_desk.specs.Passes.{IsOutside};
@@ -10,6 +10,7 @@ ghost use Rattle.hd_entries.specs.Growing.{kids_in};
 ghost use Rattle.hd_turns.specs.Calls.{ExpandsBest, after_seeing};
 ghost use Rattle.hd_worker.specs.Lookup.{IsLookupOf};
 ghost use Rattle.hd_threads.specs.Working.{fault_of, with_offer, IsIn, HasCommitted, HasRedeemed};
+ghost use Rattle.hd_threads.specs.Faults.{IsOfWorker};
 ghost use Rattle.hd_threads.specs.Shared.{IsGivenOf};
 
 use crate::ending::is_reached;
@@ -68,7 +69,8 @@ struct Taken {
 
 /// What is told of why the entries refuse a batch.
 fn told_by(refusal: Refusal) -> RunFault
-    ensures { result ≡ fault_of refusal }
+    ensures fault { result ≡ fault_of refusal }
+    ensures of_worker { IsOfWorker result }
 {
     match refusal {
         Refusal::Full => RunFault::Full,
@@ -219,6 +221,7 @@ pub fn commit_next<'t, L: Ledger, A: Ledger, R: Wait>(
     ensures committed { IfOk result (HasCommitted (view pass.old).seen.log
         share.old.amount seat.old worker.old
         (view pass.new).seen.log share.new.amount seat.new worker.new) }
+    ensures told { IfErr result IsOfWorker }
 {
     let Some(batch) = worker.next_batch()? else {
         return Ok(Committed::Idle);
@@ -284,6 +287,7 @@ pub fn redeem_next<'t, L: Ledger, A: Ledger, R: Wait>(
     ensures grows { BeginsWith (view pass.new).seen.log (view pass.old).seen.log }
     ensures redeemed { IfOk result (HasRedeemed held.kids worker.old worker.new) }
     ensures err { OnErr result (worker.new ≡ worker.old) }
+    ensures told { IfErr result IsOfWorker }
 {
     let Held { ticket, kids } = held;
     match redeem_inside(rt, lock, pass, ticket) {

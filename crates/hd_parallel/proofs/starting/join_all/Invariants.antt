@@ -1,5 +1,5 @@
 use Rattle.std.proofs.Common.{IfSome}
-use Rattle.hd_parallel.specs.Fault.{IsOfWorker}
+use Rattle.hd_threads.specs.Faults.{IsOfWorker}
 use Rattle.hd_parallel.proofs.starting.join_all.Given as goal
 
 abbrev pub invariant-loop-thread : goal.invariant-loop-thread

@@ -1,6 +1,8 @@
 use Rattle.std.proofs.Common.{◌∙◌}
+use Rattle.std.proofs.lemmas.Result.{err_from_is_err_and}
 use Rattle.hd_search.proofs.Journals.{grows_through}
 use Rattle.hd_threads.proofs.Begins.{begins_along}
+use Rattle.hd_threads.proofs.Later.{stops_later}
 use Rattle.hd_threads.proofs.ending.commit_all.Goals as goal
 
 pub loop-round-preserved-in-Flushed : goal.loop-round-preserved-in-Flushed
@@ -58,3 +60,8 @@ loop-round-preserved g c =
       journal = grows_through _ _ _ was.journal round.journal;
       kids = begins_along _ _ _ round.kids was.kids;
     }
+
+pub returns-in_err-committer_round-clause-told : goal.returns-in_err-committer_round-clause-told
+returns-in_err-committer_round-clause-told g c =
+    let p = err_from_is_err_and c.from_residual.result c.from_residual.ensures.1 in
+    rw (p.1, p.2) (stops_later _ _ _ _ _ c.loop-round.invariant.journal c.in_err-committer_round.ensures.told)

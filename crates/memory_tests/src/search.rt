@@ -1,0 +1,45 @@
+//! The search, part by part.
+use crate::part::{End, Left, Wrong, part_over};
+use hd_store::MemoryDisk;
+use hd_task::Task;
+use hd_texts::task_of;
+use std::alloc::Global;
+use std::sync::Wait;
+use std::thread::Threads;
+use text_tests::samples::{N, N_PROBLEM};
+
+/// How many entries the first part stops at.
+const LIMIT: u64 = 2;
+
+/// More parts than a search has of which one is refused memory.
+const PARTS: usize = 4;
+
+/// The task, also where it was refused memory the first time.
+fn task_in(alloc: Global) -> Result<Task, Wrong> {
+    for _time in 0..2 {
+        if let Ok(task) = task_of(alloc, N.as_bytes(), N_PROBLEM.as_bytes()) {
+            return Ok(task);
+        }
+    }
+    Err("there is no task")
+}
+
+/// How long the plan is that two workers find, part by part.
+pub fn plan_len<R: Threads + Wait + Sync>(rt: &R, alloc: Global) -> Result<usize, Wrong> {
+    let task = task_in(alloc)?;
+    let mut left = Left {
+        disk: MemoryDisk::new(alloc),
+        entries: Some(Vec::new(alloc)),
+        end: End::Refused,
+    };
+    let mut limit = Some(LIMIT);
+    for _part in 0..PARTS {
+        left = part_over(rt, alloc, &task, left.disk, left.entries, limit)?;
+        match left.end {
+            End::Plan(len) => return Ok(len),
+            End::Stopped => limit = None,
+            End::Refused => {}
+        }
+    }
+    Err("there is no end")
+}
