@@ -12,14 +12,15 @@ use Rattle.hplan.specs.declared.fault.Fault.TheVariants.{Device, NoMemory}
 use Rattle.hplan.specs.declared.kept.Start.{Start}
 use Rattle.hplan.specs.Answer.{IsUnwritten}
 use Rattle.hplan.specs.Fault.{IsOfTexts, store_in, TellsUnwritten}
-use Rattle.hplan.specs.Kept.{FailsIn, InFile, HasNoSolution, OfMemory, OfThreads, OfFile, OfEntry, OfSearch}
+use Rattle.hplan.specs.Kept.{FailsIn, InFile, HasNoSolution, OfMemory, OfMemoryLater, OfThreads, OfFile, OfEntry, OfSearch}
 
 unlent : (error : StoreError) → ¬ IsOfTexts (store_in error)
 unlent store.NoMemory of = of
 unlent store.Failed of = of
 
 unsolved : (start : Start) (t : Task) (digest before after : List ℕ) (f : Fault) → HasNoSolution start t digest before after f → ¬ IsOfTexts f
-unsolved start t digest before after f OfMemory of = of
+unsolved start t digest before after f (OfMemory told) of = of
+unsolved start t digest before after f (OfMemoryLater kept) of = of
 unsolved start t digest before after f (OfThreads kept) of = of
 unsolved start t digest before after f (OfFile error told) of = of
 unsolved start t digest before after f (OfEntry at faulty) of = of

@@ -1,5 +1,5 @@
 -- From what is told of a journal to what is told of the file that holds it.
-use Rattle.std.proofs.Common.{◌≡◌, inl, inr, ℕ, ◌+◌, true, false, Ok, Err, Option, List, [], ◌∷◌, ◌++◌, map, length, refl, sym, ap, ◌∙◌, subst, IfSome}
+use Rattle.std.proofs.Common.{◌≡◌, ◌⊎◌, inl, inr, ℕ, ◌+◌, true, false, Ok, Err, Option, List, [], ◌∷◌, ◌++◌, map, length, refl, sym, ap, ◌∙◌, subst, IfSome}
 use Rattle.std.specs.Prelude.{Result, IfOk, IfErr, OnOk}
 use Rattle.std.proofs.lemmas.List.{append-nil, map-append}
 use Rattle.std.proofs.lemmas.Option.{none-some}
@@ -201,24 +201,24 @@ module _ {S : Type 0} {G : Ghosts S} where
 
 -- ---- a journal that is not begun, by what is answered
 
-module _ {S : Type 0} {G : Ghosts S} (digest : List ℕ) (old : Device) where
+module _ (digest : List ℕ) (old : Device) where
   not_made : (e : JournalError) (new : Device) → IsNotMade digest old e new → TellsOfFile New digest (content_of old) (content_of new) e
   not_made journal.NotAJournal new k = k
   not_made journal.OtherTask new k = k
   not_made (journal.Damaged at) new k = k
   not_made journal.Device new k = tt
   not_made journal.Failed new k = k
-  not_made journal.JournalExists new k = (k.1.0, ap content_of k.1.1)
+  not_made journal.JournalExists new k = (k.1, ap content_of k.2)
   not_made journal.NotOut new k = k
-  not_made journal.NoMemory new k = k.1.0
+  not_made journal.NoMemory new k = k.1
 
-  pub made_not : (r : Result (of.Journal S G) (S × JournalError)) → IfErr r (λ e. IsNotMade digest old e.1 (G.device e.0))
+  pub made_not : {S : Type 0} {G : Ghosts S} (r : Result (of.Journal S G) (S × JournalError)) → IfErr r (λ e. IsNotMade digest old e.1 (G.device e.0))
       → IfErr r (λ e. TellsOfFile New digest (content_of old) (content_of (G.device e.0)) e.1)
   made_not (Ok j) k = tt
-  made_not (Err e) k = not_made e.1 (G.device e.0) k
+  made_not {S} {G} (Err e) k = not_made e.1 (G.device e.0) k
 
   seen_same : (new : Device) → IsSeen old new → content_of new ≡ content_of old
-  seen_same new k = ap content_of k.1.1
+  seen_same new k = ap content_of k.2
 
   mended_not : (new : Device) → (MayTellLength old (Ok tt) × (new ≡ old)) ⊎ (IsSeen old new ⊎ BreaksMending digest old store.NoMemory new)
       → (content_of new ≡ content_of old) ⊎ ((found : Found) × IsFound digest (content_of old) found)
@@ -236,10 +236,10 @@ module _ {S : Type 0} {G : Ghosts S} (digest : List ℕ) (old : Device) where
   not_opened journal.NotOut new k = k
   not_opened journal.NoMemory new k = mended_not new k
 
-  pub opened_not : (r : Result (of.Journal S G) (S × JournalError)) → IfErr r (λ e. IsNotOpened digest old e.1 (G.device e.0))
+  pub opened_not : {S : Type 0} {G : Ghosts S} (r : Result (of.Journal S G) (S × JournalError)) → IfErr r (λ e. IsNotOpened digest old e.1 (G.device e.0))
       → IfErr r (λ e. TellsOfFile Kept digest (content_of old) (content_of (G.device e.0)) e.1)
   opened_not (Ok j) k = tt
-  opened_not (Err e) k = not_opened e.1 (G.device e.0) k
+  opened_not {S} {G} (Err e) k = not_opened e.1 (G.device e.0) k
 
 -- ---- a journal that is begun, by what is answered
 
