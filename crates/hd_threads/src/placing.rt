@@ -91,41 +91,21 @@ pub(crate) fn take<'t, L: Ledger, A: Ledger>(
     take_next(&desk.boxes, &mut place.hands, &mut place.worker, id)
 }
 
-/// What settling a worker's best open node leads to.
-#[derive(Clone, Copy, Debug, PartialEq, Eq)]
-pub(crate) enum Best {
-    /// Nothing is open.
-    Nothing,
-    /// To no kid: its estimate is infinite, or its total is no less than the bound.
-    Bare,
-    /// To kids, but where it is a duplicate; its total is this.
-    Of(u128),
-}
-
-/// What settling a worker's best open node leads to, by the bound as it is now.
+/// Whether a worker has an open node.
 ///
 /// # Errors
 /// `NoMemory` where there is no room for what is kept of estimates.
-pub(crate) fn best_of<'t, L: Ledger, A: Ledger>(
+pub(crate) fn has_open<'t, L: Ledger, A: Ledger>(
     desk: &Desk<'t, L, A>,
     place: &mut Workplace<'t, L, A>,
-) -> Result<Best, NoMemory>
+) -> Result<bool, NoMemory>
     requires at { IsAt desk.now place.old }
     ensures at { IsAt desk.now place.new }
     ensures still { IsStill place.old place.new }
 {
-    let Some(total) = least(desk, place)? else {
-        let any = place.worker.best(&mut place.lookup)?;
-        return Ok(if any.is_some() {
-            Best::Bare
-        } else {
-            Best::Nothing
-        });
-    };
-    match desk.bound.load(&mut place.seat) {
-        Some(cost) if u128::from(cost) <= total => Ok(Best::Bare),
-        _ => Ok(Best::Of(total)),
-    }
+    let _ = desk;
+    let best = place.worker.best(&mut place.lookup)?;
+    Ok(best.is_some())
 }
 
 /// The least cost plus estimate of a worker's open nodes, as [`Worker::least`] tells it.

@@ -20,14 +20,8 @@ use std::sync::ledger::Ledger;
 /// How many tickets a worker holds at most.
 pub const MOST_TICKETS: usize = 4;
 
-/// How many outcomes a worker commits while a ticket of its is out, and keeps at most while it can't.
-pub const BATCH: usize = 64;
-
-/// What a worker's thread holds from turn to turn: its tickets, the oldest first, how many of its outcomes are not committed, how many nodes
-/// it has settled, and how far it goes while a ticket is out.
-///
-/// The layer is the greatest least total at which none of its tickets was out: were the worker alone, a search on one thread would settle
-/// what is open there too, whatever the tickets release, since no kid's total is less than its parent's. What is settled beyond is ahead of that.
+/// What a worker's thread holds from turn to turn: its tickets, the oldest first, how many of its outcomes are not committed, and how many
+/// nodes it has settled.
 ///
 /// It must be ended: it can't be let go.
 #[must_use]
@@ -36,8 +30,6 @@ pub struct Progress {
     held: VecDeque<Held>,
     uncommitted: usize,
     settled: u64,
-    layer: u128,
-    ahead: usize,
     ghost few: { deque_len held ≤ MOST_TICKETS },
     ghost room: { MOST_TICKETS ≤ deque_capacity held },
 }
@@ -55,41 +47,15 @@ impl Progress {
             held,
             uncommitted: 0,
             settled: 0,
-            layer: 0,
-            ahead: 0,
         })
     }
 
-    /// Whether a batch is to be committed: there is room for its ticket, and there are outcomes, [`BATCH`] of them where another is out.
-    pub(crate) fn is_due(&self) -> bool
+    /// Whether a batch is to be committed: there is room for its ticket, and there are so many outcomes, or some and no node is open.
+    pub(crate) fn is_due(&self, open: bool, together: usize) -> bool
         ensures { result ≡ true → deque_len self.now.held < MOST_TICKETS }
     {
-        let enough = self.uncommitted >= BATCH || self.held.is_empty();
+        let enough = self.uncommitted >= together || !open;
         self.held.len() < MOST_TICKETS && self.uncommitted > 0 && enough
-    }
-
-    /// Whether there is room for an outcome more.
-    pub(crate) fn has_room(&self) -> bool {
-        self.uncommitted < BATCH
-    }
-
-    /// Whether a node of this total is to be settled that is the best one: no ticket is out, or the node is no worse than what was settled when
-    /// none was, or one of so many that may be worse.
-    pub(crate) fn admits(&mut self, total: u128, together: usize) -> bool
-        ensures { self.new.held ≡ self.old.held }
-    {
-        if self.held.is_empty() {
-            self.layer = self.layer.max(total);
-            self.ahead = 0;
-        }
-        if total <= self.layer {
-            return true;
-        }
-        let more = self.ahead < together;
-        if more {
-            self.ahead = self.ahead.saturating_add(1);
-        }
-        more
     }
 
     /// A node more is an outcome: the number of this node, from 1.
@@ -151,8 +117,6 @@ pub(crate) fn end<'t, L: Ledger, A: Ledger, R: Wait>(
         mut held,
         uncommitted: _,
         settled: _,
-        layer: _,
-        ahead: _,
     } = progress;
     while let Some(oldest) = held.pop_front() {
         let Held { ticket, kids: _ } = oldest;

@@ -11,9 +11,9 @@ use crate::ending::is_over;
 use crate::gate::Gate;
 use crate::halting::halt;
 use crate::pausing::Pause;
-use crate::placing::{Best, Desk, Workplace, best_of, commit, least, redeem, send, settle, take};
+use crate::placing::{Desk, Workplace, commit, has_open, least, redeem, send, settle, take};
 use crate::posting::Sending;
-use crate::progress::{BATCH, MOST_TICKETS, Progress, end};
+use crate::progress::{MOST_TICKETS, Progress, end};
 use crate::working::{Committed, Redemption};
 use hd_base::NoMemory;
 use hd_desk::MAILBOX_PLACES;
@@ -181,10 +181,10 @@ fn take_all<'t, L: Ledger, A: Ledger>(
     Ok(taken)
 }
 
-/// Settles a worker's best open node, one that is there, between the calls of the gate.
+/// Settles a worker's best open node, if one is open, between the calls of the gate: whether one was.
 ///
 /// # Errors
-/// `NoMemory` where there is no room for an outcome.
+/// `NoMemory` where there is no room for an outcome, or for what is kept of estimates.
 fn settle_one<'t, L: Ledger, A: Ledger, R: Wait, G: Gate>(
     rt: &R,
     desk: &Desk<'t, L, A>,
@@ -192,55 +192,24 @@ fn settle_one<'t, L: Ledger, A: Ledger, R: Wait, G: Gate>(
     progress: &mut Progress,
     id: usize,
     gate: &G,
-) -> Result<(), NoMemory>
+) -> Result<bool, NoMemory>
     requires at { IsAt desk.now place.old }
     ensures at { IsAt desk.now place.new }
     ensures still { IsStill place.old place.new }
     ensures tickets { progress.new.held ≡ progress.old.held }
 {
+    if !has_open(desk, place)? {
+        return Ok(false);
+    }
     let nth = progress.count();
     gate.before(rt, id, nth);
     let settled = settle(desk, place);
     gate.after(rt, id, nth);
-    settled
+    settled?;
+    Ok(true)
 }
 
-/// Settles a worker's best open node, if it has room for an outcome, and the node may be settled while its tickets are out: whether it was, and
-/// what it led to.
-///
-/// # Errors
-/// `NoMemory` where there is no room for an outcome, or for what is kept of estimates.
-fn settle_next<'t, L: Ledger, A: Ledger, R: Wait, G: Gate>(
-    rt: &R,
-    desk: &Desk<'t, L, A>,
-    place: &mut Workplace<'t, L, A>,
-    progress: &mut Progress,
-    id: usize,
-    together: usize,
-    gate: &G,
-) -> Result<Best, NoMemory>
-    requires at { IsAt desk.now place.old }
-    ensures at { IsAt desk.now place.new }
-    ensures still { IsStill place.old place.new }
-    ensures tickets { progress.new.held ≡ progress.old.held }
-{
-    if !progress.has_room() {
-        return Ok(Best::Nothing);
-    }
-    let best = best_of(desk, place)?;
-    let settles = match best {
-        Best::Nothing => false,
-        Best::Bare => true,
-        Best::Of(total) => progress.admits(total, together),
-    };
-    if !settles {
-        return Ok(Best::Nothing);
-    }
-    settle_one(rt, desk, place, progress, id, gate)?;
-    Ok(best)
-}
-
-/// Settles a worker's best open nodes up to the first that leads to kids, as far as it may: whether it settled one.
+/// Settles a worker's best open nodes, so many of them, or as many as are open: how many these are.
 ///
 /// # Errors
 /// Those of settling one.
@@ -252,21 +221,18 @@ fn settle_some<'t, L: Ledger, A: Ledger, R: Wait, G: Gate>(
     id: usize,
     together: usize,
     gate: &G,
-) -> Result<bool, NoMemory>
+) -> Result<usize, NoMemory>
     requires at { IsAt desk.now place.old }
     ensures at { IsAt desk.now place.new }
     ensures still { IsStill place.old place.new }
     ensures tickets { progress.new.held ≡ progress.old.held }
 {
-    let mut any = false;
-    for _node in 0..BATCH {
-        match settle_next(rt, desk, place, progress, id, together, gate)? {
-            Best::Nothing => break,
-            Best::Bare => any = true,
-            Best::Of(_) => return Ok(true),
+    for settled in 0..together {
+        if !settle_one(rt, desk, place, progress, id, gate)? {
+            return Ok(settled);
         }
     }
-    Ok(any)
+    Ok(together)
 }
 
 /// Tells the gate how a worker stands, if it asks.
@@ -290,7 +256,16 @@ fn tell<'t, L: Ledger, A: Ledger, G: Gate>(
     Ok(())
 }
 
-/// What a worker does without the lock: it sends, takes, settles, and tells how it stands where it is asked. Whether it did anything but tell.
+/// What a worker did without the lock.
+#[derive(Clone, Copy)]
+struct Worked {
+    /// Something.
+    any: bool,
+    /// It settled as many nodes as it may, and further ones may be open.
+    open: bool,
+}
+
+/// What a worker does without the lock: it sends, takes, settles, and tells how it stands where it is asked.
 ///
 /// # Errors
 /// `NoMemory` where there is no room for a parcel that came, or an outcome.
@@ -303,7 +278,7 @@ fn go_on<'t, L: Ledger, A: Ledger, R: Wait, G: Gate>(
     workers: usize,
     together: usize,
     gate: &G,
-) -> Result<bool, NoMemory>
+) -> Result<Worked, NoMemory>
     requires at { IsAt desk.now place.old }
     requires there { id < workers }
     requires most { workers ≤ MAX_WORKERS }
@@ -316,7 +291,10 @@ fn go_on<'t, L: Ledger, A: Ledger, R: Wait, G: Gate>(
     let taken = take_all(desk, place, id)?;
     let settled = settle_some(rt, desk, place, progress, id, together, gate)?;
     tell(desk, place, id, gate)?;
-    Ok(sent || taken || settled)
+    Ok(Worked {
+        any: sent || taken || settled > 0,
+        open: settled == together,
+    })
 }
 
 /// Commits a worker's next batch: whether there was one.
@@ -358,11 +336,9 @@ fn commit_some<'t, L: Ledger, A: Ledger, R: Wait>(
 }
 
 /// One turn of the worker of this number, of so many: it redeems its tickets from the oldest on, sends what is in its outbox, takes what
-/// came to it, settles its best open nodes up to the first that leads to kids, tells the gate how it stands, if that asks, and commits its
-/// next batch: at once where no ticket of its is out, else where it has [`BATCH`] outcomes, and holds fewer than [`MOST_TICKETS`] tickets. While
-/// one is out it settles nodes no worse than what it settled when none was, `together` worse ones besides, and no more than it
-/// can commit. The book is locked while a ticket is redeemed and while a batch is committed, and at no other time; no batch is committed
-/// once the book has as many entries as the limit says.
+/// came to it, settles its best open nodes, `together` of them, tells the gate how it stands, if that asks, and commits its next batch, if it
+/// holds fewer than [`MOST_TICKETS`] tickets and has so many outcomes, or some and no node open. The book is locked while a ticket is redeemed and while a batch is committed, and at
+/// no other time; no batch is committed once the book has as many entries as the limit says.
 pub fn worker_turn<'t, L: Ledger, A: Ledger, R: Wait, G: Gate>(
     rt: &R,
     desk: &Desk<'t, L, A>,
@@ -383,6 +359,7 @@ pub fn worker_turn<'t, L: Ledger, A: Ledger, R: Wait, G: Gate>(
     ensures keeps { Keeps place.old place.new }
     ensures going { IsGoing desk.now place.new progress.new result }
 {
+    let together = together.max(1);
     let released = match redeem_all(rt, desk, place, progress) {
         Ok(released) => released,
         Err(fault) => return Turn::Ended(fault),
@@ -391,8 +368,8 @@ pub fn worker_turn<'t, L: Ledger, A: Ledger, R: Wait, G: Gate>(
         stop(rt, desk, place);
         return Turn::Ended(Some(RunFault::NoMemory));
     };
-    let busy = released || worked;
-    if !progress.is_due() {
+    let busy = released || worked.any;
+    if !progress.is_due(worked.open, together) {
         return if busy { Turn::Busy } else { Turn::Idle };
     }
     match commit_some(rt, desk, place, progress, limit) {

@@ -28,12 +28,8 @@ use std::sync::Wait;
 use std::thread::Threads;
 use std::time::Clock;
 
-/// How many nodes a worker settles, while a batch of its is not in the journal yet, that are worse than those before: over a journal in memory,
-/// where a batch waits for no device.
-const TOGETHER_IN_MEMORY: usize = 1;
-
-/// The same over a journal in a file.
-const TOGETHER_IN_FILE: usize = 16;
+/// How many open nodes a worker settles before their outcomes are committed, or fewer, where no more are open.
+const TOGETHER: usize = 64;
 
 /// What a search that is kept in a file begins with.
 #[derive(Clone, Copy, Debug, PartialEq, Eq)]
@@ -51,7 +47,6 @@ fn concluded_of<S: Store, R: Threads + Wait + Sync + Eprint + Clock>(
     task: &Task,
     journal: &mut Journal<S>,
     how: Search,
-    together: usize,
 ) -> Result<Concluded, ThreadsFault>
     requires { IsWorkers how.workers }
     ensures answer { IfOk result (λ e.
@@ -63,7 +58,7 @@ fn concluded_of<S: Store, R: Threads + Wait + Sync + Eprint + Clock>(
     let workers = how.workers as usize;
     if !how.progress {
         return run(
-            rt, alloc, task, journal, workers, together, how.limit, &OpenGate,
+            rt, alloc, task, journal, workers, TOGETHER, how.limit, &OpenGate,
         );
     }
     let found = journal.entries().len() as u64;
@@ -71,7 +66,7 @@ fn concluded_of<S: Store, R: Threads + Wait + Sync + Eprint + Clock>(
         return Err(ThreadsFault::Run(RunFault::NoMemory));
     };
     let ended = run(
-        rt, alloc, task, journal, workers, together, how.limit, &watch,
+        rt, alloc, task, journal, workers, TOGETHER, how.limit, &watch,
     );
     watch.end();
     ended
@@ -84,7 +79,6 @@ fn solution_of<S: Store, R: Threads + Wait + Sync + Eprint + Clock>(
     task: &Task,
     journal: &mut Journal<S>,
     how: Search,
-    together: usize,
 ) -> Result<Told, Fault>
     requires { IsWorkers how.workers }
     ensures found { IfOk result (λ told. IsSolution how.limit task.now (kids_of journal.new)
@@ -92,7 +86,7 @@ fn solution_of<S: Store, R: Threads + Wait + Sync + Eprint + Clock>(
     ensures grows { OnOk result (Grows journal.old journal.new) }
     ensures refusal { IfErr result (IsRefusedRun task.now journal.old journal.new) }
 {
-    let concluded = match concluded_of(rt, alloc, task, journal, how, together) {
+    let concluded = match concluded_of(rt, alloc, task, journal, how) {
         Ok(concluded) => concluded,
         Err(fault) => return Err(search_in(fault)),
     };
@@ -127,7 +121,6 @@ fn solution_on<S: Store, R: Threads + Wait + Sync + Eprint + Clock>(
     start: Start,
     digest: &[u8; DIGEST_LEN],
     how: Search,
-    together: usize,
     store: S,
 ) -> (S, Result<Told, Fault>)
     requires { IsWorkers how.workers }
@@ -141,7 +134,7 @@ fn solution_on<S: Store, R: Threads + Wait + Sync + Eprint + Clock>(
     match journal_on(alloc, start, digest, store) {
         Ok(journal) => {
             let mut journal = journal;
-            let found = solution_of(rt, alloc, task, &mut journal, how, together);
+            let found = solution_of(rt, alloc, task, &mut journal, how);
             (journal.into_store(), found)
         }
         Err((store, error)) => (store, Err(journal_in(error))),
@@ -162,16 +155,7 @@ pub fn solution_in_memory<R: Threads + Wait + Sync + Eprint + Clock>(
     ensures refusal { IfErr result (FailsIn InMemory task.now digest.now) }
 {
     let disk = MemoryDisk::new(alloc);
-    let (disk, found) = solution_on(
-        rt,
-        alloc,
-        task,
-        Start::New,
-        digest,
-        how,
-        TOGETHER_IN_MEMORY,
-        disk,
-    );
+    let (disk, found) = solution_on(rt, alloc, task, Start::New, digest, how, disk);
     drop(disk);
     found
 }
@@ -204,7 +188,7 @@ pub fn solution_in_file<P: Places, R: Threads + Wait + Sync + Eprint + Clock>(
         Ok(disk) => disk,
         Err(error) => return Err(store_in(error)),
     };
-    let (disk, found) = solution_on(rt, alloc, task, start, digest, how, TOGETHER_IN_FILE, disk);
+    let (disk, found) = solution_on(rt, alloc, task, start, digest, how, disk);
     places.give_back(name, disk);
     found
 }
