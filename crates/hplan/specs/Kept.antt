@@ -65,7 +65,8 @@ pub record IsKept (start : Start) (digest : List ℕ) (kids : List Kid) (before 
 -- ---- why a search over a file has no answer
 
 -- what is told of a file that is to be begun, or gone on with: it is not empty; or it is no journal, one of another task or damaged. It is as
--- it was then. Memory runs out over an empty file; or over one that is left as it was, or holds the task's journal
+-- it was then. Memory runs out over an empty file; or over one that is left as it was; or over the task's journal, or one that was being
+-- made, and what it holds then is not said here
 abbrev pub TellsOfFile : Start → List ℕ → List ℕ → List ℕ → JournalError → Type 0
 TellsOfFile New digest before after journal.NotAJournal = ⊥
 TellsOfFile New digest before after journal.OtherTask = ⊥
