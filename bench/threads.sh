@@ -22,7 +22,7 @@ seconds() {
 
 # The entries of the journal.
 entries() {
-    "$hplan" inspect --journal "$folder/journal" "$task/domain.pddl" "$task/problem.pddl" 2>/dev/null | awk '$1 == "entries" { print $2 }'
+    "$hplan" inspect --journal "$folder/journal" 2>/dev/null | awk '$1 == "entries" { print $2 }'
 }
 
 echo "| Task | Entries, 1 worker | 2 | 4 | Time over a journal by that in memory | Entries a second, 4 workers by 1 | Instructions an entry |"
@@ -39,6 +39,7 @@ for task in "$@"; do
     valgrind --tool=callgrind --callgrind-out-file=/dev/null "$hplan" solve "$task/domain.pddl" "$task/problem.pddl" --workers 1 \
         --journal "$folder/journal" 2>"$folder/told" >/dev/null </dev/null
     counted=$(awk '/Collected *:/ { print $4 }' "$folder/told")
+    [ -n "$counted" ] || { echo "valgrind has counted nothing" >&2; exit 1; }
     echo "$(basename "$task") $first $second $fourth $memory $one $four $counted $(entries)" | awk '{
         ratio = $5 > 0 ? sprintf("%.2f", $6 / $5) : "-"
         faster = $7 > 0 && $6 > 0 ? sprintf("%.2f", ($4 / $7) / ($2 / $6)) : "-"
