@@ -3,6 +3,7 @@ ghost use Rattle.std.specs.Prelude.{◌≡◌, ℕ, ◌+◌, ◌<◌, ◌≤◌,
 ghost use Rattle.hd_task.specs.Plans.{IsStateOf};
 ghost use Rattle.hd_hmax.specs.Rounds.{hmax};
 ghost use Rattle.hd_hmax.specs.Value.{estimated};
+ghost use Rattle.hd_zobrist.specs.Hash.{state_hash};
 ghost use Rattle.hd_closed.specs.Numbering.{closed_numbered, numbered};
 ghost use Rattle.hd_closed.specs.Closed.{closed_at, BeginsWith, IsNamedBy, IsDearer};
 ghost use Rattle.hd_closed.specs.Shut.{HasNumbered, AreNumbered, is_cheaper, no_dearer};
@@ -14,8 +15,8 @@ use hd_base::NoMemory;
 use hd_hmax::{EstimateValue, Hmax};
 use hd_node::{By, Hashed};
 use hd_pack::Layout;
-use hd_rows::Rows;
-use hd_task::{State, Task};
+use hd_rows::{Row, Rows};
+use hd_task::Task;
 use std::alloc::{AllocError, Global};
 use std::marker::Model;
 
@@ -197,16 +198,21 @@ impl<'t> ClosedList<'t> {
         Ok(place)
     }
 
-    /// A copy of the state at a place.
-    ///
-    /// # Errors
-    /// `NoMemory` where there is no room for it.
-    pub fn state(&self, alloc: Global, place: usize) -> Result<State, NoMemory>
+    /// The state at a place.
+    pub fn state(&self, place: usize) -> Row<'_>
         requires { place < length self.now.states }
-        ensures state { IfOk result (λ s. slice_get self.now.states place ≡ Some s) }
-        ensures of_task { IfOk result (IsStateOf self.now.task) }
+        ensures state { slice_get self.now.states place ≡ Some result }
+        ensures of_task { IsStateOf self.now.task result }
     {
-        self.rows.at(place).state(alloc)
+        self.rows.at(place)
+    }
+
+    /// The hash of the state at a place.
+    pub fn hash(&self, place: usize) -> u64
+        requires { place < length self.now.states }
+        ensures { IfSome (slice_get self.now.states place) (λ s. result ≡ state_hash s) }
+    {
+        self.notes[place].hash
     }
 
     /// The estimate of the state at a place. It is made where it is asked for first, and kept.

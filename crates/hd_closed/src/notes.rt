@@ -15,7 +15,7 @@ use std::alloc::{AllocError, Global};
 #[derive(Debug, Drop)]
 pub(crate) struct Note {
     /// The state's hash.
-    hash: u64,
+    pub(crate) hash: u64,
     /// The value of its estimate, once that is known, if it has at most 64 bits.
     pub(crate) value: Known,
     /// The place of its cheapest expansion in the closed list, if it has one.

@@ -70,6 +70,22 @@ impl<'t> Parcel<'t> {
         })
     }
 
+    /// The parcel of a state that is packed and hashed. It takes no memory.
+    pub fn known(task: &'t Task, kid: Kid, state: Hashed, cost: u64) -> Parcel<'t>
+        requires { IsStateOf task.now state }
+        ensures task { result.task ≡ task.now }
+        ensures kid { result.kid ≡ kid }
+        ensures state { result.state ≡ state }
+        ensures cost { result.cost ≡ cost }
+    {
+        Parcel {
+            task,
+            kid,
+            state,
+            cost,
+        }
+    }
+
     /// The parcel of an entry's child. It takes no memory, since the child has all that a parcel has; so what a batch releases
     /// can be made where nothing may fail any more.
     pub fn of_child(task: &'t Task, parent: u64, child: Child) -> Parcel<'t>

@@ -1,8 +1,10 @@
 //! Packed states.
-ghost use Rattle.std.specs.Prelude.{◌≡◌, ◌<◌, [], true, IfOk, length, nat_eq, slice_get};
+ghost use Rattle.std.specs.Prelude.{◌≡◌, ◌<◌, [], true, FitsSigned, IfOk, length, nat_eq, slice_get};
+ghost use Rattle.std.specs.Int.{w64};
+ghost use Rattle.std.specs.List.{AllByRecursion};
 ghost use Rattle.std.specs.Hash as fed;
 ghost use Rattle.std.specs.Cmp.{partial_equiv_from_equiv};
-ghost use Rattle.hd_pack.specs.Packing.{packed_bytes, same_packing};
+ghost use Rattle.hd_pack.specs.Packing.{packed_bytes, same_packing, unpacked, IsPacking};
 ghost use Rattle.hd_pack.specs.Leading.{with_value};
 ghost use Rattle.hd_zobrist.specs.Hash.{IsChangeOf, changed};
 ghost use Rattle.hd_pack.specs.Laws.{same_equiv, same_alike};
@@ -47,11 +49,31 @@ impl Packed {
         }
     }
 
-    /// The bytes of the packing.
+    /// A copy of a packing of so many atoms that stands elsewhere.
+    ///
+    /// # Errors
+    /// `NoMemory` where there is no room for the bytes.
+    pub fn of_bytes(alloc: Global, atoms: usize, bytes: &[u8]) -> Result<Packed, NoMemory>
+        requires { IsPacking atoms bytes.now }
+        ensures { IfOk result (λ p. p ≡ unpacked atoms bytes.now) }
+    {
+        let bytes = Vec::from_slice(alloc, bytes)?;
+        Ok(Packed { atoms, bytes })
+    }
+
+    /// The bytes of the packing; each value in them has 64 bits.
     pub fn bytes(&self) -> &[u8]
-        ensures { result.now ≡ packed_bytes self.now }
+        ensures bytes { result.now ≡ packed_bytes self.now }
+        ensures fit { AllByRecursion (FitsSigned w64) self.now.fluents }
     {
         self.bytes.as_slice()
+    }
+
+    /// How many atoms the state has.
+    pub fn atoms(&self) -> usize
+        ensures { result ≡ length self.now.atoms }
+    {
+        self.atoms
     }
 
     /// A copy of the packing.

@@ -139,23 +139,6 @@ row_no atoms width bytes count place s xs all lt parts at =
     let same : unpacked atoms (row width bytes place) ≡ s = same_Some (unpacked atoms (row width bytes place)) s (sym r.there ∙ at) in
     p.packed ∙ (ap packed_bytes same ∙ sym parts.bytes)
 
--- one value more fits
-pub fits_more :
-    (vs : List ℤ) (j : ℕ) → ((k : ℕ) (v : ℤ) → k < j → slice_get vs k ≡ Some v → FitsSigned w64 v) → IfSome (slice_get vs j) (FitsSigned w64)
-    → (k : ℕ) (v : ℤ) → k < j + 1 → slice_get vs k ≡ Some v → FitsSigned w64 v
-fits_more vs j before here k v lt at = by (cases_lt k j)
-  where
-    by : (k < j) ⊎ (j ≤ k) → FitsSigned w64 v
-    by (inl below) = before k v below at
-    by (inr le) =
-        let e : k ≡ j = omega arith in
-        subst (λ (o : Option ℤ). IfSome o (FitsSigned w64)) (ap (slice_get vs) (sym e) ∙ at) here
-
--- all values fit that were read
-pub fits_all : {X : Type 0} (P : X → Type 0) (xs : List X) → ((k : ℕ) (x : X) → slice_get xs k ≡ Some x → P x) → AllByRecursion P xs
-fits_all P [] each = tt
-fits_all P (x ∷ xs) each = (each zero x refl, fits_all P xs (λ k y at. each (suc k) y at))
-
 -- ---- the packing of a state of so many atoms and fluents
 
 pub whole_of : (atoms fluents : ℕ) (bytes : List ℕ) (s : State) → Parts atoms bytes s → length s.fluents ≡ fluents → atoms ≤ MAX_ATOMS → fluents ≤ MAX_FLUENTS → IsWhole atoms fluents bytes
@@ -166,27 +149,6 @@ whole_of atoms fluents bytes s parts count few_atoms few = record {
   few = few;
 }
 
--- two packed states, of which one stands in a row: their widths, then their bytes
-pub length-packed : (s : State) → length (packed_bytes s) ≡ bytes_for (length s.atoms) + 8 * length s.fluents
-unfolding packed_bytes
-length-packed s =
-    let whole = length-append (atom_bytes s.atoms) (flat_map value_bytes s.fluents) in
-    let front = length-atom_bytes s.atoms in
-    let back = length-values s.fluents in
-    omega (arith, whole, front, back)
-
-and_no : (a b : Bool) → b ≡ false → false ≡ (a && b)
-and_no true b e = sym e
-and_no false b e = refl
-
-and_neither : (a b : Bool) → a ≡ false → false ≡ (a && b)
-and_neither true b e = absurd (cc)
-and_neither false b e = refl
-
-and_both : (a b : Bool) → a ≡ true → b ≡ true → true ≡ (a && b)
-and_both true b ea eb = sym eb
-and_both false b ea eb = absurd (cc)
-
 -- what a row and the bytes of a packed state tell of both
 pub packing_is : (n : ℕ) (xs ys : List ℕ) (s t : State) → unpacked n xs ≡ s → IsPacking n xs → ys ≡ packed_bytes t → same_packing s t ≡ (nat_eq n (length t.atoms) && pointwise nat_eq xs ys)
 unfolding same_packing
@@ -194,41 +156,10 @@ packing_is n xs ys s t es packing ey =
     ap (λ (u : State). nat_eq (length u.atoms) (length t.atoms) && pointwise nat_eq (packed_bytes u) (packed_bytes t)) (sym es)
     ∙ ap₂ (λ (k : ℕ) (b : Bool). nat_eq k (length t.atoms) && b) (length-unpacked n xs) (ap₂ (pointwise nat_eq) (sym packing.packed) (sym ey))
 
-pub packings_differ : (n : ℕ) (xs ys : List ℕ) (s t : State) → unpacked n xs ≡ s → IsPacking n xs → ys ≡ packed_bytes t → pointwise nat_eq xs ys ≡ false → false ≡ same_packing s t
-packings_differ n xs ys s t es packing ey differ = and_no (nat_eq n (length t.atoms)) (pointwise nat_eq xs ys) differ ∙ sym (packing_is n xs ys s t es packing ey)
-
-pub widths_differ : (n : ℕ) (xs ys : List ℕ) (s t : State) → unpacked n xs ≡ s → IsPacking n xs → ys ≡ packed_bytes t → nat_eq (length t.atoms) n ≡ false → false ≡ same_packing s t
-widths_differ n xs ys s t es packing ey other = and_neither (nat_eq n (length t.atoms)) (pointwise nat_eq xs ys) (differ n (length t.atoms) (λ e. true≢false (sym (eq-eqb (length t.atoms) n (sym e)) ∙ other))) ∙ sym (packing_is n xs ys s t es packing ey)
-
-pub packings_same : (n : ℕ) (xs ys : List ℕ) (s t : State) → unpacked n xs ≡ s → IsPacking n xs → ys ≡ packed_bytes t → nat_eq (length t.atoms) n ≡ true → pointwise nat_eq xs ys ≡ true → true ≡ same_packing s t
-packings_same n xs ys s t es packing ey count same = and_both (nat_eq n (length t.atoms)) (pointwise nat_eq xs ys) (eq-eqb n (length t.atoms) (sym (eqb-true (length t.atoms) n count))) same ∙ sym (packing_is n xs ys s t es packing ey)
-
--- a packed state with the bytes of a row has no more values
-pub values_within : (n fluents : ℕ) (xs ys : List ℕ) (t : State) → IsWhole n fluents xs → ys ≡ packed_bytes t → nat_eq (length t.atoms) n ≡ true → xs ≡ ys → length t.fluents ≤ fluents
-values_within n fluents xs ys t whole ey count same =
-    let k : n ≡ length t.atoms = sym (eqb-true (length t.atoms) n count) in
-    let mine = length-bytes n xs (unpacked n xs) (parts_of n xs (unpacked n xs) refl whole.packing) in
-    let values = whole.values in
-    let theirs = length-packed t in
-    let l : length xs ≡ length (packed_bytes t) = ap length (same ∙ ey) in
-    omega (arith, k, mine, values, theirs, l)
-
 -- a packed state with the bytes of a row is the row's
 pub packed_is : (n : ℕ) (xs ys : List ℕ) (s t : State) → unpacked n xs ≡ s → ys ≡ packed_bytes t → nat_eq (length t.atoms) n ≡ true → xs ≡ ys → AllByRecursion (FitsSigned w64) t.fluents → s ≡ t
 packed_is n xs ys s t es ey count same fit =
     sym es ∙ state_of n xs t (record { count = sym (eqb-true (length t.atoms) n count); bytes = same ∙ ey; fit = fit })
-
-pub same_bytes : (xs ys : List ℕ) → pointwise nat_eq xs ys ≡ true → xs ≡ ys
-same_bytes xs ys same = (slice_eq-Decides Decides-eqb xs ys (pointwise nat_eq xs ys) refl).0 same
-
--- whether bytes are the same, where it is known whether they differ
-pub equal_by : (b r : Bool) → r ≡ not b → r ≡ false → b ≡ true
-equal_by true r is off = refl
-equal_by false r is off = absurd (true≢false (sym is ∙ off))
-
-pub unequal_by : (b r : Bool) → r ≡ not b → r ≡ true → b ≡ false
-unequal_by true r is on = absurd (true≢false (sym on ∙ is))
-unequal_by false r is on = refl
 
 -- the bytes of a row
 pub row_length : (width : ℕ) (bytes : List ℕ) (place : ℕ) → place * width + width ≤ length bytes → length (row width bytes place) ≡ width

@@ -68,72 +68,6 @@ fn value_at(bytes: &[u8], number: u32) -> Option<i64>
     Some(value_in(&bytes[place..place + 8]))
 }
 
-/// The first atoms, as many as asked.
-#[tactic(auto, using(hd_pack::proofs::AtomBits::atoms_more))]
-fn atoms_in(alloc: Global, bytes: &[u8], count: usize) -> Result<Vec<bool>, NoMemory>
-    requires { bytes_for count ≤ length bytes.now }
-    ensures { IfOk result (λ v. v.items ≡ map (atom_in bytes.now) (range_with_len 0 count)) }
-{
-    let mut atoms = Vec::with_capacity(alloc, count)?;
-    for atom in 0..count {
-        atoms.push(atom_in(bytes, atom))?;
-    }
-    Ok(atoms)
-}
-
-/// The values that stand in bytes, in a vector with room for as many as said.
-#[tactic(auto, using(hd_pack::proofs::Trips::values_next, hd_pack::proofs::Trips::values_none))]
-fn values_in(alloc: Global, bytes: &[u8], room: usize) -> Result<Vec<i64>, NoMemory>
-    ensures { IfOk result (λ v. v.items ≡ values_in bytes.now) }
-{
-    let mut values = Vec::with_capacity(alloc, room)?;
-    let mut rest = bytes;
-    while rest.len() >= 8 {
-        let (first, after) = rest.split_at(8);
-        values.push(value_in(first))?;
-        rest = after;
-    }
-    Ok(values)
-}
-
-/// A value, of which it is known that it has 64 bits.
-fn known(value: i64) -> i64
-    ensures same { result ≡ value }
-    ensures fits { FitsSigned w64 value }
-{
-    value
-}
-
-/// Reads a value of a state, if there is one, so that it is known that it has 64 bits.
-fn read_value(state: &Packed, fluent: u32)
-    ensures { IfSome (slice_get state.now.fluents fluent) (FitsSigned w64) }
-{
-    let Some(value) = state.fluent(fluent) else {
-        return;
-    };
-    let _value = known(value);
-}
-
-/// Reads the values of a state, at most so many, so that it is known that each has 64 bits.
-pub(crate) fn read_values(state: &Packed, fluents: usize)
-    requires all { length state.now.fluents ≤ fluents }
-    requires few { fluents ≤ MAX_FLUENTS }
-    ensures { AllByRecursion (FitsSigned w64) state.now.fluents }
-{
-    for fluent in 0..fluents {
-        read_value(state, fluent as u32);
-    }
-}
-
-/// Whether a state has so many atoms.
-fn has_atoms(state: &Packed, atoms: usize) -> bool
-    requires { atoms ≤ MAX_ATOMS }
-    ensures { result ≡ nat_eq (length state.now.atoms) atoms }
-{
-    let count = atoms as u32;
-    state.atom(count).is_none() && (count == 0 || state.atom(count - 1).is_some())
-}
-
 impl<'r> Row<'r> {
     /// A packed state of this layout.
     pub fn of_packed(layout: Layout, state: &'r Packed) -> Row<'r>
@@ -141,7 +75,6 @@ impl<'r> Row<'r> {
         requires fluents { length state.now.fluents ≡ layout.fluents }
         ensures { result ≡ state.now }
     {
-        read_values(state, layout.fluents());
         Row {
             atoms: layout.atoms(),
             fluents: layout.fluents(),
@@ -182,31 +115,17 @@ impl<'r> Row<'r> {
         ensures same { result ≡ same_packing self.now other.now }
         ensures states { result ≡ true → self.now ≡ other.now }
     {
-        if self.bytes != other.bytes() {
-            return false;
-        }
-        if !has_atoms(other, self.atoms) {
-            return false;
-        }
-        read_values(other, self.fluents);
-        true
+        self.atoms == other.atoms() && self.bytes == other.bytes()
     }
 
-    /// The state, unpacked.
+    /// The state in bytes of its own.
     ///
     /// # Errors
-    /// `NoMemory` where there is no room for it.
-    #[tactic(auto, using(hd_pack::proofs::Trips::bytes_enough))]
-    pub fn state(&self, alloc: Global) -> Result<State, NoMemory>
-        ensures { IfOk result (λ s. s ≡ self.now) }
+    /// `NoMemory` where there is no room for them.
+    pub fn packed(&self, alloc: Global) -> Result<Packed, NoMemory>
+        ensures { IfOk result (λ p. p ≡ self.now) }
     {
-        let atoms = atoms_in(alloc, self.bytes, self.atoms)?;
-        let values = self.bytes.split_at(bytes_for(self.atoms)).1;
-        let fluents = values_in(alloc, values, self.fluents)?;
-        Ok(State {
-            atoms: Sequence::from_vec(atoms),
-            fluents: Sequence::from_vec(fluents),
-        })
+        Packed::of_bytes(alloc, self.atoms, self.bytes)
     }
 
     /// Whether the atom of this number is true, if the state has it.

@@ -3,7 +3,7 @@ ghost use Rattle.std.specs.Prelude.{◌≡◌, ◌+◌, ◌*◌, ◌<◌, ◌≤
 ghost use Rattle.hd_rows.specs.Rows.{IsOfRows};
 ghost use Rattle.hd_rows.specs.declared.rows.TheConstants.{MAX_ROWS};
 
-use crate::row::{Row, read_values};
+use crate::row::Row;
 use hd_base::NoMemory;
 use hd_pack::{Layout, Packed};
 use std::alloc::Global;
@@ -80,7 +80,6 @@ impl Rows {
         ensures yes { result ≡ true → slice_get self.now.states place ≡ Some state.now }
         ensures no { result ≡ false → slice_get self.now.states place ≡ Some state.now → ⊥ }
     {
-        read_values(state, self.fluents);
         row_at(self.bytes.as_slice(), self.width, place) == state.bytes()
     }
 
@@ -96,7 +95,6 @@ impl Rows {
         ensures ok { OnOk result (self.new.states ≡ self.old.states ++ state.now ∷ []) }
         ensures err { OnErr result (self.new ≡ self.old) }
     {
-        read_values(state, self.fluents);
         self.bytes.extend_from_slice(state.bytes())?;
         self.count += 1;
         Ok(())

@@ -14,10 +14,9 @@ use crate::node::Node;
 use hd_base::NoMemory;
 use hd_closed::ClosedList;
 use hd_hmax::Estimate;
-use hd_node::{By, Expansion, Outcome, Parcel};
+use hd_node::{By, Expansion, Hashed, Outcome, Parcel};
 use hd_open::{OpenList, Waits};
 use hd_task::Task;
-use hd_zobrist::Words;
 use std::alloc::Global;
 
 /// Whether a total reaches a bound, or there is none.
@@ -39,7 +38,6 @@ fn is_reached(bound: Option<u64>, total: Option<u128>) -> bool
 fn parcel_at<'t>(
     alloc: Global,
     task: &'t Task,
-    words: &Words,
     known: &ClosedList<'t>,
     node: &Node,
 ) -> Result<Parcel<'t>, NoMemory>
@@ -48,8 +46,10 @@ fn parcel_at<'t>(
     ensures task { IfOk result (λ p. p.task ≡ task.now) }
     ensures released { IfOk result (λ p. parcel_of p ≡ released_of known.now.states node.now) }
 {
-    let state = known.state(alloc, node.state as usize)?;
-    Parcel::of(alloc, task, words, node.kid(), state, node.cost)
+    let place = node.state as usize;
+    let state = known.state(place).packed(alloc)?;
+    let state = Hashed::known(state, known.hash(place));
+    Ok(Parcel::known(task, node.kid(), state, node.cost))
 }
 
 /// The outcome of a node: a duplicate where an expansion of its state costs no more; else bounded where its cost and its estimate reach
@@ -77,7 +77,7 @@ fn outcome_of<'t>(
     if let Some(by) = known.dominating(place, node.cost) {
         return Ok(Outcome::Duplicate(node.kid(), by));
     }
-    let parcel = parcel_at(alloc, task, &lookup.words, known, node)?;
+    let parcel = parcel_at(alloc, task, known, node)?;
     if is_reached(seen, node.total()) {
         let value = known.estimate(&mut lookup.hmax, place);
         let (kid, state, _) = parcel.into_parts();

@@ -7,15 +7,15 @@ pub invariant_of-result : goal.invariant_of-result
 invariant_of-result c =
     let s = c.args.state.now in
     let parts : Parts c.atoms.result c.bytes.result.now s =
-    record { count = c.atoms.ensures ∙ sym c.requires.atoms; bytes = c.bytes.ensures; fit = c.read_values.ensures }
+    record { count = c.atoms.ensures ∙ sym c.requires.atoms; bytes = c.bytes.ensures.bytes; fit = c.bytes.ensures.fit }
     in
     let few_atoms = c.args.layout.few_atoms in
     let few = c.args.layout.few_fluents in
     let atoms = c.atoms.ensures in
-    let fluents = c.fluents-2.ensures in
-    whole_of c.atoms.result c.fluents-2.result c.bytes.result.now s parts (c.requires.fluents ∙ sym fluents) (omega (arith, few_atoms, atoms)) (omega (arith, few, fluents))
+    let fluents = c.fluents.ensures in
+    whole_of c.atoms.result c.fluents.result c.bytes.result.now s parts (c.requires.fluents ∙ sym fluents) (omega (arith, few_atoms, atoms)) (omega (arith, few, fluents))
 
 pub returns : goal.returns
 returns c =
     let s = c.args.state.now in
-    state_of c.atoms.result c.bytes.result.now s (record { count = c.atoms.ensures ∙ sym c.requires.atoms; bytes = c.bytes.ensures; fit = c.read_values.ensures })
+    state_of c.atoms.result c.bytes.result.now s (record { count = c.atoms.ensures ∙ sym c.requires.atoms; bytes = c.bytes.ensures.bytes; fit = c.bytes.ensures.fit })

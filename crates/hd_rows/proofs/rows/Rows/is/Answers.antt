@@ -22,11 +22,11 @@ returns-clause-yes c = λ yes.
     let s = c.args.state.now in
     let lt = place_lt _ _ _ _ _ _ _ c.self.view_is c.requires.place in
     let of = c.requires.of_rows in
-    let parts : Parts i.atoms (packed_bytes s) s = parts_given i.atoms s (of.atoms ∙ ap (λ (v : RowsView). v.atoms) (sym c.self.view_is)) c.read_values.ensures in
+    let parts : Parts i.atoms (packed_bytes s) s = parts_given i.atoms s (of.atoms ∙ ap (λ (v : RowsView). v.atoms) (sym c.self.view_is)) c.bytes.ensures.fit in
     let same = (slice_eq-Decides Decides-eqb _ _ _ c.eq.ensures).0 yes in
     ap (λ (v : RowsView). slice_get v.states c.args.place) (sym c.self.view_is)
     ∙ row_yes i.atoms i.width i.bytes.items i.count c.args.place s (packed_bytes s) inv.packings lt parts
-    (sym (c.row_at.ensures ∙ ap (λ (xs : List ℕ). row i.width xs c.args.place) c.as_slice.ensures.value) ∙ (same ∙ c.bytes.ensures))
+    (sym (c.row_at.ensures ∙ ap (λ (xs : List ℕ). row i.width xs c.args.place) c.as_slice.ensures.value) ∙ (same ∙ c.bytes.ensures.bytes))
 
 pub returns-clause-no : goal.returns-clause-no
 returns-clause-no c = λ no at.
@@ -35,9 +35,9 @@ returns-clause-no c = λ no at.
     let s = c.args.state.now in
     let lt = place_lt _ _ _ _ _ _ _ c.self.view_is c.requires.place in
     let of = c.requires.of_rows in
-    let parts : Parts i.atoms (packed_bytes s) s = parts_given i.atoms s (of.atoms ∙ ap (λ (v : RowsView). v.atoms) (sym c.self.view_is)) c.read_values.ensures in
+    let parts : Parts i.atoms (packed_bytes s) s = parts_given i.atoms s (of.atoms ∙ ap (λ (v : RowsView). v.atoms) (sym c.self.view_is)) c.bytes.ensures.fit in
     let same =
     row_no i.atoms i.width i.bytes.items i.count c.args.place s (packed_bytes s) inv.packings lt parts (ap (λ (v : RowsView). slice_get v.states c.args.place) c.self.view_is ∙ at) in
     let yes =
-    (slice_eq-Decides Decides-eqb _ _ _ c.eq.ensures).1 ((c.row_at.ensures ∙ ap (λ (xs : List ℕ). row i.width xs c.args.place) c.as_slice.ensures.value) ∙ (same ∙ sym c.bytes.ensures)) in
+    (slice_eq-Decides Decides-eqb _ _ _ c.eq.ensures).1 ((c.row_at.ensures ∙ ap (λ (xs : List ℕ). row i.width xs c.args.place) c.as_slice.ensures.value) ∙ (same ∙ sym c.bytes.ensures.bytes)) in
     absurd (cc)

@@ -21,10 +21,10 @@ invariant_of-self-2 c =
     let inv = c.self.invariant in
     let s = c.args.state.now in
     let of = c.requires.of_rows in
-    let parts : Parts i.atoms (packed_bytes s) s = parts_given i.atoms s (of.atoms ∙ ap (λ (v : RowsView). v.atoms) (sym c.self.view_is)) c.read_values.ensures in
+    let parts : Parts i.atoms (packed_bytes s) s = parts_given i.atoms s (of.atoms ∙ ap (λ (v : RowsView). v.atoms) (sym c.self.view_is)) c.bytes.ensures.fit in
     let fluents = of.fluents ∙ ap (λ (v : RowsView). v.fluents) (sym c.self.view_is) in
     let len : length (packed_bytes s) ≡ i.width = (let e = length-bytes i.atoms (packed_bytes s) s parts in let w = inv.width_is in omega (arith, e, w, fluents)) in
-    let items = c.in_ok-extend_from_slice.ensures.items ∙ ap (λ (xs : List ℕ). i.bytes.items ++ xs) c.bytes.ensures in
+    let items = c.in_ok-extend_from_slice.ensures.items ∙ ap (λ (xs : List ℕ). i.bytes.items ++ xs) c.bytes.ensures.bytes in
     record {
       packings = subst (λ (xs : List ℕ). ArePackings i.atoms i.width xs (i.count + 1)) (sym items)
           (subst (λ (n : ℕ). ArePackings i.atoms i.width (i.bytes.items ++ packed_bytes s) n) (sym (add-one i.count))
@@ -40,10 +40,10 @@ returns-clause-ok c =
     let inv = c.self.invariant in
     let s = c.args.state.now in
     let of = c.requires.of_rows in
-    let parts : Parts i.atoms (packed_bytes s) s = parts_given i.atoms s (of.atoms ∙ ap (λ (v : RowsView). v.atoms) (sym c.self.view_is)) c.read_values.ensures in
+    let parts : Parts i.atoms (packed_bytes s) s = parts_given i.atoms s (of.atoms ∙ ap (λ (v : RowsView). v.atoms) (sym c.self.view_is)) c.bytes.ensures.fit in
     let fluents = of.fluents ∙ ap (λ (v : RowsView). v.fluents) (sym c.self.view_is) in
     let len : length (packed_bytes s) ≡ i.width = (let e = length-bytes i.atoms (packed_bytes s) s parts in let w = inv.width_is in omega (arith, e, w, fluents)) in
-    let items = c.in_ok-extend_from_slice.ensures.items ∙ ap (λ (xs : List ℕ). i.bytes.items ++ xs) c.bytes.ensures in
+    let items = c.in_ok-extend_from_slice.ensures.items ∙ ap (λ (xs : List ℕ). i.bytes.items ++ xs) c.bytes.ensures.bytes in
     ap₂ (λ (xs : List ℕ) (n : ℕ). states_in i.atoms i.width xs n) items (add-one i.count)
     ∙ (states_push i.atoms i.width i.bytes.items (packed_bytes s) i.count inv.packings len
     ∙ ap₂ (λ (ss : List State) (u : State). ss ++ u ∷ []) (ap (λ (v : RowsView). v.states) c.self.view_is) (state_of i.atoms (packed_bytes s) s parts))

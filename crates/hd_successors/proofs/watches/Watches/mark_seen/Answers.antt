@@ -8,7 +8,7 @@ use Rattle.hd_successors.proofs.watches.Watches.mark_seen.Goals as goal
 
 pub bounds-bytes-place : goal.bounds-bytes-place
 bounds-bytes-place c =
-    let enough = enough_bytes c.args.state.now c.bytes-bytes.result.now c.bytes-bytes.ensures in
+    let enough = enough_bytes c.args.state.now c.bytes-bytes.result.now c.bytes-bytes.ensures.bytes in
     let size = c.requires.of_task in
     let len = c.len.ensures in
     let end = c.div_ceil-place-end.ensures in
@@ -32,7 +32,7 @@ loop-place-preserved c =
     c.mark_byte.ensures i
     ∙ (ap (λ b. (watches_one (λ a. nat_lt a count && is_in_byte byte (8 * place) a) watch && other) || b) (c.loop-place.invariant i)
     ∙ watches_either (passing_below count (has_atom c.args.state.now) (8 * place)) _ _ watch other _
-    (λ a. byte_more c.args.state.now c.bytes-bytes.result.now count place (place + 1) a c.bytes-bytes.ensures c.requires.of_task (Fits-lt-pow (c.type_inv.bytes place)) (omega arith)))
+    (λ a. byte_more c.args.state.now c.bytes-bytes.result.now count place (place + 1) a c.bytes-bytes.ensures.bytes c.requires.of_task (Fits-lt-pow (c.type_inv.bytes place)) (omega arith)))
 
 pub returns : goal.returns
 returns c =
