@@ -142,6 +142,7 @@ impl<S: Store> Journal<S> {
         ensures refused { IfErr result (λ e. IsNotAppended self.old group e.1 self.new) }
         ensures handed_back { IfErr result (λ e. e.0 ≡ group) }
         ensures kids { OnOk result (kids_of self.new ≡ kids_of self.old ++ group.kids) }
+        ensures some { 1 ≤ length group.kids }
         ensures same_kids { OnErr result (kids_of self.new ≡ kids_of self.old) }
         ensures whole { (digest : List ℕ) (groups : List (List Kid))
             → IsOf digest groups self.old

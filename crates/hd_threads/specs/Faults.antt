@@ -11,7 +11,8 @@ IsOfWorker Failed = ⊥
 IsOfWorker NotOut = Unit {0}
 IsOfWorker NoMemory = Unit {0}
 
--- why a book has no answer, once all threads have ended: it is not at its end, or there is no memory for a plan
+-- why there is no answer, once all threads have ended: the book is not at its end, the journal has not its entries, or there is no memory for
+-- a plan
 abbrev pub IsOfAnswer : RunFault → Type 0
 IsOfAnswer Full = ⊥
 IsOfAnswer (Damaged at) = ⊥

@@ -150,15 +150,7 @@ fn append_group<'t, L: Ledger, A: Ledger, S: Store, R: Wait>(
     let start = journal.entries().len() as u64;
     match journal.append(group) {
         Ok(flushed) => match acknowledge(rt, lock, pass, share, flushed) {
-            Ok(()) => {
-                let end = journal.entries().len() as u64;
-                // A group has an entry at least, but that no call tells.
-                if start < end {
-                    Ok(Round::Flushed(start..end))
-                } else {
-                    Ok(Round::Idle)
-                }
-            }
+            Ok(()) => Ok(Round::Flushed(start..journal.entries().len() as u64)),
             Err(_) => Err(RunFault::NotOut),
         },
         Err((group, error)) => {

@@ -33,7 +33,8 @@ impl<'t> Worker<'t> {
         requires { IsLookupOf self.old.task lookup.old }
         ensures lookup { IsLookupOf self.old.task lookup.new }
         ensures same { self.new ≡ self.old }
-        ensures best { IfOk result (λ r. IfSome r (IsBest (total_at self.old.task) self.old.waiting)) }
+        ensures best { IfOk result (λ r. IfSome r
+            (IsBest (total_at self.old.task) self.old.waiting)) }
         ensures none { IfOk result (λ r. IfNone r (self.old.waiting ≡ [])) }
     {
         self.frontier.best(&mut lookup.hmax)
@@ -61,7 +62,8 @@ impl<'t> Worker<'t> {
     pub fn expand(&mut self, lookup: &mut Lookup<'t>, pick: usize) -> Result<(), NoMemory>
         requires { IsLookupOf self.old.task lookup.old }
         ensures lookup { IsLookupOf self.old.task lookup.new }
-        ensures ok { OnOk result (Expands self.old.task (hmax self.old.task) pick self.old self.new) }
+        ensures ok { OnOk result
+            (Expands self.old.task (hmax self.old.task) pick self.old self.new) }
         ensures err { OnErr result (self.new ≡ self.old) }
     {
         self.outcomes.reserve(1)?;

@@ -135,7 +135,8 @@ impl<'t> Frontier<'t> {
         requires { estimates.old.task ≡ self.old.task }
         ensures same { self.new ≡ self.old }
         ensures estimates { estimates.new.task ≡ estimates.old.task }
-        ensures best { IfOk result (λ r. IfSome r (IsBest (total_at self.old.task) self.old.waiting)) }
+        ensures best { IfOk result (λ r. IfSome r
+            (IsBest (total_at self.old.task) self.old.waiting)) }
         ensures none { IfOk result (λ r. IfNone r (self.old.waiting ≡ [])) }
     {
         open_all(
@@ -189,7 +190,8 @@ impl<'t> Frontier<'t> {
     ) -> Result<Option<Outcome<'t>>, NoMemory>
         requires { IsLookupOf self.old.task lookup.old }
         ensures lookup { IsLookupOf self.old.task lookup.new }
-        ensures settles { IfOk result (λ o. SettlesAt self.old.task seen place pick self.old o self.new) }
+        ensures settles { IfOk result (λ o.
+            SettlesAt self.old.task seen place pick self.old o self.new) }
         ensures err { OnErr result (self.new ≡ self.old) }
     {
         open_all(
@@ -229,7 +231,8 @@ impl<'t> Frontier<'t> {
     ) -> Result<Option<Outcome<'t>>, NoMemory>
         requires { IsLookupOf self.old.task lookup.old }
         ensures lookup { IsLookupOf self.old.task lookup.new }
-        ensures settles { IfOk result (λ o. SettlesBest self.old.task seen place self.old o self.new) }
+        ensures settles { IfOk result (λ o.
+            SettlesBest self.old.task seen place self.old o self.new) }
         ensures err { OnErr result (self.new ≡ self.old) }
     {
         open_all(

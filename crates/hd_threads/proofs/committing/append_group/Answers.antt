@@ -11,28 +11,11 @@ use Rattle.hd_threads.proofs.Rounds.{not_appended_stops}
 use Rattle.hd_threads.specs.Committing.{StopsRound}
 use Rattle.hd_threads.proofs.committing.append_group.Goals as goal
 
-pub returns-then-start-end-clause-begins : goal.returns-then-start-end-clause-begins
-returns-then-start-end-clause-begins g c =
+pub returns-in-Ok-acknowledge-clause-begins : goal.returns-in-Ok-acknowledge-clause-begins
+returns-in-Ok-acknowledge-clause-begins g c =
     let log : List Kid = (view c.args.pass.now).seen.log in
     let all = begins_with_group log (kids_of c.args.journal.now) c.args.group.kids c.args.share.now.amount c.requires.counted c.requires.begins c.requires.group.has in
     begins_along (view c.acknowledge.new.pass).seen.log log (kids_of c.append.new.self) c.acknowledge.ensures.grows (subst (BeginsWith log) (sym c.in-Ok.ensures.kids) all)
-
-pub returns-else-start-end-clause-begins : goal.returns-else-start-end-clause-begins
-returns-else-start-end-clause-begins g c =
-    let log : List Kid = (view c.args.pass.now).seen.log in
-    let all = begins_with_group log (kids_of c.args.journal.now) c.args.group.kids c.args.share.now.amount c.requires.counted c.requires.begins c.requires.group.has in
-    begins_along (view c.acknowledge.new.pass).seen.log log (kids_of c.append.new.self) c.acknowledge.ensures.grows (subst (BeginsWith log) (sym c.in-Ok.ensures.kids) all)
-
-pub returns-else-start-end-clause-ran : goal.returns-else-start-end-clause-ran
-returns-else-start-end-clause-ran g c =
-    let old : List Kid = kids_of c.args.journal.now in
-    let new : List Kid = kids_of c.append.new.self in
-    let long : length new ≡ length old + length c.args.group.kids = ap length c.in-Ok.ensures.kids ∙ length-append old c.args.group.kids in
-    let before : length old ≡ length c.entries.result.now = length-map c.args.journal.now.entries.items kid_of ∙ sym (ap length c.entries.ensures) in
-    let after : length new ≡ length c.entries-in-Ok-acknowledge.result.now =
-    length-map c.append.new.self.entries.items kid_of ∙ sym (ap length c.entries-in-Ok-acknowledge.ensures)
-    in
-    same_log new old (c.args.group.kids, c.in-Ok.ensures.kids) (omega (arith, long, before, after, c.if-start-end.false))
 
 pub returns-in-Err-acknowledge-clause-begins : goal.returns-in-Err-acknowledge-clause-begins
 returns-in-Err-acknowledge-clause-begins g c =
