@@ -59,7 +59,7 @@ fn ranks_of(alloc: Global, outcomes: &[Outcome]) -> Result<Vec<u64>, NoMemory>
     Ok(ranks)
 }
 
-/// The first outcomes, so many of them, which leave the list.
+/// The first outcomes, so many of them, which leave the list. Where none is left, the list keeps room for as many to come.
 ///
 /// # Errors
 /// `NoMemory` where there is no room for the others; the list is as it was.
@@ -74,7 +74,7 @@ fn split_first<'t>(
     ensures err { OnErr result (outcomes.new.items ≡ outcomes.old.items) }
 {
     let rest = if count == outcomes.len() {
-        Vec::new(alloc)
+        Vec::with_capacity(alloc, count)?
     } else {
         outcomes.split_off(count)?
     };
