@@ -15,7 +15,7 @@ use Rattle.hd_threads.specs.declared.working.Committed.TheVariants.{Taken, Halte
 use Rattle.hd_threads.specs.declared.placing.Desk.{Desk}
 use Rattle.hd_threads.specs.declared.placing.Workplace.{Workplace}
 use Rattle.hd_threads.specs.Working.{HasCommitted}
-use Rattle.hd_threads.specs.Placing.{IsSeated, IsAt, Keeps, IsStill, IsBehind}
+use Rattle.hd_threads.specs.Placing.{IsSeated, Keeps, IsStill, IsBehind}
 use Rattle.hd_threads.proofs.Begins.{begins_itself, begins_along}
 use Rattle.hd_threads.proofs.Stays.{batch_numbered, batch_room}
 

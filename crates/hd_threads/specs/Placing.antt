@@ -1,5 +1,5 @@
 -- A worker at its place. (Our own; the search is HDA*, Kishimoto, Fukunaga and Botea 2013.)
-use Rattle.std.specs.Prelude.{◌≡◌, ℕ, ◌+◌, ◌<◌, [], Some}
+use Rattle.std.specs.Prelude.{◌≡◌, ◌+◌, ◌<◌, [], Some}
 use Rattle.crossbeam_queue.specs.Passes.{view}
 use Rattle.hd_desk.specs.Passes.{IsOutside}
 use Rattle.hd_desk.specs.Views.{BeginsWith}

@@ -1,12 +1,10 @@
-use Rattle.std.proofs.Common.{◌≡◌, ◌+◌, List, length, sym, ap, subst, ◌∙◌, arith, length-append}
-use Rattle.std.proofs.lemmas.List.{length-map}
+use Rattle.std.proofs.Common.{List, sym, subst}
 use Rattle.crossbeam_queue.specs.Passes.{view}
 use Rattle.hd_task.specs.declared.plan.Kid.{Kid}
 use Rattle.hd_desk.specs.Views.{BeginsWith}
-use Rattle.hd_journal.specs.Journal.{kid_of, kids_of}
+use Rattle.hd_journal.specs.Journal.{kids_of}
 use Rattle.hd_threads.proofs.Begins.{begins_along}
 use Rattle.hd_threads.proofs.Steps.{begins_with_group}
-use Rattle.hd_threads.proofs.Later.{same_log}
 use Rattle.hd_threads.proofs.Rounds.{not_appended_stops}
 use Rattle.hd_threads.specs.Committing.{StopsRound}
 use Rattle.hd_threads.proofs.committing.append_group.Goals as goal
