@@ -8,6 +8,12 @@ live [] = []
 live (Some x ∷ slots) = x ∷ live slots
 live (None ∷ slots) = live slots
 
+-- the slots that hold a node, in order
+abbrev pub packed : {A : Type 0} → List (Option A) → List (Option A)
+packed [] = []
+packed (Some x ∷ slots) = Some x ∷ packed slots
+packed (None ∷ slots) = packed slots
+
 -- how many nodes the slots before an arrival hold: the place of the node there among all
 abbrev pub place_at : {A : Type 0} → List (Option A) → ℕ → ℕ
 place_at slots arrival = length (live (take arrival slots))

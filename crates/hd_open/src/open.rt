@@ -4,6 +4,7 @@ ghost use Rattle.std.specs.List.{insert, remove};
 ghost use Rattle.hd_open.specs.Totals.{IsBest};
 ghost use Rattle.hd_open.specs.Open.{TakesBest, TakesAt, IsGapOf};
 
+use crate::compacting::make_room;
 use crate::counts::Counts;
 use crate::queue::Queue;
 use crate::slots::{
@@ -71,10 +72,11 @@ impl<T: Waits> OpenList<T> {
         ensures err { OnErr result (self.new.nodes ≡ self.old.nodes) }
         ensures gap { self.new.gap ≡ None }
     {
-        let arrival = self.slots.len();
-        let total = node.total();
         self.gap = None;
         self.hint = None;
+        make_room(&mut self.slots, &mut self.counts, &mut self.queue);
+        let arrival = self.slots.len();
+        let total = node.total();
         if let Err(error) = cover(self.slots.as_slice(), &mut self.counts) {
             return Err((node, error));
         }

@@ -17,7 +17,7 @@ pub(crate) const BUCKETS: u64 = 65_536;
 /// may be stale: its node may have left, and its slot is not marked then.
 #[derive(Drop)]
 pub(crate) struct Queue {
-    alloc: Global,
+    pub(crate) alloc: Global,
     pub(crate) small: Vec<Arrivals>,
     /// No bucket before this one has an arrival.
     pub(crate) least: usize,

@@ -1,0 +1,132 @@
+//! Nodes that are moved together where few of the slots hold one, so that slots which nodes have left are used again.
+ghost use Rattle.std.specs.Prelude.{◌≡◌, ◌+◌, ◌*◌, ◌<◌, ◌≤◌, ℕ, None, length, min, IfOk};
+ghost use Rattle.hd_open.specs.Live.{live, packed};
+ghost use Rattle.hd_open.specs.Marks.{mark_at, AreMarks};
+ghost use Rattle.hd_open.specs.Counts.{start_of, part_at, AreCounts};
+ghost use Rattle.hd_open.specs.Kept.{IsKept};
+ghost use Rattle.hd_open.specs.declared.counts.TheConstants.{GROUP};
+ghost use Rattle.hd_open.specs.Queue.{IsOrderly, IsSingle, IsBelow, IsQueued};
+
+use crate::counts::{Counts, GROUP, start_of};
+use crate::queue::Queue;
+use crate::waits::Waits;
+use hd_base::NoMemory;
+use std::alloc::Global;
+
+/// The marks of so many slots that all hold a node.
+fn full_marks(alloc: Global, count: usize) -> Result<Vec<u64>, NoMemory>
+    ensures marked { IfOk result (λ w. (i : ℕ) → i < count → mark_at w.items i ≡ 1) }
+    ensures unmarked { IfOk result (λ w. (i : ℕ) → count ≤ i → mark_at w.items i ≡ 0) }
+    ensures covering { IfOk result (λ w. count ≤ GROUP * length w.items) }
+{
+    let mut words = Vec::from_elem(alloc, u64::MAX, count / GROUP)?;
+    words.push((1 << (count % GROUP)) - 1)?;
+    Ok(words)
+}
+
+/// The parts that count so many slots which all hold a node.
+fn full_parts(alloc: Global, count: usize) -> Result<Vec<usize>, NoMemory>
+    ensures parts { IfOk result (λ p. (end : ℕ) → 0 < end → end ≤ length p.items
+        → GROUP * start_of end + part_at p.items end ≡ min (GROUP * end) count) }
+    ensures covering { IfOk result (λ p. count ≤ GROUP * length p.items) }
+{
+    let mut parts = Vec::new(alloc);
+    let whole = count / GROUP;
+    for group in 0..whole {
+        let end = group + 1;
+        parts.push(GROUP * (end - start_of(end)))?;
+    }
+    parts.push(count - GROUP * start_of(whole + 1))?;
+    Ok(parts)
+}
+
+/// What counts the nodes of these slots, once they are moved together.
+fn packed_counts<T>(slots: &[Option<T>], alloc: Global, count: usize) -> Result<Counts, NoMemory>
+    requires { count ≡ length (live slots.now) }
+    ensures marked { IfOk result (λ c. AreMarks (packed slots.now) c.marks.items) }
+    ensures counted { IfOk result (λ c. AreCounts (packed slots.now) c) }
+{
+    let marks = full_marks(alloc, count)?;
+    let parts = full_parts(alloc, count)?;
+    Ok(Counts {
+        marks,
+        parts,
+        all: count,
+    })
+}
+
+/// A queue of the nodes of these slots, by the arrivals that they have once they are moved together.
+fn packed_queue<T: Waits>(slots: &[Option<T>], alloc: Global) -> Result<Queue, NoMemory>
+    ensures queued { IfOk result (IsQueued T.total (packed slots.now)) }
+    ensures orderly { IfOk result IsOrderly }
+    ensures single { IfOk result IsSingle }
+    ensures latest { IfOk result (λ q. IsBelow q (length (packed slots.now))) }
+{
+    let mut queue = Queue::empty(alloc);
+    let mut arrival = 0;
+    for slot in slots {
+        if let Some(node) = slot {
+            queue.add(node.total(), arrival)?;
+            arrival += 1;
+        }
+    }
+    Ok(queue)
+}
+
+/// Moves the nodes to the first slots, in their order.
+fn move_first<T>(slots: &mut Vec<Option<T>>) -> usize {
+    let mut to = 0;
+    for from in 0..slots.len() {
+        if slots[from].is_some() {
+            slots.swap(to, from);
+            to += 1;
+        }
+    }
+    to
+}
+
+/// Leaves so many slots; those behind them are empty.
+fn cut<T>(slots: &mut Vec<Option<T>>, count: usize) {
+    while slots.len() > count {
+        match slots.take_last() {
+            None => {}
+            Some(_node) => unreachable!(),
+        }
+    }
+}
+
+/// Moves the nodes together, where there is memory for what counts and sorts them there. No slot between them is empty then.
+#[inline(never)]
+fn compact<T: Waits>(slots: &mut Vec<Option<T>>, counts: &mut Counts, queue: &mut Queue)
+    requires kept { IsKept T.total slots.old.items None None queue.old counts.old }
+    ensures kept { IsKept T.total slots.new.items None None queue.new counts.new }
+    ensures nodes { live slots.new.items ≡ live slots.old.items }
+{
+    let Ok(fewer) = packed_counts(slots.as_slice(), queue.alloc, counts.all) else {
+        return;
+    };
+    let Ok(shorter) = packed_queue(slots.as_slice(), queue.alloc) else {
+        return;
+    };
+    let count = move_first(slots);
+    cut(slots, count);
+    *counts = fewer;
+    *queue = shorter;
+}
+
+/// Moves the nodes together where the slots are full and no more than half of them hold one. That takes as many steps as there are slots, if there
+/// are no more buckets, and the next time comes after as many pushes as half of them.
+pub(crate) fn make_room<T: Waits>(
+    slots: &mut Vec<Option<T>>,
+    counts: &mut Counts,
+    queue: &mut Queue,
+)
+    requires kept { IsKept T.total slots.old.items None None queue.old counts.old }
+    ensures kept { IsKept T.total slots.new.items None None queue.new counts.new }
+    ensures nodes { live slots.new.items ≡ live slots.old.items }
+{
+    let count = slots.len();
+    if count == slots.capacity() && counts.all <= count / 2 && queue.small.len() <= count {
+        compact(slots, counts, queue);
+    }
+}
