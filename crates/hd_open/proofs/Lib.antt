@@ -3,6 +3,7 @@ pub mod Counting
 pub mod Lowest
 pub mod Marking
 pub mod Ordering
+pub mod Packing
 pub mod Places
 pub mod Queueing
 pub mod Raising

@@ -1,5 +1,6 @@
 -- Slots by arrival, of which some hold a node, and what stands in them. (Our own.)
-use Rattle.std.specs.Prelude.{◌≡◌, ℕ, List, [], ◌∷◌, Option, Some, None, length, take, slice_get}
+use Rattle.std.specs.Prelude.{◌≡◌, ℕ, List, [], ◌∷◌, Option, Some, None, is_some, length, take, slice_get}
+use Rattle.std.specs.List.{filter}
 use Rattle.hd_open.specs.Totals.{IsNotAfter}
 
 -- the nodes that slots hold, in order
@@ -10,9 +11,7 @@ live (None ∷ slots) = live slots
 
 -- the slots that hold a node, in order
 abbrev pub packed : {A : Type 0} → List (Option A) → List (Option A)
-packed [] = []
-packed (Some x ∷ slots) = Some x ∷ packed slots
-packed (None ∷ slots) = packed slots
+packed slots = filter is_some slots
 
 -- how many nodes the slots before an arrival hold: the place of the node there among all
 abbrev pub place_at : {A : Type 0} → List (Option A) → ℕ → ℕ

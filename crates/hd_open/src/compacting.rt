@@ -1,5 +1,5 @@
 //! Nodes that are moved together where few of the slots hold one, so that slots which nodes have left are used again.
-ghost use Rattle.std.specs.Prelude.{◌≡◌, ◌+◌, ◌*◌, ◌<◌, ◌≤◌, ℕ, None, length, min, IfOk};
+ghost use Rattle.std.specs.Prelude.{◌≡◌, ◌+◌, ◌*◌, ◌<◌, ◌≤◌, ℕ, None, length, min, take, slice_index_or, IfOk};
 ghost use Rattle.hd_open.specs.Live.{live, packed};
 ghost use Rattle.hd_open.specs.Marks.{mark_at, AreMarks};
 ghost use Rattle.hd_open.specs.Counts.{start_of, part_at, AreCounts};
@@ -73,8 +73,12 @@ fn packed_queue<T: Waits>(slots: &[Option<T>], alloc: Global) -> Result<Queue, N
     Ok(queue)
 }
 
-/// Moves the nodes to the first slots, in their order.
-fn move_first<T>(slots: &mut Vec<Option<T>>) -> usize {
+/// Moves the nodes to the first slots, in their order, and tells how many they are.
+fn move_first<T>(slots: &mut Vec<Option<T>>) -> usize
+    ensures within { result ≤ length slots.new.items }
+    ensures first { take result slots.new.items ≡ packed slots.old.items }
+    ensures empty { (i : ℕ) → result ≤ i → slice_index_or slots.new.items i None ≡ None }
+{
     let mut to = 0;
     for from in 0..slots.len() {
         if slots[from].is_some() {
@@ -86,7 +90,11 @@ fn move_first<T>(slots: &mut Vec<Option<T>>) -> usize {
 }
 
 /// Leaves so many slots; those behind them are empty.
-fn cut<T>(slots: &mut Vec<Option<T>>, count: usize) {
+fn cut<T>(slots: &mut Vec<Option<T>>, count: usize)
+    requires within { count ≤ length slots.old.items }
+    requires empty { (i : ℕ) → count ≤ i → slice_index_or slots.old.items i None ≡ None }
+    ensures { slots.new.items ≡ take count slots.old.items }
+{
     while slots.len() > count {
         match slots.take_last() {
             None => {}
