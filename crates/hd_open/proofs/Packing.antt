@@ -1,15 +1,15 @@
 -- Slots whose nodes are moved together.
-use Rattle.std.proofs.Common.{◌≡◌, ◌⊎◌, ℕ, zero, suc, ◌+◌, ◌-◌, ◌*◌, ◌/◌, ◌%◌, ◌^◌, ◌<◌, ◌≤◌, Bool, true, false, cond, List, [], ◌∷◌, ◌++◌, Option, Some, None, IfOk, length, get_or, take, slice_get, replicate, refl, sym, ap, ◌∙◌, subst, inl, inr, ⊎_elim, arith, length-append}
+use Rattle.std.proofs.Common.{◌≡◌, ◌⊎◌, ℕ, zero, suc, ◌+◌, ◌-◌, ◌*◌, ◌/◌, ◌%◌, ◌^◌, ◌<◌, ◌≤◌, false, cond, List, [], ◌∷◌, ◌++◌, Option, Some, None, length, get_or, take, slice_get, replicate, refl, sym, ap, ◌∙◌, subst, inl, inr, ⊎_elim, arith, length-append}
 use Rattle.std.specs.Prelude.{min, is_some}
-use Rattle.std.specs.List.{filter, SwappedAt}
+use Rattle.std.specs.List.{SwappedAt}
 use Rattle.std.specs.Int.{bit_at}
-use Rattle.std.proofs.lemmas.Bool.{cases_lt, cases_order}
+use Rattle.std.proofs.lemmas.Bool.{cases_lt}
 use Rattle.std.proofs.lemmas.Nat.{one_shl}
 use Rattle.std.proofs.lemmas.Nat.Bits.{bit_at-zero, bit_at_ones, bit_at_ones_above}
 use Rattle.std.proofs.lemmas.List.{get_or_append_left, get_or_push, get_or_past, get_or-take, get_or-replicate, length-replicate, length-take, take-take, append-nil}
 use Rattle.std.proofs.Math.Seq.{take-append_seam}
 use Rattle.std.proofs.lemmas.List.Elements.{filter_more}
-use Rattle.std.proofs.lemmas.Option.{none-some, same_Some}
+use Rattle.std.proofs.lemmas.Option.{none-some}
 use Rattle.hd_open.specs.declared.counts.Counts.{Counts}
 use Rattle.hd_open.specs.declared.queue.Queue.{Queue}
 use Rattle.hd_open.specs.Live.{live, packed, place_at}
@@ -151,6 +151,7 @@ module _ {A : Type 0} where
   packed_some slots i o x within read is =
       filter_more is_some slots i o within
       ∙ ap (λ (p : Option A). packed (take i slots) ++ kept p) (sym read ∙ is)
+
   pub packed_none :
       (slots : List (Option A)) (i : ℕ) (o : Option A) → i < length slots → o ≡ get_or slots i o → o ≡ None → packed (take (i + 1) slots) ≡ packed (take i slots)
   packed_none slots i o within read is =

@@ -74,7 +74,7 @@ fn packed_queue<T: Waits>(slots: &[Option<T>], alloc: Global) -> Result<Queue, N
 }
 
 /// Moves the nodes to the first slots, in their order, and tells how many they are.
-fn move_first<T>(slots: &mut Vec<Option<T>>) -> usize
+fn gather<T>(slots: &mut Vec<Option<T>>) -> usize
     ensures within { result ≤ length slots.new.items }
     ensures first { take result slots.new.items ≡ packed slots.old.items }
     ensures empty { (i : ℕ) → result ≤ i → slice_index_or slots.new.items i None ≡ None }
@@ -116,14 +116,14 @@ fn compact<T: Waits>(slots: &mut Vec<Option<T>>, counts: &mut Counts, queue: &mu
     let Ok(shorter) = packed_queue(slots.as_slice(), queue.alloc) else {
         return;
     };
-    let count = move_first(slots);
+    let count = gather(slots);
     cut(slots, count);
     *counts = fewer;
     *queue = shorter;
 }
 
-/// Moves the nodes together where the slots are full and no more than half of them hold one. That takes as many steps as there are slots, if there
-/// are no more buckets, and the next time comes after as many pushes as half of them.
+/// Moves the nodes together where no slot is left and fewer than half of them hold one. That takes as many steps as there are slots, which are at
+/// least as many as the buckets, and comes again after half as many pushes or more.
 pub(crate) fn make_room<T: Waits>(
     slots: &mut Vec<Option<T>>,
     counts: &mut Counts,
@@ -134,7 +134,7 @@ pub(crate) fn make_room<T: Waits>(
     ensures nodes { live slots.new.items ≡ live slots.old.items }
 {
     let count = slots.len();
-    if count == slots.capacity() && counts.all <= count / 2 && queue.small.len() <= count {
+    if count == slots.capacity() && counts.all < count / 2 && queue.small.len() <= count {
         compact(slots, counts, queue);
     }
 }

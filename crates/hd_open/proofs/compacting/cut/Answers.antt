@@ -4,10 +4,11 @@ use Rattle.hd_open.proofs.Packing.{left_more, left_none}
 use Rattle.hd_open.proofs.compacting.cut.Goals as goal
 
 pub loop-slots-preserved : goal.loop-slots-preserved
-loop-slots-preserved g c =
-    (left_more c.args.slots.now.items c.loop-slots.slots.items c.take_last.new.self.items c.take_last.result c.loop-slots.invariant.0
-    c.take_last.ensures.items,
-    omega arith)
+loop-slots-preserved g c = (
+  left_more c.args.slots.now.items c.loop-slots.slots.items c.take_last.new.self.items c.take_last.result c.loop-slots.invariant.0
+      c.take_last.ensures.items,
+  omega arith,
+)
 
 pub unreachable-requires : goal.unreachable-requires
 unreachable-requires g c =

@@ -21,11 +21,12 @@ loop-slot-preserved g c =
           in
           let longer = ap length more ∙ length-append (packed (take i slots)) (Some w.in-Some.node ∷ []) in
           let was = c.loop-slot.invariant.1 in
-          rw (w.queue-is, w.arrival-is)
-          (queue_push total (packed (take i slots)) (packed (take (i + 1) slots)) c.loop-slot.queue w.add.new.self w.in-Some.node w.total.result c.loop-slot.arrival
-          c.loop-slot.invariant.0 w.total.ensures was more w.in_ok-add.ensures.orderly w.in_ok-add.ensures.added w.in_ok-add.ensures.stays
-          w.in_ok-add.ensures.only,
-          omega arith))
+          rw (w.queue-is, w.arrival-is) (
+            queue_push total (packed (take i slots)) (packed (take (i + 1) slots)) c.loop-slot.queue w.add.new.self w.in-Some.node w.total.result c.loop-slot.arrival
+                c.loop-slot.invariant.0 w.total.ensures was more w.in_ok-add.ensures.orderly w.in_ok-add.ensures.added w.in_ok-add.ensures.stays
+                w.in_ok-add.ensures.only,
+            omega arith,
+          ))
       | goal.in_default w ↦
           (let same : packed (take (i + 1) slots) ≡ packed (take i slots) = packed_none slots i c.slot-item.result (omega arith) c.slot-item.is w.in_default.is in
           rw (w.queue-is, w.arrival-is)
