@@ -45,6 +45,6 @@ fn slots_of_one_group_are_used_again(rt: HostRuntime) -> Result<(), Fail> {
 
 #[test]
 fn slots_of_many_groups_are_used_again(rt: HostRuntime) -> Result<(), Fail> {
-    assert!(rt; waves_alike(&rt, 20, 400)? == 20);
+    assert!(rt; waves_alike(&rt, 20, 300)? == 20);
     Ok(())
 }
