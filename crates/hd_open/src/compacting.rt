@@ -1,5 +1,5 @@
 //! Nodes that are moved together where few of the slots hold one, so that slots which nodes have left are used again.
-ghost use Rattle.std.specs.Prelude.{◌≡◌, ◌+◌, ◌*◌, ◌<◌, ◌≤◌, ℕ, None, length, min, take, slice_index_or, IfOk};
+ghost use Rattle.std.specs.Prelude.{◌≡◌, ◌+◌, ◌*◌, ◌<◌, ◌≤◌, ℕ, None, length, min, take, slice_index_or, IfOk, OnOk, vec_len, vec_capacity};
 ghost use Rattle.hd_open.specs.Live.{live, packed};
 ghost use Rattle.hd_open.specs.Marks.{mark_at, AreMarks};
 ghost use Rattle.hd_open.specs.Counts.{start_of, part_at, AreCounts};
@@ -122,19 +122,28 @@ fn compact<T: Waits>(slots: &mut Vec<Option<T>>, counts: &mut Counts, queue: &mu
     *queue = shorter;
 }
 
-/// Moves the nodes together where no slot is left and fewer than half of them hold one. That takes as many steps as there are slots, which are at
-/// least as many as the buckets, and comes again after half as many pushes or more.
+/// Makes room for a node: the nodes are moved together where no slot is left and fewer than half of them hold one. That takes as many steps as there
+/// are slots, which are at least as many as the buckets, and comes again after half as many pushes or more.
+///
+/// # Errors
+/// `NoMemory` where there is none for a slot more.
 pub(crate) fn make_room<T: Waits>(
     slots: &mut Vec<Option<T>>,
     counts: &mut Counts,
     queue: &mut Queue,
-)
+) -> Result<(), NoMemory>
     requires kept { IsKept T.total slots.old.items None None queue.old counts.old }
     ensures kept { IsKept T.total slots.new.items None None queue.new counts.new }
     ensures nodes { live slots.new.items ≡ live slots.old.items }
+    ensures free { OnOk result (vec_len slots.new < vec_capacity slots.new) }
 {
     let count = slots.len();
-    if count == slots.capacity() && counts.all < count / 2 && queue.small.len() <= count {
+    if count < slots.capacity() {
+        return Ok(());
+    }
+    if counts.all < count / 2 && queue.small.len() <= count {
         compact(slots, counts, queue);
     }
+    slots.reserve(1)?;
+    Ok(())
 }

@@ -74,13 +74,12 @@ impl<T: Waits> OpenList<T> {
     {
         self.gap = None;
         self.hint = None;
-        make_room(&mut self.slots, &mut self.counts, &mut self.queue);
+        if let Err(error) = make_room(&mut self.slots, &mut self.counts, &mut self.queue) {
+            return Err((node, error));
+        }
         let arrival = self.slots.len();
         let total = node.total();
         if let Err(error) = cover(self.slots.as_slice(), &mut self.counts) {
-            return Err((node, error));
-        }
-        if let Err(error) = self.slots.reserve(1) {
             return Err((node, error));
         }
         if let Err(error) = self.queue.add(total, arrival) {

@@ -124,6 +124,7 @@ impl Queue {
     }
 
     /// One arrival more, of a total that has a bucket.
+    #[inline(always)]
     fn add_small(&mut self, total: usize, arrival: u32) -> Result<(), NoMemory>
         requires bucket { total < BUCKETS }
         requires orderly { IsOrderly self.old }
@@ -177,6 +178,8 @@ impl Queue {
     ///
     /// # Errors
     /// `NoMemory` where there is no room for it, or it is no number of 32 bits.
+    // Each push goes through it, and mostly through `add_small`: as calls each would take some ten instructions more.
+    #[inline(always)]
     pub(crate) fn add(&mut self, total: Option<u128>, arrival: usize) -> Result<(), NoMemory>
         requires orderly { IsOrderly self.old }
         requires latest { IsBelow self.old arrival }
@@ -187,9 +190,10 @@ impl Queue {
             → Has self.old g k ⊎ ((total ≡ g) × (arrival ≡ k)) }
         ensures err { OnErr result ((g : Option ℕ) (k : ℕ) → Has self.new g k → Has self.old g k) }
     {
-        let Ok(short) = u32::try_from(arrival) else {
+        if arrival > u32::MAX as usize {
             return Err(AllocError);
-        };
+        }
+        let short = arrival as u32;
         match total {
             Some(cost) => {
                 if cost < u128::from(BUCKETS) {
