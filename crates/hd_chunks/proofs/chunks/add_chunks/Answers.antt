@@ -1,7 +1,7 @@
-use Rattle.std.proofs.Common.{◌≡◌, ◌+◌, ◌*◌, ◌≤◌, ◌∙◌, ◌++◌, [], ◌∷◌, List, length, sym, ap, subst, arith, length-append}
+use Rattle.std.proofs.Common.{◌∙◌, [], ◌∷◌, List, length, sym, ap, subst, arith, length-append}
 use Rattle.std.specs.Prelude.{Vec}
 use Rattle.std.specs.declared.alloc.Global.{Global}
-use Rattle.hd_chunks.specs.Chunks.{items_in, AreChunks}
+use Rattle.hd_chunks.specs.Chunks.{items_in, AreChunks, items_of, IsLarge}
 use Rattle.hd_chunks.proofs.Filling.{items_more, chunks_more}
 use Rattle.hd_chunks.proofs.chunks.add_chunks.Goals as goal
 
@@ -20,10 +20,10 @@ loop-alloc-preserved g c =
     record {
       items =
           ap (λ (xs : List (Vec g.row.T.Denot Global)). items_in xs) pushed
-          ∙ (items_more cs w c.in_ok-chunk.ensures.items ∙ i.items);
+          ∙ (items_more (λ c. items_of c) (λ c. IsLarge c) cs w c.in_ok-chunk.ensures.items ∙ i.items);
       chunks = λ n h.
           subst (λ (xs : List (Vec g.row.T.Denot Global)). AreChunks n xs) (sym pushed)
-          (chunks_more cs n w c.in_ok-chunk.ensures.items c.in_ok-chunk.ensures.capacity (i.chunks n h));
+          (chunks_more (λ c. items_of c) (λ c. IsLarge c) cs n w c.in_ok-chunk.ensures.items c.in_ok-chunk.ensures.capacity (i.chunks n h));
       kept = omega (arith, more, long, kept);
       few = λ fit. omega (arith, more, long, count, need, fit);
     }

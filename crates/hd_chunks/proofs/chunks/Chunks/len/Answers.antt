@@ -1,5 +1,5 @@
 use Rattle.std.proofs.Common.{length, ap, arith}
-use Rattle.hd_chunks.specs.Chunks.{ChunksView}
+use Rattle.hd_chunks.specs.Chunks.{ChunksView, items_of, IsLarge}
 use Rattle.hd_chunks.proofs.Filling.{chunks_enough}
 use Rattle.hd_chunks.proofs.chunks.Chunks.len.Goals as goal
 
@@ -10,5 +10,5 @@ returns-clause-few g c =
     let room = ap (λ (v : ChunksView g.row.T.Denot). v.room) c.self.view_is in
     let count = c.self.invariant.0 in
     let few = c.self.invariant.1 in
-    let enough = chunks_enough s.chunks.items s.len c.self.invariant.2 in
+    let enough = chunks_enough (λ c. items_of c) (λ c. IsLarge c) s.chunks.items s.len c.self.invariant.2 in
     omega (arith, items, room, count, few, enough)

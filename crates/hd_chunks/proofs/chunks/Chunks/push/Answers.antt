@@ -1,8 +1,8 @@
-use Rattle.std.proofs.Common.{◌≡◌, ◌<◌, ◌≤◌, ◌+◌, ◌*◌, ◌/◌, ◌%◌, ◌∙◌, ◌++◌, [], ◌∷◌, length, get_or, set, sym, ap, subst, arith, length-set, length-append}
+use Rattle.std.proofs.Common.{◌≡◌, ◌<◌, ◌≤◌, ◌+◌, ◌*◌, ◌/◌, ◌%◌, ◌∙◌, ◌++◌, [], ◌∷◌, length, set, sym, ap, subst, arith, length-set, length-append}
 use Rattle.std.specs.Prelude.{Vec, vec_capacity}
 use Rattle.std.specs.declared.alloc.Global.{Global}
 use Rattle.hd_chunks.specs.declared.chunks.TheConstants.{CHUNK}
-use Rattle.hd_chunks.specs.Chunks.{ChunksView, items_in, AreChunks}
+use Rattle.hd_chunks.specs.Chunks.{ChunksView, AreChunks, items_of, IsLarge}
 use Rattle.hd_chunks.proofs.Filling.{length-items_in, next_within, items_pushed, chunks_pushed}
 use Rattle.hd_chunks.proofs.chunks.Chunks.push.Goals as goal
 
@@ -13,7 +13,7 @@ push_reserved-requires g c =
     let some = c.requires in
     let lt : s.len < CHUNK * length s.chunks.items = omega (arith, room, some) in
     let w = c.index_mut-chunk.result.now in
-    let there = next_within s.chunks.items s.len w c.self.invariant.2 lt in
+    let there = next_within (λ c. items_of c) (λ c. IsLarge c) s.chunks.items s.len w c.self.invariant.2 lt in
     let is = there.1 in
     let large = there.2 in
     let count = w.ok.0 in
@@ -30,7 +30,7 @@ invariant_of-self g c =
     let lt : s.len < CHUNK * length cs = omega (arith, room, some) in
     let w = c.index_mut-chunk.result.now in
     let w' = c.push_reserved.new.self in
-    let there = next_within cs s.len w c.self.invariant.2 lt in
+    let there = next_within (λ c. items_of c) (λ c. IsLarge c) cs s.len w c.self.invariant.2 lt in
     let value = c.index_mut-chunk.ensures.value in
     let is : length w.items ≡ s.len % CHUNK = ap (λ (u : Vec g.row.T.Denot Global). length u.items) value ∙ there.1 in
     let large : CHUNK ≤ vec_capacity w = subst (λ (u : Vec g.row.T.Denot Global). CHUNK ≤ vec_capacity u) (sym value) there.2 in
@@ -38,11 +38,11 @@ invariant_of-self g c =
     let long = length-append w.items (c.args.item ∷ []) in
     let as_large = c.push_reserved.ensures.capacity in
     let chunks : AreChunks (s.len + 1) (set cs (s.len / CHUNK) w') =
-    chunks_pushed cs s.len w' c.self.invariant.2 lt (omega (arith, more, long, is)) (omega (arith, as_large, large))
+    chunks_pushed (λ c. items_of c) (λ c. IsLarge c) cs s.len w' c.self.invariant.2 lt (omega (arith, more, long, is)) (omega (arith, as_large, large))
     in
     let few = c.self.invariant.1 in
     let same = length-set cs (s.len / CHUNK) w' in
-    (sym (length-items_in (set cs (s.len / CHUNK) w') (s.len + 1) chunks), omega (arith, few, same), chunks)
+    (sym (length-items_in (λ c. items_of c) (λ c. IsLarge c) (set cs (s.len / CHUNK) w') (s.len + 1) chunks), omega (arith, few, same), chunks)
 
 pub returns-clause-items : goal.returns-clause-items
 returns-clause-items g c =
@@ -52,6 +52,6 @@ returns-clause-items g c =
     let some = c.requires in
     let lt : s.len < CHUNK * length cs = omega (arith, room, some) in
     let w = c.index_mut-chunk.result.now in
-    items_pushed cs s.len w c.push_reserved.new.self c.args.item c.self.invariant.2 lt
+    items_pushed (λ c. items_of c) (λ c. IsLarge c) cs s.len w c.push_reserved.new.self c.args.item c.self.invariant.2 lt
     (c.push_reserved.ensures.items ∙ ap (λ (u : Vec g.row.T.Denot Global). u.items ++ c.args.item ∷ []) c.index_mut-chunk.ensures.value)
     ∙ ap (λ (v : ChunksView g.row.T.Denot). v.items ++ c.args.item ∷ []) c.self.view_is
