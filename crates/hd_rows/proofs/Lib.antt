@@ -1,2 +1,3 @@
+mod BlockRows
 mod Packed
 mod Writing

@@ -1,2 +1,4 @@
+pub mod Blocks
 pub mod Drafts
 pub mod Rows
+pub mod Widths

@@ -38,7 +38,7 @@ impl Model for Rows {
 }
 
 /// The bytes of the row at a place.
-fn row_at(bytes: &[u8], width: usize, place: usize) -> &[u8]
+pub(crate) fn row_at(bytes: &[u8], width: usize, place: usize) -> &[u8]
     requires { place * width + width ≤ length bytes.now }
     ensures { result.now ≡ take width (drop (place * width) bytes.now) }
 {
