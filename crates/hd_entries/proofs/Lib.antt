@@ -14,4 +14,5 @@ pub mod Posting
 pub mod Reaching
 pub mod Same
 pub mod Slots
+pub mod Tabled
 pub mod Walking

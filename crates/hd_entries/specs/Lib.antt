@@ -8,4 +8,5 @@ pub mod Refusal
 pub mod Refusing
 pub mod Resuming
 pub mod Settling
+pub mod Table
 pub mod Waiting

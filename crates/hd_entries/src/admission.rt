@@ -27,7 +27,7 @@ use std::alloc::Global;
 fn step_from(
     alloc: Global,
     task: &Task,
-    entry: &Entry,
+    entry: &Entry<'_>,
     action: u32,
     place: &mut Place,
 ) -> Result<bool, NoMemory>
@@ -41,10 +41,7 @@ fn step_from(
     if action as usize >= task.actions.len() {
         return Ok(false);
     }
-    let before = Row::of_packed(Layout::new(task), entry.state.state());
-    let led = place
-        .state
-        .lead(alloc, task, &before, entry.cost, ActionId(action))?;
+    let led = place.state.lead(alloc, task, entry.state.row(), entry.cost, ActionId(action))?;
     match led {
         Some(cost) => {
             place.cost = cost;
@@ -99,7 +96,7 @@ impl<'t> ExpandedPlans<'t> {
             return Ok(());
         }
         let parent = self.entries.at(kid.parent as usize);
-        let leads = step_from(self.alloc, self.task, parent, kid.action, reached)?;
+        let leads = step_from(self.alloc, self.task, &parent, kid.action, reached)?;
         if leads { Ok(()) } else { unreachable!() }
     }
 
@@ -111,7 +108,7 @@ impl<'t> ExpandedPlans<'t> {
     {
         match by {
             By::Entry(number) => match self.entries.get(number as usize) {
-                Some(entry) => is_no_dearer(entry.state.state(), entry.cost, reached),
+                Some(entry) => entry.is_no_dearer(reached),
                 None => false,
             },
             By::Here(place) => match earlier.get(place) {

@@ -11,18 +11,18 @@ ghost use Rattle.hd_entries.specs.Answers.{IsAnswer, IsBoundPlanOf, IsValidPlan,
 use crate::Verdict;
 use crate::content::Content;
 use crate::expanded::ExpandedPlans;
-use hd_node::Hashed;
+use crate::hashed_row::HashedRow;
 use hd_task::{ActionId, NoMemory, Plan, ROOT_PARENT};
 
 impl<'t> ExpandedPlans<'t> {
     /// Where an entry's plan leads, and what it costs, if there is such an entry.
-    pub(crate) fn node(&self, number: u64) -> Option<(&Hashed, u64)>
+    pub(crate) fn node(&self, number: u64) -> Option<(HashedRow<'_>, u64)>
         requires held { IsExpanded self.now }
-        ensures { option_map (λ r. node r.0.now r.1) result
+        ensures { option_map (λ r. node r.0 r.1) result
             ≡ entry_node (unmarked self.now) number }
     {
         match self.entries.get(number as usize) {
-            Some(entry) => Some((&entry.state, entry.cost)),
+            Some(entry) => Some((entry.state, entry.cost)),
             None => None,
         }
     }

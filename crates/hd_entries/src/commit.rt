@@ -12,9 +12,8 @@ ghost use Rattle.hd_entries.specs.declared.refusal.Refusal.TheVariants as Refusa
 
 use crate::Refusal;
 use crate::content::Content;
-use crate::entry::Entry;
 use crate::settling::{enter, found_after, kids_of, post_all};
-use hd_chunks::Chunks;
+use crate::table::EntryTable;
 use hd_kids::KidTable;
 use hd_node::{Batch, Outcome, Parcel};
 use hd_task::NoMemory;
@@ -37,12 +36,13 @@ pub(crate) fn count_entries(outcomes: &[Outcome]) -> usize
 /// Makes room for so many entries and for the kids that outcomes add, and a `Vec` for the parcels of these kids.
 fn make_room<'t>(
     alloc: Global,
-    entries: &mut Chunks<Entry>,
+    entries: &mut EntryTable,
     kids: &mut KidTable,
     outcomes: &[Outcome<'t>],
     entry_count: usize,
 ) -> Result<Vec<Parcel<'t>>, NoMemory>
     requires fits { kids_in outcomes.now < 2 ^ 64 }
+    ensures widths { entries.new.widths ≡ entries.old.widths }
     ensures entries { entries.new.items ≡ entries.old.items }
     ensures kids { IsSame kids.old kids.new }
     ensures room_entries { OnOk result (entry_count ≤ entries.new.room) }
@@ -83,9 +83,10 @@ impl<'t> Content<'t> {
         if !self.has_room(entry_count) {
             return Err(Refusal::Full);
         }
+        let growing = &mut self.expanded;
         let parcels = make_room(
-            self.expanded.alloc,
-            &mut self.expanded.entries,
+            growing.alloc,
+            &mut growing.entries,
             &mut self.kids,
             outcomes,
             entry_count,
@@ -122,22 +123,13 @@ impl<'t> Content<'t> {
         ensures of_task { AllByRecursion (IsParcelOf self.old.expanded.task.now) result.items }
     {
         let mut parcels = parcels;
-        let first = self.expanded.entries.len();
-        let (best, departure) = found_after(
-            self.expanded.best,
-            self.expanded.departure,
-            first,
-            &outcomes,
-        );
-        self.expanded.best = best;
-        self.expanded.departure = departure;
         post_all(&mut self.kids, &outcomes);
-        enter(
-            self.expanded.task,
-            &mut self.expanded.entries,
-            &mut parcels,
-            outcomes,
-        );
+        let expanded = &mut self.expanded;
+        let first = expanded.entries.len();
+        let (best, departure) = found_after(expanded.best, expanded.departure, first, &outcomes);
+        expanded.best = best;
+        expanded.departure = departure;
+        enter(expanded.task, &mut expanded.entries, &mut parcels, outcomes);
         parcels
     }
 

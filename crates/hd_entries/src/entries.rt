@@ -1,8 +1,8 @@
 //! The entries of a search.
 use crate::commit::count_entries;
 use crate::content::Content;
-use crate::{Refusal, Verdict};
-use hd_node::{Batch, Hashed, Parcel};
+use crate::{HashedRow, Refusal, Verdict};
+use hd_node::{Batch, Parcel};
 use hd_task::{Departure, Kid, NoMemory, Plan, Task};
 use std::alloc::Global;
 use std::marker::Model;
@@ -158,8 +158,8 @@ impl<'t> Entries<'t> {
     }
 
     /// Where the plan of the entry with this number leads, and what it costs, if there is such an entry.
-    pub fn node(&self, number: u64) -> Option<(&Hashed, u64)>
-        ensures { option_map (λ r. node r.0.now r.1) result
+    pub fn node(&self, number: u64) -> Option<(HashedRow<'_>, u64)>
+        ensures { option_map (λ r. node r.0 r.1) result
             ≡ entry_node self.now.state number }
     {
         self.content.expanded.node(number)

@@ -1,16 +1,25 @@
 //! Expanded plans.
 ghost use Rattle.std.specs.Prelude.{◌≡◌};
 
-use hd_node::Hashed;
+use crate::hashed_row::HashedRow;
 use hd_rows::Draft;
 use hd_task::Kid;
 use std::alloc::Global;
 
 /// An expanded plan: the kid that names it, and where it leads.
 #[derive(Debug, Drop)]
-pub(crate) struct Entry {
+pub(crate) struct Entry<'e> {
     pub(crate) kid: Kid,
-    pub(crate) state: Hashed,
+    pub(crate) state: HashedRow<'e>,
+    pub(crate) cost: u64,
+}
+
+/// What is held of an entry beside its state.
+#[derive(Debug, Drop)]
+pub(crate) struct Label {
+    pub(crate) kid: Kid,
+    /// The state's hash.
+    pub(crate) hash: u64,
     pub(crate) cost: u64,
 }
 

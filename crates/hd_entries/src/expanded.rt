@@ -1,6 +1,9 @@
 //! The expanded plans of a task.
-use crate::entry::{Best, Entry};
-use hd_chunks::Chunks;
+ghost use Rattle.hd_entries.specs.Table.{AreWidthsOf};
+
+use crate::entry::Best;
+use crate::table::EntryTable;
+use hd_pack::Layout;
 use hd_task::{Departure, Task};
 use hd_zobrist::Words;
 use std::alloc::Global;
@@ -12,10 +15,12 @@ pub(crate) struct ExpandedPlans<'t> {
     pub(crate) alloc: Global,
     /// Of the task, for the book's own application.
     pub(crate) words: Words,
-    pub(crate) entries: Chunks<Entry>,
+    pub(crate) entries: EntryTable,
     pub(crate) best: Option<Best>,
     /// The first departure.
     pub(crate) departure: Option<Departure>,
+    // The entries' states have the task's widths.
+    ghost fits: { AreWidthsOf task.now entries.widths },
 }
 
 impl<'t> ExpandedPlans<'t> {
@@ -32,7 +37,7 @@ impl<'t> ExpandedPlans<'t> {
             task,
             alloc,
             words,
-            entries: Chunks::new(alloc),
+            entries: EntryTable::new(alloc, Layout::new(task)),
             best: None,
             departure: None,
         }

@@ -13,12 +13,15 @@ mod content;
 mod entries;
 mod entry;
 mod expanded;
+mod hashed_row;
 pub mod laws;
 mod refusal;
 mod resuming;
 mod settling;
+mod table;
 mod verdict;
 
 pub use entries::Entries;
+pub use hashed_row::HashedRow;
 pub use refusal::Refusal;
 pub use verdict::Verdict;

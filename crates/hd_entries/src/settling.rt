@@ -8,11 +8,12 @@ ghost use Rattle.hd_task.specs.Expansions.{goal_cost, departure_at};
 ghost use Rattle.hd_task.specs.Plans.{IsStateOf, node};
 ghost use Rattle.hd_node.specs.Children.{ChildView};
 ghost use Rattle.hd_entries.specs.Settling.{entry_of, IsOf};
+ghost use Rattle.hd_entries.specs.Table.{AreWidthsOf};
 ghost use Rattle.hd_entries.specs.Holding.{parcel_of, released_from, released_at, released_by, IsParcelOf};
 ghost use Rattle.hd_entries.specs.Growing.{entered, entered_by, better, best_by, departure_by, kids_at, kids_in, actions_of, with_kids, posted_all};
 
-use crate::entry::{Best, Entry};
-use hd_chunks::Chunks;
+use crate::entry::Best;
+use crate::table::EntryTable;
 use hd_kids::KidTable;
 use hd_node::{Child, Children, Expansion, Outcome, Parcel};
 use hd_task::{Departure, GoalTest, Task};
@@ -156,14 +157,16 @@ fn release<'t>(parcels: &mut Vec<Parcel<'t>>, task: &'t Task, entry: u64, childr
 /// Adds an expansion to the entries, and its kids to the parcels.
 fn enter_expansion<'t>(
     task: &'t Task,
-    entries: &mut Chunks<Entry>,
+    entries: &mut EntryTable,
     parcels: &mut Vec<Parcel<'t>>,
     expansion: Expansion<'t>,
 )
     requires of_task { expansion.task ≡ task.now }
+    requires fits { AreWidthsOf task.now entries.old.widths }
     requires room { 0 < entries.old.room }
     requires parcels { vec_len parcels.old + length expansion.children ≤ vec_capacity parcels.old }
     requires tasks { AllByRecursion (IsParcelOf task.now) parcels.old.items }
+    ensures fits { AreWidthsOf task.now entries.new.widths }
     ensures entries { entries.new.items ≡ entries.old.items
         ++ record {
           kid = expansion.entry.kid;
@@ -180,24 +183,22 @@ fn enter_expansion<'t>(
     let parts = expansion.into_parts();
     let entry = entries.len() as u64;
     release(parcels, task, entry, parts.children);
-    entries.push(Entry {
-        kid: parts.kid,
-        state: parts.state,
-        cost: parts.cost,
-    });
+    entries.push(parts.kid, &parts.state, parts.cost);
 }
 
 /// Adds an outcome to the entries, if it is an expansion, and its kids to the parcels.
 fn enter_outcome<'t>(
     task: &'t Task,
-    entries: &mut Chunks<Entry>,
+    entries: &mut EntryTable,
     parcels: &mut Vec<Parcel<'t>>,
     outcome: Outcome<'t>,
 )
     requires of_task { IsOf task.now outcome }
+    requires fits { AreWidthsOf task.now entries.old.widths }
     requires room { length (entered outcome) ≤ entries.old.room }
     requires parcels { vec_len parcels.old + kids_at outcome ≤ vec_capacity parcels.old }
     requires tasks { AllByRecursion (IsParcelOf task.now) parcels.old.items }
+    ensures fits { AreWidthsOf task.now entries.new.widths }
     ensures entries { entries.new.items ≡ entries.old.items ++ entered outcome.entry }
     ensures count { length entries.new.items
         ≡ length entries.old.items + length (entry_of outcome.entry) }
@@ -218,14 +219,16 @@ fn enter_outcome<'t>(
 /// Adds the expansions among outcomes of a task to the entries, and their kids to the parcels.
 pub(crate) fn enter<'t>(
     task: &'t Task,
-    entries: &mut Chunks<Entry>,
+    entries: &mut EntryTable,
     parcels: &mut Vec<Parcel<'t>>,
     outcomes: Vec<Outcome<'t>>,
 )
     requires of_task { AllByRecursion (IsOf task.now) outcomes.items }
+    requires fits { AreWidthsOf task.now entries.old.widths }
     requires room { length (entered_by outcomes.items) ≤ entries.old.room }
     requires parcels { vec_len parcels.old + kids_in outcomes.items ≤ vec_capacity parcels.old }
     requires tasks { AllByRecursion (IsParcelOf task.now) parcels.old.items }
+    ensures fits { AreWidthsOf task.now entries.new.widths }
     ensures entries { entries.new.items ≡ entries.old.items ++ entered_by outcomes.entry.items }
     ensures released { map parcel_of parcels.new.items ≡ map parcel_of parcels.old.items
         ++ released_by (length entries.old.items) outcomes.entry.items }

@@ -1,4 +1,4 @@
-use Rattle.std.proofs.Common.{◌∙◌, ℕ, Option, sym, ap, subst, true≢false, arith}
+use Rattle.std.proofs.Common.{ℕ, Option, sym, ap, subst, true≢false, arith}
 use Rattle.hd_task.specs.declared.state.State.{State}
 use Rattle.hd_task.specs.Plans.{node}
 use Rattle.hd_task.specs.Stepping.{step_at}
@@ -18,9 +18,9 @@ returns-in-Some c =
     let r = node_at c.args.entry.now in
     let a = c.args.action in
     let s = c.lead.new.self in
-    let same = c.of_packed-before.ensures ∙ c.state.ensures in
+    let same = c.row.ensures in
     let is = ap (λ (u : State). led_of (step_at t (node u c.args.entry.now.cost) a)) same in
-    let to = subst (λ (o : Option ℕ). IsLedTo (led_of (step_at t (node c.of_packed-before.result c.args.entry.now.cost) a)) o s) c.in-Some.is c.in_ok-led.ensures in
+    let to = subst (λ (o : Option ℕ). IsLedTo (led_of (step_at t (node c.row.result.now c.args.entry.now.cost) a)) o s) c.in-Some.is c.in_ok-led.ensures in
     let at = led_there t r a _ s c.in-Some.cost c.requires.of_task is to in
     record { applicable = sym at.applies; leads = λ _. at.leads }
 
@@ -30,7 +30,7 @@ returns-in-None c =
     let r = node_at c.args.entry.now in
     let a = c.args.action in
     let s = c.lead.new.self in
-    let same = c.of_packed-before.ensures ∙ c.state.ensures in
+    let same = c.row.ensures in
     let is = ap (λ (u : State). led_of (step_at t (node u c.args.entry.now.cost) a)) same in
-    let to = subst (λ (o : Option ℕ). IsLedTo (led_of (step_at t (node c.of_packed-before.result c.args.entry.now.cost) a)) o s) c.in-None.is c.in_ok-led.ensures in
+    let to = subst (λ (o : Option ℕ). IsLedTo (led_of (step_at t (node c.row.result.now c.args.entry.now.cost) a)) o s) c.in-None.is c.in_ok-led.ensures in
     record { applicable = led_nowhere t r a _ c.requires.of_task is to; leads = λ e. absurd (true≢false (sym e)) }

@@ -3,6 +3,7 @@ use Rattle.std.specs.List.{AllByRecursion}
 use Rattle.std.specs.Vec.Iter.{into_iter_items, into_iter_len}
 use Rattle.hd_entries.specs.Settling.{IsOf}
 use Rattle.hd_entries.specs.Holding.{parcel_of, released_by, IsParcelOf}
+use Rattle.hd_entries.specs.Table.{AreWidthsOf}
 use Rattle.hd_entries.specs.Growing.{entered_by, kids_in}
 use Rattle.hd_entries.proofs.settling.enter.Given as goal
 
@@ -12,6 +13,7 @@ invariant-loop-outcome l = record {
   whole : l.yielded ++ into_iter_items l.outcome-iterator ≡ l.fn.outcomes.items;
   left : into_iter_len l.outcome-iterator ≡ length (into_iter_items l.outcome-iterator);
   of_task : AllByRecursion (IsOf l.task) (into_iter_items l.outcome-iterator);
+  fits : AreWidthsOf l.task l.entries.widths;
   room : length (entered_by (into_iter_items l.outcome-iterator)) ≤ l.entries.room;
   kids : vec_len l.parcels + kids_in (into_iter_items l.outcome-iterator) ≤ vec_capacity l.parcels;
   counted : vec_len l.parcels + kids_in (into_iter_items l.outcome-iterator) ≡ vec_len l.fn.parcels + kids_in l.fn.outcomes.items;

@@ -12,8 +12,8 @@ pub loop-kid-smaller : goal.loop-kid-smaller
 loop-kid-smaller c =
     let s = c.args.self.now in
     let l = c.loop-kid in
-    let e = c.at-in-loop-kid.result.now in
-    let same : c.at.result.now ≡ e = c.at.ensures ∙ (get_or_default s.entries.items l.number c.at.result.now e l.invariant.among ∙ sym c.at-in-loop-kid.ensures) in
+    let e = c.at-in-loop-kid.result in
+    let same : c.at.result ≡ e = c.at.ensures ∙ (get_or_default s.entries.items l.number c.at.result e l.invariant.among ∙ sym c.at-in-loop-kid.ensures) in
     (entry_plan s c.requires.held l.number e l.invariant.among c.at-in-loop-kid.ensures (λ is. c.loop-kid-test.true (ap (λ (x : Entry). x.kid.parent) same ∙ is))).before
 
 pub loop-kid-preserved : goal.loop-kid-preserved
@@ -21,8 +21,8 @@ loop-kid-preserved c =
     let s = c.args.self.now in
     let E = expansions (unmarked s) in
     let l = c.loop-kid in
-    let e = c.at-in-loop-kid.result.now in
-    let same : c.at.result.now ≡ e = c.at.ensures ∙ (get_or_default s.entries.items l.number c.at.result.now e l.invariant.among ∙ sym c.at-in-loop-kid.ensures) in
+    let e = c.at-in-loop-kid.result in
+    let same : c.at.result ≡ e = c.at.ensures ∙ (get_or_default s.entries.items l.number c.at.result e l.invariant.among ∙ sym c.at-in-loop-kid.ensures) in
     let step = entry_plan s c.requires.held l.number e l.invariant.among c.at-in-loop-kid.ensures (λ is. c.loop-kid-test.true (ap (λ (x : Entry). x.kid.parent) same ∙ is)) in
     let passed = map (λ (a : ActionId). a.0) l.actions.items in
     let pushed : reverse (map (λ (a : ActionId). a.0) c.push.new.self.items) ≡ e.kid.action ∷ reverse passed =
@@ -42,7 +42,7 @@ pub returns : goal.returns
 returns c =
     let s = c.args.self.now in
     let l = c.loop-kid in
-    let e = c.at.result.now in
+    let e = c.at.result in
     c.from_vec.ensures
     ∙ (ap (map (λ (a : ActionId). a.0)) c.reverse.ensures.items
     ∙ (map-reverse (λ (a : ActionId). a.0) l.actions.items

@@ -14,13 +14,13 @@ at-parent-requires c = entry_kid c.args.self.now c.requires.held c.args.kid c.re
 pub step_from-requires : goal.step_from-requires
 step_from-requires c =
     let lt = entry_kid c.args.self.now c.requires.held c.args.kid c.requires.known c.if-kid-eq-ROOT_PARENT.false in
-    record { of_task = entry_state c.args.self.now c.requires.held c.args.kid.parent c.at-parent.result.now c.at-parent.result.now lt c.at-parent.ensures }
+    record { of_task = entry_state c.args.self.now c.requires.held c.args.kid.parent c.at-parent.result c.at-parent.result lt c.at-parent.ensures }
 
 pub unreachable-requires : goal.unreachable-requires
 unreachable-requires c =
     let x = c.args.self.now in
     let lt = entry_kid x c.requires.held c.args.kid c.requires.known c.if-kid-eq-ROOT_PARENT.false in
-    let e = c.at-parent.result.now in
+    let e = c.at-parent.result in
     true≢false
     (sym (c.in_ok-leads.ensures.applicable ∙ (entry_posted x c.requires.held c.args.kid e e lt c.at-parent.ensures ∙ c.requires.posted))
     ∙ c.if-leads.false)
@@ -29,6 +29,6 @@ pub returns : goal.returns
 returns c =
     let x = c.args.self.now in
     let lt = entry_kid x c.requires.held c.args.kid c.requires.known c.if-kid-eq-ROOT_PARENT.false in
-    let e = c.at-parent.result.now in
+    let e = c.at-parent.result in
     let p = c.step_from.new.place in
     entry_leads x c.requires.held c.args.kid e e (node p.state p.cost) lt c.at-parent.ensures (c.in_ok-leads.ensures.leads c.if-leads.true)
