@@ -5,7 +5,7 @@ ghost use Rattle.hd_entries.specs.Settling.{IsOf};
 
 use crate::batches::{ROOT, Row, batch_of};
 use crate::tasks::{Pair, kid, two_steps};
-use hd_entries::{Entries, Refusal, Verdict};
+use hd_entries::{Entries, Refusal, Verdict, release_kids};
 use hd_node::{Batch, Parcel};
 use hd_task::{Plan, ROOT_PARENT, Task};
 use std::alloc::Global;
@@ -28,12 +28,15 @@ fn assert_taken<'t>(rt: &impl Abort, entries: &mut Entries<'t>, batch: Batch<'t>
     ensures { entries.new.state.task ≡ entries.old.state.task }
 {
     let fits = entries.has_room(&batch);
-    match (entries.commit(batch), comes) {
-        (Ok(parcels), Ok(kids)) => {
+    let first = entries.len();
+    match (entries.commit(&batch), comes) {
+        (Ok(room), Ok(kids)) => {
             assert!(rt; fits);
+            let Batch { outcomes, .. } = batch;
+            let parcels = release_kids(entries.task(), first, outcomes.into_vec(), room);
             assert_kids(rt, parcels.as_slice(), kids);
         }
-        (Err((_batch, refusal)), Err(other)) => {
+        (Err(refusal), Err(other)) => {
             assert!(rt; refusal == other);
             assert!(rt; fits == (refusal != Refusal::Full));
         }

@@ -4,8 +4,8 @@ use crate::{
     CommitRefusal, Counts, Flushed, Group, NotOut, Parcels, Receipt, Redeemed, Refusal, Ticket,
     Verdict,
 };
-use hd_entries::Entries;
-use hd_node::{Batch, Hashed, Parcel};
+use hd_entries::{Entries, HashedRow};
+use hd_node::{Batch, Parcel};
 use hd_task::{Departure, Kid, NoMemory, Plan, Task};
 use std::alloc::Global;
 use std::marker::Model;
@@ -282,8 +282,8 @@ impl<'t, L: Ledger> Book<'t, L> {
     }
 
     /// Where the plan of the entry with this number leads, and what it costs, if there is such an entry.
-    pub fn node(&self, number: u64) -> Option<(&Hashed, u64)>
-        ensures { option_map (λ r. node r.0.now r.1) result
+    pub fn node(&self, number: u64) -> Option<(HashedRow<'_>, u64)>
+        ensures { option_map (λ r. node r.0 r.1) result
             ≡ entry_node self.now.state number }
     {
         self.content.entries.node(number)

@@ -159,13 +159,13 @@ impl<'t> Content<'t> {
         let (settled, posted) = (self.entries.settled(), self.entries.posted());
         prove!(settled <= posted);
         let before = self.entries.len();
-        match self.entries.commit(batch) {
-            Ok(parcels) => {
+        match self.entries.commit(&batch) {
+            Ok(room) => {
                 let count = self.entries.len() - before;
-                let released = Parcels::of(self.entries.task(), parcels);
+                let released = Parcels::of(self.entries.task(), before, batch, room);
                 Ok(self.tickets.enter(count, released))
             }
-            Err((batch, refusal)) => Err((batch, CommitRefusal::Refused(refusal))),
+            Err(refusal) => Err((batch, CommitRefusal::Refused(refusal))),
         }
     }
 

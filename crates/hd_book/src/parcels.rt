@@ -1,46 +1,66 @@
 //! What a ticket releases.
+ghost use Rattle.std.specs.Prelude.{◌≡◌, ◌≤◌, ◌<◌, ◌+◌, ◌^◌, [], length, map, vec_capacity};
+ghost use Rattle.std.specs.List.{AllByRecursion};
+ghost use Rattle.hd_entries.specs.Settling.{IsOf};
+ghost use Rattle.hd_entries.specs.Holding.{parcel_of, released_by, IsParcelOf};
+ghost use Rattle.hd_entries.specs.Growing.{kids_in};
+
 use hd_base::Sequence;
-use hd_node::Parcel;
+use hd_entries::release_kids;
+use hd_node::{Batch, Outcome, Parcel};
 use hd_task::Task;
 use std::marker::Model;
 
 /// What a ticket releases: the kids of its batch's expansions, in order, each as a parcel of the task.
+///
+/// Until they are taken they stay in the batch's outcomes: so nothing is moved, and no memory given back, while the book is locked.
 #[derive(Debug, Drop)]
 pub struct Parcels<'t> {
     task: &'t Task,
-    parcels: Sequence<Parcel<'t>>,
+    /// The number of the first entry among the outcomes.
+    first: u64,
+    outcomes: Sequence<Outcome<'t>>,
+    /// Room for the parcels.
+    room: Vec<Parcel<'t>>,
 }
 
 impl<'t> Model for Parcels<'t> {
-    ghost use Rattle.std.specs.Prelude.{map};
-    ghost use Rattle.std.specs.List.{AllByRecursion};
     ghost use Rattle.std.specs.Coded.{codes};
     ghost use Rattle.hd_task.specs.contracts.task.Task as tasks;
-    ghost use Rattle.hd_entries.specs.Holding.{parcel_of, IsParcelOf};
+    ghost use Rattle.hd_entries.specs.Holding.{released_by};
     ghost use Rattle.hd_book.specs.View.{ParcelsView};
+    ghost use Rattle.hd_book.specs.Releasing.{CanRelease};
 
     ghost Value = { ParcelsView };
 
     ghost coded = { Prim.hlevel (codes, tasks.the_row.coded) };
 
-    ghost view = { λ p. record { task = p.task.now; kids = map parcel_of p.parcels } };
+    ghost view = { λ p. record { task = p.task.now; kids = released_by p.first p.outcomes } };
 
-    ghost invariant = { λ p. AllByRecursion (IsParcelOf p.task.now) p.parcels };
+    ghost invariant = { λ p. CanRelease p.task.now p.first p.outcomes p.room };
 }
 
 impl<'t> Parcels<'t> {
-    ghost use Rattle.std.specs.Prelude.{◌≡◌, map};
-    ghost use Rattle.std.specs.List.{AllByRecursion};
-    ghost use Rattle.hd_entries.specs.Holding.{parcel_of, IsParcelOf};
-
-    /// These parcels of the task. It takes no memory.
-    pub(crate) fn of(task: &'t Task, parcels: Vec<Parcel<'t>>) -> Parcels<'t>
-        requires { AllByRecursion (IsParcelOf task.now) parcels.items }
-        ensures { result ≡ record { task = task.now; kids = map parcel_of parcels.entry.items } }
+    /// What a batch of the task releases whose first entry has this number. It takes no memory.
+    pub(crate) fn of(
+        task: &'t Task,
+        first: u64,
+        batch: Batch<'t>,
+        room: Vec<Parcel<'t>>,
+    ) -> Parcels<'t>
+        requires of_task { AllByRecursion (IsOf task.now) batch.outcomes }
+        requires numbered { first + length batch.outcomes < 2 ^ 64 }
+        requires none { room.items ≡ [] }
+        requires enough { kids_in batch.outcomes ≤ vec_capacity room }
+        ensures { result
+            ≡ record { task = task.now; kids = released_by first batch.entry.outcomes } }
     {
+        let Batch { outcomes, .. } = batch;
         Parcels {
             task,
-            parcels: Sequence::from_vec(parcels),
+            first,
+            outcomes,
+            room,
         }
     }
 
@@ -49,6 +69,12 @@ impl<'t> Parcels<'t> {
         ensures kids { map parcel_of result.items ≡ self.entry.kids }
         ensures of_task { AllByRecursion (IsParcelOf self.entry.task) result.items }
     {
-        self.parcels.into_vec()
+        let Parcels {
+            task,
+            first,
+            outcomes,
+            room,
+        } = self;
+        release_kids(task, first, outcomes.into_vec(), room)
     }
 }

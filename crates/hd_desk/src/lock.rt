@@ -1,5 +1,5 @@
 //! The lock.
-ghost use Rattle.std.specs.Prelude.{◌≡◌, ◌+◌, ◌<◌, All, IfOk, Some};
+ghost use Rattle.std.specs.Prelude.{◌≡◌, ◌+◌, ◌<◌, All, IfOk, IfNone, IfSome, Some};
 ghost use Rattle.crossbeam_queue.specs.Passes.{view, ruled_capacity};
 ghost use Rattle.hd_desk.specs.declared.rule.TheConstants.{ALL_PARTS};
 ghost use Rattle.hd_desk.specs.Passes.{IsOutside, IsInside, parts_in, IsSeenIn, AreSeenIn};
@@ -41,6 +41,20 @@ impl<B: Locked> Lock<B> {
         }
     }
 
+    /// Takes the value, if the lock is free. It waits for nobody who holds the lock.
+    pub fn try_enter<R: Wait>(&self, rt: &R, pass: &mut Pass<B>) -> Option<B>
+        requires { IsOutside self.now.place pass.old }
+        ensures pass { IfSome result (λ _. IsInside self.now.place pass.new) }
+        ensures task { IfSome result (λ b. (view pass.old).seen.task ≡ Some (B.task b)) }
+        ensures begins { IfSome result (λ b. BeginsWith (B.log b) (view pass.old).seen.log) }
+        ensures view { IfSome result (λ b.
+            view pass.new ≡ entered (view pass.old) (B.task b) (B.log b)) }
+        ensures outside { IfNone result (IsOutside self.now.place pass.new) }
+        ensures same { IfNone result (view pass.new ≡ view pass.old) }
+    {
+        self.place.pop_as::<Enters, R>(rt, pass)
+    }
+
     /// Waits until the lock is free, and takes the value.
     pub fn enter<R: Wait>(&self, rt: &R, pass: &mut Pass<B>) -> B
         requires { IsOutside self.now.place pass.old }
@@ -50,7 +64,7 @@ impl<B: Locked> Lock<B> {
         ensures view { view pass.new ≡ entered (view pass.old) (B.task result) (B.log result) }
     {
         for _ in rt.forever() {
-            if let Some(value) = self.place.pop_as::<Enters, R>(rt, pass) {
+            if let Some(value) = self.try_enter(rt, pass) {
                 return value;
             }
             thread::yield_now();

@@ -13,7 +13,7 @@ use Rattle.hd_base.proofs.Truth.{or-false}
 use Rattle.hd_task.specs.declared.task.Task.{Task}
 use Rattle.hd_task.specs.declared.plan.Kid.{Kid}
 use Rattle.hd_task.specs.declared.plan.TheConstants.{ROOT_PARENT, ROOT_ACTION}
-use Rattle.hd_task.specs.Plans.{Node, IsStateOf, step_by, step_of, start, exec, node}
+use Rattle.hd_task.specs.Plans.{Node, IsStateOf, step_by, start, exec, node}
 use Rattle.hd_task.specs.Departures.{action_departs}
 use Rattle.hd_task.specs.Expansions.{is_applicable, applicable_at}
 use Rattle.hd_task.proofs.Runs.{exec-push, exec-state, step_within}
@@ -74,17 +74,13 @@ at_entry t k n (p ∷ expanded) le lt =
 
 -- ---- actions
 
-step_of_none : (t : Task) (r : Node) (n : ℕ) → length t.actions ≤ n → step_by t r n ≡ None
-unfolding step_by
-step_of_none t r n le = ap (step_of t r) (slice_get_past t.actions n le)
-
--- an action that the task does not have is not applicable
-pub no_action : (t : Task) (r : Node) (n : ℕ) → length t.actions ≤ n → is_applicable t (Some r) n ≡ false
-no_action t r n le = ap (λ o. is_some o && not (action_departs t r n)) (step_of_none t r n le)
-
 some_within : (t : Task) (r : Node) (n : ℕ) (o : Option Node) → step_by t r n ≡ o → is_some o ≡ true → n < length t.actions
 some_within t r n None e d = absurd (true≢false (sym d))
 some_within t r n (Some to) e d = step_within t r n to e
+
+-- an applicable action is one of the task's
+pub applicable_within : (t : Task) (r : Node) (n : ℕ) → is_applicable t (Some r) n ≡ true → n < length t.actions
+applicable_within t r n e = some_within t r n (step_by t r n) refl (and_parts (is_some (step_by t r n)) (not (action_departs t r n)) e).0
 
 -- an action is among the applicable ones exactly where it is applicable
 applicable-any : (t : Task) (r : Node) (a : ℕ) → list_any (λ b. a == b) (applicable_at t (Some r)) ≡ is_applicable t (Some r) a
@@ -92,7 +88,7 @@ unfolding applicable_at
 applicable-any t r a =
     elim (is_applicable t (Some r) a) as (λ b. is_applicable t (Some r) a ≡ b → list_any (λ b. a == b) (filter (is_applicable t (Some r)) (range_with_len 0 (length t.actions))) ≡ b) [
       | true ↦ λ e.
-          let lt = some_within t r a (step_by t r a) refl (and_parts (is_some (step_by t r a)) (not (action_departs t r a)) e).0 in
+          let lt = applicable_within t r a e in
           list_any-from_contains (λ b. a == b) (filter (is_applicable t (Some r)) (range_with_len 0 (length t.actions))) a
           (Contains-filter (is_applicable t (Some r)) (range_with_len 0 (length t.actions)) a (Contains-range_with_len (length t.actions) a lt) e)
           (eq-eqb a a refl)

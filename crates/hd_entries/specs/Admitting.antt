@@ -1,10 +1,8 @@
 -- How a batch is judged: outcome by outcome, and each kid is marked before the next outcome is judged. (Our own.)
-use Rattle.std.specs.Prelude.{◌≡◌, ℕ, ◌≤◌, Bool, not, if◌then◌else◌, List, [], ◌∷◌, ◌++◌, length, flat_map, vec_capacity, Vec, Option, Some, None, ◌⊎◌}
+use Rattle.std.specs.Prelude.{◌≡◌, ℕ, ◌≤◌, Bool, not, if◌then◌else◌, List, [], ◌∷◌, ◌++◌, length, flat_map, Option, Some, None, ◌⊎◌}
 use Rattle.std.specs.Option.{option_or}
-use Rattle.std.specs.declared.alloc.Global.{Global}
 use Rattle.hd_kids.specs.Kids.{KidsView}
 use Rattle.hd_node.specs.Outcome.{kid_of}
-use Rattle.hd_node.specs.Parcel.{ParcelView}
 use Rattle.hd_node.specs.declared.batch.Outcome.{Outcome}
 use Rattle.hd_entries.specs.declared.refusal.Refusal.{Refusal}
 use Rattle.hd_entries.specs.declared.refusal.Refusal.TheVariants.{UnknownParent, NotAKid, SettledBefore, NoMemory}
@@ -63,10 +61,8 @@ pub record SameButMarks (c d : Content) : Type 0 where
   pub entered : d.kids.entries ≡ c.kids.entries
   pub most : d.most ≡ c.most
 
--- there is room for what outcomes add: entries, kids and their parcels
-pub record HasRoomFor (c : Content) (outcomes : List Outcome) (parcels : Vec ParcelView Global) : Type 0 where
+-- there is room for what outcomes add: entries and kids
+pub record HasRoomFor (c : Content) (outcomes : List Outcome) : Type 0 where
   pub entries : length (flat_map entry_of outcomes) ≤ c.expanded.entries.room
   pub entered : length (flat_map entry_of outcomes) ≤ c.kids.entry_room
   pub kids : kids_in outcomes ≤ c.kids.kid_room
-  pub none : parcels.items ≡ []
-  pub parcels_room : kids_in outcomes ≤ vec_capacity parcels

@@ -10,7 +10,7 @@ ghost use Rattle.hd_entries.specs.Holding.{node_at, state_with, unmarked, IsExpa
 ghost use Rattle.hd_entries.specs.declared.refusal.Refusal.TheVariants as Refusal;
 
 use crate::Refusal;
-use crate::entry::{Best, Entry, Place};
+use crate::entry::{Best, Place};
 use crate::expanded::ExpandedPlans;
 use hd_hmax::EstimateValue;
 use hd_kids::KidTable;
@@ -19,37 +19,6 @@ use hd_pack::{Layout, Packed, pack};
 use hd_rows::{Draft, Row};
 use hd_task::{ActionId, Kid, NoMemory, ROOT_ACTION, ROOT_PARENT, Task};
 use std::alloc::Global;
-
-/// Whether an action is applicable at an entry; where it is, the place becomes where it leads.
-///
-/// # Errors
-/// `NoMemory` where there is no room for the state after it: only where the place was of no such state before.
-fn step_from(
-    alloc: Global,
-    task: &Task,
-    entry: &Entry<'_>,
-    action: u32,
-    place: &mut Place,
-) -> Result<bool, NoMemory>
-    requires of_task { IsStateOf task.now entry.now.state }
-    ensures applicable { IfOk result (λ r. r
-        ≡ is_applicable task.now (Some (node_at entry.now)) action) }
-    ensures leads { IfOk result (λ r. r ≡ true
-        → step_by task.now (node_at entry.now) action
-        ≡ Some (node place.new.state place.new.cost)) }
-{
-    if action as usize >= task.actions.len() {
-        return Ok(false);
-    }
-    let led = place.state.lead(alloc, task, entry.state.row(), entry.cost, ActionId(action))?;
-    match led {
-        Some(cost) => {
-            place.cost = cost;
-            Ok(true)
-        }
-        None => Ok(false),
-    }
-}
 
 /// Whether a packed state and one that was reached are equal.
 fn is_same(one: &Packed, other: &Draft) -> bool
@@ -76,7 +45,7 @@ impl<'t> ExpandedPlans<'t> {
             || (kid.parent as usize) < self.entries.len()
     }
 
-    /// The place becomes where a posted kid leads, by the book's own application.
+    /// The place becomes where a posted kid leads, by the book's own application. It is posted, so its action is applicable.
     ///
     /// # Errors
     /// `NoMemory` where there is no room for the state: only for the root, or where the place was of no such state before.
@@ -96,8 +65,14 @@ impl<'t> ExpandedPlans<'t> {
             return Ok(());
         }
         let parent = self.entries.at(kid.parent as usize);
-        let leads = step_from(self.alloc, self.task, &parent, kid.action, reached)?;
-        if leads { Ok(()) } else { unreachable!() }
+        reached.cost = reached.state.follow(
+            self.alloc,
+            self.task,
+            parent.state.row(),
+            parent.cost,
+            ActionId(kid.action),
+        )?;
+        Ok(())
     }
 
     /// Whether what a duplicate names has a state at no greater cost.

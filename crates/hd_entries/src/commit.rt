@@ -77,7 +77,9 @@ impl<'t> Content<'t> {
         ensures marks { OnOk result (self.new.kids.marks
             ≡ marks_after (state_of self.old) outcomes.now) }
         ensures err { OnErr result (self.new.kids.marks ≡ self.old.kids.marks) }
-        ensures room { IfOk result (HasRoomFor self.new outcomes.now) }
+        ensures room { OnOk result (HasRoomFor self.new outcomes.now) }
+        ensures none { IfOk result (λ ps. ps.items ≡ []) }
+        ensures enough { IfOk result (λ ps. kids_in outcomes.now ≤ vec_capacity ps) }
     {
         let entry_count = count_entries(outcomes);
         if !self.has_room(entry_count) {
@@ -98,48 +100,36 @@ impl<'t> Content<'t> {
         }
     }
 
-    /// Adds a batch that is not refused; there is room for it, and its kids are settled. Gives the parcels of its expansions' kids.
-    pub(crate) fn accept(
-        &mut self,
-        outcomes: Vec<Outcome<'t>>,
-        parcels: Vec<Parcel<'t>>,
-    ) -> Vec<Parcel<'t>>
-        requires of_task { AllByRecursion (IsOf self.old.expanded.task.now) outcomes.items }
-        requires room { HasRoomFor self.old outcomes.items parcels }
-        requires few { self.old.kids.entries + length (flat_map entry_of outcomes.items)
+    /// Adds a batch that is not refused; there is room for it, and its kids are settled.
+    pub(crate) fn accept(&mut self, outcomes: &[Outcome<'t>])
+        requires of_task { AllByRecursion (IsOf self.old.expanded.task.now) outcomes.now }
+        requires room { HasRoomFor self.old outcomes.now }
+        requires few { self.old.kids.entries + length (flat_map entry_of outcomes.now)
             ≤ ROOT_PARENT }
         ensures task { self.new.expanded.task.now ≡ self.old.expanded.task.now }
         ensures most { self.new.most ≡ self.old.most }
         ensures entries { self.new.expanded.entries.items ≡ self.old.expanded.entries.items
-            ++ entered_by outcomes.entry.items }
-        ensures kids { self.new.kids ≡ posted_all self.old.kids outcomes.entry.items }
+            ++ entered_by outcomes.now }
+        ensures kids { self.new.kids ≡ posted_all self.old.kids outcomes.now }
         ensures best { self.new.expanded.best ≡ best_by self.old.expanded.best
-            (length self.old.expanded.entries.items) outcomes.entry.items }
+            (length self.old.expanded.entries.items) outcomes.now }
         ensures departure { self.new.expanded.departure
             ≡ departure_by self.old.expanded.departure
-            (length self.old.expanded.entries.items) outcomes.entry.items }
-        ensures parcels { map parcel_of result.items
-            ≡ released_by (length self.old.expanded.entries.items) outcomes.entry.items }
-        ensures of_task { AllByRecursion (IsParcelOf self.old.expanded.task.now) result.items }
+            (length self.old.expanded.entries.items) outcomes.now }
     {
-        let mut parcels = parcels;
-        post_all(&mut self.kids, &outcomes);
+        post_all(&mut self.kids, outcomes);
         let expanded = &mut self.expanded;
         let first = expanded.entries.len();
-        let (best, departure) = found_after(expanded.best, expanded.departure, first, &outcomes);
+        let (best, departure) = found_after(expanded.best, expanded.departure, first, outcomes);
         expanded.best = best;
         expanded.departure = departure;
-        enter(expanded.task, &mut expanded.entries, &mut parcels, outcomes);
-        parcels
+        enter(expanded.task, &mut expanded.entries, outcomes);
     }
 
     /// Takes a batch, or refuses it, as [`crate::Entries::commit`] says.
-    pub(crate) fn commit(
-        &mut self,
-        batch: Batch<'t>,
-    ) -> Result<Vec<Parcel<'t>>, (Batch<'t>, Refusal)>
+    pub(crate) fn commit(&mut self, batch: &Batch<'t>) -> Result<Vec<Parcel<'t>>, Refusal>
         requires held { IsHeld self.old }
-        requires of_task { AllByRecursion (IsOf self.old.expanded.task.now) batch.outcomes }
+        requires of_task { AllByRecursion (IsOf self.old.expanded.task.now) batch.now.outcomes }
         ensures held { IsHeld self.new }
         ensures task { self.new.expanded.task.now ≡ self.old.expanded.task.now }
         ensures most { self.new.most ≡ self.old.most }
@@ -147,24 +137,24 @@ impl<'t> Content<'t> {
             (map kid_at self.old.expanded.entries.items) }
         ensures grown { OnOk result (map kid_at self.new.expanded.entries.items
             ≡ map kid_at self.old.expanded.entries.items
-            ++ flat_map entry_of batch.entry.outcomes) }
-        ensures accepted { OnOk result (refusal_to (view_of self.old) batch.entry.outcomes ≡ None) }
+            ++ flat_map entry_of batch.now.outcomes) }
+        ensures accepted { OnOk result (refusal_to (view_of self.old) batch.now.outcomes ≡ None) }
         ensures state { OnOk result (state_of self.new
-            ≡ all_settled (state_of self.old) batch.entry.outcomes) }
+            ≡ all_settled (state_of self.old) batch.now.outcomes) }
         ensures settled { OnOk result
-            (SettlesEach (state_of self.old) (state_of self.new) batch.entry.outcomes) }
-        ensures parcels { IfOk result (λ ps. map parcel_of ps.items
-            ≡ released_by (length self.old.expanded.entries.items) batch.entry.outcomes) }
-        ensures of_task { IfOk result (λ ps.
-            AllByRecursion (IsParcelOf self.old.expanded.task.now) ps.items) }
-        ensures refused { IfErr result (λ e.
-            IsRefusalTo (view_of self.old) batch.entry.outcomes e.1) }
-        ensures batch { IfErr result (λ e. e.0 ≡ batch.entry) }
+            (SettlesEach (state_of self.old) (state_of self.new) batch.now.outcomes) }
+        ensures none { IfOk result (λ ps. ps.items ≡ []) }
+        ensures enough { IfOk result (λ ps. kids_in batch.now.outcomes ≤ vec_capacity ps) }
+        ensures refused { IfErr result (IsRefusalTo (view_of self.old) batch.now.outcomes) }
         ensures err { OnErr result (view_of self.new ≡ view_of self.old) }
     {
-        match self.admit(batch.outcomes.as_slice()) {
-            Ok(parcels) => Ok(self.accept(batch.outcomes.into_vec(), parcels)),
-            Err(refusal) => Err((batch, refusal)),
+        let outcomes = batch.outcomes.as_slice();
+        match self.admit(outcomes) {
+            Ok(room) => {
+                self.accept(outcomes);
+                Ok(room)
+            }
+            Err(refusal) => Err(refusal),
         }
     }
 }

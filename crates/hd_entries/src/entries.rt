@@ -28,7 +28,7 @@ impl<'t> Model for Entries<'t> {
 }
 
 impl<'t> Entries<'t> {
-    ghost use Rattle.std.specs.Prelude.{◌≡◌, ◌<◌, ◌≤◌, ◌^◌, [], None, length, map, slice_get, option_map, is_some, IfOk, IfErr, IfSome, OnOk, OnErr};
+    ghost use Rattle.std.specs.Prelude.{vec_capacity, ◌≡◌, ◌<◌, ◌≤◌, ◌^◌, [], None, length, map, slice_get, option_map, is_some, IfOk, IfErr, IfSome, OnOk, OnErr};
     ghost use Rattle.hd_task.specs.declared.plan.TheConstants.{ROOT_PARENT};
     ghost use Rattle.hd_task.specs.Plans.{node};
     ghost use Rattle.hd_task.specs.Expansions.{bound_of, departures_of};
@@ -36,6 +36,7 @@ impl<'t> Entries<'t> {
     ghost use Rattle.hd_entries.specs.Settling.{IsOf, expansions, entry_node, IsKept, all_settled};
     ghost use Rattle.hd_entries.specs.Holding.{no_entries, BeginsWith, GainsEntries, SettlesEach, posted_count, settled_count};
     ghost use Rattle.hd_entries.specs.Holding.{parcel_of, released_by, IsParcelOf};
+    ghost use Rattle.hd_entries.specs.Growing.{kids_in};
     ghost use Rattle.hd_entries.specs.Refusing.{has_room, refusal_to, IsRefusalTo};
     ghost use Rattle.hd_entries.specs.Resuming.{first_fault, open_kids, resumed, IsFaultOf, LeadsThere};
     ghost use Rattle.hd_entries.specs.Answers.{is_over, IsCoveredBook, IsAnswerOf, IsBoundPlanOf, IsValidPlan, IsTrueAnswer};
@@ -85,30 +86,27 @@ impl<'t> Entries<'t> {
             .has_room(count_entries(batch.outcomes.as_slice()))
     }
 
-    /// Takes a batch: its expansions become entries, and its kids are settled. Gives the parcels of the kids of its expansions, in order.
+    /// Takes a batch: its expansions become entries, and its kids are settled. Gives an empty `Vec` with room for the parcels of its
+    /// expansions' kids, which [`crate::release_kids`] makes of the batch once it is taken.
     ///
     /// # Errors
-    /// The batch, and why it is refused: it is as it was, and so are the entries. In this order: `Full`, then for each outcome in order
-    /// `UnknownParent`, `NotAKid`, `SettledBefore`, `StateDiffers`, `NotDominated`, `BelowBound`. `NoMemory` may come in place of each
-    /// but the first, and of the parcels.
-    pub fn commit(&mut self, batch: Batch<'t>) -> Result<Vec<Parcel<'t>>, (Batch<'t>, Refusal)>
-        requires of_task { AllByRecursion (IsOf self.old.state.task) batch.outcomes }
+    /// Why it is refused: the entries are as they were. In this order: `Full`, then for each outcome in order `UnknownParent`, `NotAKid`,
+    /// `SettledBefore`, `StateDiffers`, `NotDominated`, `BelowBound`. `NoMemory` may come in place of each but the first, and of the room.
+    pub fn commit(&mut self, batch: &Batch<'t>) -> Result<Vec<Parcel<'t>>, Refusal>
+        requires of_task { AllByRecursion (IsOf self.old.state.task) batch.now.outcomes }
         ensures task { self.new.state.task ≡ self.old.state.task }
         ensures most { self.new.most ≡ self.old.most }
         ensures begins { BeginsWith self.new.state.entries self.old.state.entries }
         ensures grown { OnOk result
-            (GainsEntries self.old.state self.new.state batch.entry.outcomes) }
-        ensures accepted { OnOk result (refusal_to self.old batch.entry.outcomes ≡ None) }
+            (GainsEntries self.old.state self.new.state batch.now.outcomes) }
+        ensures accepted { OnOk result (refusal_to self.old batch.now.outcomes ≡ None) }
         ensures state { OnOk result (self.new.state
-            ≡ all_settled self.old.state batch.entry.outcomes) }
+            ≡ all_settled self.old.state batch.now.outcomes) }
         ensures settled { OnOk result
-            (SettlesEach self.old.state self.new.state batch.entry.outcomes) }
-        ensures parcels { IfOk result (λ ps. map parcel_of ps.items
-            ≡ released_by (length self.old.state.entries) batch.entry.outcomes) }
-        ensures of_task { IfOk result (λ ps. AllByRecursion (IsParcelOf self.old.state.task)
-            ps.items) }
-        ensures refused { IfErr result (λ e. IsRefusalTo self.old batch.entry.outcomes e.1) }
-        ensures batch { IfErr result (λ e. e.0 ≡ batch.entry) }
+            (SettlesEach self.old.state self.new.state batch.now.outcomes) }
+        ensures none { IfOk result (λ ps. ps.items ≡ []) }
+        ensures enough { IfOk result (λ ps. kids_in batch.now.outcomes ≤ vec_capacity ps) }
+        ensures refused { IfErr result (IsRefusalTo self.old batch.now.outcomes) }
         ensures err { OnErr result (self.new ≡ self.old) }
     {
         self.content.commit(batch)

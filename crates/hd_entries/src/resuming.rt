@@ -12,6 +12,7 @@ ghost use Rattle.hd_entries.specs.declared.refusal.Refusal.TheVariants as Refusa
 
 use crate::Refusal;
 use crate::content::Content;
+use crate::releasing::release_kids;
 use hd_node::{Batch, Expansion, Outcome, Parcel};
 use hd_successors::Successors;
 use hd_task::{Kid, NoMemory, ROOT_ACTION, ROOT_PARENT, Task};
@@ -133,9 +134,13 @@ impl<'t> Content<'t> {
         match Expansion::of(alloc, task, &self.expanded.words, successors, parcel) {
             Ok(expansion) => {
                 let batch = alone(alloc, expansion)?;
-                match self.commit(batch) {
-                    Ok(parcels) => Ok(parcels),
-                    Err((_batch, refusal)) => Err(refusal),
+                let first = self.expanded.entries.len() as u64;
+                match self.commit(&batch) {
+                    Ok(room) => {
+                        let Batch { outcomes, .. } = batch;
+                        Ok(release_kids(task, first, outcomes.into_vec(), room))
+                    }
+                    Err(refusal) => Err(refusal),
                 }
             }
             Err((_parcel, _error)) => Err(Refusal::NoMemory),

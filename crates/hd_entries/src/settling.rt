@@ -15,7 +15,7 @@ ghost use Rattle.hd_entries.specs.Growing.{entered, entered_by, better, best_by,
 use crate::entry::Best;
 use crate::table::EntryTable;
 use hd_kids::KidTable;
-use hd_node::{Child, Children, Expansion, Outcome, Parcel};
+use hd_node::{Child, Expansion, Outcome};
 use hd_task::{Departure, GoalTest, Task};
 
 /// How many kids the expansions among outcomes have.
@@ -138,104 +138,33 @@ pub(crate) fn post_all(kids: &mut KidTable, outcomes: &[Outcome])
     }
 }
 
-/// Pushes the kids of an entry as parcels.
-fn release<'t>(parcels: &mut Vec<Parcel<'t>>, task: &'t Task, entry: u64, children: Children)
-    requires room { vec_len parcels.old + length children ≤ vec_capacity parcels.old }
-    requires of_task { AllByRecursion (λ (c : ChildView). IsStateOf task.now c.state) children }
-    requires tasks { AllByRecursion (IsParcelOf task.now) parcels.old.items }
-    ensures released { map parcel_of parcels.new.items ≡ map parcel_of parcels.old.items
-        ++ map (released_from entry) children }
-    ensures len { vec_len parcels.new ≡ vec_len parcels.old + length children }
-    ensures capacity { vec_capacity parcels.old ≤ vec_capacity parcels.new }
-    ensures tasks { AllByRecursion (IsParcelOf task.now) parcels.new.items }
-{
-    for child in children {
-        parcels.push_reserved(Parcel::of_child(task, entry, child));
-    }
-}
-
-/// Adds an expansion to the entries, and its kids to the parcels.
-fn enter_expansion<'t>(
-    task: &'t Task,
-    entries: &mut EntryTable,
-    parcels: &mut Vec<Parcel<'t>>,
-    expansion: Expansion<'t>,
-)
-    requires of_task { expansion.task ≡ task.now }
+/// Adds an outcome to the entries, if it is an expansion.
+fn enter_outcome(task: &Task, entries: &mut EntryTable, outcome: &Outcome)
+    requires of_task { IsOf task.now outcome.now }
     requires fits { AreWidthsOf task.now entries.old.widths }
-    requires room { 0 < entries.old.room }
-    requires parcels { vec_len parcels.old + length expansion.children ≤ vec_capacity parcels.old }
-    requires tasks { AllByRecursion (IsParcelOf task.now) parcels.old.items }
+    requires room { length (entered outcome.now) ≤ entries.old.room }
     ensures fits { AreWidthsOf task.now entries.new.widths }
-    ensures entries { entries.new.items ≡ entries.old.items
-        ++ record {
-          kid = expansion.entry.kid;
-          state = expansion.entry.state;
-          cost = expansion.entry.cost;
-        } ∷ [] }
-    ensures entries_room { entries.new.room + 1 ≡ entries.old.room }
-    ensures released { map parcel_of parcels.new.items ≡ map parcel_of parcels.old.items
-        ++ map (released_from (length entries.old.items)) expansion.entry.children }
-    ensures len { vec_len parcels.new ≡ vec_len parcels.old + length expansion.entry.children }
-    ensures capacity { vec_capacity parcels.old ≤ vec_capacity parcels.new }
-    ensures tasks { AllByRecursion (IsParcelOf task.now) parcels.new.items }
-{
-    let parts = expansion.into_parts();
-    let entry = entries.len() as u64;
-    release(parcels, task, entry, parts.children);
-    entries.push(parts.kid, &parts.state, parts.cost);
-}
-
-/// Adds an outcome to the entries, if it is an expansion, and its kids to the parcels.
-fn enter_outcome<'t>(
-    task: &'t Task,
-    entries: &mut EntryTable,
-    parcels: &mut Vec<Parcel<'t>>,
-    outcome: Outcome<'t>,
-)
-    requires of_task { IsOf task.now outcome }
-    requires fits { AreWidthsOf task.now entries.old.widths }
-    requires room { length (entered outcome) ≤ entries.old.room }
-    requires parcels { vec_len parcels.old + kids_at outcome ≤ vec_capacity parcels.old }
-    requires tasks { AllByRecursion (IsParcelOf task.now) parcels.old.items }
-    ensures fits { AreWidthsOf task.now entries.new.widths }
-    ensures entries { entries.new.items ≡ entries.old.items ++ entered outcome.entry }
-    ensures count { length entries.new.items
-        ≡ length entries.old.items + length (entry_of outcome.entry) }
-    ensures entries_room { entries.new.room + length (entered outcome.entry) ≡ entries.old.room }
-    ensures released { map parcel_of parcels.new.items ≡ map parcel_of parcels.old.items
-        ++ released_at (length entries.old.items) outcome.entry }
-    ensures kids { vec_len parcels.new ≡ vec_len parcels.old + kids_at outcome.entry }
-    ensures capacity { vec_capacity parcels.old ≤ vec_capacity parcels.new }
-    ensures tasks { AllByRecursion (IsParcelOf task.now) parcels.new.items }
+    ensures entries { entries.new.items ≡ entries.old.items ++ entered outcome.now }
+    ensures room { entries.new.room + length (entered outcome.now) ≡ entries.old.room }
 {
     match outcome {
-        Outcome::Expanded(expansion) => enter_expansion(task, entries, parcels, expansion),
+        Outcome::Expanded(expansion) => {
+            entries.push(expansion.kid(), expansion.hashed(), expansion.cost());
+        }
         Outcome::Duplicate(_, _) => {}
         Outcome::Bounded(_, _) => {}
     }
 }
 
-/// Adds the expansions among outcomes of a task to the entries, and their kids to the parcels.
-pub(crate) fn enter<'t>(
-    task: &'t Task,
-    entries: &mut EntryTable,
-    parcels: &mut Vec<Parcel<'t>>,
-    outcomes: Vec<Outcome<'t>>,
-)
-    requires of_task { AllByRecursion (IsOf task.now) outcomes.items }
+/// Adds the expansions among outcomes of a task to the entries.
+pub(crate) fn enter(task: &Task, entries: &mut EntryTable, outcomes: &[Outcome])
+    requires of_task { AllByRecursion (IsOf task.now) outcomes.now }
     requires fits { AreWidthsOf task.now entries.old.widths }
-    requires room { length (entered_by outcomes.items) ≤ entries.old.room }
-    requires parcels { vec_len parcels.old + kids_in outcomes.items ≤ vec_capacity parcels.old }
-    requires tasks { AllByRecursion (IsParcelOf task.now) parcels.old.items }
+    requires room { length (entered_by outcomes.now) ≤ entries.old.room }
     ensures fits { AreWidthsOf task.now entries.new.widths }
-    ensures entries { entries.new.items ≡ entries.old.items ++ entered_by outcomes.entry.items }
-    ensures released { map parcel_of parcels.new.items ≡ map parcel_of parcels.old.items
-        ++ released_by (length entries.old.items) outcomes.entry.items }
-    ensures kids { vec_len parcels.new ≡ vec_len parcels.old + kids_in outcomes.entry.items }
-    ensures tasks { AllByRecursion (IsParcelOf task.now) parcels.new.items }
+    ensures entries { entries.new.items ≡ entries.old.items ++ entered_by outcomes.now }
 {
     for outcome in outcomes {
-        enter_outcome(task, entries, parcels, outcome);
+        enter_outcome(task, entries, outcome);
     }
 }

@@ -1,3 +1,4 @@
 mod BlockRows
+mod Following
 mod Packed
 mod Writing

@@ -1,23 +1,17 @@
 -- Packed states one after the other: where each stands, and one more.
-use Rattle.std.proofs.Common.{◌≡◌, ◌⊎◌, inl, inr, IfSome, ℕ, ℤ, zero, suc, ◌+◌, ◌*◌, ◌<◌, ◌≤◌, List, [], ◌∷◌, ◌++◌, Option, Some, length, take, drop, slice_get, refl, sym, ap, ap₂, ◌∙◌, subst, arith, length-append, length-drop, length-take-le, take_all, drop_of_length-le}
+use Rattle.std.proofs.Common.{◌≡◌, ℕ, zero, suc, ◌+◌, ◌*◌, ◌<◌, ◌≤◌, List, [], ◌∷◌, ◌++◌, Some, length, take, drop, slice_get, refl, sym, ap, ap₂, ◌∙◌, subst, arith, length-append, length-drop, length-take-le, take_all, drop_of_length-le}
 use Rattle.std.proofs.Math.Seq.{drop-drop}
-use Rattle.std.proofs.lemmas.Bool.{cases_lt}
 use Rattle.std.proofs.lemmas.Option.{same_Some}
 use Rattle.std.proofs.lemmas.List.{take-append-le}
-use Rattle.std.specs.Prelude.{Bool, true, false, not, ◌&&◌, nat_eq, flat_map}
+use Rattle.std.specs.Prelude.{Bool, true, ◌&&◌, nat_eq}
 use Rattle.std.specs.Cmp.Lexicographic.{pointwise}
-use Rattle.std.proofs.lemmas.Bool.{eqb-true, eq-eqb}
-use Rattle.std.proofs.Common.{true≢false}
-use Rattle.std.proofs.lemmas.Bool.Decides.{Decides-eqb}
-use Rattle.std.proofs.lemmas.Slice.Eq.{slice_eq-Decides}
+use Rattle.std.proofs.lemmas.Bool.{eqb-true}
 use Rattle.std.specs.Int.{w64}
 use Rattle.std.specs.Int.RustNames.{FitsSigned}
 use Rattle.std.specs.List.{AllByRecursion}
 use Rattle.hd_task.specs.declared.state.State.{State}
-use Rattle.hd_pack.specs.Packing.{atom_bytes, value_bytes, packed_bytes, unpacked, same_packing, IsPacking}
-use Rattle.hd_pack.proofs.AtomBits.{length-atom_bytes}
-use Rattle.hd_pack.proofs.ValueBytes.{length-values}
-use Rattle.hd_pack.proofs.Trips.{length-unpacked, differ}
+use Rattle.hd_pack.specs.Packing.{packed_bytes, unpacked, same_packing, IsPacking}
+use Rattle.hd_pack.proofs.Trips.{length-unpacked}
 use Rattle.hd_task.specs.declared.task.TheConstants.{MAX_ATOMS, MAX_FLUENTS}
 use Rattle.hd_pack.specs.Packing.{bytes_for}
 use Rattle.hd_pack.proofs.Packings.{Parts, state_of, parts_of, packing_of, length-bytes}

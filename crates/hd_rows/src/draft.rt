@@ -1,9 +1,10 @@
 //! A state that is written over.
-ghost use Rattle.std.specs.Prelude.{◌≡◌, ◌+◌, ◌*◌, ◌/◌, ◌<◌, ◌≤◌, [], true, false, FitsSigned, length, IfOk, OnOk, OnErr};
+ghost use Rattle.std.specs.Prelude.{◌≡◌, ◌+◌, ◌*◌, ◌/◌, ◌<◌, ◌≤◌, [], Some, true, false, FitsSigned, length, IfOk, OnOk, OnErr};
 ghost use Rattle.std.specs.Int.{w64};
 ghost use Rattle.std.specs.List.{fold, list_all};
 ghost use Rattle.hd_task.specs.Effects.{effect_stays, state_after};
 ghost use Rattle.hd_task.specs.Plans.{IsStateOf, node};
+ghost use Rattle.hd_task.specs.Expansions.{is_applicable};
 ghost use Rattle.hd_task.specs.Applying.{test_of, applied_of, fits_task};
 ghost use Rattle.hd_task.specs.Stepping.{step_at};
 ghost use Rattle.hd_task.specs.declared.applying.GoalTest.TheVariants as GoalTest;
@@ -15,7 +16,7 @@ ghost use Rattle.hd_rows.specs.Drafts.{IsLedTo};
 
 use crate::row::{Row, bytes_for};
 use hd_base::{NoMemory, total_cost};
-use hd_task::{Action, ActionId, Effect, GoalTest, Task, new_value, step_cost, test_of};
+use hd_task::{Action, ActionId, Effect, Task, new_value, step_cost};
 use std::alloc::Global;
 use std::marker::Model;
 
@@ -217,30 +218,29 @@ impl Draft {
         }
     }
 
-    /// Makes it the state that an action leads to from another, at a plan of some cost, and gives the plan's cost with it; nothing where it
-    /// leads nowhere, or a number leaves the range. It takes memory only where that state has another number of bytes; and time in the
-    /// action's own size.
+    /// Makes it the state that an applicable action leads to from another, at a plan of some cost, and gives the plan's cost with it. The
+    /// action's condition is not tested. It takes memory only where that state has another number of bytes; and time in the action's own size.
     ///
     /// # Errors
     /// `NoMemory` where there is no room for the bytes.
-    pub fn lead(
+    pub fn follow(
         &mut self,
         alloc: Global,
         task: &Task,
         before: &Row<'_>,
         cost: u64,
         action: ActionId,
-    ) -> Result<Option<u64>, NoMemory>
+    ) -> Result<u64, NoMemory>
         requires known { action.0 < length task.now.actions }
         requires of_task { IsStateOf task.now before.now }
-        ensures { IfOk result (λ r.
-            IsLedTo (led_of (step_at task.now (node before.now cost) action.0)) r self.new) }
+        requires applicable { is_applicable task.now (Some (node before.now cost)) action.0 ≡ true }
+        ensures { IfOk result (λ c. IsLedTo
+            (led_of (step_at task.now (node before.now cost) action.0)) (Some c) self.new) }
     {
         let action = &task.actions.as_slice()[action.0 as usize];
-        match test_of(before, &action.condition) {
-            GoalTest::No => Ok(None),
-            GoalTest::Departs => Ok(None),
-            GoalTest::Yes => self.take_effect(alloc, task, before, cost, action),
+        match self.take_effect(alloc, task, before, cost, action)? {
+            Some(total) => Ok(total),
+            None => unreachable!(),
         }
     }
 }

@@ -46,6 +46,7 @@ pub(crate) fn redeem<'t, L: Ledger, A: Ledger, R: Wait>(
     desk: &Desk<'t, L, A>,
     place: &mut Workplace<'t, L, A>,
     held: Held,
+    waits: bool,
 ) -> Result<Redemption, RunFault>
     requires at { IsAt desk.now place.old }
     requires room { held.kids ≤ place.old.worker.room }
@@ -55,7 +56,7 @@ pub(crate) fn redeem<'t, L: Ledger, A: Ledger, R: Wait>(
         (HasRedeemed held.kids place.old.worker place.new.worker) }
     ensures told { IfErr result IsOfWorker }
 {
-    redeem_next(rt, &desk.lock, &mut place.pass, &mut place.worker, held)
+    redeem_next(rt, &desk.lock, &mut place.pass, &mut place.worker, held, waits)
 }
 
 /// Sends the first parcel of a worker's outbox, as [`send_next`] does.

@@ -50,6 +50,11 @@ impl Progress {
         })
     }
 
+    /// Whether there are as many tickets as there may be.
+    pub(crate) fn is_full(&self) -> bool {
+        self.held.len() == MOST_TICKETS
+    }
+
     /// Whether a batch is to be committed: there is room for its ticket, and there are so many outcomes, or some and no node is open.
     pub(crate) fn is_due(&self, open: bool, together: usize) -> bool
         ensures { result ≡ true → deque_len self.now.held < MOST_TICKETS }

@@ -76,7 +76,8 @@ fn finish<'t, L: Ledger, A: Ledger, R: Wait>(
     end(rt, &desk.lock, &mut place.pass, progress);
 }
 
-/// Redeems a worker's oldest ticket, if it has one: whether its batch has released what it leads to.
+/// Redeems a worker's oldest ticket, if it has one, and the lock is free or the worker holds as many tickets as it may: whether its batch has
+/// released what it leads to.
 ///
 /// # Errors
 /// How the search ends for the worker.
@@ -93,10 +94,12 @@ fn redeem_oldest<'t, L: Ledger, A: Ledger, R: Wait>(
     ensures room { OnOk result (kids_held progress.new ≤ place.new.worker.room) }
     ensures told { IfErr result IsEnd }
 {
+    // A worker that holds as many as it may can't commit, and waits for the lock; another one has better to do.
+    let waits = progress.is_full();
     let Some(oldest) = progress.oldest() else {
         return Ok(false);
     };
-    match redeem(rt, desk, place, oldest) {
+    match redeem(rt, desk, place, oldest, waits) {
         Ok(Redemption::Opened) => Ok(true),
         Ok(Redemption::Waiting(held)) => {
             progress.keep(held);

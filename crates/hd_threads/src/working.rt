@@ -243,7 +243,30 @@ pub fn commit_next<'t, L: Ledger, A: Ledger, R: Wait>(
     }
 }
 
-/// Redeems a ticket under the lock.
+/// Enters the lock, or only tries to.
+fn enter<'t, L: Ledger, A: Ledger, R: Wait>(
+    rt: &R,
+    lock: &Lock<SharedBook<'t, L, A>>,
+    pass: &mut Pass<SharedBook<'t, L, A>>,
+    waits: bool,
+) -> Option<SharedBook<'t, L, A>>
+    requires pass { IsOutside lock.now.place pass.old }
+    ensures pass { IfSome result (λ _. IsInside lock.now.place pass.new) }
+    ensures task { IfSome result (λ b. (view pass.old).seen.task ≡ Some b.state.task) }
+    ensures begins { IfSome result (λ b. BeginsWith b.state.entries (view pass.old).seen.log) }
+    ensures view { IfSome result (λ b.
+        view pass.new ≡ entered (view pass.old) b.state.task b.state.entries) }
+    ensures outside { IfNone result (IsOutside lock.now.place pass.new) }
+    ensures same { IfNone result (view pass.new ≡ view pass.old) }
+{
+    if waits {
+        Some(lock.enter(rt, pass))
+    } else {
+        lock.try_enter(rt, pass)
+    }
+}
+
+/// Redeems a ticket under the lock; where it does not wait for the lock, and that is not free, the ticket comes back.
 ///
 /// # Errors
 /// `NotOut` where no such ticket is out; the book is halted.
@@ -252,6 +275,7 @@ fn redeem_inside<'t, L: Ledger, A: Ledger, R: Wait>(
     lock: &Lock<SharedBook<'t, L, A>>,
     pass: &mut Pass<SharedBook<'t, L, A>>,
     ticket: Ticket,
+    waits: bool,
 ) -> Result<Given<'t>, NotOut>
     requires pass { IsOutside lock.now.place pass.old }
     ensures pass { IsOutside lock.now.place pass.new }
@@ -260,13 +284,16 @@ fn redeem_inside<'t, L: Ledger, A: Ledger, R: Wait>(
     ensures grows { BeginsWith (view pass.new).seen.log (view pass.old).seen.log }
     ensures given { IfSome (view pass.old).seen.task (λ t. IfOk result (IsGivenOf t)) }
 {
-    let mut book = lock.enter(rt, pass);
+    let Some(mut book) = enter(rt, lock, pass, waits) else {
+        return Ok(Given::NotYet(ticket));
+    };
     let given = book.redeem(ticket);
     lock.leave(rt, pass, book);
     given
 }
 
-/// Redeems a worker's ticket: what its batch releases is open, or in the outbox, once the batch is acknowledged.
+/// Redeems a worker's ticket: what its batch releases is open, or in the outbox, once the batch is acknowledged. Where it does not wait for
+/// the lock, and that is not free, the ticket waits.
 ///
 /// # Errors
 /// `NotOut` where no such ticket is out, or it releases more than its batch has; the book is halted.
@@ -277,6 +304,7 @@ pub fn redeem_next<'t, L: Ledger, A: Ledger, R: Wait>(
     pass: &mut Pass<SharedBook<'t, L, A>>,
     worker: &mut Worker<'t>,
     held: Held,
+    waits: bool,
 ) -> Result<Redemption, RunFault>
     requires pass { IsOutside lock.now.place pass.old }
     requires task { (view pass.old).seen.task ≡ Some worker.old.task }
@@ -290,7 +318,7 @@ pub fn redeem_next<'t, L: Ledger, A: Ledger, R: Wait>(
     ensures told { IfErr result IsOfWorker }
 {
     let Held { ticket, kids } = held;
-    match redeem_inside(rt, lock, pass, ticket) {
+    match redeem_inside(rt, lock, pass, ticket, waits) {
         Ok(Given::Parcels(parcels)) => {
             let parcels = parcels.into_vec();
             if parcels.len() > kids {

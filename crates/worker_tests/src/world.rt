@@ -8,8 +8,8 @@ use crate::parcels::{ROOT, parcel_at};
 use crate::reference::least_cost;
 use crate::scripts::{expand, expand_best, take};
 use crate::tasks::any_task;
-use hd_entries::{Entries, Verdict};
-use hd_node::Parcel;
+use hd_entries::{Entries, Verdict, release_kids};
+use hd_node::{Batch, Parcel};
 use hd_task::{ROOT_PARENT, Task};
 use hd_worker::{Lookup, Worker};
 use hd_zobrist::owner;
@@ -75,14 +75,15 @@ fn commit<'t>(
 {
     if let Some(batch) = seat.worker.next_batch()? {
         let first = world.entries.len();
-        match world.entries.commit(batch) {
-            Ok(parcels) => {
+        match world.entries.commit(&batch) {
+            Ok(room) => {
                 seat.worker.committed(first);
-                for parcel in parcels {
+                let Batch { outcomes, .. } = batch;
+                for parcel in release_kids(task, first, outcomes.into_vec(), room) {
                     seat.coming.push(parcel)?;
                 }
             }
-            Err((_, refusal)) => panic!(rt; "{refusal}"),
+            Err(refusal) => panic!(rt; "{refusal}"),
         }
     }
     Ok(())

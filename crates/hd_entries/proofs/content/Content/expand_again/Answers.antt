@@ -32,13 +32,13 @@ returns-in-Ok-commit-clause-expanded c =
       free = free;
       state = c.in-Ok-commit.ensures.state ∙ ap (all_settled b) batch;
       released =
-          c.in-Ok-commit.ensures.parcels
-          ∙ (ap₂ released_by (sym (length-map s.expanded.entries.items kid_at)) batch
+          c.release_kids.ensures.kids
+          ∙ (ap₂ released_by (c.len-first.ensures.len ∙ sym (length-map s.expanded.entries.items kid_at)) (c.into_vec.ensures ∙ batch)
           ∙ append-nil (map (released_from (length b.entries)) e.children));
     }
 
-pub returns-in-Err-commit-clause-memory : goal.returns-in-Err-commit-clause-memory
-returns-in-Err-commit-clause-memory c =
+pub returns-in-Ok-clause-memory : goal.returns-in-Ok-clause-memory
+returns-in-Ok-clause-memory c =
     let s = c.args.self.now in
     let b = state_of s in
     let v = view_of s in

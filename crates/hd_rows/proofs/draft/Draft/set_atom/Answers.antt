@@ -1,4 +1,4 @@
-use Rattle.std.proofs.Common.{◌≡◌, Option, Bool, slice_get, ap, ◌∙◌}
+use Rattle.std.proofs.Common.{slice_get, ap, ◌∙◌}
 use Rattle.hd_task.specs.declared.state.State.{State}
 use Rattle.hd_pack.proofs.Steps.{read_or, atom_stays, atom_there, atom_turned}
 use Rattle.hd_rows.proofs.draft.Draft.set_atom.Goals as goal

@@ -1,4 +1,4 @@
-use Rattle.std.proofs.Common.{◌≡◌, length, sym, ◌∙◌, arith}
+use Rattle.std.proofs.Common.{sym, ◌∙◌, arith}
 use Rattle.hd_pack.proofs.Packings.{Parts, state_of}
 use Rattle.hd_rows.proofs.Packed.{whole_of}
 use Rattle.hd_rows.proofs.row.Row.of_packed.Goals as goal

@@ -3,7 +3,7 @@ use Rattle.std.specs.List.{AllByRecursion}
 use Rattle.hd_task.specs.Plans.{IsStateOf}
 use Rattle.hd_node.specs.Children.{ChildView}
 use Rattle.hd_node.proofs.Steps.{children_states}
-use Rattle.hd_entries.proofs.settling.enter_expansion.Goals as goal
+use Rattle.hd_entries.proofs.releasing.release_expansion.Goals as goal
 
 pub release-requires-clause-of_task : goal.release-requires-clause-of_task
 release-requires-clause-of_task c =

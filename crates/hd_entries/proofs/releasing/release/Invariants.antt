@@ -3,7 +3,7 @@ use Rattle.std.specs.List.{AllByRecursion}
 use Rattle.hd_task.specs.Plans.{IsStateOf}
 use Rattle.hd_node.specs.Children.{ChildView}
 use Rattle.hd_entries.specs.Holding.{parcel_of, released_from, IsParcelOf}
-use Rattle.hd_entries.proofs.settling.release.Given as goal
+use Rattle.hd_entries.proofs.releasing.release.Given as goal
 
 -- the children pushed so far, and room for those that are left
 abbrev pub invariant-loop-child : goal.invariant-loop-child

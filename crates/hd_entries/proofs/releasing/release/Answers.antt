@@ -1,5 +1,5 @@
 use Rattle.std.proofs.Common.{append-nil, sym, arith}
-use Rattle.hd_entries.proofs.settling.release.Goals as goal
+use Rattle.hd_entries.proofs.releasing.release.Goals as goal
 
 pub loop-child-init : goal.loop-child-init
 loop-child-init c =
