@@ -30,10 +30,10 @@ fn assert_taken<'t>(rt: &impl Abort, entries: &mut Entries<'t>, batch: Batch<'t>
     let fits = entries.has_room(&batch);
     let first = entries.len();
     match (entries.commit(&batch), comes) {
-        (Ok(room), Ok(kids)) => {
+        (Ok(empty), Ok(kids)) => {
             assert!(rt; fits);
             let Batch { outcomes, .. } = batch;
-            let parcels = release_kids(entries.task(), first, outcomes.into_vec(), room);
+            let parcels = release_kids(entries.task(), first, outcomes.into_vec(), empty);
             assert_kids(rt, parcels.as_slice(), kids);
         }
         (Err(refusal), Err(other)) => {

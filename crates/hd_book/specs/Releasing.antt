@@ -9,8 +9,8 @@ use Rattle.hd_entries.specs.Settling.{IsOf}
 use Rattle.hd_entries.specs.Growing.{kids_in}
 
 -- the kids of outcomes of a task, whose first entry has this number, can be made parcels without memory
-pub record CanRelease {Z : Type 0} (t : Task) (first : ℕ) (outcomes : List Outcome) (room : Vec ParcelView Z) : Type 0 where
+pub record CanRelease {Z : Type 0} (t : Task) (first : ℕ) (outcomes : List Outcome) (empty : Vec ParcelView Z) : Type 0 where
   pub of_task : AllByRecursion (IsOf t) outcomes
   pub numbered : first + length outcomes < 2 ^ 64
-  pub none : room.items ≡ []
-  pub enough : kids_in outcomes ≤ vec_capacity room
+  pub none : empty.items ≡ []
+  pub enough : kids_in outcomes ≤ vec_capacity empty

@@ -160,9 +160,9 @@ impl<'t> Content<'t> {
         prove!(settled <= posted);
         let before = self.entries.len();
         match self.entries.commit(&batch) {
-            Ok(room) => {
+            Ok(empty) => {
                 let count = self.entries.len() - before;
-                let released = Parcels::of(self.entries.task(), before, batch, room);
+                let released = Parcels::of(self.entries.task(), before, batch, empty);
                 Ok(self.tickets.enter(count, released))
             }
             Err(refusal) => Err((batch, CommitRefusal::Refused(refusal))),

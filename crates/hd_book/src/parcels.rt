@@ -13,15 +13,15 @@ use std::marker::Model;
 
 /// What a ticket releases: the kids of its batch's expansions, in order, each as a parcel of the task.
 ///
-/// Until they are taken they stay in the batch's outcomes: so nothing is moved, and no memory given back, while the book is locked.
+/// Until they are taken they stay in the batch's outcomes: so a commit moves nothing, and gives no memory back while the book is locked.
 #[derive(Debug, Drop)]
 pub struct Parcels<'t> {
     task: &'t Task,
     /// The number of the first entry among the outcomes.
     first: u64,
     outcomes: Sequence<Outcome<'t>>,
-    /// Room for the parcels.
-    room: Vec<Parcel<'t>>,
+    /// What the parcels are pushed to: it has room for them.
+    empty: Vec<Parcel<'t>>,
 }
 
 impl<'t> Model for Parcels<'t> {
@@ -37,7 +37,7 @@ impl<'t> Model for Parcels<'t> {
 
     ghost view = { λ p. record { task = p.task.now; kids = released_by p.first p.outcomes } };
 
-    ghost invariant = { λ p. CanRelease p.task.now p.first p.outcomes p.room };
+    ghost invariant = { λ p. CanRelease p.task.now p.first p.outcomes p.empty };
 }
 
 impl<'t> Parcels<'t> {
@@ -46,12 +46,12 @@ impl<'t> Parcels<'t> {
         task: &'t Task,
         first: u64,
         batch: Batch<'t>,
-        room: Vec<Parcel<'t>>,
+        empty: Vec<Parcel<'t>>,
     ) -> Parcels<'t>
         requires of_task { AllByRecursion (IsOf task.now) batch.outcomes }
         requires numbered { first + length batch.outcomes < 2 ^ 64 }
-        requires none { room.items ≡ [] }
-        requires enough { kids_in batch.outcomes ≤ vec_capacity room }
+        requires none { empty.items ≡ [] }
+        requires enough { kids_in batch.outcomes ≤ vec_capacity empty }
         ensures { result
             ≡ record { task = task.now; kids = released_by first batch.entry.outcomes } }
     {
@@ -60,7 +60,7 @@ impl<'t> Parcels<'t> {
             task,
             first,
             outcomes,
-            room,
+            empty,
         }
     }
 
@@ -73,8 +73,8 @@ impl<'t> Parcels<'t> {
             task,
             first,
             outcomes,
-            room,
+            empty,
         } = self;
-        release_kids(task, first, outcomes.into_vec(), room)
+        release_kids(task, first, outcomes.into_vec(), empty)
     }
 }

@@ -41,7 +41,7 @@ impl<B: Locked> Lock<B> {
         }
     }
 
-    /// Takes the value, if the lock is free. It waits for nobody who holds the lock.
+    /// Takes the value, if the lock is free. It does not wait where the lock is taken.
     pub fn try_enter<R: Wait>(&self, rt: &R, pass: &mut Pass<B>) -> Option<B>
         requires { IsOutside self.now.place pass.old }
         ensures pass { IfSome result (λ _. IsInside self.now.place pass.new) }

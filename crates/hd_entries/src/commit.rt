@@ -150,9 +150,9 @@ impl<'t> Content<'t> {
     {
         let outcomes = batch.outcomes.as_slice();
         match self.admit(outcomes) {
-            Ok(room) => {
+            Ok(parcels) => {
                 self.accept(outcomes);
-                Ok(room)
+                Ok(parcels)
             }
             Err(refusal) => Err(refusal),
         }

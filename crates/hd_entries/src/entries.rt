@@ -28,7 +28,7 @@ impl<'t> Model for Entries<'t> {
 }
 
 impl<'t> Entries<'t> {
-    ghost use Rattle.std.specs.Prelude.{vec_capacity, ◌≡◌, ◌<◌, ◌≤◌, ◌^◌, [], None, length, map, slice_get, option_map, is_some, IfOk, IfErr, IfSome, OnOk, OnErr};
+    ghost use Rattle.std.specs.Prelude.{◌≡◌, ◌<◌, ◌≤◌, ◌^◌, [], None, length, vec_capacity, map, slice_get, option_map, is_some, IfOk, IfErr, IfSome, OnOk, OnErr};
     ghost use Rattle.hd_task.specs.declared.plan.TheConstants.{ROOT_PARENT};
     ghost use Rattle.hd_task.specs.Plans.{node};
     ghost use Rattle.hd_task.specs.Expansions.{bound_of, departures_of};

@@ -1,8 +1,11 @@
 //! Expanded plans.
-ghost use Rattle.std.specs.Prelude.{◌≡◌};
+ghost use Rattle.std.specs.Prelude.{◌≡◌, Some};
+ghost use Rattle.hd_task.specs.Plans.{node};
+ghost use Rattle.hd_entries.specs.Settling.{dominates, same_state};
+ghost use Rattle.hd_entries.specs.Holding.{node_at};
 
 use crate::hashed_row::HashedRow;
-use hd_rows::Draft;
+use hd_rows::{Draft, Row};
 use hd_task::Kid;
 use std::alloc::Global;
 
@@ -47,4 +50,21 @@ impl Place {
 pub(crate) struct Best {
     pub(crate) cost: u64,
     pub(crate) entry: usize,
+}
+
+/// Whether a state and one that was reached are equal.
+fn is_same(one: &Row<'_>, other: &Draft) -> bool
+    ensures { result ≡ same_state one.now other.now }
+{
+    other.row().is(one)
+}
+
+impl<'e> Entry<'e> {
+    /// Whether it has a place's state at no greater cost.
+    pub(crate) fn is_no_dearer(&self, reached: &Place) -> bool
+        ensures { result ≡ dominates (Some (node_at self.now))
+            (Some (node reached.now.state reached.now.cost)) }
+    {
+        is_same(self.state.row(), &reached.state) && self.cost <= reached.cost
+    }
 }

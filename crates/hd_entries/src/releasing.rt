@@ -1,4 +1,4 @@
-//! What an accepted batch releases. Nothing here asks for memory, and nothing needs the entries: so it is done behind the lock.
+//! What an accepted batch releases. It asks for no memory and does not need the entries, so it is done where they are not locked.
 ghost use Rattle.std.specs.Prelude.{◌≡◌, ◌+◌, ◌<◌, ◌≤◌, ◌^◌, ◌++◌, [], vec_len, vec_capacity, length, map};
 ghost use Rattle.std.specs.List.{AllByRecursion};
 ghost use Rattle.hd_task.specs.Plans.{IsStateOf};
@@ -46,7 +46,8 @@ fn release_expansion<'t>(
     release(parcels, task, entry, parts.children);
 }
 
-/// Pushes the kids of an outcome as parcels, if it is an expansion, which is the entry of this number then. Gives the number of the next entry.
+/// Pushes the kids of an outcome as parcels, if it is an expansion, which is the entry of this number then. Gives the number of the next
+/// entry.
 fn release_outcome<'t>(
     parcels: &mut Vec<Parcel<'t>>,
     task: &'t Task,
@@ -75,22 +76,23 @@ fn release_outcome<'t>(
     }
 }
 
-/// What outcomes of a task release whose first entry has this number: the kids of the expansions among them, in order, as parcels, which are
-/// pushed to a `Vec` that is empty and has room for them. It takes no memory.
+/// What outcomes of a task release: the kids of the expansions among them, in order, as parcels. They are pushed to a `Vec` that is empty
+/// and has room for them, so it takes no memory. The first of the expansions is the entry of this number: the number of entries that there
+/// were before the outcomes were committed.
 pub fn release_kids<'t>(
     task: &'t Task,
     first: u64,
     outcomes: Vec<Outcome<'t>>,
-    room: Vec<Parcel<'t>>,
+    empty: Vec<Parcel<'t>>,
 ) -> Vec<Parcel<'t>>
     requires of_task { AllByRecursion (IsOf task.now) outcomes.items }
     requires numbered { first + length outcomes.items < 2 ^ 64 }
-    requires none { room.items ≡ [] }
-    requires enough { kids_in outcomes.items ≤ vec_capacity room }
+    requires none { empty.items ≡ [] }
+    requires enough { kids_in outcomes.items ≤ vec_capacity empty }
     ensures kids { map parcel_of result.items ≡ released_by first outcomes.entry.items }
     ensures of_task { AllByRecursion (IsParcelOf task.now) result.items }
 {
-    let mut parcels = room;
+    let mut parcels = empty;
     let mut entry = first;
     for outcome in outcomes {
         entry = release_outcome(&mut parcels, task, entry, outcome);

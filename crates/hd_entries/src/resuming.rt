@@ -136,9 +136,9 @@ impl<'t> Content<'t> {
                 let batch = alone(alloc, expansion)?;
                 let first = self.expanded.entries.len() as u64;
                 match self.commit(&batch) {
-                    Ok(room) => {
+                    Ok(empty) => {
                         let Batch { outcomes, .. } = batch;
-                        Ok(release_kids(task, first, outcomes.into_vec(), room))
+                        Ok(release_kids(task, first, outcomes.into_vec(), empty))
                     }
                     Err(refusal) => Err(refusal),
                 }

@@ -1,17 +1,14 @@
 //! A table of entries, whose states stand in blocks of rows.
 ghost use Rattle.std.specs.Prelude.{◌≡◌, ◌+◌, ◌<◌, ◌≤◌, ◌++◌, [], ◌∷◌, Some, length, slice_get, slice_index_or, IsOk, OnOk};
-ghost use Rattle.hd_task.specs.Plans.{node};
 ghost use Rattle.hd_chunks.specs.declared.chunks.TheConstants.{MOST_ITEMS};
 ghost use Rattle.hd_rows.specs.Widths.{HasWidths};
-ghost use Rattle.hd_entries.specs.Settling.{same_state, dominates};
-ghost use Rattle.hd_entries.specs.Holding.{node_at};
 
-use crate::entry::{Entry, Label, Place};
+use crate::entry::{Entry, Label};
 use crate::hashed_row::HashedRow;
 use hd_chunks::Chunks;
 use hd_node::Hashed;
 use hd_pack::Layout;
-use hd_rows::{Draft, Row, RowBlocks};
+use hd_rows::RowBlocks;
 use hd_task::{Kid, NoMemory};
 use std::alloc::Global;
 use std::marker::Model;
@@ -117,22 +114,5 @@ impl EntryTable {
             cost,
         });
         self.states.push(state.state());
-    }
-}
-
-/// Whether a state and one that was reached are equal.
-fn is_same(one: &Row<'_>, other: &Draft) -> bool
-    ensures { result ≡ same_state one.now other.now }
-{
-    other.row().is(one)
-}
-
-impl<'e> Entry<'e> {
-    /// Whether it has a place's state at no greater cost.
-    pub(crate) fn is_no_dearer(&self, reached: &Place) -> bool
-        ensures { result ≡ dominates (Some (node_at self.now))
-            (Some (node reached.now.state reached.now.cost)) }
-    {
-        is_same(self.state.row(), &reached.state) && self.cost <= reached.cost
     }
 }

@@ -219,7 +219,8 @@ impl Draft {
     }
 
     /// Makes it the state that an applicable action leads to from another, at a plan of some cost, and gives the plan's cost with it. The
-    /// action's condition is not tested. It takes memory only where that state has another number of bytes; and time in the action's own size.
+    /// action's condition is not tested. It takes memory only where that state has another number of bytes, and time in the action's own
+    /// size.
     ///
     /// # Errors
     /// `NoMemory` where there is no room for the bytes.

@@ -20,8 +20,8 @@ use std::sync::ledger::Ledger;
 /// How many tickets a worker holds at most.
 pub const MOST_TICKETS: usize = 4;
 
-/// What a worker's thread holds from turn to turn: its tickets, the oldest first, how many of its outcomes are not committed, and how many
-/// nodes it has settled.
+/// What a worker's thread holds from turn to turn: its tickets, the oldest first, how many of its outcomes are not committed, how many
+/// nodes it has settled, and whether it had something to do.
 ///
 /// It must be ended: it can't be let go.
 #[must_use]
@@ -30,6 +30,8 @@ pub struct Progress {
     held: VecDeque<Held>,
     uncommitted: usize,
     settled: u64,
+    /// The last turn found nothing to do.
+    idle: bool,
     ghost few: { deque_len held ≤ MOST_TICKETS },
     ghost room: { MOST_TICKETS ≤ deque_capacity held },
 }
@@ -47,12 +49,22 @@ impl Progress {
             held,
             uncommitted: 0,
             settled: 0,
+            idle: false,
         })
     }
 
-    /// Whether there are as many tickets as there may be.
-    pub(crate) fn is_full(&self) -> bool {
-        self.held.len() == MOST_TICKETS
+    /// Whether the oldest ticket is worth a wait for the lock: the worker can't commit before it is redeemed, or had nothing else to do.
+    pub(crate) fn waits(&self) -> bool
+        ensures { deque_len self.now.held ≡ MOST_TICKETS → result ≡ true }
+    {
+        self.idle || self.held.len() == MOST_TICKETS
+    }
+
+    /// The worker has done something beside its tickets, or nothing.
+    pub(crate) fn note(&mut self, any: bool)
+        ensures { self.new.held ≡ self.old.held }
+    {
+        self.idle = !any;
     }
 
     /// Whether a batch is to be committed: there is room for its ticket, and there are so many outcomes, or some and no node is open.
@@ -122,6 +134,7 @@ pub(crate) fn end<'t, L: Ledger, A: Ledger, R: Wait>(
         mut held,
         uncommitted: _,
         settled: _,
+        idle: _,
     } = progress;
     while let Some(oldest) = held.pop_front() {
         let Held { ticket, kids: _ } = oldest;

@@ -76,8 +76,8 @@ fn finish<'t, L: Ledger, A: Ledger, R: Wait>(
     end(rt, &desk.lock, &mut place.pass, progress);
 }
 
-/// Redeems a worker's oldest ticket, if it has one, and the lock is free or the worker holds as many tickets as it may: whether its batch has
-/// released what it leads to.
+/// Redeems a worker's oldest ticket, if it has one: whether its batch has released what it leads to. It waits for the lock only where the
+/// worker holds as many tickets as it may, or had nothing else to do.
 ///
 /// # Errors
 /// How the search ends for the worker.
@@ -94,8 +94,7 @@ fn redeem_oldest<'t, L: Ledger, A: Ledger, R: Wait>(
     ensures room { OnOk result (kids_held progress.new ≤ place.new.worker.room) }
     ensures told { IfErr result IsEnd }
 {
-    // A worker that holds as many as it may can't commit, and waits for the lock; another one has better to do.
-    let waits = progress.is_full();
+    let waits = progress.waits();
     let Some(oldest) = progress.oldest() else {
         return Ok(false);
     };
@@ -338,7 +337,8 @@ fn commit_some<'t, L: Ledger, A: Ledger, R: Wait>(
     }
 }
 
-/// One turn of the worker of this number, of so many: it redeems its tickets from the oldest on, sends what is in its outbox, takes what
+/// One turn of the worker of this number, of so many: it redeems its tickets from the oldest on (where it has something else to do and may
+/// commit, only if the lock is free), sends what is in its outbox, takes what
 /// came to it, settles its best open nodes, `together` of them, tells the gate how it stands, if that asks, and commits its next batch, if it
 /// holds fewer than [`MOST_TICKETS`] tickets and has so many outcomes, or some and no node open. The book is locked while a ticket is redeemed and while a batch is committed, and at
 /// no other time; no batch is committed once the book has as many entries as the limit says.
@@ -371,6 +371,7 @@ pub fn worker_turn<'t, L: Ledger, A: Ledger, R: Wait, G: Gate>(
         stop(rt, desk, place);
         return Turn::Ended(Some(RunFault::NoMemory));
     };
+    progress.note(worked.any);
     let busy = released || worked.any;
     if !progress.is_due(worked.open, together) {
         return if busy { Turn::Busy } else { Turn::Idle };

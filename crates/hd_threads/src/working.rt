@@ -1,9 +1,9 @@
 //! What a worker does under the lock, and beside it.
-ghost use Rattle.std.specs.Prelude.{◌≡◌, ◌+◌, ◌<◌, ◌≤◌, ◌^◌, [], Some, IfOk, IfErr, IfSome, OnOk, OnErr};
+ghost use Rattle.std.specs.Prelude.{◌≡◌, ◌+◌, ◌<◌, ◌≤◌, ◌^◌, true, [], Some, is_some, IfOk, IfErr, IfNone, IfSome, OnOk, OnErr};
 ghost use Rattle.std.specs.List.{AllByRecursion};
 ghost use Rattle.crossbeam_queue.specs.Passes.{view};
-ghost use Rattle.hd_desk.specs.Passes.{IsOutside};
-ghost use Rattle.hd_desk.specs.Views.{BeginsWith};
+ghost use Rattle.hd_desk.specs.Passes.{IsInside, IsOutside};
+ghost use Rattle.hd_desk.specs.Views.{BeginsWith, entered};
 ghost use Rattle.hd_bound.specs.Bound.{bound_in};
 ghost use Rattle.hd_entries.specs.Settling.{IsOf};
 ghost use Rattle.hd_entries.specs.Growing.{kids_in};
@@ -54,7 +54,7 @@ pub enum Committed {
 pub enum Redemption {
     /// Its batch is acknowledged: what it releases is open, or in the outbox.
     Opened,
-    /// Its batch waits to be appended.
+    /// Its batch waits to be appended, or the lock was taken.
     Waiting(Held),
     /// The book is halted, and its batch will not be appended.
     Void,
@@ -258,6 +258,7 @@ fn enter<'t, L: Ledger, A: Ledger, R: Wait>(
         view pass.new ≡ entered (view pass.old) b.state.task b.state.entries) }
     ensures outside { IfNone result (IsOutside lock.now.place pass.new) }
     ensures same { IfNone result (view pass.new ≡ view pass.old) }
+    ensures waited { waits ≡ true → is_some result ≡ true }
 {
     if waits {
         Some(lock.enter(rt, pass))

@@ -76,10 +76,10 @@ fn commit<'t>(
     if let Some(batch) = seat.worker.next_batch()? {
         let first = world.entries.len();
         match world.entries.commit(&batch) {
-            Ok(room) => {
+            Ok(empty) => {
                 seat.worker.committed(first);
                 let Batch { outcomes, .. } = batch;
-                for parcel in release_kids(task, first, outcomes.into_vec(), room) {
+                for parcel in release_kids(task, first, outcomes.into_vec(), empty) {
                     seat.coming.push(parcel)?;
                 }
             }
