@@ -9,14 +9,12 @@ use Rattle.std.proofs.lemmas.Nat.Bits.{bit_at-zero, bit_at_ones, bit_at_ones_abo
 use Rattle.std.proofs.lemmas.List.{get_or_append_left, get_or_push, get_or_past, get_or-take, get_or-replicate, length-replicate, length-take, take-take, append-nil}
 use Rattle.std.proofs.Math.Seq.{take-append_seam}
 use Rattle.std.proofs.lemmas.List.Elements.{filter_more}
-use Rattle.std.proofs.lemmas.Option.{none-some}
 use Rattle.hd_open.specs.declared.counts.Counts.{Counts}
 use Rattle.hd_open.specs.declared.queue.Queue.{Queue}
 use Rattle.hd_open.specs.Live.{live, packed, place_at}
 use Rattle.hd_open.specs.Marks.{mark_at, mark_of, AreMarks}
 use Rattle.hd_open.specs.Counts.{start_of, part_at, AreCounts}
 use Rattle.hd_open.specs.Queue.{Has, IsQueued, IsOrderly, IsSingle, IsBelow}
-use Rattle.hd_open.specs.Kept.{IsKept}
 use Rattle.hd_open.proofs.Lowest.{start_less}
 use Rattle.hd_open.proofs.Places.{length-live-le}
 use Rattle.hd_open.proofs.Queueing.{queued_push, single_added, below_added}
@@ -83,7 +81,7 @@ pub record AreWhole (parts : List ℕ) (groups : ℕ) : Type 0 where
 module _ {A : Type 0} where
   -- ---- nodes that stand together
 
-  pub length-packed : (slots : List (Option A)) → length (packed slots) ≡ length (live slots)
+  length-packed : (slots : List (Option A)) → length (packed slots) ≡ length (live slots)
   length-packed [] = refl
   length-packed (Some x ∷ slots) = ap suc (length-packed slots)
   length-packed (None ∷ slots) = length-packed slots
@@ -217,14 +215,6 @@ module _ {A : Type 0} where
     pub latest : IsBelow q (length slots)
 
   module _ (total : A → Option ℕ) where
-    pub queue_none : (q : Queue) → IsOrderly q → ((g : Option ℕ) (k : ℕ) → Has q g k → ⊥) → IsQueueOf total [] q
-    queue_none q orderly none = record {
-      queued = λ k x at. absurd (none-some (Some x) at);
-      orderly = orderly;
-      single = λ g h k one other. absurd (none g k one);
-      latest = λ g k has. absurd (none g k has);
-    }
-
     pub queue_push :
         (slots after : List (Option A)) (q r : Queue) (x : A) (t : Option ℕ) (n : ℕ) → IsQueueOf total slots q → t ≡ total x → n ≡ length slots
         → after ≡ slots ++ Some x ∷ [] → IsOrderly r → Has r t n → ((g : Option ℕ) (k : ℕ) → Has q g k → Has r g k)
@@ -242,20 +232,3 @@ module _ {A : Type 0} where
 
         only_there : (g : Option ℕ) (k : ℕ) → Has r g k → Has q g k ⊎ ((total x ≡ g) × (length slots ≡ k))
         only_there g k has = ⊎_elim (λ old. inl old) (λ new. inr (sym at_total ∙ new.0, sym at ∙ new.1)) (only g k has)
-
-    -- what the list keeps, once all is moved
-    pub kept_packed :
-        (slots after : List (Option A)) (q : Queue) (c : Counts) → after ≡ packed slots → IsQueued total (packed slots) q → IsOrderly q → IsSingle q
-        → IsBelow q (length (packed slots)) → AreMarks (packed slots) c.marks.items → AreCounts (packed slots) c → IsKept total after None None q c
-    kept_packed slots after q c is queued orderly single latest marked counted =
-        subst (λ (ys : List (Option A)). IsKept total ys None None q c) (sym is) (record {
-          queued = queued;
-          orderly = orderly;
-          single = single;
-          latest = latest;
-          marked = marked;
-          counted = counted;
-          empty = λ g none. absurd (cc);
-          waiting = λ g none. absurd (cc);
-          hinted = _;
-        })

@@ -103,7 +103,7 @@ fn cut<T>(slots: &mut Vec<Option<T>>, count: usize)
     }
 }
 
-/// Moves the nodes together, where there is memory for what counts and sorts them there. No slot between them is empty then.
+/// Moves the nodes together, so that no slot between them is empty. Nothing happens where there is no memory for what counts and sorts them there.
 #[inline(never)]
 fn compact<T: Waits>(slots: &mut Vec<Option<T>>, counts: &mut Counts, queue: &mut Queue)
     requires kept { IsKept T.total slots.old.items None None queue.old counts.old }
