@@ -77,7 +77,8 @@ fn close_one<'t>(
     match entries.node(number) {
         Some((state, cost)) => {
             closed.reserve()?;
-            let place = closed.place_of(alloc, state)?;
+            let own = state.copied(alloc)?;
+            let place = closed.place_of(alloc, &own)?;
             closed.close(place, By::Entry(number), cost);
             Ok(())
         }

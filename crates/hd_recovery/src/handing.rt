@@ -66,6 +66,7 @@ fn close_at_owner<'t>(
 /// # Errors
 /// `NoMemory` where there is no room for it.
 fn close_one<'t, L: Ledger>(
+    alloc: Global,
     book: &Book<'t, L>,
     count: usize,
     workers: &mut Vec<Worker<'t>>,
@@ -80,7 +81,10 @@ fn close_one<'t, L: Ledger>(
         ≡ team book.now.state.task count (closed ++ closed_at book.now.state number) []) }
 {
     match book.node(number) {
-        Some((state, cost)) => close_at_owner(book.task(), count, workers, number, state, cost),
+        Some((state, cost)) => {
+            let own = state.copied(alloc)?;
+            close_at_owner(book.task(), count, workers, number, &own, cost)
+        }
         None => Ok(()),
     }
 }
@@ -90,6 +94,7 @@ fn close_one<'t, L: Ledger>(
 /// # Errors
 /// `NoMemory` where there is no room for one.
 pub(crate) fn close_all<'t, L: Ledger>(
+    alloc: Global,
     book: &Book<'t, L>,
     count: usize,
     workers: &mut Vec<Worker<'t>>,
@@ -101,7 +106,7 @@ pub(crate) fn close_all<'t, L: Ledger>(
         ≡ team book.now.state.task count (closed_in book.now.state) []) }
 {
     for number in 0..book.counts().entries {
-        close_one(book, count, workers, number)?;
+        close_one(alloc, book, count, workers, number)?;
     }
     Ok(())
 }

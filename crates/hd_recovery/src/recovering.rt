@@ -51,7 +51,7 @@ fn workers_of<'t, L: Ledger>(
         → IfOk result (λ ws. ws.items ≡ recovered_workers task.now entries count) }
 {
     let mut workers = idle_workers(alloc, task, count)?;
-    close_all(book, count, &mut workers)?;
+    close_all(alloc, book, count, &mut workers)?;
     take_all(task, count, &mut workers, parcels)?;
     Ok(workers)
 }

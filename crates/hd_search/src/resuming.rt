@@ -89,6 +89,7 @@ fn resume<'t, L: Ledger, S: Store>(
 /// # Errors
 /// `NoMemory` where there is no room for it.
 fn close_one<'t, L: Ledger>(
+    alloc: Global,
     book: &Book<'t, L>,
     worker: &mut Worker<'t>,
     number: u64,
@@ -99,7 +100,10 @@ fn close_one<'t, L: Ledger>(
         → OnOk result (Fits book.now.state worker.new coming) }
 {
     match book.node(number) {
-        Some((state, cost)) => worker.close(number, state, cost),
+        Some((state, cost)) => {
+            let own = state.copied(alloc)?;
+            worker.close(number, &own, cost)
+        }
         None => Ok(()),
     }
 }
@@ -108,7 +112,11 @@ fn close_one<'t, L: Ledger>(
 ///
 /// # Errors
 /// `NoMemory` where there is no room for one.
-fn close_all<'t, L: Ledger>(book: &Book<'t, L>, worker: &mut Worker<'t>) -> Result<(), NoMemory>
+fn close_all<'t, L: Ledger>(
+    alloc: Global,
+    book: &Book<'t, L>,
+    worker: &mut Worker<'t>,
+) -> Result<(), NoMemory>
     requires { worker.old.task ≡ book.now.state.task }
     ensures kept { IsKept book.now.state }
     ensures task { worker.new.task ≡ worker.old.task }
@@ -116,7 +124,7 @@ fn close_all<'t, L: Ledger>(book: &Book<'t, L>, worker: &mut Worker<'t>) -> Resu
         → OnOk result (Fits book.now.state worker.new coming) }
 {
     for number in 0..book.counts().entries {
-        close_one(book, worker, number)?;
+        close_one(alloc, book, worker, number)?;
     }
     Ok(())
 }
@@ -171,7 +179,7 @@ fn worker_of<'t, L: Ledger>(
     ensures { IfOk result (λ w. Fits book.now.state w []) }
 {
     let mut worker = Worker::new(alloc, task, 0, 1);
-    close_all(book, &mut worker)?;
+    close_all(alloc, book, &mut worker)?;
     take_all(&mut worker, parcels)?;
     Ok(worker)
 }

@@ -15,7 +15,7 @@ loop-number-preserved c =
     record {
       costs =
           c.in_ok-push-in-Some.ensures.items
-          ∙ costs_more b c.requires n c.in-Some.cost c.in-Some.field-0-0.now c.loop-number.costs.items
+          ∙ costs_more b c.requires n c.in-Some.cost c.in-Some.field-0-0 c.loop-number.costs.items
           (omega (arith, c.loop-number-test.true, c.len-number-end.ensures.len)) c.loop-number.invariant.costs (sym c.in-Some.ensures);
     }
 

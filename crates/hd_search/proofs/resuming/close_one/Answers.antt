@@ -7,5 +7,7 @@ pub close-requires : goal.close-requires
 close-requires g c =
     let b = c.args.book.now.state in
     record {
-      of_task = subst (λ t. IsStateOf t c.in-Some.state.now) (sym c.requires) (node_state b c.args.number (node c.in-Some.state.now c.in-Some.cost) (sym c.in-Some.ensures));
+      of_task =
+          subst (IsStateOf c.args.worker.now.task) (sym c.in_ok-own-in-Some.ensures)
+          (subst (λ t. IsStateOf t c.in-Some.state) (sym c.requires) (node_state b c.args.number (node c.in-Some.state c.in-Some.cost) (sym c.in-Some.ensures)));
     }
