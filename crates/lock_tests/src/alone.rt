@@ -29,3 +29,22 @@ fn a_lock_that_nobody_enters_gives_its_value_back(rt: HostRuntime) -> Result<(),
     assert_eq!(rt; ALL_PARTS, 1024);
     Ok(())
 }
+
+#[test]
+fn a_free_lock_is_entered_and_a_taken_one_is_not(rt: HostRuntime) -> Result<(), Fail> {
+    let alloc = rt.alloc();
+    let (lock, mut first) = Lock::open(&rt, alloc, Diary::of(alloc, 5)?)?;
+    let mut second = lock.another(&mut first);
+    let Some(diary) = lock.try_enter(&rt, &mut first) else {
+        return Err(Fail::new("the lock is free"));
+    };
+    assert_eq!(rt; diary.sheets.of, 5);
+    if let Some(_other) = lock.try_enter(&rt, &mut second) {
+        return Err(Fail::new("the lock is taken"));
+    }
+    lock.leave(&rt, &mut first, diary);
+    write(&rt, &lock, &mut second, 30)?;
+    let diary = lock.gather(&rt, first, vec![in alloc; second]?);
+    assert_eq!(rt; diary.sheets.log.as_slice(), [30u64].as_slice());
+    Ok(())
+}
