@@ -24,7 +24,6 @@ use Rattle.hd_node.specs.declared.batch.Outcome.TheVariants.{Expanded, Duplicate
 use Rattle.hd_node.specs.Children.{ChildView, children_at}
 use Rattle.hd_node.specs.Outcome.{kid_of}
 use Rattle.hd_node.proofs.Steps.{children-actions, children_step}
-use Rattle.hd_entries.specs.declared.entry.Entry as declared
 use Rattle.hd_entries.specs.declared.refusal.Refusal.{Refusal}
 use Rattle.hd_entries.specs.declared.refusal.Refusal.TheVariants.{UnknownParent, NotAKid, SettledBefore}
 use Rattle.hd_kids.specs.Kids.{root, kid_from, same_kid}
@@ -98,11 +97,8 @@ get_or-ranks n (o ∷ outcomes) (suc i) lt =
 
 -- ---- places of entries
 
-abbrev some_node : declared.Entry → Option Node
-some_node e = Some (node_at e)
-
 -- an expansion of a batch is the entry of as many before it
-entered_at : (batch : List Outcome) (i : ℕ) (r : Node) → expanded_node (slice_get batch i) ≡ Some r → option_and_then some_node (slice_get (entered_by batch) (length (flat_map entry_of (take i batch)))) ≡ Some r
+entered_at : (batch : List Outcome) (i : ℕ) (r : Node) → expanded_node (slice_get batch i) ≡ Some r → option_and_then (λ e. Some (node_at e)) (slice_get (entered_by batch) (length (flat_map entry_of (take i batch)))) ≡ Some r
 entered_at [] i r e = absurd (none-some r e)
 entered_at (Expanded x ∷ batch) zero r e = e
 entered_at (Expanded x ∷ batch) (suc i) r e = entered_at batch i r e
@@ -154,7 +150,7 @@ module _ (t : Task) (entries0 : List Kid) (marks0 : List Bool) (kept0 : IsKept (
       ∙ (ap (option_and_then (exec t)) (slice_get-append_right (expansions before) follows.more (length entries0 + j) j (omega (arith, count)))
       ∙ (then_at (exec t) follows.more j
       ∙ (ap (λ (xs : List (Option Node)). option_and_then (λ (o : Option Node). o) (slice_get xs j)) follows.leads
-      ∙ (sym (then_at some_node (entered_by batch) j)
+      ∙ (sym (then_at (λ e. Some (node_at e)) (entered_by batch) j)
       ∙ entered_at batch i r e)))))
 
   -- ---- what names an outcome, once the batch is numbered
@@ -258,7 +254,7 @@ module _ (t : Task) (entries0 : List Kid) (marks0 : List Bool) (kept0 : IsKept (
       (kid_true front behind p r c is leads (among c (Contains-first c cs)), children_true front behind p r cs is leads (λ x m. among x (Contains-later c cs x m)))
 
   released_true :
-      (front rest : List (List ℕ)) (os : List Outcome) (n : ℕ) → n ≡ length front → expansions after ≡ front ++ rest → map (exec t) rest ≡ map some_node (entered_by os) → AllByRecursion (IsOf t) os
+      (front rest : List (List ℕ)) (os : List Outcome) (n : ℕ) → n ≡ length front → expansions after ≡ front ++ rest → map (exec t) rest ≡ map (λ e. Some (node_at e)) (entered_by os) → AllByRecursion (IsOf t) os
       → AllByRecursion (IsTrueOf after) (released_by n os)
   released_true front rest [] n en is leads own = tt
   released_true front rest (Duplicate k by ∷ os) n en is leads own = released_true front rest os (n + 0) (omega arith) is leads own.1
@@ -266,7 +262,7 @@ module _ (t : Task) (entries0 : List Kid) (marks0 : List Bool) (kept0 : IsKept (
   released_true front [] (Expanded e ∷ os) n en is leads own = absurd (cc)
   released_true front (p ∷ rest) (Expanded e ∷ os) n en is leads own =
       let r = node e.state e.cost in
-      let parts = cons_parts (exec t p) (Some r) (map (exec t) rest) (map some_node (entered_by os)) leads in
+      let parts = cons_parts (exec t p) (Some r) (map (exec t) rest) (map (λ e. Some (node_at e)) (entered_by os)) leads in
       let its : e.children ≡ children_at t r = e.all_children ∙ ap (λ (u : Task). children_at u r) own.0 in
       AllByRecursion-append (IsTrueOf after) (map (released_from n) e.children) (released_by (n + 1) os)
       (subst (λ (m : ℕ). AllByRecursion (IsTrueOf after) (map (released_from m) e.children)) (sym en)
