@@ -56,7 +56,14 @@ pub(crate) fn redeem<'t, L: Ledger, A: Ledger, R: Wait>(
         (HasRedeemed held.kids place.old.worker place.new.worker) }
     ensures told { IfErr result IsOfWorker }
 {
-    redeem_next(rt, &desk.lock, &mut place.pass, &mut place.worker, held, waits)
+    redeem_next(
+        rt,
+        &desk.lock,
+        &mut place.pass,
+        &mut place.worker,
+        held,
+        waits,
+    )
 }
 
 /// Sends the first parcel of a worker's outbox, as [`send_next`] does.
