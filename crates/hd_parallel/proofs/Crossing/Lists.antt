@@ -7,7 +7,7 @@ use Rattle.hd_closed.proofs.closed.Shut.TheSendSync as shut
 use Rattle.hd_closed.proofs.notes.Note.TheSendSync as note
 use Rattle.hd_closed.specs.contracts.closed.ClosedList as closed
 use Rattle.hd_entries.proofs.entry.Best.TheSendSync as best
-use Rattle.hd_entries.proofs.entry.Entry.TheSendSync as entry
+use Rattle.hd_entries.proofs.entry.Label.TheSendSync as label
 use Rattle.hd_entries.specs.contracts.entries.Entries as entries
 use Rattle.hd_chunks.proofs.chunks.Chunks.TheSendSync as chunks
 use Rattle.hd_kids.proofs.table.KidTable.TheSendSync as kids
@@ -20,4 +20,4 @@ pub closed_send : (t : NamedLft) → IsSend (closed.the_row t)
 closed_send t = search (sendable, crosses, maps.crosses, task_sync, note.the_send, shut.the_send) depth 20
 
 pub entries_send : (t : NamedLft) → IsSend (entries.the_row t)
-entries_send t = search (sendable, crosses, task_sync, kids.the_send, words.the_send, chunks.the_send, entry.the_send, best.the_field_send, departure.the_field_send, global.the_field_send) depth 30
+entries_send t = search (sendable, crosses, task_sync, kids.the_send, words.the_send, chunks.the_send, label.the_send, best.the_field_send, departure.the_field_send, global.the_field_send) depth 30
