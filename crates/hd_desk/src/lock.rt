@@ -11,7 +11,26 @@ use crate::view::View;
 use crossbeam_queue::RuledArrayQueue;
 use std::alloc::{AllocError, Global};
 use std::sync::Wait;
-use std::thread;
+use std::{hint, thread};
+
+/// How often a lock that is taken is tried again before other threads are let run.
+const TRIES: u32 = 64;
+
+/// How often the processor is told between two tries that it only waits: some two microseconds.
+const HINTS: u32 = 32;
+
+/// Waits between two tries of a lock, by how often it was tried before. A lock is held for some tens of microseconds, and who lets other
+/// threads run may wait for milliseconds before it runs again; so that is done only where the lock stays taken, maybe by a thread that
+/// waits for a processor itself.
+fn wait_a_little(tried: u32) {
+    if tried < TRIES {
+        for _hint in 0..HINTS {
+            hint::spin_loop();
+        }
+    } else {
+        thread::yield_now();
+    }
+}
 
 /// What one user of a lock knows of it. It has no bytes.
 pub type Pass<B> = crossbeam_queue::Pass<B, View<<B as Locked>::Task, <B as Locked>::Item>>;
@@ -63,11 +82,13 @@ impl<B: Locked> Lock<B> {
         ensures begins { BeginsWith (B.log result) (view pass.old).seen.log }
         ensures view { view pass.new ≡ entered (view pass.old) (B.task result) (B.log result) }
     {
+        let mut tried = 0u32;
         for _ in rt.forever() {
             if let Some(value) = self.try_enter(rt, pass) {
                 return value;
             }
-            thread::yield_now();
+            wait_a_little(tried);
+            tried = tried.saturating_add(1);
         }
         unreachable!()
     }

@@ -186,8 +186,8 @@ fn run_as<
 /// Searches a task to the end by so many workers, each in a thread of its own, over a journal: the search goes on from the entries that the
 /// journal has, from the root where it has none. This thread appends the entries of the workers' batches to the journal, and what these
 /// lead to is open only then. Each worker has the states that it owns by their hashes, and sends what leads to others to their owners. It
-/// settles its best open node and commits the outcome; while a batch of its waits to be appended it settles nodes that are no worse than
-/// what it settled while none did, and `together` worse ones besides. The gate is called around each.
+/// settles its best open nodes and commits what comes of them, that of `together` nodes at a time, or of fewer where no more are open; while
+/// its batches wait to be appended it goes on with the nodes that are open. The gate is called around each.
 ///
 /// With a limit no batch is committed any more once there are so many entries, those that the journal had among them.
 ///

@@ -20,6 +20,9 @@ use std::sync::ledger::Ledger;
 /// How many tickets a worker holds at most.
 pub const MOST_TICKETS: usize = 4;
 
+/// How many outcomes of a worker that holds as many tickets as it may are left uncommitted before it settles no further node: two batches.
+const MOST_UNCOMMITTED: usize = 2 * MAX_OUTCOMES;
+
 /// What a worker's thread holds from turn to turn: its tickets, the oldest first, how many of its outcomes are not committed, how many
 /// nodes it has settled, and whether it had something to do.
 ///
@@ -73,6 +76,12 @@ impl Progress {
     {
         let enough = self.uncommitted >= together || !open;
         self.held.len() < MOST_TICKETS && self.uncommitted > 0 && enough
+    }
+
+    /// Whether the worker is to wait for its tickets before it settles a further node: it holds as many as it may, and outcomes enough are
+    /// uncommitted.
+    pub(crate) fn is_full(&self) -> bool {
+        self.held.len() == MOST_TICKETS && self.uncommitted >= MOST_UNCOMMITTED
     }
 
     /// A node more is an outcome: the number of this node, from 1.

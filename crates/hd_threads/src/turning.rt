@@ -183,7 +183,8 @@ fn take_all<'t, L: Ledger, A: Ledger>(
     Ok(taken)
 }
 
-/// Settles a worker's best open node, if one is open, between the calls of the gate: whether one was.
+/// Settles a worker's best open node, if one is open, between the calls of the gate: whether it did. Where the worker is to wait for its
+/// tickets, what came to it is opened, and nothing is settled.
 ///
 /// # Errors
 /// `NoMemory` where there is no room for an outcome, or for what is kept of estimates.
@@ -200,7 +201,7 @@ fn settle_one<'t, L: Ledger, A: Ledger, R: Wait, G: Gate>(
     ensures still { IsStill place.old place.new }
     ensures tickets { progress.new.held ≡ progress.old.held }
 {
-    if !has_open(desk, place)? {
+    if !has_open(desk, place)? || progress.is_full() {
         return Ok(false);
     }
     let nth = progress.count();
@@ -211,7 +212,8 @@ fn settle_one<'t, L: Ledger, A: Ledger, R: Wait, G: Gate>(
     Ok(true)
 }
 
-/// Settles a worker's best open nodes, so many of them, or as many as are open: how many these are.
+/// Settles a worker's best open nodes, so many of them, or as many as are open before the worker is to wait for its tickets: how many
+/// these are.
 ///
 /// # Errors
 /// Those of settling one.
@@ -339,8 +341,9 @@ fn commit_some<'t, L: Ledger, A: Ledger, R: Wait>(
 
 /// One turn of the worker of this number, of so many: it redeems its tickets from the oldest on (where it has something else to do and may
 /// commit, only if the lock is free), sends what is in its outbox, takes what
-/// came to it, settles its best open nodes, `together` of them, tells the gate how it stands, if that asks, and commits its next batch, if it
-/// holds fewer than [`MOST_TICKETS`] tickets and has so many outcomes, or some and no node open. The book is locked while a ticket is redeemed and while a batch is committed, and at
+/// came to it, settles its best open nodes, `together` of them, unless it is to wait for its tickets ([`Progress`]), tells the gate how it
+/// stands, if that asks, and commits its next batch, if it holds fewer than [`MOST_TICKETS`] tickets and has so many outcomes, or some and
+/// no node open. The book is locked while a ticket is redeemed and while a batch is committed, and at
 /// no other time; no batch is committed once the book has as many entries as the limit says.
 pub fn worker_turn<'t, L: Ledger, A: Ledger, R: Wait, G: Gate>(
     rt: &R,
