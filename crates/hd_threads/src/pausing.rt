@@ -6,8 +6,12 @@ use std::time::Duration;
 /// How often a thread lets others run, before it sleeps.
 const YIELDS: u32 = 32;
 
-/// How long its first sleep is, in microseconds. Each later one is twice as long as the one before.
+/// How long its first sleep is, in microseconds.
 const FIRST_SLEEP: u64 = 16;
+
+/// How many of its sleeps are of one length, before the next are twice as long. So a sleep is short by the time that was waited before it:
+/// where 64 threads wait for one another in turn, what each sleeps too long does not add up to ever longer sleeps.
+const OF_ONE_LENGTH: u32 = 32;
 
 /// How often the length is doubled.
 const DOUBLINGS: u32 = 7;
@@ -34,7 +38,7 @@ impl Pause {
         if self.waits < YIELDS {
             thread::yield_now();
         } else {
-            let doublings = (self.waits - YIELDS).min(DOUBLINGS);
+            let doublings = ((self.waits - YIELDS) / OF_ONE_LENGTH).min(DOUBLINGS);
             let length = Duration::from_micros(FIRST_SLEEP << doublings);
             Parker::new().park_timeout(rt, length);
         }
