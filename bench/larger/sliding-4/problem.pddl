@@ -1,0 +1,5 @@
+(define (problem sliding) (:domain sliding)
+  (:objects t1 t2 t3 t4 t5 t6 t7 t8 t9 t10 t11 - tile p0 p1 p2 p3 p4 p5 p6 p7 p8 p9 p10 p11 - cell)
+  (:init (at t4 p0) (at t5 p1) (at t7 p2) (at t1 p3) (at t9 p4) (at t8 p5) (at t6 p6) (at t2 p7) (at t11 p8) (at t10 p9) (blank p10) (at t3 p11)
+    (next p0 p4) (next p0 p1) (next p1 p5) (next p1 p0) (next p1 p2) (next p2 p6) (next p2 p1) (next p2 p3) (next p3 p7) (next p3 p2) (next p4 p0) (next p4 p8) (next p4 p5) (next p5 p1) (next p5 p9) (next p5 p4) (next p5 p6) (next p6 p2) (next p6 p10) (next p6 p5) (next p6 p7) (next p7 p3) (next p7 p11) (next p7 p6) (next p8 p4) (next p8 p9) (next p9 p5) (next p9 p8) (next p9 p10) (next p10 p6) (next p10 p9) (next p10 p11) (next p11 p7) (next p11 p10))
+  (:goal (and (at t1 p1) (at t2 p2) (at t3 p3) (at t4 p4) (at t5 p5) (at t6 p6) (at t7 p7) (at t8 p8) (at t9 p9) (at t10 p10) (at t11 p11))))
