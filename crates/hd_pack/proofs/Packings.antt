@@ -1,5 +1,6 @@
 -- What stands in the bytes of a packing: the atoms and values of its state, also after a change.
-use Rattle.std.proofs.Common.{◌≡◌, ℕ, ◌+◌, ◌*◌, ◌<◌, ◌≤◌, ◌/◌, Bool, false, not, List, [], ◌++◌, refl, length, drop, get_or, map, sym, ap, ap₂, ◌∙◌, subst, arith, length-set}
+use Rattle.std.proofs.Math.Seq.{take-append_seam}
+use Rattle.std.proofs.Common.{◌≡◌, ℕ, ◌+◌, ◌*◌, ◌<◌, ◌≤◌, ◌/◌, Bool, false, not, List, [], ◌++◌, refl, length, take, drop, get_or, map, sym, ap, ap₂, ◌∙◌, subst, arith, length-set}
 use Rattle.std.specs.Prelude.{ℤ, Some, None, slice_get}
 use Rattle.std.specs.Int.{w64}
 use Rattle.std.specs.Int.RustNames.{FitsSigned}
@@ -106,3 +107,7 @@ values_of n xs s is = ap (λ (s : State). s.fluents) is
 pub parts_empty : (xs : List ℕ) → xs ≡ [] → Parts 0 xs (record { atoms = []; fluents = [] })
 unfolding packed_bytes
 parts_empty xs is = record { count = refl; bytes = is; fit = tt }
+
+-- bytes that are written over as a whole, by as many
+pub refilled_is : (xs ws : List ℕ) → length ws ≡ length xs → take (length xs) (ws ++ drop (length ws) xs) ≡ ws
+refilled_is xs ws e = ap (λ (k : ℕ). take k (ws ++ drop (length ws) xs)) (sym e) ∙ take-append_seam ws (drop (length ws) xs)

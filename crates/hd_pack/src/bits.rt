@@ -4,7 +4,12 @@ ghost use Rattle.std.specs.List.{range_with_len};
 ghost use Rattle.hd_pack.specs.Packing.{byte_of, atom_bytes, atom_in, bytes_for, flipped};
 
 use hd_base::NoMemory;
+use smallvec::SmallVec;
 use std::alloc::Global;
+
+/// The bytes of a packing. Up to sixteen of them stand in the packing itself: so a state of few atoms and fluents takes no block of the
+/// allocator, which one thread would have to take and another to give back where states go from worker to worker.
+pub(crate) type Bytes = SmallVec<u8, 16>;
 
 /// How many bytes so many atoms take.
 pub(crate) fn bytes_for(atoms: usize) -> usize
@@ -27,7 +32,7 @@ fn byte_of(bits: &[bool]) -> u8
 
 /// Appends the bytes of atoms, eight atoms a byte.
 #[tactic(auto, using(crate::proofs::AtomBits::atoms_next, crate::proofs::AtomBits::atoms_last))]
-pub(crate) fn push_atoms(bytes: &mut Vec<u8>, atoms: &[bool]) -> Result<(), NoMemory>
+pub(crate) fn push_atoms(bytes: &mut Bytes, atoms: &[bool]) -> Result<(), NoMemory>
     ensures { IfOk result (λ _. bytes.new.items ≡ bytes.old.items ++ atom_bytes atoms.now) }
 {
     let mut rest = atoms;
@@ -51,11 +56,11 @@ pub(crate) fn atom_in(bytes: &[u8], atom: usize) -> bool
 }
 
 /// Turns the atom of this number round.
-pub(crate) fn flip_atom(bytes: &mut Vec<u8>, atom: usize)
+pub(crate) fn flip_atom(bytes: &mut Bytes, atom: usize)
     requires { atom / 8 < length bytes.old.items }
     ensures { bytes.new.items ≡ flipped bytes.old.items atom }
 {
-    bytes[atom / 8] ^= 1 << (atom % 8);
+    bytes.as_mut_slice()[atom / 8] ^= 1 << (atom % 8);
 }
 
 /// The first atoms, as many as asked, in a vector with room for as many as said.

@@ -10,11 +10,12 @@ ghost use Rattle.hd_zobrist.specs.Hash.{IsChangeOf, changed};
 ghost use Rattle.hd_pack.specs.Laws.{same_equiv, same_alike};
 
 use crate::Layout;
-use crate::bits::{atom_in, atoms_in, bytes_for, flip_atom, push_atoms};
+use crate::bits::{Bytes, atom_in, atoms_in, bytes_for, flip_atom, push_atoms};
 use crate::values::{push_values, put_value, value_at, values_in};
 use hd_base::{NoMemory, Sequence};
 use hd_task::{Reads, State};
 use hd_zobrist::Change;
+use smallvec::SmallVec;
 use std::alloc::Global;
 use std::hash::{Hash, Hasher};
 use std::marker::Model;
@@ -23,7 +24,7 @@ use std::marker::Model;
 #[derive(Debug, Drop)]
 pub struct Packed {
     atoms: usize,
-    bytes: Vec<u8>,
+    bytes: Bytes,
 }
 
 impl Model for Packed {
@@ -45,7 +46,7 @@ impl Packed {
     {
         Packed {
             atoms: 0,
-            bytes: Vec::new(alloc),
+            bytes: SmallVec::new(alloc),
         }
     }
 
@@ -57,7 +58,7 @@ impl Packed {
         requires { IsPacking atoms bytes.now }
         ensures { IfOk result (λ p. p ≡ unpacked atoms bytes.now) }
     {
-        let bytes = Vec::from_slice(alloc, bytes)?;
+        let bytes = SmallVec::from_slice(alloc, bytes)?;
         Ok(Packed { atoms, bytes })
     }
 
@@ -83,7 +84,7 @@ impl Packed {
     pub fn copied(&self, alloc: Global) -> Result<Packed, NoMemory>
         ensures { IfOk result (λ p. p ≡ self.now) }
     {
-        let bytes = Vec::from_slice(alloc, self.bytes.as_slice())?;
+        let bytes = SmallVec::from_slice(alloc, self.bytes.as_slice())?;
         Ok(Packed {
             atoms: self.atoms,
             bytes,
@@ -159,7 +160,7 @@ impl Reads for Packed {
 pub fn pack(alloc: Global, layout: &Layout, state: &State) -> Result<Packed, NoMemory>
     ensures { IfOk result (λ p. p ≡ state.now) }
 {
-    let mut bytes = Vec::with_capacity(alloc, layout.bytes())?;
+    let mut bytes = SmallVec::with_capacity(alloc, layout.bytes())?;
     push_atoms(&mut bytes, state.atoms.as_slice())?;
     push_values(&mut bytes, state.fluents.as_slice())?;
     Ok(Packed {

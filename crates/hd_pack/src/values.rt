@@ -4,6 +4,7 @@ ghost use Rattle.std.specs.Int.{w64, cast_signed, from_le_bytes};
 ghost use Rattle.std.specs.List.{flat_map, AllByRecursion};
 ghost use Rattle.hd_pack.specs.Packing.{value_bytes, values_in, replaced};
 
+use crate::bits::Bytes;
 use hd_base::NoMemory;
 use std::alloc::Global;
 
@@ -16,7 +17,7 @@ fn value_bytes(value: &i64) -> [u8; 8]
 }
 
 /// Appends the bytes of values, eight each.
-pub(crate) fn push_values(bytes: &mut Vec<u8>, values: &[i64]) -> Result<(), NoMemory>
+pub(crate) fn push_values(bytes: &mut Bytes, values: &[i64]) -> Result<(), NoMemory>
     ensures bytes { IfOk result (λ _. bytes.new.items
         ≡ bytes.old.items ++ flat_map value_bytes values.now) }
     ensures fit { IfOk result (λ _. AllByRecursion (FitsSigned w64) values.now) }

@@ -1,8 +1,7 @@
 use Rattle.std.proofs.Common.{◌≡◌, ℕ, ◌+◌, ◌*◌, List, length, ap, ap₂, ◌∙◌, arith}
 use Rattle.std.proofs.Math.Facts.{Fits-of_lt}
-use Rattle.std.proofs.lemmas.List.{with_items_is}
 use Rattle.hd_pack.specs.Packing.{bytes_for, value_bytes, replaced}
-use Rattle.hd_pack.proofs.Packings.{parts_of, parts_put, state_of, packing_of, value_place}
+use Rattle.hd_pack.proofs.Packings.{parts_of, parts_put, state_of, packing_of, value_place, refilled_is}
 use Rattle.hd_pack.proofs.packed.Packed.put.Goals as goal
 
 pub overflow_mul-fluent : goal.overflow_mul-fluent
@@ -30,13 +29,13 @@ put_value-requires c =
 pub invariant_of-self : goal.invariant_of-self
 invariant_of-self c =
     packing_of _ _ _ (parts_put _ _ _ _ c.args.fluent c.args.value.now (parts_of _ _ _ c.self.view_is c.self.invariant) c.requires c.put_value.ensures.fits
-    (with_items_is c.self.inside.bytes c.put_value.new.bytes (c.put_value.ensures.length ∙ c.as_mut_slice-bytes.ensures.len)
+    (refilled_is c.self.inside.bytes.items c.put_value.new.bytes (c.put_value.ensures.length ∙ ap length c.as_mut_slice-bytes.ensures.value)
     ∙ (c.put_value.ensures.bytes
     ∙ ap₂ (λ (n : ℕ) (xs : List ℕ). replaced (n + 8 * c.args.fluent) xs (value_bytes c.args.value.now)) c.bytes_for.ensures c.as_mut_slice-bytes.ensures.value)))
 
 pub returns : goal.returns
 returns c =
     state_of _ _ _ (parts_put _ _ _ _ c.args.fluent c.args.value.now (parts_of _ _ _ c.self.view_is c.self.invariant) c.requires c.put_value.ensures.fits
-    (with_items_is c.self.inside.bytes c.put_value.new.bytes (c.put_value.ensures.length ∙ c.as_mut_slice-bytes.ensures.len)
+    (refilled_is c.self.inside.bytes.items c.put_value.new.bytes (c.put_value.ensures.length ∙ ap length c.as_mut_slice-bytes.ensures.value)
     ∙ (c.put_value.ensures.bytes
     ∙ ap₂ (λ (n : ℕ) (xs : List ℕ). replaced (n + 8 * c.args.fluent) xs (value_bytes c.args.value.now)) c.bytes_for.ensures c.as_mut_slice-bytes.ensures.value)))
