@@ -11,7 +11,7 @@ use Rattle.hd_base.proofs.Lists.{AllByRecursion-push}
 use Rattle.hd_desk.specs.declared.rule.TheConstants.{ALL_PARTS}
 use Rattle.hd_desk.specs.declared.view.View.{View}
 use Rattle.hd_desk.specs.Kept.{parts_of, holders_of, Fits, Lies, Kept}
-use Rattle.hd_desk.specs.Steps.{Opened, Entered, Left, IsThere, IsGone}
+use Rattle.hd_desk.specs.Steps.{Opened, Entered, Left, IsThere, IsThereAlone, IsGone}
 use Rattle.hd_desk.specs.Views.{BeginsWith, GoesOnFrom, unopened, opened, entered, left, less_one, another_of, with_told, spent}
 use Rattle.hd_desk.proofs.Begins.{begins_itself, goes_along, goes_each}
 use Rattle.hd_desk.proofs.Sums.{sum_set, sum_at, sum_two, sum_only}
@@ -74,6 +74,10 @@ module _ {B T I : Type 0} (task : B → T) (log : B → List I) where
       sum_only holders_of views pass v at (λ j u apart at'. left_free u.inside ((k.each j u at').idle (none_else views pass j v u k.parts whole apart at at'))) in
       let sum : sum_by holders_of views + length items ≡ 1 = k.one in
       omega (arith, free, only, sum)
+
+  -- so it does where the pass is outside and has every part
+  pub there_alone : (pass : ℕ) (v : View T I) → v.inside ≡ false → Learns (Kept task log) pass v (IsThereAlone v)
+  there_alone pass v out items views k at = λ whole. there pass v whole out items views k at
 
   pub opens : (n pass : ℕ) (v : View T I) (b : B) → v ≡ unopened → Pushes (Kept task log) n pass v b (Opened task log v b)
   opens n pass v b is items views room k at =

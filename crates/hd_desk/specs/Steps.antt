@@ -1,6 +1,7 @@
 -- What each step of the lock tells the pass that takes it. (Our own.)
 use Rattle.std.specs.Prelude.{◌≡◌, List, [], length, Some}
 use Rattle.std.specs.List.{AllByRecursion}
+use Rattle.hd_desk.specs.declared.rule.TheConstants.{ALL_PARTS}
 use Rattle.hd_desk.specs.declared.view.View.{View}
 use Rattle.hd_desk.specs.Views.{GoesOnFrom, opened, entered, left}
 
@@ -23,6 +24,10 @@ module _ {B T I : Type 0} where
   -- the value lies in the queue
   abbrev pub IsThere : View T I → List B → Type 0
   IsThere v items = length items ≡ 1
+
+  -- the value lies in the queue, where the pass has every part
+  abbrev pub IsThereAlone : View T I → List B → Type 0
+  IsThereAlone v items = v.parts ≡ ALL_PARTS → length items ≡ 1
 
   -- the queue is empty
   abbrev pub IsGone : View T I → List B → Type 0

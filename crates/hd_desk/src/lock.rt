@@ -1,12 +1,12 @@
 //! The lock.
-ghost use Rattle.std.specs.Prelude.{◌≡◌, ◌+◌, ◌<◌, All, IfOk, IfNone, IfSome, Some};
+ghost use Rattle.std.specs.Prelude.{◌≡◌, ◌+◌, ◌<◌, false, All, IfOk, IfNone, IfSome, Some};
 ghost use Rattle.crossbeam_queue.specs.Passes.{view, ruled_capacity};
 ghost use Rattle.hd_desk.specs.declared.rule.TheConstants.{ALL_PARTS};
 ghost use Rattle.hd_desk.specs.Passes.{IsOutside, IsInside, parts_in, IsSeenIn, AreSeenIn};
 ghost use Rattle.hd_desk.specs.Views.{BeginsWith, opened, entered, left, less_one, another_of};
 
 use crate::locked::Locked;
-use crate::plays::{Enters, Gathers, Leaves, OnePlace, Opens, Parts};
+use crate::plays::{Enters, Gathers, Leaves, Looks, OnePlace, Opens, Parts};
 use crate::view::View;
 use crossbeam_queue::RuledArrayQueue;
 use std::alloc::{AllocError, Global};
@@ -72,6 +72,17 @@ impl<B: Locked> Lock<B> {
         ensures same { IfNone result (view pass.new ≡ view pass.old) }
     {
         self.place.pop_as::<Enters, R>(rt, pass)
+    }
+
+    /// Whether the lock was taken at a moment of the call. Another thread may take it, or give the value back, before this one acts on the
+    /// answer: it tells whether a try is worth while. A lock that no other pass can take is not taken.
+    pub fn is_taken(&self, pass: &mut Pass<B>) -> bool
+        requires { IsOutside self.now.place pass.old }
+        ensures outside { IsOutside self.now.place pass.new }
+        ensures same { view pass.new ≡ view pass.old }
+        ensures alone { (view pass.old).parts ≡ ALL_PARTS → result ≡ false }
+    {
+        self.place.is_empty_as::<Looks>(pass)
     }
 
     /// Waits until the lock is free, and takes the value.

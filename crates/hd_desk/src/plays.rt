@@ -1,6 +1,6 @@
 //! The rule of the lock's queue, and what each step of it tells.
 ghost use Rattle.hd_desk.specs.Kept.{Kept};
-ghost use Rattle.hd_desk.specs.Steps.{Opened, Entered, Left, IsThere, IsGone};
+ghost use Rattle.hd_desk.specs.Steps.{Opened, Entered, Left, IsThere, IsThereAlone, IsGone};
 ghost use Rattle.hd_desk.specs.Views.{unopened, less_one, another_of, with_told, spent};
 
 use crate::locked::Locked;
@@ -47,6 +47,13 @@ impl<B: Locked> Outcome<B, View<B::Task, B::Item>> for Gathers {
 
 impl<B: Locked> Lesson<B, View<B::Task, B::Item>> for Gathers {
     ghost fact = { IsThere };
+}
+
+/// A pass looks whether the value lies in the queue.
+pub struct Looks;
+
+impl<B: Locked> Lesson<B, View<B::Task, B::Item>> for Looks {
+    ghost fact = { IsThereAlone };
 }
 
 /// A pass gives the value back.

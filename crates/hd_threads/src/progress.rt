@@ -1,8 +1,8 @@
 //! What a worker's thread holds from turn to turn.
-ghost use Rattle.std.specs.Prelude.{◌≡◌, ◌<◌, ◌≤◌, true, [], ◌∷◌, ◌++◌, IfOk, IfSome, IfNone};
+ghost use Rattle.std.specs.Prelude.{◌≡◌, ◌<◌, ◌≤◌, true, false, [], ◌∷◌, ◌++◌, IfOk, IfSome, IfNone};
 ghost use Rattle.std.specs.VecDeque.{deque_len, deque_capacity};
 ghost use Rattle.crossbeam_queue.specs.Passes.{view};
-ghost use Rattle.hd_threads.specs.declared.progress.TheConstants.{MOST_TICKETS};
+ghost use Rattle.hd_threads.specs.declared.progress.TheConstants.{MOST_TICKETS, MOST_UNCOMMITTED};
 ghost use Rattle.hd_desk.specs.Passes.{IsOutside};
 ghost use Rattle.hd_desk.specs.Views.{BeginsWith};
 
@@ -20,7 +20,8 @@ use std::sync::ledger::Ledger;
 /// How many tickets a worker holds at most.
 pub const MOST_TICKETS: usize = 4;
 
-/// How many outcomes of a worker that holds as many tickets as it may are left uncommitted before it settles no further node: two batches.
+/// How many outcomes of a worker are left uncommitted before it waits for the lock, or settles no further node where it holds as many
+/// tickets as it may: two batches.
 const MOST_UNCOMMITTED: usize = 2 * MAX_OUTCOMES;
 
 /// What a worker's thread holds from turn to turn: its tickets, the oldest first, how many of its outcomes are not committed, how many
@@ -56,11 +57,13 @@ impl Progress {
         })
     }
 
-    /// Whether the oldest ticket is worth a wait for the lock: the worker can't commit before it is redeemed, or had nothing else to do.
+    /// Whether the oldest ticket is worth a wait for the lock: the worker settles no node before it is redeemed, or had nothing else to do.
     pub(crate) fn waits(&self) -> bool
-        ensures { deque_len self.now.held ≡ MOST_TICKETS → result ≡ true }
+        ensures idle { self.now.idle ≡ true → result ≡ true }
+        ensures full { deque_len self.now.held ≡ MOST_TICKETS
+            → MOST_UNCOMMITTED ≤ self.now.uncommitted → result ≡ true }
     {
-        self.idle || self.held.len() == MOST_TICKETS
+        self.idle || self.is_full()
     }
 
     /// The worker has done something beside its tickets, or nothing.
@@ -80,8 +83,21 @@ impl Progress {
 
     /// Whether the worker is to wait for its tickets before it settles a further node: it holds as many as it may, and outcomes enough are
     /// uncommitted.
-    pub(crate) fn is_full(&self) -> bool {
-        self.held.len() == MOST_TICKETS && self.uncommitted >= MOST_UNCOMMITTED
+    pub(crate) fn is_full(&self) -> bool
+        ensures tickets { result ≡ true → deque_len self.now.held ≡ MOST_TICKETS }
+        ensures many { result ≡ true → MOST_UNCOMMITTED ≤ self.now.uncommitted }
+        ensures full { deque_len self.now.held ≡ MOST_TICKETS
+            → MOST_UNCOMMITTED ≤ self.now.uncommitted → result ≡ true }
+    {
+        self.held.len() == MOST_TICKETS && self.has_many()
+    }
+
+    /// Whether so many outcomes are uncommitted that a batch is worth a wait for the lock.
+    pub(crate) fn has_many(&self) -> bool
+        ensures many { result ≡ true → MOST_UNCOMMITTED ≤ self.now.uncommitted }
+        ensures few { result ≡ false → self.now.uncommitted < MOST_UNCOMMITTED }
+    {
+        self.uncommitted >= MOST_UNCOMMITTED
     }
 
     /// A node more is an outcome: the number of this node, from 1.

@@ -77,7 +77,7 @@ fn finish<'t, L: Ledger, A: Ledger, R: Wait>(
 }
 
 /// Redeems a worker's oldest ticket, if it has one: whether its batch has released what it leads to. It waits for the lock only where the
-/// worker holds as many tickets as it may, or had nothing else to do.
+/// worker settles nothing before its tickets are redeemed, or had nothing else to do.
 ///
 /// # Errors
 /// How the search ends for the worker.
@@ -301,6 +301,21 @@ fn go_on<'t, L: Ledger, A: Ledger, R: Wait, G: Gate>(
     })
 }
 
+/// Whether a worker puts its next batch off, where it has nodes to settle: its outcomes are few enough, and another thread has the lock.
+#[tactic(auto, using(crate::proofs::Begins::begins_same))]
+fn puts_off<'t, L: Ledger, A: Ledger>(
+    desk: &Desk<'t, L, A>,
+    place: &mut Workplace<'t, L, A>,
+    progress: &Progress,
+) -> bool
+    requires at { IsAt desk.now place.old }
+    ensures at { IsAt desk.now place.new }
+    ensures keeps { Keeps place.old place.new }
+    ensures room { place.new.worker.room ≡ place.old.worker.room }
+{
+    !progress.has_many() && desk.lock.is_taken(&mut place.pass)
+}
+
 /// Commits a worker's next batch: whether there was one.
 ///
 /// # Errors
@@ -339,11 +354,12 @@ fn commit_some<'t, L: Ledger, A: Ledger, R: Wait>(
     }
 }
 
-/// One turn of the worker of this number, of so many: it redeems its tickets from the oldest on (where it has something else to do and may
-/// commit, only if the lock is free), sends what is in its outbox, takes what
+/// One turn of the worker of this number, of so many: it redeems its tickets from the oldest on (where it has something else to do, only if
+/// the lock is free), sends what is in its outbox, takes what
 /// came to it, settles its best open nodes, `together` of them, unless it is to wait for its tickets ([`Progress`]), tells the gate how it
 /// stands, if that asks, and commits its next batch, if it holds fewer than [`MOST_TICKETS`] tickets and has so many outcomes, or some and
-/// no node open. The book is locked while a ticket is redeemed and while a batch is committed, and at
+/// no node open. While the lock is taken it puts that off, unless no node is open or its outcomes are many: it settles further nodes rather
+/// than wait. The book is locked while a ticket is redeemed and while a batch is committed, and at
 /// no other time; no batch is committed once the book has as many entries as the limit says.
 pub fn worker_turn<'t, L: Ledger, A: Ledger, R: Wait, G: Gate>(
     rt: &R,
@@ -378,6 +394,9 @@ pub fn worker_turn<'t, L: Ledger, A: Ledger, R: Wait, G: Gate>(
     let busy = released || worked.any;
     if !progress.is_due(worked.open, together) {
         return if busy { Turn::Busy } else { Turn::Idle };
+    }
+    if worked.open && puts_off(desk, place, progress) {
+        return Turn::Busy;
     }
     match commit_some(rt, desk, place, progress, limit) {
         Ok(committed) if busy || committed => Turn::Busy,

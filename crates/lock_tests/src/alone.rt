@@ -48,3 +48,20 @@ fn a_free_lock_is_entered_and_a_taken_one_is_not(rt: HostRuntime) -> Result<(), 
     assert_eq!(rt; diary.sheets.log.as_slice(), [30u64].as_slice());
     Ok(())
 }
+
+#[test]
+fn a_lock_is_told_to_be_taken_just_while_a_pass_is_inside(rt: HostRuntime) -> Result<(), Fail> {
+    let alloc = rt.alloc();
+    let (lock, mut first) = Lock::open(&rt, alloc, Diary::of(alloc, 9)?)?;
+    assert!(rt; !lock.is_taken(&mut first));
+    let mut second = lock.another(&mut first);
+    assert!(rt; !lock.is_taken(&mut second));
+    let diary = lock.enter(&rt, &mut first);
+    assert!(rt; lock.is_taken(&mut second));
+    lock.leave(&rt, &mut first, diary);
+    assert!(rt; !lock.is_taken(&mut first));
+    assert!(rt; !lock.is_taken(&mut second));
+    let diary = lock.gather(&rt, first, vec![in alloc; second]?);
+    assert_eq!(rt; diary.sheets.of, 9);
+    Ok(())
+}
