@@ -52,7 +52,7 @@ fn first_two<'t>(task: &'t Task, children: Children) -> (Option<Parcel<'t>>, Opt
     ensures second { IfSome result.1 (λ p. p.task ≡ task.now) }
 {
     let mut first = None;
-    for child in children {
+    for child in children.into_vec() {
         let parcel = Parcel::of_child(task, 0, child);
         if first.is_some() {
             return (first, Some(parcel));

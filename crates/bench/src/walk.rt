@@ -60,7 +60,7 @@ fn parcel_at<'t>(task: &'t Task, children: Children, place: u64) -> Option<Parce
     ensures { IfSome result (λ p. p.task ≡ task.now) }
 {
     let mut before = place;
-    for child in children {
+    for child in children.into_vec() {
         if before == 0 {
             return Some(Parcel::of_child(task, 0, child));
         }

@@ -21,7 +21,7 @@ fn release<'t>(parcels: &mut Vec<Parcel<'t>>, task: &'t Task, entry: u64, childr
     ensures capacity { vec_capacity parcels.old ≤ vec_capacity parcels.new }
     ensures tasks { AllByRecursion (IsParcelOf task.now) parcels.new.items }
 {
-    for child in children {
+    for child in children.into_vec() {
         parcels.push_reserved(Parcel::of_child(task, entry, child));
     }
 }

@@ -1,8 +1,6 @@
 //! Where the actions of an expanded plan lead.
 use crate::Hashed;
 use hd_pack::Packed;
-use std::alloc::Global;
-use std::default::MadeWith;
 use std::marker::Model;
 
 /// Where an applicable action leads from an expanded plan.
@@ -76,12 +74,5 @@ impl Child {
             cost,
         } = self;
         (action, state, cost)
-    }
-}
-
-/// A child of no plan: what a list of children has in its unused places. It takes no memory.
-impl MadeWith<Global> for Child {
-    fn made_with(alloc: Global) -> Child {
-        Child::of(0, Hashed::empty(alloc), 0)
     }
 }

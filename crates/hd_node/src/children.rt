@@ -1,21 +1,18 @@
 //! Lists of children.
 ghost use Rattle.std.specs.Prelude.{◌≡◌, ◌++◌, [], ◌∷◌, OnOk, length};
-ghost use Rattle.std.specs.Iterator.{YieldsFirst, YieldsLast};
-ghost use Rattle.std.specs.Iterator.Runs.{YieldsInOrder, YieldsInReverse};
-ghost use Rattle.hd_node.specs.Children.{ChildView};
 
 use crate::Child;
 use hd_base::NoMemory;
-use smallvec::{IntoIter, SmallVec};
 use std::alloc::Global;
 use std::marker::Model;
 
 /// The children of an expansion, in order, which contracts see as the list of them.
 ///
-/// Up to four take no memory but that of their states.
+/// They stand in a block of the allocator, so that an expansion, and an outcome with it, is small wherever it is moved: more than half of the
+/// outcomes of a search may be duplicates, which have no children.
 #[derive(Debug, Drop)]
 pub struct Children {
-    items: SmallVec<Child, 4>,
+    items: Vec<Child>,
 }
 
 impl Model for Children {
@@ -33,7 +30,7 @@ impl Children {
         ensures { result ≡ [] }
     {
         Children {
-            items: SmallVec::new(alloc),
+            items: Vec::new(alloc),
         }
     }
 
@@ -78,20 +75,12 @@ impl Children {
     {
         self.items.len()
     }
-}
 
-/// Takes the children out one after the other, in order.
-impl IntoIterator for Children {
-    type Item = Child;
-
-    type IntoIter = IntoIter<Child, 4>;
-
-    ghost into_iter_gives = { λ c it. (it ≡ c)
-        × YieldsInOrder (YieldsFirst {A = ChildView} (λ rest. rest)) (λ rest. rest)
-        × YieldsInReverse (YieldsLast {A = ChildView} (λ rest. rest)) (λ rest. rest) };
-
-    fn into_iter(self) -> IntoIter<Child, 4> {
+    /// The children in a list of their own, in order.
+    pub fn into_vec(self) -> Vec<Child>
+        ensures { result.items ≡ self }
+    {
         let Children { items } = self;
-        items.into_iter()
+        items
     }
 }

@@ -75,8 +75,8 @@ pub struct ExpansionParts {
 
 impl<'t> Expansion<'t> {
     /// The expansion of a parcel of a task: tries the actions that may apply, by an index of the task, and tests the goal, at the parcel's
-    /// state and cost. It takes memory for the children's packed states alone, and once for their list where there are more than four, and
-    /// for the departures where there are any.
+    /// state and cost. It takes memory once for the children's list, where there are any, for the packed states that don't stand in place,
+    /// and for the departures, where there are any.
     ///
     /// # Errors
     /// The parcel and `NoMemory` where there is no room for them.

@@ -1,5 +1,5 @@
 //! Packed states with their hashes.
-ghost use Rattle.std.specs.Prelude.{◌≡◌, [], true, IfOk};
+ghost use Rattle.std.specs.Prelude.{◌≡◌, true, IfOk};
 ghost use Rattle.std.specs.Hash as fed;
 ghost use Rattle.std.specs.Cmp.{partial_equiv_from_equiv};
 ghost use Rattle.hd_zobrist.specs.Hash.{state_hash};
@@ -46,14 +46,6 @@ impl Hashed {
             state: pack(alloc, &Layout::new(task), state)?,
             hash: words.hash(state),
         })
-    }
-
-    /// The state that has no atoms and no fluents, with its hash. It takes no memory.
-    #[tactic(auto, unfolding(hd_zobrist::specs::Hash::state_hash))]
-    pub(crate) fn empty(alloc: Global) -> Hashed
-        ensures { result ≡ record { atoms = []; fluents = [] } }
-    {
-        Hashed::known(Packed::empty(alloc), 0)
     }
 
     /// A packed state whose hash is known.

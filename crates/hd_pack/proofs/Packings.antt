@@ -102,12 +102,6 @@ pub values_of : (n : ℕ) (xs : List ℕ) (s : State) → unpacked n xs ≡ s �
 unfolding unpacked
 values_of n xs s is = ap (λ (s : State). s.fluents) is
 
--- ---- no atoms and no fluents
-
-pub parts_empty : (xs : List ℕ) → xs ≡ [] → Parts 0 xs (record { atoms = []; fluents = [] })
-unfolding packed_bytes
-parts_empty xs is = record { count = refl; bytes = is; fit = tt }
-
 -- bytes that are written over as a whole, by as many
 pub refilled_is : (xs ws : List ℕ) → length ws ≡ length xs → take (length xs) (ws ++ drop (length ws) xs) ≡ ws
 refilled_is xs ws e = ap (λ (k : ℕ). take k (ws ++ drop (length ws) xs)) (sym e) ∙ take-append_seam ws (drop (length ws) xs)

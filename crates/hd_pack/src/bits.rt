@@ -7,9 +7,27 @@ use hd_base::NoMemory;
 use smallvec::SmallVec;
 use std::alloc::Global;
 
-/// The bytes of a packing. Up to sixteen of them stand in the packing itself: so a state of few atoms and fluents takes no block of the
+/// How many bytes of a packing may stand in the packing itself.
+const IN_PLACE: usize = 16;
+
+/// The bytes of a packing. A few of them stand in the packing itself: so a state of few atoms and fluents takes no block of the
 /// allocator, which one thread would have to take and another to give back where states go from worker to worker.
-pub(crate) type Bytes = SmallVec<u8, 16>;
+pub(crate) type Bytes = SmallVec<u8, IN_PLACE>;
+
+/// A copy of bytes. Where they are too many to stand in place, they are copied into their block alone.
+///
+/// # Errors
+/// `NoMemory` where there is no room for the block.
+pub(crate) fn copy_of(alloc: Global, bytes: &[u8]) -> Result<Bytes, NoMemory>
+    ensures { IfOk result (λ b. b.items ≡ bytes.now) }
+{
+    if bytes.len() <= IN_PLACE {
+        return SmallVec::from_slice(alloc, bytes);
+    }
+    let mut block = Vec::with_capacity(alloc, bytes.len())?;
+    block.extend_from_slice(bytes)?;
+    Ok(SmallVec::from_vec(block))
+}
 
 /// How many bytes so many atoms take.
 pub(crate) fn bytes_for(atoms: usize) -> usize

@@ -1,5 +1,5 @@
 //! Packed states.
-ghost use Rattle.std.specs.Prelude.{◌≡◌, ◌<◌, [], true, FitsSigned, IfOk, length, nat_eq, slice_get};
+ghost use Rattle.std.specs.Prelude.{◌≡◌, ◌<◌, true, FitsSigned, IfOk, length, nat_eq, slice_get};
 ghost use Rattle.std.specs.Int.{w64};
 ghost use Rattle.std.specs.List.{AllByRecursion};
 ghost use Rattle.std.specs.Hash as fed;
@@ -10,7 +10,7 @@ ghost use Rattle.hd_zobrist.specs.Hash.{IsChangeOf, changed};
 ghost use Rattle.hd_pack.specs.Laws.{same_equiv, same_alike};
 
 use crate::Layout;
-use crate::bits::{Bytes, atom_in, atoms_in, bytes_for, flip_atom, push_atoms};
+use crate::bits::{Bytes, atom_in, atoms_in, bytes_for, copy_of, flip_atom, push_atoms};
 use crate::values::{push_values, put_value, value_at, values_in};
 use hd_base::{NoMemory, Sequence};
 use hd_task::{Reads, State};
@@ -40,16 +40,6 @@ impl Model for Packed {
 }
 
 impl Packed {
-    /// The packing of the state that has no atoms and no fluents. It takes no memory.
-    pub fn empty(alloc: Global) -> Packed
-        ensures { result ≡ record { atoms = []; fluents = [] } }
-    {
-        Packed {
-            atoms: 0,
-            bytes: SmallVec::new(alloc),
-        }
-    }
-
     /// A copy of a packing of so many atoms that stands elsewhere.
     ///
     /// # Errors
@@ -58,7 +48,7 @@ impl Packed {
         requires { IsPacking atoms bytes.now }
         ensures { IfOk result (λ p. p ≡ unpacked atoms bytes.now) }
     {
-        let bytes = SmallVec::from_slice(alloc, bytes)?;
+        let bytes = copy_of(alloc, bytes)?;
         Ok(Packed { atoms, bytes })
     }
 
@@ -84,7 +74,7 @@ impl Packed {
     pub fn copied(&self, alloc: Global) -> Result<Packed, NoMemory>
         ensures { IfOk result (λ p. p ≡ self.now) }
     {
-        let bytes = SmallVec::from_slice(alloc, self.bytes.as_slice())?;
+        let bytes = copy_of(alloc, self.bytes.as_slice())?;
         Ok(Packed {
             atoms: self.atoms,
             bytes,

@@ -17,6 +17,11 @@ use Rattle.hd_pack.specs.Packing.{bytes_for}
 use Rattle.hd_pack.proofs.Packings.{Parts, state_of, parts_of, packing_of, length-bytes}
 use Rattle.hd_rows.specs.Rows.{RowsView, states_in, ArePackings, IsWhole}
 
+-- no atoms and no fluents
+pub parts_empty : (xs : List ℕ) → xs ≡ [] → Parts 0 xs (record { atoms = []; fluents = [] })
+unfolding packed_bytes
+parts_empty xs is = record { count = refl; bytes = is; fit = tt }
+
 -- the bytes of the row at a place
 abbrev pub row : ℕ → List ℕ → ℕ → List ℕ
 row width bytes place = take width (drop (place * width) bytes)

@@ -1,6 +1,6 @@
 use Rattle.std.proofs.Common.{refl, arith}
-use Rattle.hd_pack.proofs.Packings.{parts_empty, state_of}
-use Rattle.hd_rows.proofs.Packed.{whole_of}
+use Rattle.hd_pack.proofs.Packings.{state_of}
+use Rattle.hd_rows.proofs.Packed.{parts_empty, whole_of}
 use Rattle.hd_rows.proofs.draft.Draft.empty.Goals as goal
 
 pub invariant_of-result : goal.invariant_of-result
