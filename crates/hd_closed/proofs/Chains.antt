@@ -1,5 +1,5 @@
 -- How notes are chained, and how the note of a state is found.
-use Rattle.std.proofs.Common.{◌≡◌, ◌≢◌, ◌⊎◌, inl, inr, ⊎_elim, ℕ, zero, suc, ◌+◌, ◌%◌, ◌<◌, ◌≤◌, ◌==◌, Bool, true, false, List, [], ◌∷◌, ◌++◌, Option, Some, None, length, set, get_or, slice_get, refl, sym, ap, ◌∙◌, subst, arith, length-append, length-set, get_or-set_same, get_or-set_other}
+use Rattle.std.proofs.Common.{◌≡◌, ◌≢◌, ◌⊎◌, inl, inr, ⊎_elim, ℕ, zero, suc, ◌+◌, ◌<◌, ◌≤◌, ◌==◌, Bool, true, false, List, [], ◌∷◌, ◌++◌, Option, Some, None, length, set, get_or, slice_get, refl, sym, ap, ◌∙◌, subst, arith, length-append, length-set, get_or-set_same, get_or-set_other}
 use Rattle.std.specs.Prelude.{Result, Ok, Err, OnErr}
 use Rattle.std.proofs.lemmas.Bool.{cases_lt}
 use Rattle.std.proofs.lemmas.Option.{none-some, same_Some, slice_get_within, slice_get_read, get_or_from_slice_get}
@@ -7,7 +7,7 @@ use Rattle.hd_hmax.proofs.Cheapest.{slice_get_there}
 use Rattle.hd_task.specs.declared.state.State.{State}
 use Rattle.hd_zobrist.specs.Hash.{state_hash}
 use Rattle.hd_closed.specs.declared.notes.Note.{Note}
-use Rattle.hd_closed.specs.Notes.{IsAlike, AreAlike, head_at, IsIn, IsLast, AreNotesOf, AreChained, IsTable}
+use Rattle.hd_closed.specs.Notes.{IsAlike, AreAlike, bucket_at, head_at, IsIn, IsLast, AreNotesOf, AreChained, IsTable}
 
 -- ---- places of longer lists
 
@@ -157,24 +157,24 @@ last_longer states more buckets b upto (Some q) le last =
     (last.0, in_longer states more buckets b q last.1, λ k above lt h. last.2 k above lt (in_shorter states more buckets b k (omega arith) h))
 
 -- one state further, of another bucket
-last_next : (states : List State) (buckets b upto : ℕ) (o : Option ℕ) (s : State) → slice_get states upto ≡ Some s → state_hash s % buckets ≢ b → IsLast states buckets b upto o → IsLast states buckets b (upto + 1) o
+last_next : (states : List State) (buckets b upto : ℕ) (o : Option ℕ) (s : State) → slice_get states upto ≡ Some s → bucket_at (state_hash s) buckets ≢ b → IsLast states buckets b upto o → IsLast states buckets b (upto + 1) o
 last_next states buckets b upto None s at other last = λ k lt h. by k lt h (cases_lt k upto)
   where
     by : (k : ℕ) → k < upto + 1 → IsIn states buckets b k → (k < upto) ⊎ (upto ≤ k) → ⊥
     by k lt h (inl below) = last k below h
     by k lt h (inr le) =
         let e : k ≡ upto = omega arith in
-        other (ap (λ (u : State). state_hash u % buckets) (same_Some s h.0 (sym at ∙ (ap (slice_get states) (sym e) ∙ h.1))) ∙ h.2)
+        other (ap (λ (u : State). bucket_at (state_hash u) buckets) (same_Some s h.0 (sym at ∙ (ap (slice_get states) (sym e) ∙ h.1))) ∙ h.2)
 last_next states buckets b upto (Some q) s at other last = ((let lt = last.0 in omega arith), last.1, λ k above lt h. by k above lt h (cases_lt k upto))
   where
     by : (k : ℕ) → q < k → k < upto + 1 → IsIn states buckets b k → (k < upto) ⊎ (upto ≤ k) → ⊥
     by k above lt h (inl below) = last.2 k above below h
     by k above lt h (inr le) =
         let e : k ≡ upto = omega arith in
-        other (ap (λ (u : State). state_hash u % buckets) (same_Some s h.0 (sym at ∙ (ap (slice_get states) (sym e) ∙ h.1))) ∙ h.2)
+        other (ap (λ (u : State). bucket_at (state_hash u) buckets) (same_Some s h.0 (sym at ∙ (ap (slice_get states) (sym e) ∙ h.1))) ∙ h.2)
 
 -- one of this bucket
-last_here : (states : List State) (buckets upto : ℕ) (s : State) → slice_get states upto ≡ Some s → IsLast states buckets (state_hash s % buckets) (upto + 1) (Some upto)
+last_here : (states : List State) (buckets upto : ℕ) (s : State) → slice_get states upto ≡ Some s → IsLast states buckets (bucket_at (state_hash s) buckets) (upto + 1) (Some upto)
 last_here states buckets upto s at = (omega arith, (s, at, refl), λ k above lt h. absurd (omega arith))
 
 -- ---- one note further
@@ -189,15 +189,15 @@ chained_none states notes heads empty = record {
 pub chained_longer :
     (states more : List State) (notes : List Note) (heads : List (Option ℕ)) (count : ℕ) → count ≤ length states → AreChained states notes heads count → AreChained (states ++ more) notes heads count
 chained_longer states more notes heads count le c = record {
-  before = λ k n lt at. last_longer states more (length heads) (n.hash % length heads) k n.before (omega arith) (c.before k n lt at);
+  before = λ k n lt at. last_longer states more (length heads) (bucket_at n.hash (length heads)) k n.before (omega arith) (c.before k n lt at);
   last = λ b lt. last_longer states more (length heads) b count (head_at heads b) le (c.last b lt);
 }
 
 -- the next note has the place that its bucket had, and the bucket that of the note
 pub record IsLinked (notes notes' : List Note) (heads heads' : List (Option ℕ)) (count hash : ℕ) : Type 0 where
   pub below : (k : ℕ) (n : Note) → k < count → slice_get notes' k ≡ Some n → slice_get notes k ≡ Some n
-  pub next : (n : Note) → slice_get notes' count ≡ Some n → (n.hash ≡ hash) × (n.before ≡ head_at heads (hash % length heads))
-  pub put : heads' ≡ set heads (hash % length heads) (Some count)
+  pub next : (n : Note) → slice_get notes' count ≡ Some n → (n.hash ≡ hash) × (n.before ≡ head_at heads (bucket_at hash (length heads)))
+  pub put : heads' ≡ set heads (bucket_at hash (length heads)) (Some count)
 
 pub chained_next :
     (states : List State) (notes notes' : List Note) (heads heads' : List (Option ℕ)) (count hash : ℕ) (s : State) → AreChained states notes heads count → 0 < length heads
@@ -205,45 +205,45 @@ pub chained_next :
 chained_next states notes notes' heads heads' count hash s c some at is l =
     subst (λ (hs : List (Option ℕ)). AreChained states notes' hs (count + 1)) (sym l.put) (record {
       before = λ k n lt there.
-          subst (λ (m : ℕ). IsLast states m (n.hash % m) k n.before) (sym same) (before_at k n lt there (cases_lt k count));
+          subst (λ (m : ℕ). IsLast states m (bucket_at n.hash m) k n.before) (sym same) (before_at k n lt there (cases_lt k count));
       last = λ b lt.
           subst (λ (m : ℕ). IsLast states m b (count + 1) (head_at (set heads bucket (Some count)) b)) (sym same)
           (last_at b (omega (arith, same)) (same_or_not b bucket));
     })
   where
     bucket : ℕ
-    bucket = hash % length heads
+    bucket = bucket_at hash (length heads)
 
-    same : length (set heads (hash % length heads) (Some count)) ≡ length heads
-    same = length-set heads (hash % length heads) (Some count)
+    same : length (set heads (bucket_at hash (length heads)) (Some count)) ≡ length heads
+    same = length-set heads (bucket_at hash (length heads)) (Some count)
 
-    within : hash % length heads < length heads
+    within : bucket_at hash (length heads) < length heads
     within = omega arith
 
-    before_at : (k : ℕ) (n : Note) → k < count + 1 → slice_get notes' k ≡ Some n → (k < count) ⊎ (count ≤ k) → IsLast states (length heads) (n.hash % length heads) k n.before
+    before_at : (k : ℕ) (n : Note) → k < count + 1 → slice_get notes' k ≡ Some n → (k < count) ⊎ (count ≤ k) → IsLast states (length heads) (bucket_at n.hash (length heads)) k n.before
     before_at k n lt there (inl below) = c.before k n below (l.below k n below there)
     before_at k n lt there (inr le) =
         let e : k ≡ count = omega arith in
         let x = l.next n (ap (slice_get notes') (sym e) ∙ there) in
-        subst (λ (i : ℕ). IsLast states (length heads) (n.hash % length heads) i n.before) (sym e)
-        (subst (λ (o : Option ℕ). IsLast states (length heads) (n.hash % length heads) count o) (sym x.1)
-        (subst (λ (h : ℕ). IsLast states (length heads) (h % length heads) count (head_at heads (hash % length heads))) (sym x.0) (c.last (hash % length heads) within)))
+        subst (λ (i : ℕ). IsLast states (length heads) (bucket_at n.hash (length heads)) i n.before) (sym e)
+        (subst (λ (o : Option ℕ). IsLast states (length heads) (bucket_at n.hash (length heads)) count o) (sym x.1)
+        (subst (λ (h : ℕ). IsLast states (length heads) (bucket_at h (length heads)) count (head_at heads (bucket_at hash (length heads)))) (sym x.0) (c.last (bucket_at hash (length heads)) within)))
 
     last_at :
-        (b : ℕ) → b < length heads → (b ≡ hash % length heads) ⊎ (b ≢ hash % length heads)
-        → IsLast states (length heads) b (count + 1) (head_at (set heads (hash % length heads) (Some count)) b)
+        (b : ℕ) → b < length heads → (b ≡ bucket_at hash (length heads)) ⊎ (b ≢ bucket_at hash (length heads))
+        → IsLast states (length heads) b (count + 1) (head_at (set heads (bucket_at hash (length heads)) (Some count)) b)
     last_at b lt (inl e) =
-        subst (λ (i : ℕ). IsLast states (length heads) i (count + 1) (head_at (set heads (hash % length heads) (Some count)) i)) (sym e)
-        (subst (λ (o : Option ℕ). IsLast states (length heads) (hash % length heads) (count + 1) o) (sym (get_or-set_same heads (hash % length heads) (Some count) None within))
-        (subst (λ (h : ℕ). IsLast states (length heads) (h % length heads) (count + 1) (Some count)) (sym is) (last_here states (length heads) count s at)))
+        subst (λ (i : ℕ). IsLast states (length heads) i (count + 1) (head_at (set heads (bucket_at hash (length heads)) (Some count)) i)) (sym e)
+        (subst (λ (o : Option ℕ). IsLast states (length heads) (bucket_at hash (length heads)) (count + 1) o) (sym (get_or-set_same heads (bucket_at hash (length heads)) (Some count) None within))
+        (subst (λ (h : ℕ). IsLast states (length heads) (bucket_at h (length heads)) (count + 1) (Some count)) (sym is) (last_here states (length heads) count s at)))
     last_at b lt (inr ne) =
-        subst (λ (o : Option ℕ). IsLast states (length heads) b (count + 1) o) (sym (get_or-set_other heads (hash % length heads) b (Some count) None ne))
-        (last_next states (length heads) b count (head_at heads b) s at (λ e. ne (sym e ∙ ap (λ (h : ℕ). h % length heads) (sym is))) (c.last b lt))
+        subst (λ (o : Option ℕ). IsLast states (length heads) b (count + 1) o) (sym (get_or-set_other heads (bucket_at hash (length heads)) b (Some count) None ne))
+        (last_next states (length heads) b count (head_at heads b) s at (λ e. ne (sym e ∙ ap (λ (h : ℕ). bucket_at h (length heads)) (sym is))) (c.last b lt))
 
 -- a note is linked where it stands
 pub linked_set :
     (notes : List Note) (heads heads' : List (Option ℕ)) (place : ℕ) (n n' : Note) → slice_get notes place ≡ Some n → n'.hash ≡ n.hash
-    → n'.before ≡ head_at heads (n.hash % length heads) → heads' ≡ set heads (n.hash % length heads) (Some place) → IsLinked notes (set notes place n') heads heads' place n.hash
+    → n'.before ≡ head_at heads (bucket_at n.hash (length heads)) → heads' ≡ set heads (bucket_at n.hash (length heads)) (Some place) → IsLinked notes (set notes place n') heads heads' place n.hash
 linked_set notes heads heads' place n n' at hash before put = record {
   below = λ k m lt there. sym (get_set_other notes place n' k (λ e. omega arith)) ∙ there;
   next = λ m there.
@@ -256,8 +256,8 @@ linked_set notes heads heads' place n n' at hash before put = record {
 
 -- a note is linked behind the others
 pub linked_push :
-    (notes notes' : List Note) (heads heads' : List (Option ℕ)) (hash : ℕ) (n : Note) → notes' ≡ notes ++ n ∷ [] → n.hash ≡ hash → n.before ≡ head_at heads (hash % length heads)
-    → heads' ≡ set heads (hash % length heads) (Some (length notes)) → IsLinked notes notes' heads heads' (length notes) hash
+    (notes notes' : List Note) (heads heads' : List (Option ℕ)) (hash : ℕ) (n : Note) → notes' ≡ notes ++ n ∷ [] → n.hash ≡ hash → n.before ≡ head_at heads (bucket_at hash (length heads))
+    → heads' ≡ set heads (bucket_at hash (length heads)) (Some (length notes)) → IsLinked notes notes' heads heads' (length notes) hash
 linked_push notes notes' heads heads' hash n is same before put = record {
   below = λ k m lt there. get_back notes (n ∷ []) k m lt (subst (λ (xs : List Note). slice_get xs k ≡ Some m) is there);
   next = λ m there.
@@ -273,7 +273,7 @@ linked_push notes notes' heads heads' hash n is same before put = record {
 -- notes are chained anew one after the other
 pub chained_set :
     (states : List State) (old notes : List Note) (heads heads' : List (Option ℕ)) (place : ℕ) (n n' : Note) → AreAlike old notes → AreNotesOf states old → AreChained states notes heads place
-    → 0 < length heads → slice_get notes place ≡ Some n → n'.hash ≡ n.hash → n'.before ≡ head_at heads (n.hash % length heads) → heads' ≡ set heads (n.hash % length heads) (Some place)
+    → 0 < length heads → slice_get notes place ≡ Some n → n'.hash ≡ n.hash → n'.before ≡ head_at heads (bucket_at n.hash (length heads)) → heads' ≡ set heads (bucket_at n.hash (length heads)) (Some place)
     → AreChained states (set notes place n') heads' (place + 1)
 chained_set states old notes heads heads' place n n' a of c some at hash before put =
     let now = notes_of_alike states old notes a of in
@@ -283,14 +283,14 @@ chained_set states old notes heads heads' place n n' a of c some at hash before 
 
 pub table_push :
     (states : List State) (s : State) (notes notes' : List Note) (heads heads' : List (Option ℕ)) (hash : ℕ) (n : Note) → IsTable states notes heads → state_hash s ≡ hash → length notes < length heads
-    → notes' ≡ notes ++ n ∷ [] → n.hash ≡ hash → n.before ≡ head_at heads (hash % length heads) → heads' ≡ set heads (hash % length heads) (Some (length notes))
+    → notes' ≡ notes ++ n ∷ [] → n.hash ≡ hash → n.before ≡ head_at heads (bucket_at hash (length heads)) → heads' ≡ set heads (bucket_at hash (length heads)) (Some (length notes))
     → IsTable (states ++ s ∷ []) notes' heads'
 table_push states s notes notes' heads heads' hash n t is room items same before put =
     let of = t.notes_of in
     let many = of.as_many in
     let more : length notes' ≡ length notes + 1 = ap length items ∙ length-append notes (n ∷ []) in
     let there : slice_get (states ++ s ∷ []) (length notes) ≡ Some s = ap (slice_get (states ++ s ∷ [])) many ∙ get_last states s in
-    let kept : length heads' ≡ length heads = ap length put ∙ length-set heads (hash % length heads) (Some (length notes)) in
+    let kept : length heads' ≡ length heads = ap length put ∙ length-set heads (bucket_at hash (length heads)) (Some (length notes)) in
     record {
       notes_of = record {
         as_many = more ∙ (ap (λ (i : ℕ). i + 1) many ∙ sym (length-append states (s ∷ [])));
@@ -329,9 +329,9 @@ table_set states notes heads place n n' t at hash before =
       };
       chained = record {
         before = λ k m lt there.
-            ⊎_elim (λ here. subst (λ (x : Note). IsLast states (length heads) (x.hash % length heads) k x.before) here.1
-            (subst (λ (h : ℕ). IsLast states (length heads) (h % length heads) k n'.before) (sym hash)
-            (subst (λ (o : Option ℕ). IsLast states (length heads) (n.hash % length heads) k o) (sym before)
+            ⊎_elim (λ here. subst (λ (x : Note). IsLast states (length heads) (bucket_at x.hash (length heads)) k x.before) here.1
+            (subst (λ (h : ℕ). IsLast states (length heads) (bucket_at h (length heads)) k n'.before) (sym hash)
+            (subst (λ (o : Option ℕ). IsLast states (length heads) (bucket_at n.hash (length heads)) k o) (sym before)
             (c.before k n (omega (arith, many)) (ap (slice_get notes) here.0 ∙ at)))))
             (λ other. c.before k m (omega (arith, many)) other) (get_set notes place n' k m there);
         last = λ b lt. subst (λ (i : ℕ). IsLast states (length heads) b i (head_at heads b)) (sym many) (c.last b lt);
@@ -359,7 +359,7 @@ IsUpTo k (Some q) = k ≤ q
 -- a search that goes on at a place: the state is not behind it, and a state of the same bucket stands there
 pub record IsSearch (states : List State) (buckets : ℕ) (s : State) (next : Option ℕ) : Type 0 where
   pub up_to : (k : ℕ) → slice_get states k ≡ Some s → IsUpTo k next
-  pub there : (q : ℕ) → next ≡ Some q → IsIn states buckets (state_hash s % buckets) q
+  pub there : (q : ℕ) → next ≡ Some q → IsIn states buckets (bucket_at (state_hash s) buckets) q
 
 -- how far it may still go
 abbrev pub left : Option ℕ → ℕ
@@ -383,17 +383,17 @@ left_last states buckets b upto None last = omega arith
 left_last states buckets b upto (Some q) last = let lt = last.0 in omega arith
 
 module _ (states : List State) (notes : List Note) (heads : List (Option ℕ)) (t : IsTable states notes heads) (s : State) where
-  pub search_starts : 0 < length heads → IsSearch states (length heads) s (head_at heads (state_hash s % length heads))
+  pub search_starts : 0 < length heads → IsSearch states (length heads) s (head_at heads (bucket_at (state_hash s) (length heads)))
   search_starts some =
       let of = t.notes_of in
       let c = t.chained in
       let many = of.as_many in
-      let last = c.last (state_hash s % length heads) (omega arith) in
+      let last = c.last (bucket_at (state_hash s) (length heads)) (omega arith) in
       record {
         up_to = λ j at.
             let lt = slice_get_within states j s at in
-            up_to_last states (length heads) (state_hash s % length heads) (length notes) (head_at heads (state_hash s % length heads)) last j (omega arith) (s, at, refl);
-        there = λ q e. there_last states (length heads) (state_hash s % length heads) (length notes) (head_at heads (state_hash s % length heads)) last q e;
+            up_to_last states (length heads) (bucket_at (state_hash s) (length heads)) (length notes) (head_at heads (bucket_at (state_hash s) (length heads))) last j (omega arith) (s, at, refl);
+        there = λ q e. there_last states (length heads) (bucket_at (state_hash s) (length heads)) (length notes) (head_at heads (bucket_at (state_hash s) (length heads))) last q e;
       }
 
   -- where the search goes on is a note
@@ -411,17 +411,17 @@ module _ (states : List State) (notes : List Note) (heads : List (Option ℕ)) (
       let h = x.there place refl in
       let of = t.notes_of in
       let c = t.chained in
-      let hash : n.hash % length heads ≡ state_hash s % length heads = ap (λ (i : ℕ). i % length heads) (of.hashes place n h.0 at h.1) ∙ h.2 in
+      let hash : bucket_at n.hash (length heads) ≡ bucket_at (state_hash s) (length heads) = ap (λ (i : ℕ). bucket_at i (length heads)) (of.hashes place n h.0 at h.1) ∙ h.2 in
       let last = subst (λ (b : ℕ). IsLast states (length heads) b place n.before) hash (c.before place n (slice_get_within notes place n at) at) in
       record {
         up_to = λ j there.
             let le = x.up_to j there in
             let apart : j ≢ place = λ e. other (ap (slice_get states) (sym e) ∙ there) in
-            up_to_last states (length heads) (state_hash s % length heads) place n.before last j (omega arith) (s, there, refl);
-        there = λ q e. there_last states (length heads) (state_hash s % length heads) place n.before last q e;
+            up_to_last states (length heads) (bucket_at (state_hash s) (length heads)) place n.before last j (omega arith) (s, there, refl);
+        there = λ q e. there_last states (length heads) (bucket_at (state_hash s) (length heads)) place n.before last q e;
       }
 
   pub search_shortens : (place : ℕ) (n : Note) → slice_get notes place ≡ Some n → left n.before < place + 1
   search_shortens place n at =
       let c = t.chained in
-      left_last states (length heads) (n.hash % length heads) place n.before (c.before place n (slice_get_within notes place n at) at)
+      left_last states (length heads) (bucket_at n.hash (length heads)) place n.before (c.before place n (slice_get_within notes place n at) at)

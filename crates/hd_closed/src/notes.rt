@@ -1,9 +1,9 @@
 //! What is noted of each state, and how a state's note is found by its hash.
-ghost use Rattle.std.specs.Prelude.{◌≡◌, ℕ, ◌<◌, ◌≤◌, ◌%◌, ◌++◌, List, [], ◌∷◌, None, Some, true, false, length, vec_len, vec_capacity, slice_get, slice_set, IfOk, IfSome, IfNone, OnOk, OnErr};
+ghost use Rattle.std.specs.Prelude.{◌≡◌, ℕ, ◌<◌, ◌≤◌, ◌++◌, List, [], ◌∷◌, None, Some, true, false, length, vec_len, vec_capacity, slice_get, slice_set, IfOk, IfSome, IfNone, OnOk, OnErr};
 ghost use Rattle.hd_task.specs.declared.state.State.{State};
 ghost use Rattle.hd_zobrist.specs.Hash.{state_hash};
 ghost use Rattle.hd_rows.specs.Rows.{IsOfRows};
-ghost use Rattle.hd_closed.specs.Notes.{note_of, head_at, AreAlike, AreNotesOf, AreChained, IsTable};
+ghost use Rattle.hd_closed.specs.Notes.{note_of, bucket_at, head_at, AreAlike, AreNotesOf, AreChained, IsTable};
 
 use crate::short::{Known, MAX_PLACES, Place};
 use hd_base::NoMemory;
@@ -24,20 +24,21 @@ pub(crate) struct Note {
     before: Place,
 }
 
-/// The bucket of a hash, of so many.
+/// The bucket of a hash, of so many, by the upper half of its bits. The lowest ones tell which worker owns the state where the number of
+/// workers is a power of two: since that of the buckets is one too, the states of one of four workers, say, would all be in a quarter of them.
 fn bucket_of(hash: u64, buckets: usize) -> usize
     requires { 0 < buckets }
-    ensures value { result ≡ hash % buckets }
+    ensures value { result ≡ bucket_at hash buckets }
     ensures within { result < buckets }
 {
-    (hash % buckets as u64) as usize
+    (hash / (1 << 32) % buckets as u64) as usize
 }
 
 /// The place that the bucket of a hash has.
 #[tactic(auto, using(crate::proofs::Chains::head_read))]
 fn head_of(heads: &[Place], hash: u64) -> Option<usize>
     requires { 0 < length heads.now }
-    ensures { result ≡ head_at heads.now (hash % length heads.now) }
+    ensures { result ≡ head_at heads.now (bucket_at hash (length heads.now)) }
 {
     let bucket = bucket_of(hash, heads.len());
     heads[bucket].get()
@@ -49,8 +50,8 @@ fn link(heads: &mut Vec<Place>, hash: u64, place: usize) -> Place
     requires some { 0 < length heads.old.items }
     requires few { place < MAX_PLACES }
     ensures heads { heads.new.items
-        ≡ slice_set heads.old.items (hash % length heads.old.items) (Some place) }
-    ensures before { result ≡ head_at heads.old.items (hash % length heads.old.items) }
+        ≡ slice_set heads.old.items (bucket_at hash (length heads.old.items)) (Some place) }
+    ensures before { result ≡ head_at heads.old.items (bucket_at hash (length heads.old.items)) }
 {
     let bucket = bucket_of(hash, heads.len());
     let before = heads[bucket].copied();

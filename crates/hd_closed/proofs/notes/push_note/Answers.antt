@@ -1,7 +1,7 @@
-use Rattle.std.proofs.Common.{◌≡◌, ℕ, ◌%◌, ◌∷◌, [], ◌++◌, None, Some, length, set, refl, ap, ◌∙◌, rules, arith}
+use Rattle.std.proofs.Common.{◌≡◌, ℕ, ◌∷◌, [], ◌++◌, None, Some, length, set, refl, ap, ◌∙◌, rules, arith}
 use Rattle.std.proofs.lemmas.Grind.{common_steps}
 use Rattle.hd_closed.specs.declared.notes.Note.{Note}
-use Rattle.hd_closed.specs.Notes.{note_of}
+use Rattle.hd_closed.specs.Notes.{note_of, bucket_at}
 use Rattle.hd_closed.proofs.Chains.{alike_push, table_push}
 use Rattle.hd_closed.proofs.notes.push_note.Goals as goal
 
@@ -20,4 +20,4 @@ returns-clause-table c = λ states s t is.
     let items : c.push.new.self.items ≡ notes ++ n ∷ [] = first_of (search rules, grind (arith, common_steps)) in
     let many : c.len.result ≡ length notes = omega arith in
     table_push states s notes c.push.new.self.items heads c.link-before.new.heads.items c.args.hash n t is c.requires.bucket items refl c.link-before.ensures.before
-    (c.link-before.ensures.heads ∙ ap (λ (i : ℕ). set heads (c.args.hash % length heads) (Some i)) many)
+    (c.link-before.ensures.heads ∙ ap (λ (i : ℕ). set heads (bucket_at c.args.hash (length heads)) (Some i)) many)
