@@ -1,82 +1,106 @@
 //! What is printed where the goal has equalities of objects. The answers were worked out by hand.
-use program_tests::running::{solved, validated};
-use std::alloc::{AllocError, Global};
-use std::test::Fail;
+use crate::runs::{Command, Run, SOLVE};
 
-/// Nothing in this domain leaves the range but a goal that counts further than its number, which is the greatest there may be.
-const DOMAIN: &str = "(define (domain e) (:predicates (b)) (:functions (x))
-  (:action up :parameters () :precondition (not (b)) :effect (b)))";
+/// A search for the goal that is put in. Nothing in this domain leaves the range but a goal that counts further than its number,
+/// which is the greatest there may be.
+const GOAL: Run = Run {
+    domain: "(define (domain e) (:predicates (b)) (:functions (x))
+  (:action up :parameters () :precondition (not (b)) :effect (b)))",
+    problem: "(define (problem e1) (:domain e) (:objects p q)
+  (:init (= (x) 1000000000000000)) (:goal GOAL))",
+    old: "GOAL",
+    ..SOLVE
+};
 
-/// The problem with this goal.
-fn problem_of(alloc: Global, goal: &str) -> Result<String, AllocError> {
-    format!(in alloc;
-        "(define (problem e1) (:domain e) (:objects p q)
-  (:init (= (x) 1000000000000000)) (:goal {goal}))"
-    )
-}
+const HOLDS: Run = Run {
+    want: "0|; cost = 0\n|",
+    ..GOAL
+};
 
-#[test]
-fn an_equality_is_part_of_the_goal(rt: HostRuntime) -> Result<(), Fail> {
-    let alloc = rt.alloc();
-    for (goal, want) in [
-        ("(= p p)", "0|; cost = 0\n|"),
-        ("(not (= p q))", "0|; cost = 0\n|"),
-        ("(and (b) (= q q))", "0|(up)\n; cost = 1\n|"),
-        ("(and (not (= q p)) (b))", "0|(up)\n; cost = 1\n|"),
-        ("(= p q)", "10||no plan\n"),
-        ("(and (b) (= p q))", "10||no plan\n"),
-        ("(and (not (= q q)) (b))", "10||no plan\n"),
-    ] {
-        let problem = problem_of(alloc, goal)?;
-        let run = solved(&rt, alloc, DOMAIN, problem.as_str())?;
-        assert_eq!(rt; run.as_slice(), want.as_bytes(), "at {goal}");
-    }
-    Ok(())
-}
+const IS_REACHED: Run = Run {
+    want: "0|(up)\n; cost = 1\n|",
+    ..GOAL
+};
 
-/// A goal whose equality does not hold departs nowhere: its comparisons are not looked at.
-#[test]
-fn an_equality_is_asked_before_comparisons(rt: HostRuntime) -> Result<(), Fail> {
-    let alloc = rt.alloc();
-    for (goal, want) in [
-        (
-            "(and (< (+ (x) 1) 5) (= p p))",
-            "11||range left: entry 0, goal\n",
-        ),
-        ("(and (< (+ (x) 1) 5) (= p q))", "10||no plan\n"),
-        ("(and (not (= q q)) (< (+ (x) 1) 5))", "10||no plan\n"),
-        (
-            "(and (< (+ (x) 1) 5) (b))",
-            "11||range left: entry 1, goal\n",
-        ),
-    ] {
-        let problem = problem_of(alloc, goal)?;
-        let run = solved(&rt, alloc, DOMAIN, problem.as_str())?;
-        assert_eq!(rt; run.as_slice(), want.as_bytes(), "at {goal}");
-    }
-    Ok(())
-}
+const NO_PLAN: Run = Run {
+    want: "10||no plan\n",
+    ..GOAL
+};
 
-#[test]
-fn a_plan_is_judged_in_the_same_order(rt: HostRuntime) -> Result<(), Fail> {
-    let alloc = rt.alloc();
-    for (goal, plan, want) in [
-        ("(and (b) (= q q))", "(up)\n", "0|valid; cost = 1\n|"),
-        ("(and (b) (= p q))", "(up)\n", "1||hplan: 23 GoalUnmet\n"),
-        (
-            "(and (< (+ (x) 1) 5) (= p q))",
-            "(up)\n",
-            "1||hplan: 23 GoalUnmet\n",
-        ),
-        (
-            "(and (< (+ (x) 1) 5) (= p p))",
-            "(up)\n",
-            "1||hplan: 22 Departs(2)\n",
-        ),
-    ] {
-        let problem = problem_of(alloc, goal)?;
-        let run = validated(&rt, alloc, DOMAIN, problem.as_str(), plan.as_bytes())?;
-        assert_eq!(rt; run.as_slice(), want.as_bytes(), "at {goal}");
-    }
-    Ok(())
-}
+const JUDGED: Run = Run {
+    command: Command::Validate,
+    plan: "(up)\n",
+    ..GOAL
+};
+
+pub const RUNS: &[Run] = &[
+    // an equality is part of the goal
+    Run {
+        new: "(= p p)",
+        ..HOLDS
+    },
+    Run {
+        new: "(not (= p q))",
+        ..HOLDS
+    },
+    Run {
+        new: "(and (b) (= q q))",
+        ..IS_REACHED
+    },
+    Run {
+        new: "(and (not (= q p)) (b))",
+        ..IS_REACHED
+    },
+    Run {
+        new: "(= p q)",
+        ..NO_PLAN
+    },
+    Run {
+        new: "(and (b) (= p q))",
+        ..NO_PLAN
+    },
+    Run {
+        new: "(and (not (= q q)) (b))",
+        ..NO_PLAN
+    },
+    // a goal whose equality does not hold departs nowhere: its comparisons are not looked at
+    Run {
+        new: "(and (< (+ (x) 1) 5) (= p p))",
+        want: "11||range left: entry 0, goal\n",
+        ..GOAL
+    },
+    Run {
+        new: "(and (< (+ (x) 1) 5) (= p q))",
+        ..NO_PLAN
+    },
+    Run {
+        new: "(and (not (= q q)) (< (+ (x) 1) 5))",
+        ..NO_PLAN
+    },
+    Run {
+        new: "(and (< (+ (x) 1) 5) (b))",
+        want: "11||range left: entry 1, goal\n",
+        ..GOAL
+    },
+    // a plan is judged in the same order
+    Run {
+        new: "(and (b) (= q q))",
+        want: "0|valid; cost = 1\n|",
+        ..JUDGED
+    },
+    Run {
+        new: "(and (b) (= p q))",
+        want: "1||hplan: 23 GoalUnmet\n",
+        ..JUDGED
+    },
+    Run {
+        new: "(and (< (+ (x) 1) 5) (= p q))",
+        want: "1||hplan: 23 GoalUnmet\n",
+        ..JUDGED
+    },
+    Run {
+        new: "(and (< (+ (x) 1) 5) (= p p))",
+        want: "1||hplan: 22 Departs(2)\n",
+        ..JUDGED
+    },
+];

@@ -16,4 +16,6 @@ mod negatives;
 #[cfg(test)]
 mod reasons;
 #[cfg(test)]
+mod runs;
+#[cfg(test)]
 mod tasks;

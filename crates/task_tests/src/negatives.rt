@@ -1,56 +1,67 @@
 //! What is printed where the goal wants an atom to be false that is true at first. The answers were worked out by hand.
-use program_tests::running::{grounded, solved, validated};
-use std::test::Fail;
+use crate::runs::{Command, Run, SOLVE};
 
-/// One action makes the other applicable, which makes an atom false: the domain.
-const Z: &str = "(define (domain z) (:predicates (a) (b))
+/// One action makes the other applicable, which makes an atom false.
+const BOTH: Run = Run {
+    domain: "(define (domain z) (:predicates (a) (b))
   (:action get :parameters () :effect (b))
-  (:action drop :parameters () :precondition (b) :effect (not (a))))";
+  (:action drop :parameters () :precondition (b) :effect (not (a))))",
+    problem: "(define (problem z1) (:domain z) (:init (a)) (:goal (not (a))))",
+    ..SOLVE
+};
 
-/// The problem.
-const Z_PROBLEM: &str = "(define (problem z1) (:domain z) (:init (a)) (:goal (not (a))))";
+/// The same without the action that makes the atom false.
+const GET_ALONE: Run = Run {
+    domain: "(define (domain z) (:predicates (a) (b))
+  (:action get :parameters () :effect (b)))",
+    ..BOTH
+};
 
-/// The domain without the action that makes the atom false.
-const GET_ALONE: &str = "(define (domain z) (:predicates (a) (b))
-  (:action get :parameters () :effect (b)))";
+const JUDGED: Run = Run {
+    command: Command::Validate,
+    ..BOTH
+};
 
-#[test]
-fn an_atom_is_made_false(rt: HostRuntime) -> Result<(), Fail> {
-    let alloc = rt.alloc();
-    for (domain, want) in [
-        (Z, "0|(get)\n(drop)\n; cost = 2\n|"),
-        (GET_ALONE, "10||no plan\n"),
-    ] {
-        let run = solved(&rt, alloc, domain, Z_PROBLEM)?;
-        assert_eq!(rt; run.as_slice(), want.as_bytes());
-    }
-    Ok(())
-}
-
-#[test]
-fn actions_that_delete_alone_are_listed(rt: HostRuntime) -> Result<(), Fail> {
-    let alloc = rt.alloc();
-    for (domain, want) in [
-        (Z, "0|actions 2\natoms 2\nfluents 0\n0 (get)\n1 (drop)\n|"),
-        (GET_ALONE, "0|actions 1\natoms 2\nfluents 0\n0 (get)\n|"),
-    ] {
-        let run = grounded(&rt, alloc, domain, Z_PROBLEM)?;
-        assert_eq!(rt; run.as_slice(), want.as_bytes());
-    }
-    Ok(())
-}
-
-#[test]
-fn plans_that_make_an_atom_false_are_judged(rt: HostRuntime) -> Result<(), Fail> {
-    let alloc = rt.alloc();
-    for (plan, want) in [
-        ("(get)\n(drop)\n", "0|valid; cost = 2\n|"),
-        ("(get)\n(drop)\n(drop)\n", "0|valid; cost = 3\n|"),
-        ("(get)\n", "1||hplan: 23 GoalUnmet\n"),
-        ("(drop)\n", "1||hplan: 21 NotApplicable(1)\n"),
-    ] {
-        let run = validated(&rt, alloc, Z, Z_PROBLEM, plan.as_bytes())?;
-        assert_eq!(rt; run.as_slice(), want.as_bytes(), "at {plan}");
-    }
-    Ok(())
-}
+pub const RUNS: &[Run] = &[
+    // an atom is made false
+    Run {
+        want: "0|(get)\n(drop)\n; cost = 2\n|",
+        ..BOTH
+    },
+    Run {
+        want: "10||no plan\n",
+        ..GET_ALONE
+    },
+    // actions that delete alone are listed
+    Run {
+        command: Command::Ground,
+        want: "0|actions 2\natoms 2\nfluents 0\n0 (get)\n1 (drop)\n|",
+        ..BOTH
+    },
+    Run {
+        command: Command::Ground,
+        want: "0|actions 1\natoms 2\nfluents 0\n0 (get)\n|",
+        ..GET_ALONE
+    },
+    // plans that make an atom false are judged
+    Run {
+        plan: "(get)\n(drop)\n",
+        want: "0|valid; cost = 2\n|",
+        ..JUDGED
+    },
+    Run {
+        plan: "(get)\n(drop)\n(drop)\n",
+        want: "0|valid; cost = 3\n|",
+        ..JUDGED
+    },
+    Run {
+        plan: "(get)\n",
+        want: "1||hplan: 23 GoalUnmet\n",
+        ..JUDGED
+    },
+    Run {
+        plan: "(drop)\n",
+        want: "1||hplan: 21 NotApplicable(1)\n",
+        ..JUDGED
+    },
+];
