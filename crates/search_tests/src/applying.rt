@@ -122,79 +122,61 @@ fn is_after(answer: &Applied, after: After) -> bool {
     }
 }
 
-/// Asserts what the task's one action does at the start.
-fn assert_applied(rt: &impl Abort, alloc: Global, task: &Task, after: After) -> Result<(), Fail> {
+/// Whether the task's one action does so at the start.
+fn is_applied(rt: &impl Abort, alloc: Global, task: &Task, after: After) -> Result<bool, Fail> {
     assert!(rt; task.actions.len() == 1);
     assert_sizes(rt, task, &task.initial);
     let answer = apply(alloc, task, &task.initial, ActionId(0))?;
-    assert!(rt; is_after(&answer, after));
-    Ok(())
+    Ok(is_after(&answer, after))
 }
 
-fn assert_row(rt: &impl Abort, alloc: Global, row: Row, after: After) -> Result<(), Fail> {
+/// Whether a row's parts make a task, and its action does so.
+fn holds(rt: &impl Abort, alloc: Global, row: Row, after: After) -> Result<bool, Fail> {
     match task_of(alloc, row, always(alloc))? {
-        Some(task) => assert_applied(rt, alloc, &task, after),
-        None => {
-            assert!(rt; false);
-            Ok(())
-        }
+        Some(task) => is_applied(rt, alloc, &task, after),
+        None => Ok(false),
     }
 }
 
-fn assert_rows(rt: &impl Abort, alloc: Global, rows: &[(Row, After)]) -> Result<(), Fail> {
-    for (row, after) in rows {
-        assert_row(rt, alloc, *row, *after)?;
-    }
-    Ok(())
-}
-
-const DELETED_AND_ADDED: Row = Row {
-    atoms: &[false],
-    deletes: &[0],
-    adds: &[0],
-    ..IDLE
-};
-
-#[test]
-fn an_atom_that_is_deleted_and_added_holds(rt: HostRuntime) -> Result<(), Fail> {
-    assert_row(&rt, rt.alloc(), DELETED_AND_ADDED, Some((&[true], &[])))
-}
-
-const SWAPPED: Row = Row {
-    fluents: &[1, 2],
-    effects: &[(0, Does::Assign(1)), (1, Does::Assign(0))],
-    ..IDLE
-};
-
-#[test]
-fn effects_read_the_values_before(rt: HostRuntime) -> Result<(), Fail> {
-    assert_row(&rt, rt.alloc(), SWAPPED, Some((&[], &[2, 1])))
-}
-
-const UP_AND_DOWN: Row = Row {
-    fluents: &[5],
-    effects: &[(0, Does::Sum(&[Part::Increase(3), Part::Decrease(1)]))],
-    ..IDLE
-};
-
-#[test]
-fn increases_and_decreases_add_up(rt: HostRuntime) -> Result<(), Fail> {
-    assert_row(&rt, rt.alloc(), UP_AND_DOWN, Some((&[], &[7])))
-}
-
-const FAR_AND_BACK: Row = Row {
-    fluents: &[END],
-    effects: &[(0, Does::Sum(&[Part::Increase(END), Part::Decrease(END)]))],
-    ..IDLE
-};
-
-#[test]
-fn only_the_new_value_of_a_sum_is_judged(rt: HostRuntime) -> Result<(), Fail> {
-    assert_row(&rt, rt.alloc(), FAR_AND_BACK, Some((&[], &[END])))
-}
-
-/// Increases that lead to the ends of the range, and beyond them.
-const TO_THE_ENDS: [(Row, After); 5] = [
+const APPLIED: [(Row, After); 11] = [
+    // an atom that is deleted and added holds
+    (
+        Row {
+            atoms: &[false],
+            deletes: &[0],
+            adds: &[0],
+            ..IDLE
+        },
+        Some((&[true], &[])),
+    ),
+    // effects read the values before
+    (
+        Row {
+            fluents: &[1, 2],
+            effects: &[(0, Does::Assign(1)), (1, Does::Assign(0))],
+            ..IDLE
+        },
+        Some((&[], &[2, 1])),
+    ),
+    // increases and decreases add up
+    (
+        Row {
+            fluents: &[5],
+            effects: &[(0, Does::Sum(&[Part::Increase(3), Part::Decrease(1)]))],
+            ..IDLE
+        },
+        Some((&[], &[7])),
+    ),
+    // only the new value of a sum is judged
+    (
+        Row {
+            fluents: &[END],
+            effects: &[(0, Does::Sum(&[Part::Increase(END), Part::Decrease(END)]))],
+            ..IDLE
+        },
+        Some((&[], &[END])),
+    ),
+    // the ends of the range are in it
     (
         Row {
             fluents: &[END],
@@ -235,14 +217,7 @@ const TO_THE_ENDS: [(Row, After); 5] = [
         },
         None,
     ),
-];
-
-#[test]
-fn the_ends_of_the_range_are_in_it(rt: HostRuntime) -> Result<(), Fail> {
-    assert_rows(&rt, rt.alloc(), &TO_THE_ENDS)
-}
-
-const PRODUCTS: [(Row, After); 2] = [
+    // a product is exact or departs
     (
         Row {
             fluents: &[7],
@@ -262,8 +237,13 @@ const PRODUCTS: [(Row, After); 2] = [
 ];
 
 #[test]
-fn a_product_is_exact_or_departs(rt: HostRuntime) -> Result<(), Fail> {
-    assert_rows(&rt, rt.alloc(), &PRODUCTS)
+fn an_action_leads_where_the_table_says(rt: HostRuntime) -> Result<(), Fail> {
+    let alloc = rt.alloc();
+    for (number, (row, after)) in APPLIED.iter().enumerate() {
+        let held = holds(&rt, alloc, *row, *after)?;
+        assert!(rt; held, "row {number}");
+    }
+    Ok(())
 }
 
 // ---- goals
@@ -386,13 +366,6 @@ fn a_goal_holds_fails_or_departs(rt: HostRuntime) -> Result<(), Fail> {
 
 // ---- parts that do not fit together
 
-/// Asserts whether the parts of a row make a task.
-fn assert_made(rt: &impl Abort, alloc: Global, row: Row, sound: bool) -> Result<(), Fail> {
-    let made = task_of(alloc, row, always(alloc))?;
-    assert!(rt; made.is_some() == sound);
-    Ok(())
-}
-
 /// It adds the first atom and changes the first fluent.
 const NAMING: Row = Row {
     atoms: &[false],
@@ -402,78 +375,89 @@ const NAMING: Row = Row {
     ..IDLE
 };
 
-const OTHER_ATOM: Row = Row {
-    adds: &[1],
-    ..NAMING
-};
+/// Parts, and whether they make a task.
+const MADE: [(Row, bool); 6] = [
+    // numbers that name nothing make none
+    (NAMING, true),
+    (
+        Row {
+            adds: &[1],
+            ..NAMING
+        },
+        false,
+    ),
+    (
+        Row {
+            effects: &[(1, Does::Sum(&[Part::Increase(1)]))],
+            ..NAMING
+        },
+        false,
+    ),
+    // nor does a fluent that is changed twice
+    (
+        Row {
+            fluents: &[0],
+            effects: &[
+                (0, Does::Sum(&[Part::Increase(1)])),
+                (0, Does::Sum(&[Part::Increase(1)])),
+            ],
+            ..IDLE
+        },
+        false,
+    ),
+    // nor a start out of the range
+    (
+        Row {
+            fluents: &[END + 1],
+            ..IDLE
+        },
+        false,
+    ),
+    // nor a cost without a metric
+    (
+        Row {
+            costs: &[1],
+            ..IDLE
+        },
+        false,
+    ),
+];
 
-const OTHER_FLUENT: Row = Row {
-    effects: &[(1, Does::Sum(&[Part::Increase(1)]))],
-    ..NAMING
-};
-
-#[test]
-fn numbers_that_name_nothing_make_no_task(rt: HostRuntime) -> Result<(), Fail> {
-    assert_made(&rt, rt.alloc(), NAMING, true)?;
-    assert_made(&rt, rt.alloc(), OTHER_ATOM, false)?;
-    assert_made(&rt, rt.alloc(), OTHER_FLUENT, false)
+fn is_made(alloc: Global, row: Row) -> Result<bool, Fail> {
+    let made = task_of(alloc, row, always(alloc))?;
+    Ok(made.is_some())
 }
 
-const TWICE: Row = Row {
-    fluents: &[0],
-    effects: &[
-        (0, Does::Sum(&[Part::Increase(1)])),
-        (0, Does::Sum(&[Part::Increase(1)])),
-    ],
-    ..IDLE
-};
-
 #[test]
-fn a_fluent_changed_twice_makes_no_task(rt: HostRuntime) -> Result<(), Fail> {
-    assert_made(&rt, rt.alloc(), TWICE, false)
-}
-
-const FAR: Row = Row {
-    fluents: &[END + 1],
-    ..IDLE
-};
-
-#[test]
-fn a_start_out_of_the_range_makes_no_task(rt: HostRuntime) -> Result<(), Fail> {
-    assert_made(&rt, rt.alloc(), FAR, false)
-}
-
-const COSTLY: Row = Row {
-    costs: &[1],
-    ..IDLE
-};
-
-#[test]
-fn a_cost_without_a_metric_makes_no_task(rt: HostRuntime) -> Result<(), Fail> {
-    assert_made(&rt, rt.alloc(), COSTLY, false)
+fn parts_make_a_task_where_they_fit_together(rt: HostRuntime) -> Result<(), Fail> {
+    let alloc = rt.alloc();
+    for (number, (row, sound)) in MADE.iter().enumerate() {
+        let made = is_made(alloc, *row)?;
+        assert!(rt; made == *sound, "row {number}");
+    }
+    Ok(())
 }
 
 // ---- plans and copies
 
-fn assert_order(rt: &impl Abort, plan: &Plan) {
-    assert!(rt; plan.as_slice() == [ActionId(2), ActionId(0)].as_slice());
+/// Whether a plan keeps its actions in order.
+fn is_in_order(alloc: Global) -> Result<bool, Fail> {
+    let plan = Plan::from_vec(vec![in alloc; ActionId(2), ActionId(0)]?);
+    Ok(plan.as_slice() == [ActionId(2), ActionId(0)].as_slice())
 }
 
-#[test]
-fn a_plan_keeps_its_actions_in_order(rt: HostRuntime) -> Result<(), Fail> {
-    let plan = Plan::from_vec(vec![in rt.alloc(); ActionId(2), ActionId(0)]?);
-    assert_order(&rt, &plan);
-    Ok(())
-}
-
-fn assert_copied(rt: &impl Abort, alloc: Global, state: &State) -> Result<(), Fail> {
+/// Whether the copy of a state is equal to it.
+fn is_copied(alloc: Global, state: State) -> Result<bool, Fail> {
     let copy = state.copied(alloc)?;
-    assert!(rt; copy == *state);
-    Ok(())
+    Ok(copy == state)
 }
 
 #[test]
-fn a_copy_is_equal(rt: HostRuntime) -> Result<(), Fail> {
-    let state = state(rt.alloc(), &[true, false], &[7, -7])?;
-    assert_copied(&rt, rt.alloc(), &state)
+fn plans_keep_their_order_and_copies_are_equal(rt: HostRuntime) -> Result<(), Fail> {
+    let alloc = rt.alloc();
+    let in_order = is_in_order(alloc)?;
+    assert!(rt; in_order);
+    let copied = is_copied(alloc, state(alloc, &[true, false], &[7, -7])?)?;
+    assert!(rt; copied);
+    Ok(())
 }
