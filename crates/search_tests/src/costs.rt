@@ -27,12 +27,16 @@ enum Comes {
     Departs,
     /// It leads on, at this cost.
     Costs(u128),
+    /// After a plan of the first cost it leads to this x, at the second.
+    Steps(u64, i64, u64),
+    /// After a plan of this cost there is no step: the range is left.
+    Leaves(u64),
 }
 
 /// The amounts of `go`, the first value of x, and what comes of it.
 type Row = (&'static [Amount], i64, Comes);
 
-const ROWS: [Row; 13] = [
+const ROWS: [Row; 15] = [
     (&[Amount::Fluent(0)], 9, Comes::Costs(9)),
     (&[Amount::Fluent(0)], 5, Comes::Costs(5)),
     (&[Amount::Fluent(0), Amount::Fluent(0)], 9, Comes::Costs(18)),
@@ -46,6 +50,8 @@ const ROWS: [Row; 13] = [
     (&[Amount::Number(-1), Amount::Fluent(0)], 9, Comes::Costs(8)),
     (&[Amount::Fluent(1)], 9, Comes::NoTask),
     (&[Amount::Number(1_000_000_000_000_001)], 9, Comes::Departs),
+    (&[Amount::Fluent(0)], 9, Comes::Steps(5, 5, 14)),
+    (&[Amount::Fluent(0)], 9, Comes::Leaves(RANGE_END - 8)),
 ];
 
 fn expr_of(alloc: Global, row: Amount) -> Result<Expr, Fail> {
@@ -93,51 +99,60 @@ fn task_of(alloc: Global, rows: &[Amount], x: i64) -> Result<Option<Task>, Fail>
     )
 }
 
-/// Asserts that `apply` and the test without memory say so of `go` at the start.
-fn assert_applied(rt: &impl Abort, alloc: Global, task: &Task, comes: Comes) -> Result<(), Fail> {
-    assert!(rt; task.actions.len() == 1);
-    assert_sizes(rt, task, &task.initial);
-    let tested = action_test(task, &task.initial, ActionId(0));
-    match (apply(alloc, task, &task.initial, ActionId(0))?, comes) {
+/// Whether `apply` and the test without memory say so.
+fn is_applied(applied: &Applied, tested: ActionTest, comes: Comes) -> bool {
+    match (applied, comes) {
         (Applied::Next(_, cost), Comes::Costs(wanted)) => {
-            assert_eq!(rt; cost, wanted);
-            assert_eq!(rt; tested, ActionTest::Costs(wanted));
+            *cost == wanted && tested == ActionTest::Costs(wanted)
         }
-        (Applied::Departs, Comes::Departs) => assert_eq!(rt; tested, ActionTest::Departs),
-        (_, _) => assert!(rt; false),
+        (Applied::Departs, Comes::Departs) => tested == ActionTest::Departs,
+        _ => false,
     }
-    Ok(())
 }
 
-#[test]
-fn a_cost_is_by_the_values_before(rt: HostRuntime) -> Result<(), Fail> {
-    for (amounts, x, comes) in ROWS {
-        match task_of(rt.alloc(), amounts, x)? {
-            Some(task) => assert_applied(&rt, rt.alloc(), &task, comes)?,
-            None => assert!(rt; matches!(comes, Comes::NoTask)),
+/// Whether a step leads there.
+fn is_reached(reached: &Reached, comes: Comes) -> bool {
+    match (reached, comes) {
+        (Reached::Next(state, found), Comes::Steps(_, x, cost)) => {
+            state.atoms.is_empty() && state.fluents.as_slice() == [x].as_slice() && *found == cost
         }
+        (Reached::Departs, Comes::Leaves(_)) => true,
+        _ => false,
     }
-    Ok(())
 }
 
-/// Asserts where `go` leads at the start of a plan that has cost 5.
-fn assert_reached(rt: &impl Abort, alloc: Global, task: &Task) -> Result<(), Fail> {
+/// Whether this comes of `go` at the start.
+fn is_so(rt: &impl Abort, alloc: Global, task: &Task, comes: Comes) -> Result<bool, Fail> {
     assert!(rt; task.actions.len() == 1);
     assert_sizes(rt, task, &task.initial);
-    let reached = step(alloc, task, &task.initial, 5, ActionId(0))?;
-    assert_eq!(rt; reached, Reached::Next(state(alloc, &[], &[5])?, 14));
-    let beyond = step(alloc, task, &task.initial, RANGE_END - 8, ActionId(0))?;
-    assert_eq!(rt; beyond, Reached::Departs);
-    Ok(())
+    match comes {
+        Comes::Steps(before, _, _) | Comes::Leaves(before) => {
+            let reached = step(alloc, task, &task.initial, before, ActionId(0))?;
+            Ok(is_reached(&reached, comes))
+        }
+        _ => {
+            let tested = action_test(task, &task.initial, ActionId(0));
+            let applied = apply(alloc, task, &task.initial, ActionId(0))?;
+            Ok(is_applied(&applied, tested, comes))
+        }
+    }
+}
+
+/// Whether this comes of a row's task.
+fn holds(rt: &impl Abort, alloc: Global, row: Row) -> Result<bool, Fail> {
+    let (amounts, x, comes) = row;
+    match task_of(alloc, amounts, x)? {
+        Some(task) => is_so(rt, alloc, &task, comes),
+        None => Ok(matches!(comes, Comes::NoTask)),
+    }
 }
 
 #[test]
-fn a_dependent_cost_adds_to_the_plans(rt: HostRuntime) -> Result<(), Fail> {
-    match task_of(rt.alloc(), &[Amount::Fluent(0)], 9)? {
-        Some(task) => assert_reached(&rt, rt.alloc(), &task),
-        None => {
-            assert!(rt; false);
-            Ok(())
-        }
+fn a_cost_is_by_the_values_before_and_adds_to_the_plans(rt: HostRuntime) -> Result<(), Fail> {
+    let alloc = rt.alloc();
+    for (number, row) in ROWS.iter().enumerate() {
+        let held = holds(&rt, alloc, *row)?;
+        assert!(rt; held, "row {number}");
     }
+    Ok(())
 }
