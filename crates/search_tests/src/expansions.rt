@@ -72,12 +72,6 @@ fn assert_batch(rt: &impl Abort, alloc: Global, task: &Task) -> Result<(), Fail>
     Ok(())
 }
 
-#[test]
-fn outcomes_name_their_kids(rt: HostRuntime) -> Result<(), Fail> {
-    let task = two_steps(&rt, rt.alloc())?;
-    assert_batch(&rt, rt.alloc(), &task)
-}
-
 /// Asserts that an estimate is 2, and of a state.
 fn assert_two(rt: &impl Abort, estimate: &Estimate, start: &Packed) {
     assert!(rt; estimate.value() == EstimateValue::Cost(2));
@@ -90,12 +84,6 @@ fn assert_estimate(rt: &impl Abort, alloc: Global, task: &Task) -> Result<(), Fa
     let estimate = estimate(rt, alloc, task, &task.initial)?;
     assert_two(rt, &estimate, &start);
     Ok(())
-}
-
-#[test]
-fn an_estimate_is_of_a_state(rt: HostRuntime) -> Result<(), Fail> {
-    let task = two_steps(&rt, rt.alloc())?;
-    assert_estimate(&rt, rt.alloc(), &task)
 }
 
 /// Asserts that a parcel has the parts that it was made of.
@@ -112,13 +100,6 @@ fn make_parcel(rt: &impl Abort, alloc: Global, task: &Task, words: &Words) -> Re
     let made = parcel(rt, alloc, task, words, (3, 1), state, 7)?;
     assert_parcel(rt, made, &start);
     Ok(())
-}
-
-#[test]
-fn a_parcel_has_its_parts(rt: HostRuntime) -> Result<(), Fail> {
-    let task = two_steps(&rt, rt.alloc())?;
-    let words = Words::new(rt.alloc(), &task)?;
-    make_parcel(&rt, rt.alloc(), &task, &words)
 }
 
 // ---- hashes
@@ -149,15 +130,6 @@ fn assert_hash_row(rt: &impl Abort, alloc: Global, task: &Task, row: HashRow) ->
     Ok(())
 }
 
-#[test]
-fn children_are_hashed(rt: HostRuntime) -> Result<(), Fail> {
-    let task = two_steps(&rt, rt.alloc())?;
-    for row in &HASHES {
-        assert_hash_row(&rt, rt.alloc(), &task, *row)?;
-    }
-    Ok(())
-}
-
 /// Asserts that two states are the same, and a third another one; and the hashes of the first and the third.
 fn assert_keys(rt: &impl Abort, one: &Hashed, same: &Hashed, other: &Hashed) {
     assert!(rt; *one == *same && *one != *other);
@@ -173,9 +145,32 @@ fn make_keys(rt: &impl Abort, alloc: Global, task: &Task, words: &Words) -> Resu
     Ok(())
 }
 
+// ---- all of these
+
+/// Asserts the hashes of expansions.
+fn assert_hashes(rt: &impl Abort, alloc: Global, task: &Task) -> Result<(), Fail> {
+    for row in &HASHES {
+        assert_hash_row(rt, alloc, task, *row)?;
+    }
+    Ok(())
+}
+
+/// Asserts what takes the words of a task.
+fn assert_worded(rt: &impl Abort, alloc: Global, task: &Task) -> Result<(), Fail> {
+    let words = Words::new(alloc, task)?;
+    make_parcel(rt, alloc, task, &words)?;
+    make_keys(rt, alloc, task, &words)
+}
+
+fn assert_all(rt: &impl Abort, alloc: Global, task: &Task) -> Result<(), Fail> {
+    assert_batch(rt, alloc, task)?;
+    assert_estimate(rt, alloc, task)?;
+    assert_hashes(rt, alloc, task)?;
+    assert_worded(rt, alloc, task)
+}
+
 #[test]
-fn hashed_states_are_keys(rt: HostRuntime) -> Result<(), Fail> {
+fn outcomes_estimates_parcels_and_keys_have_their_parts(rt: HostRuntime) -> Result<(), Fail> {
     let task = two_steps(&rt, rt.alloc())?;
-    let words = Words::new(rt.alloc(), &task)?;
-    make_keys(&rt, rt.alloc(), &task, &words)
+    assert_all(&rt, rt.alloc(), &task)
 }
