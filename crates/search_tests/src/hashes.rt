@@ -59,39 +59,23 @@ const ROWS: [Row; 7] = [
     },
 ];
 
-/// Asserts what a row says.
-fn assert_row(rt: &impl Abort, alloc: Global, words: &Words, row: &Row<'_>) -> Result<(), Fail> {
+/// Whether words give a row's hash, and the hash the row's owners.
+fn holds(alloc: Global, words: &Words, row: &Row<'_>) -> Result<bool, Fail> {
     let at = state(alloc, row.atoms, row.fluents)?;
-    assert!(rt; words.hash(&at) == row.hash);
-    assert!(rt; (owner(row.hash, 2), owner(row.hash, 4)) == row.owners);
-    assert!(rt; owner(row.hash, 1) == 0);
-    Ok(())
+    let owners = (owner(row.hash, 2), owner(row.hash, 4));
+    Ok(words.hash(&at) == row.hash && owners == row.owners && owner(row.hash, 1) == 0)
 }
 
-/// Asserts the rows with the words of a task, which hash states of any task.
-fn assert_rows(rt: &impl Abort, alloc: Global, task: &Task) -> Result<(), Fail> {
-    let words = Words::new(alloc, task)?;
-    for row in &ROWS {
-        assert_row(rt, alloc, &words, row)?;
+fn assert_rows(rt: &impl Abort, alloc: Global, words: &Words) -> Result<(), Fail> {
+    for (number, row) in ROWS.iter().enumerate() {
+        let held = holds(alloc, words, row)?;
+        assert!(rt; held, "row {number}");
     }
     Ok(())
 }
 
-#[test]
-fn hashes_and_owners_are_known(rt: HostRuntime) -> Result<(), Fail> {
-    let task = two_steps(&rt, rt.alloc())?;
-    assert_rows(&rt, rt.alloc(), &task)
-}
-
-#[test]
-fn words_of_one_task_hash_states_of_another(rt: HostRuntime) -> Result<(), Fail> {
-    let task = counting(&rt, rt.alloc(), 3)?;
-    assert_rows(&rt, rt.alloc(), &task)
-}
-
 /// Asserts that the changes between two rows lead from the one hash to the other.
-fn assert_updates(rt: &impl Abort, alloc: Global, task: &Task) -> Result<(), Fail> {
-    let words = Words::new(alloc, task)?;
+fn assert_updates(rt: &impl Abort, words: &Words) {
     let both = [Change::Atom(1), Change::Atom(0)];
     assert!(rt; words.update(ROWS[0].hash, &both) == ROWS[2].hash);
     assert!(rt; words.update(ROWS[2].hash, &both) == ROWS[0].hash);
@@ -104,11 +88,18 @@ fn assert_updates(rt: &impl Abort, alloc: Global, task: &Task) -> Result<(), Fai
     ];
     assert!(rt; words.update(ROWS[3].hash, &there_and_back) == ROWS[4].hash);
     assert!(rt; words.update(ROWS[1].hash, &[]) == ROWS[1].hash);
-    Ok(())
+}
+
+/// Asserts the rows and the changes with the words of a task, which hash states of any task.
+fn assert_hashes(rt: &impl Abort, alloc: Global, task: Task) -> Result<(), Fail> {
+    let words = Words::new(alloc, &task)?;
+    assert_updates(rt, &words);
+    assert_rows(rt, alloc, &words)
 }
 
 #[test]
-fn changes_update_a_hash(rt: HostRuntime) -> Result<(), Fail> {
-    let task = two_steps(&rt, rt.alloc())?;
-    assert_updates(&rt, rt.alloc(), &task)
+fn hashes_and_owners_are_known(rt: HostRuntime) -> Result<(), Fail> {
+    let alloc = rt.alloc();
+    assert_hashes(&rt, alloc, two_steps(&rt, alloc)?)?;
+    assert_hashes(&rt, alloc, counting(&rt, alloc, 3)?)
 }
