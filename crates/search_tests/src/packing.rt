@@ -85,74 +85,61 @@ fn packed(alloc: Global, layout: &Layout, row: &Row<'_>) -> Result<Packed, Fail>
     Ok(pack(alloc, layout, &state)?)
 }
 
-/// Asserts a row's bytes, and that its state comes back.
-fn assert_row(rt: &impl Abort, alloc: Global, layout: &Layout, row: &Row<'_>) -> Result<(), Fail> {
+/// Whether a row has its bytes, and its state comes back.
+fn holds(alloc: Global, layout: &Layout, row: &Row<'_>) -> Result<bool, Fail> {
     let packed = packed(alloc, layout, row)?;
-    assert!(rt; packed.bytes() == row.bytes);
     let back = unpack(alloc, layout, &packed)?;
-    assert!(rt; back.atoms.as_slice() == row.atoms);
-    assert!(rt; back.fluents.as_slice() == row.fluents);
-    Ok(())
+    let is_back = back.atoms.as_slice() == row.atoms && back.fluents.as_slice() == row.fluents;
+    Ok(packed.bytes() == row.bytes && is_back)
 }
 
-/// Asserts the rows with the layout of a task, which packs states of any task.
-fn assert_rows(rt: &impl Abort, alloc: Global, task: &Task) -> Result<(), Fail> {
-    let layout = Layout::new(task);
-    for row in &ROWS {
-        assert_row(rt, alloc, &layout, row)?;
+fn assert_rows(rt: &impl Abort, alloc: Global, layout: &Layout) -> Result<(), Fail> {
+    for (number, row) in ROWS.iter().enumerate() {
+        let held = holds(alloc, layout, row)?;
+        assert!(rt; held, "row {number}");
     }
     Ok(())
 }
 
-#[test]
-fn packings_are_known(rt: HostRuntime) -> Result<(), Fail> {
-    let task = two_steps(&rt, rt.alloc())?;
-    assert_rows(&rt, rt.alloc(), &task)
-}
-
-#[test]
-fn layout_is_of_a_task(rt: HostRuntime) -> Result<(), Fail> {
-    let task = two_steps(&rt, rt.alloc())?;
-    let layout = Layout::new(&task);
-    assert!(&rt; layout.atoms() == task.initial.atoms.len());
-    assert!(&rt; layout.fluents() == task.initial.fluents.len());
-    assert!(&rt; layout.bytes() == pack(rt.alloc(), &layout, &task.initial)?.bytes().len());
-    Ok(())
-}
-
 /// Asserts that two rows' packings are found equal exactly where the rows are the same one.
-fn assert_told_apart(rt: &impl Abort, alloc: Global, task: &Task) -> Result<(), Fail> {
-    let layout = Layout::new(task);
+fn assert_told_apart(rt: &impl Abort, alloc: Global, layout: &Layout) -> Result<(), Fail> {
     for (i, one) in ROWS.iter().enumerate() {
         for (j, other) in ROWS.iter().enumerate() {
-            let same = packed(alloc, &layout, one)? == packed(alloc, &layout, other)?;
-            assert!(rt; same == (i == j));
+            let same = packed(alloc, layout, one)? == packed(alloc, layout, other)?;
+            assert!(rt; same == (i == j), "rows {i} and {j}");
         }
     }
     Ok(())
 }
 
-#[test]
-fn packings_are_told_apart(rt: HostRuntime) -> Result<(), Fail> {
-    let task = two_steps(&rt, rt.alloc())?;
-    assert_told_apart(&rt, rt.alloc(), &task)
-}
-
 /// Asserts that each row's packing is found again in a map.
-fn assert_found(rt: &impl Abort, alloc: Global, task: &Task) -> Result<(), Fail> {
-    let layout = Layout::new(task);
+fn assert_found(rt: &impl Abort, alloc: Global, layout: &Layout) -> Result<(), Fail> {
     let mut numbers = HashMap::new(alloc);
     for (i, row) in ROWS.iter().enumerate() {
-        numbers.insert(packed(alloc, &layout, row)?, i)?;
+        numbers.insert(packed(alloc, layout, row)?, i)?;
     }
     for (i, row) in ROWS.iter().enumerate() {
-        assert!(rt; numbers.get(&packed(alloc, &layout, row)?) == Some(&i));
+        assert!(rt;
+            numbers.get(&packed(alloc, layout, row)?) == Some(&i),
+            "row {i}"
+        );
     }
     Ok(())
 }
 
+/// Asserts that the layout of a task has its sizes, and that by it states of any task are packed.
+fn assert_layout(rt: &impl Abort, alloc: Global, task: &Task) -> Result<(), Fail> {
+    let layout = Layout::new(task);
+    assert!(rt; layout.atoms() == task.initial.atoms.len());
+    assert!(rt; layout.fluents() == task.initial.fluents.len());
+    assert!(rt; layout.bytes() == pack(alloc, &layout, &task.initial)?.bytes().len());
+    assert_rows(rt, alloc, &layout)?;
+    assert_told_apart(rt, alloc, &layout)?;
+    assert_found(rt, alloc, &layout)
+}
+
 #[test]
-fn packings_are_keys(rt: HostRuntime) -> Result<(), Fail> {
+fn packings_are_known_told_apart_and_keys(rt: HostRuntime) -> Result<(), Fail> {
     let task = two_steps(&rt, rt.alloc())?;
-    assert_found(&rt, rt.alloc(), &task)
+    assert_layout(&rt, rt.alloc(), &task)
 }
