@@ -281,27 +281,6 @@ fn candidates_are_those_that_see_what_they_watch(rt: HostRuntime) -> Result<(), 
 
 // ---- what is watched
 
-/// Asserts what the actions of a task watch.
-fn assert_watched(
-    rt: &impl Abort,
-    alloc: Global,
-    task: &Task,
-    watched: &[Watch],
-) -> Result<(), Fail> {
-    let successors = Successors::new(alloc, task)?;
-    assert!(rt; successors.watched() == watched);
-    Ok(())
-}
-
-#[test]
-fn actions_watch_true_atoms_if_they_ask_for_one(rt: HostRuntime) -> Result<(), Fail> {
-    let task = two_steps(&rt, rt.alloc())?;
-    assert_watched(&rt, rt.alloc(), &task, &[Watch::Always, Watch::Atoms(0, 0)])?;
-    let task = three_actions(&rt, rt.alloc(), 0)?;
-    let watched = [Watch::Always, Watch::Atoms(0, 0), Watch::Always];
-    assert_watched(&rt, rt.alloc(), &task, &watched)
-}
-
 /// The atoms that four actions ask for: three ask for 0, two for 1, one for each of 2 and 3.
 const NEEDS: [&[u32]; 4] = [&[0, 1], &[0], &[1, 0], &[2, 3]];
 
@@ -344,24 +323,59 @@ fn deleting(alloc: Global) -> Result<Sequence<Action>, Fail> {
     Ok(Sequence::from_vec(actions))
 }
 
-#[test]
-fn an_atom_that_stays_true_is_watched_last(rt: HostRuntime) -> Result<(), Fail> {
-    // 0 and 1 are true at first, and nothing makes 0 false; two ask for 1, and one for each of the others.
-    let atoms = [true, true, false];
-    let task = task_of(&rt, rt.alloc(), &atoms, deleting(rt.alloc())?)?;
-    let watched = [Watch::Atoms(2, 1), Watch::Atoms(1, 1)];
-    assert_watched(&rt, rt.alloc(), &task, &watched)
+/// A task, by its actions.
+#[derive(Clone, Copy)]
+enum Of {
+    TwoSteps,
+    ThreeActions,
+    Deleting,
+    Needing,
+}
+
+fn task_with(rt: &impl Abort, alloc: Global, of: Of) -> Result<Task, Fail> {
+    match of {
+        Of::TwoSteps => two_steps(rt, alloc),
+        Of::ThreeActions => three_actions(rt, alloc, 0),
+        Of::Deleting => task_of(rt, alloc, &[true, true, false], deleting(alloc)?),
+        Of::Needing => task_of(rt, alloc, &[false, false, false, false], needing(alloc)?),
+    }
+}
+
+/// What the actions of a task watch.
+const WATCHED: [(Of, &[Watch]); 4] = [
+    // actions watch true atoms if they ask for one
+    (Of::TwoSteps, &[Watch::Always, Watch::Atoms(0, 0)]),
+    (
+        Of::ThreeActions,
+        &[Watch::Always, Watch::Atoms(0, 0), Watch::Always],
+    ),
+    // an atom that stays true is watched last: 0 and 1 are true at first, and nothing makes 0 false;
+    // two ask for 1, and one for each of the others
+    (Of::Deleting, &[Watch::Atoms(2, 1), Watch::Atoms(1, 1)]),
+    // actions watch the two atoms that fewest ask for
+    (
+        Of::Needing,
+        &[
+            Watch::Atoms(1, 0),
+            Watch::Atoms(0, 0),
+            Watch::Atoms(1, 0),
+            Watch::Atoms(2, 3),
+        ],
+    ),
+];
+
+/// Whether the actions of a task watch this.
+fn is_watched(alloc: Global, task: Task, watched: &[Watch]) -> Result<bool, Fail> {
+    let successors = Successors::new(alloc, &task)?;
+    Ok(successors.watched() == watched)
 }
 
 #[test]
-fn actions_watch_the_two_atoms_that_fewest_ask_for(rt: HostRuntime) -> Result<(), Fail> {
-    let atoms = [false, false, false, false];
-    let task = task_of(&rt, rt.alloc(), &atoms, needing(rt.alloc())?)?;
-    let watched = [
-        Watch::Atoms(1, 0),
-        Watch::Atoms(0, 0),
-        Watch::Atoms(1, 0),
-        Watch::Atoms(2, 3),
-    ];
-    assert_watched(&rt, rt.alloc(), &task, &watched)
+fn actions_watch_what_fewest_ask_for(rt: HostRuntime) -> Result<(), Fail> {
+    let alloc = rt.alloc();
+    for (number, (of, watched)) in WATCHED.iter().enumerate() {
+        let held = is_watched(alloc, task_with(&rt, alloc, *of)?, *watched)?;
+        assert!(rt; held, "row {number}");
+    }
+    Ok(())
 }
