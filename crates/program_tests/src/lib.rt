@@ -14,8 +14,6 @@ mod digests;
 #[cfg(test)]
 mod explained;
 #[cfg(test)]
-mod grounded;
-#[cfg(test)]
 mod kept;
 mod line;
 #[cfg(test)]
@@ -27,7 +25,5 @@ mod replayed;
 pub mod running;
 #[cfg(test)]
 mod surveyed;
-#[cfg(test)]
-mod validated;
 #[cfg(test)]
 mod words;

@@ -52,6 +52,47 @@ pub fn run<R: Threads + Wait + Sync + Eprint + Clock>(
     run_over(rt, alloc, words, &mut shelf)
 }
 
+/// Whether the run of these words over files of these names is this.
+pub fn prints<R: Threads + Wait + Sync + Eprint + Clock>(
+    rt: &R,
+    alloc: Global,
+    words: &[&str],
+    files: &[(&str, &[u8])],
+    want: &str,
+) -> Result<bool, AllocError> {
+    let found = run(rt, alloc, words, files)?;
+    Ok(found.as_slice() == want.as_bytes())
+}
+
+/// Whether the run of these words over files of these names is one of these.
+pub fn prints_one_of<R: Threads + Wait + Sync + Eprint + Clock>(
+    rt: &R,
+    alloc: Global,
+    words: &[&str],
+    files: &[(&str, &[u8])],
+    wanted: &[&str],
+) -> Result<bool, AllocError> {
+    let found = run(rt, alloc, words, files)?;
+    for want in wanted {
+        if found.as_slice() == want.as_bytes() {
+            return Ok(true);
+        }
+    }
+    Ok(false)
+}
+
+/// Whether the run of these words over files of these names begins so.
+pub fn begins<R: Threads + Wait + Sync + Eprint + Clock>(
+    rt: &R,
+    alloc: Global,
+    words: &[&str],
+    files: &[(&str, &[u8])],
+    start: &str,
+) -> Result<bool, AllocError> {
+    let found = run(rt, alloc, words, files)?;
+    Ok(found.as_slice().starts_with(start.as_bytes()))
+}
+
 /// What stands between the first and the second bar of a run of status 0, whose standard error is empty.
 pub fn output_in(run: &[u8]) -> &[u8] {
     let Some(behind) = run.strip_prefix(b"0|") else {
@@ -170,15 +211,4 @@ pub fn cut_short_by<R: Threads + Wait + Sync + Eprint + Clock>(
     let mut err = Vec::new(alloc);
     let status = command(rt, alloc, &words, &mut shelf, &mut out, &mut err);
     shown(alloc, status, &out.taken, &err)
-}
-
-/// A run of these words over these files, with an output that takes so many bytes, and is then full.
-pub fn cut_short<R: Threads + Wait + Sync + Eprint + Clock>(
-    rt: &R,
-    alloc: Global,
-    words: &[&str],
-    files: &[(&str, &[u8])],
-    room: usize,
-) -> Result<Vec<u8>, AllocError> {
-    cut_short_by(rt, alloc, words, files, room, io::ErrorKind::StorageFull)
 }
