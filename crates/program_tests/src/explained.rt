@@ -48,7 +48,7 @@ type Row = (
 );
 
 /// A text, what stands in its place, what is told, and the reason.
-type Changed = (&'static str, &'static str, &'static str, &'static str);
+type Change = (&'static str, &'static str, &'static str, &'static str);
 
 /// Each line is judged.
 const LINES: &[Row] = &[
@@ -227,7 +227,7 @@ const ORDER: &[Row] = &[
 const ALL: &[&[Row]] = &[LINES, PRINTED, LIMITS, ORDER];
 
 /// Numbers are told with their values.
-const CHANGED: &[Changed] = &[
+const CHANGED: &[Change] = &[
     ("(define", "(define", "0|valid; cost = 9\n|", ""),
     (
         "(total-cost) (need ?p ?q)",
