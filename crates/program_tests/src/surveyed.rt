@@ -1,5 +1,6 @@
 //! What `inspect` tells of a journal with the texts of its task, and what it leaves of the file.
-use crate::kept::{WHOLE, is, joined, kept};
+use crate::command::B_ALONE;
+use crate::kept::{Part, WHOLE, becomes, bytes_of, is, kept};
 use crate::running::{run_over, shelf_of};
 use std::alloc::{AllocError, Global};
 use std::io::Eprint;
@@ -29,7 +30,7 @@ const NONE: &str = "posted 1\nsettled 0\nno bound\nnothing left the range\n";
 fn is_surveyed<R: Threads + Wait + Sync + Eprint + Clock>(
     rt: &R,
     alloc: Global,
-    journal: &[u8],
+    parts: &[Part],
     entries: u64,
     behind: u64,
     told: &str,
@@ -38,17 +39,19 @@ fn is_surveyed<R: Threads + Wait + Sync + Eprint + Clock>(
     let want = format!(in alloc;
         "0|version 2\ndigest {digest}\nentries {entries}\ngroups {entries}\nbytes behind {behind}\n{told}|"
     )?;
-    let found = kept(rt, alloc, "inspect", L, L_PROBLEM, Some(journal))?;
-    Ok(is(&found, want.as_bytes(), journal))
+    let journal = bytes_of(alloc, parts)?;
+    let found = kept(rt, alloc, "inspect", L, L_PROBLEM, Some(&journal))?;
+    Ok(is(&found, want.as_bytes(), &journal))
 }
 
-/// What `inspect` prints behind the journal's lines, of the journal that `solve` has made of two texts.
-fn surveyed_behind<R: Threads + Wait + Sync + Eprint + Clock>(
+/// Whether what `inspect` prints of the journal that `solve` has made of two texts ends so.
+fn is_surveyed_behind<R: Threads + Wait + Sync + Eprint + Clock>(
     rt: &R,
     alloc: Global,
     domain: &str,
     problem: &str,
-) -> Result<Vec<u8>, AllocError> {
+    end: &str,
+) -> Result<bool, AllocError> {
     let files = [("d", domain.as_bytes()), ("p", problem.as_bytes())];
     let mut shelf = shelf_of(alloc, &files)?;
     run_over(
@@ -57,67 +60,61 @@ fn surveyed_behind<R: Threads + Wait + Sync + Eprint + Clock>(
         &["solve", "d", "p", "--journal", "j"],
         &mut shelf,
     )?;
-    run_over(
+    let found = run_over(
         rt,
         alloc,
         &["inspect", "d", "p", "--journal", "j"],
         &mut shelf,
-    )
+    )?;
+    Ok(found.as_slice().ends_with(end.as_bytes()))
 }
+
+/// A journal, how many entries it has and how many bytes are behind them, and what is told of its search.
+type Row = (&'static [Part], u64, u64, &'static str);
+
+const SURVEYED: &[Row] = &[
+    (&[Part::All(&WHOLE)], 3, 0, ENDED),
+    (&[Part::Cut(&WHOLE, 0, 66), Part::All(&[0])], 2, 0, OPEN),
+    (
+        &[
+            Part::Cut(&WHOLE, 0, 52),
+            Part::All(&[0]),
+            Part::Cut(&WHOLE, 53, 60),
+        ],
+        1,
+        7,
+        ROOT,
+    ),
+    (&[Part::Cut(&WHOLE, 0, 38), Part::All(&[0])], 0, 0, NONE),
+];
+
+/// Two texts, and the end of what is told of their search.
+const BEHIND: &[(&str, &str, &str)] = &[
+    (
+        U,
+        "(define (problem u1) (:domain u) (:init (= (x) 1000000000000000)) (:goal (b)))",
+        "posted 1\nsettled 1\nno bound\nrange left: entry 0, (up)\ndepth 0: 1\ncost 0: 1\n|",
+    ),
+    (
+        B_ALONE,
+        L_PROBLEM,
+        "entries 0\ngroups 0\nbytes behind 0\nposted 1\nsettled 1\nno bound\nnothing left the range\n|",
+    ),
+];
 
 #[test]
 fn a_search_is_told_of_by_its_entries(rt: HostRuntime) -> Result<(), Fail> {
     let alloc = rt.alloc();
-    let two = joined(alloc, &[&WHOLE[..66], &[0]])?;
-    let part = joined(alloc, &[&WHOLE[..52], &[0], &WHOLE[53..60]])?;
-    let none = joined(alloc, &[&WHOLE[..38], &[0]])?;
-    for (journal, entries, behind, told) in [
-        (WHOLE.as_slice(), 3, 0, ENDED),
-        (two.as_slice(), 2, 0, OPEN),
-        (part.as_slice(), 1, 7, ROOT),
-        (none.as_slice(), 0, 0, NONE),
-    ] {
-        assert!(rt;
-            is_surveyed(&rt, alloc, journal, entries, behind, told)?,
-            "at {entries}"
-        );
+    for (journal, entries, behind, told) in SURVEYED {
+        let fine = is_surveyed(&rt, alloc, journal, *entries, *behind, told)?;
+        assert!(rt; fine, "at {entries}");
     }
-    let unmade = format!(in alloc; "0|no header yet\n{NONE}|")?;
-    assert!(rt;
-        is(
-            &kept(&rt, alloc, "inspect", L, L_PROBLEM, Some(b"".as_slice()))?,
-            unmade.as_bytes(),
-            b""
-        )
-    );
-    let end = "(define (problem u1) (:domain u) (:init (= (x) 1000000000000000)) (:goal (b)))";
-    let left = "posted 1\nsettled 1\nno bound\nrange left: entry 0, (up)\ndepth 0: 1\ncost 0: 1\n|";
-    assert!(rt; surveyed_behind(&rt, alloc, U, end)?.ends_with(left.as_bytes()));
-    let no_way = "(define (domain l) (:predicates (a) (b))
-  (:action set-b :parameters () :precondition (a) :effect (b)))";
-    let dead =
-        "entries 0\ngroups 0\nbytes behind 0\nposted 1\nsettled 1\nno bound\nnothing left the range\n|";
-    assert!(rt; surveyed_behind(&rt, alloc, no_way, L_PROBLEM)?.ends_with(dead.as_bytes()));
-    Ok(())
-}
-
-#[test]
-fn what_is_no_journal_of_the_texts_is_told(rt: HostRuntime) -> Result<(), Fail> {
-    let alloc = rt.alloc();
-    let again = joined(alloc, &[&WHOLE[..53], &WHOLE[39..52], &[0]])?;
-    let other = format!(in alloc; "; one\n{L_PROBLEM}")?;
-    for (problem, journal, want) in [
-        (L_PROBLEM, &WHOLE[..60], "1||hplan: 34 Damaged(52)\n"),
-        (L_PROBLEM, again.as_slice(), "1||hplan: 34 Damaged(57)\n"),
-        (L_PROBLEM, &WHOLE[..38], "1||hplan: 32 NotAJournal\n"),
-        (other.as_str(), &WHOLE[..], "1||hplan: 33 OtherTask\n"),
-        (")", &WHOLE[..], "1||hplan: problem: 4 Unbalanced(0)\n"),
-    ] {
-        let found = kept(&rt, alloc, "inspect", L, problem, Some(journal))?;
-        assert!(rt; is(&found, want.as_bytes(), journal), "at {want}");
+    for (domain, problem, end) in BEHIND {
+        let fine = is_surveyed_behind(&rt, alloc, domain, problem, end)?;
+        assert!(rt; fine, "at {end}");
     }
-    let (run, bytes) = kept(&rt, alloc, "inspect", L, L_PROBLEM, None)?;
-    assert_eq!(rt; run.as_slice(), b"1||hplan: 35 Device\n".as_slice());
-    assert!(rt; bytes.is_none());
+    let unmade = "0|no header yet\nposted 1\nsettled 0\nno bound\nnothing left the range\n|";
+    let texts = (L, L_PROBLEM);
+    assert!(rt; becomes(&rt, alloc, "inspect", texts, Some(&[]), unmade, Some(&[]))?);
     Ok(())
 }
