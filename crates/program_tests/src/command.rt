@@ -158,6 +158,12 @@ const ORDER: &[Row] = &[
 /// dearer.
 const WAYS: &[Row] = &[
     (
+        SOLVE,
+        N,
+        N_PROBLEM,
+        "0|(near)\n(join)\n(fin)\n; cost = 3\n|",
+    ),
+    (
         &["solve", "d", "p"],
         N,
         N_PROBLEM,
@@ -425,7 +431,7 @@ const LINES: &[(&[&str], &str)] = &[
 ];
 
 #[test]
-fn command_lines_are_tested(rt: HostRuntime) -> Result<(), Fail> {
+fn words_are_refused_or_answered_before_texts(rt: HostRuntime) -> Result<(), Fail> {
     let alloc = rt.alloc();
     let files = [("d", b"(".as_slice()), ("p", b"(".as_slice())];
     for (words, start) in LINES {
@@ -437,7 +443,7 @@ fn command_lines_are_tested(rt: HostRuntime) -> Result<(), Fail> {
 /// Words, how many bytes the output takes, how it fails then, and the run.
 type Cut = (Words, usize, io::ErrorKind, &'static str);
 
-/// What an output says that has no memory is `NoMemory`, and no fault of a device.
+/// An output that fails is a fault of the device, and what one says that has no memory is `NoMemory`.
 const CUTS: &[Cut] = &[
     (
         &["solve", "d", "p"],
@@ -545,7 +551,7 @@ fn is_cut<R: Threads + Wait + Sync + Eprint + Clock>(
 }
 
 #[test]
-fn an_output_that_cannot_be_written_is_a_fault(rt: HostRuntime) -> Result<(), Fail> {
+fn an_output_that_fails_is_told(rt: HostRuntime) -> Result<(), Fail> {
     let alloc = rt.alloc();
     for (words, room, fault, want) in CUTS {
         let fine = is_cut(&rt, alloc, words, *room, *fault, want)?;
@@ -619,7 +625,8 @@ const REFUSED: &[Runs] = &[
     ),
 ];
 
-/// Where a growth is refused, `NoMemory` is told, and else the answer: `rt try --test --fail-alloc N` refuses the N-th one.
+/// Where a growth is refused, `NoMemory` is told, and else the answer: `rt try --test --fail-alloc N` refuses the N-th one, of all
+/// rows together.
 #[test]
 fn a_refused_growth_changes_no_answer(rt: HostRuntime) {
     for (words, domain, problem, plan, runs) in REFUSED {
@@ -629,7 +636,7 @@ fn a_refused_growth_changes_no_answer(rt: HostRuntime) {
             ("s", plan.as_bytes()),
         ];
         if let Ok(fine) = prints_one_of(&rt, rt.alloc(), words, &files, runs) {
-            assert!(rt; fine, "at {words:?} {plan}");
+            assert!(rt; fine, "at {words:?} {runs:?}");
         }
     }
 }

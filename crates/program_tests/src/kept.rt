@@ -1,4 +1,4 @@
-//! Searches that are kept in a file: what the file holds, and how a later run goes on from it. The bytes were put together by hand
+//! Searches that are kept in a file: what the file holds, how a later run goes on from it, and what `certify` and `inspect` tell of it. The bytes were put together by hand
 //! from the format, and the digest was computed with another program.
 ghost use Rattle.std.specs.Prelude.{◌<◌};
 
@@ -46,9 +46,11 @@ pub fn bytes_of(alloc: Global, parts: &[Part]) -> Result<Vec<u8>, AllocError> {
     for part in parts {
         match part {
             Part::All(bytes) => all.extend_from_slice(bytes)?,
-            Part::Cut(bytes, from, to) => {
-                all.extend_from_slice(bytes.get(*from..*to).unwrap_or(&[]))?
-            }
+            Part::Cut(bytes, from, to) => match bytes.get(*from..*to) {
+                Some(part) => all.extend_from_slice(part)?,
+                // (no row has such a range: its test would fail by this error)
+                None => return Err(AllocError),
+            },
         }
     }
     Ok(all)
@@ -179,7 +181,7 @@ type Row = (
     &'static [Part],
 );
 
-/// A file that is not empty is not taken.
+/// A search is kept in a file that is not there or is empty; one that is not empty is not taken.
 const BEGUN: &[Row] = &[
     ("solve", None, PLAN, JOURNAL),
     ("solve", Some(&[]), PLAN, JOURNAL),
@@ -353,10 +355,10 @@ const FILES: &[(&str, &str, &[Row])] = &[
 fn journals_are_made_and_gone_on_with_and_certified(rt: HostRuntime) -> Result<(), Fail> {
     let alloc = rt.alloc();
     for (domain, problem, rows) in FILES {
-        for (command, journal, printed, left) in *rows {
+        for (i, (command, journal, printed, left)) in rows.iter().enumerate() {
             let texts = (*domain, *problem);
             let fine = becomes(&rt, alloc, command, texts, *journal, printed, Some(left))?;
-            assert!(rt; fine, "at {command}: {printed}");
+            assert!(rt; fine, "at {i}, {command}: {printed}");
         }
     }
     for (i, left) in STOPPED.iter().enumerate() {
@@ -370,7 +372,7 @@ fn journals_are_made_and_gone_on_with_and_certified(rt: HostRuntime) -> Result<(
 /// A problem, the file of a journal if there is one, and what is printed of it.
 type Refusal = (&'static str, Option<&'static [Part]>, &'static str);
 
-/// What is no journal of the two texts, byte by byte.
+/// What is no journal of the two texts, byte by byte; a faulty text; and a file that is not there.
 const REFUSALS: &[Refusal] = &[
     (
         L_PROBLEM,

@@ -58,7 +58,7 @@ fn run_on<R: Threads + Wait + Sync + Eprint + Clock>(
 /// A journal and another file, if they are there.
 type Files = (Option<&'static [Part]>, Option<&'static [Part]>);
 
-/// Whether a run of `migrate` on a journal and another file, to this one, prints this, leaves the journal, and leaves this of the other file.
+/// Whether a run of `migrate` on a journal and another file, to the file of this name, prints this, leaves the journal, and leaves this of the other file.
 fn migrates<R: Threads + Wait + Sync + Eprint + Clock>(
     rt: &R,
     alloc: Global,
@@ -233,8 +233,8 @@ const REFUSED: &[Row] = &[
 fn entries_are_migrated_and_faults_told(rt: HostRuntime) -> Result<(), Fail> {
     let alloc = rt.alloc();
     for rows in [WRITTEN, REFUSED] {
-        for (run, files, printed, left) in rows {
-            let fine = migrates(&rt, alloc, *run, *files, printed, *left)?;
+        for (task, files, printed, left) in rows {
+            let fine = migrates(&rt, alloc, *task, *files, printed, *left)?;
             assert!(rt; fine, "at {printed}");
         }
     }

@@ -90,7 +90,7 @@ fn a_change_of_a_drive_changes_the_answer(rt: HostRuntime) -> Result<(), Fail> {
     for (words, rows) in ALL {
         for (old, new, want) in *rows {
             let fine = prints_changed(&rt, alloc, words, old, new, want)?;
-            assert!(rt; fine, "at {want}");
+            assert!(rt; fine, "at {words:?}: {want}");
         }
     }
     Ok(())

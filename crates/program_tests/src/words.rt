@@ -97,6 +97,7 @@ fn read_line(alloc: Global, line: &[String]) -> Result<String, AllocError> {
         Err(WordsError::NoMemory) => String::from_str(alloc, "no memory"),
     }
 }
+
 /// How these words are read, behind this name of the program.
 fn read_by(alloc: Global, name: &str, words: &[&str]) -> Result<String, AllocError> {
     let line = line_by(alloc, name, words)?;
@@ -299,7 +300,7 @@ const FAULTS: &[Told] = &[
     ),
 ];
 
-/// What each status says of plans stands in the help of `solve`.
+/// What is shown where help is asked for; what each status says of plans stands in that of `solve`.
 const HELP: &[Told] = &[
     (
         &["--help"],
