@@ -2,6 +2,7 @@
 use crate::running::{begins, cut_short_by, prints, prints_one_of};
 use std::alloc::{AllocError, Global};
 use std::io::{self, Eprint};
+use std::process::Abort;
 use std::sync::Wait;
 use std::test::Fail;
 use std::thread::Threads;
@@ -331,18 +332,6 @@ const UNUSED: &[Row] = &[
     ),
 ];
 
-const ALL: &[&[Row]] = &[
-    PLANS,
-    FAULTS_OF_DOMAINS,
-    FAULTS_OF_PROBLEMS,
-    ORDER,
-    WAYS,
-    RANGES,
-    EFFECTS,
-    LISTS,
-    UNUSED,
-];
-
 /// Domains that are deep, long or no text, and the run of `solve`.
 const BYTES: &[(&[u8], &str)] = &[
     (&[b'('; 65], "1||hplan: domain: 7 TooDeep(64)\n"),
@@ -350,16 +339,68 @@ const BYTES: &[(&[u8], &str)] = &[
     (b"( \xFF )", "1||hplan: domain: 1 BadByte(2)\n"),
 ];
 
-#[test]
-fn answers_and_faults_are_printed(rt: HostRuntime) -> Result<(), Fail> {
-    let alloc = rt.alloc();
-    for rows in ALL {
-        for (words, domain, problem, want) in *rows {
-            let files = [("d", domain.as_bytes()), ("p", problem.as_bytes())];
-            let fine = prints(&rt, alloc, words, &files, want)?;
-            assert!(rt; fine, "at {want} of {domain} {problem}");
-        }
+/// Asserts that each row's words print what is wanted of its texts.
+fn assert_rows(
+    rt: &(impl Abort + Threads + Wait + Sync + Eprint + Clock),
+    alloc: Global,
+    rows: &[Row],
+) -> Result<(), Fail> {
+    for (words, domain, problem, want) in rows {
+        let files = [("d", domain.as_bytes()), ("p", problem.as_bytes())];
+        let fine = prints(rt, alloc, words, &files, want)?;
+        assert!(rt; fine, "at {want} of {domain} {problem}");
     }
+    Ok(())
+}
+
+#[test]
+fn plans_are_printed(rt: HostRuntime) -> Result<(), Fail> {
+    assert_rows(&rt, rt.alloc(), PLANS)
+}
+
+#[test]
+fn faults_of_domains_are_told(rt: HostRuntime) -> Result<(), Fail> {
+    assert_rows(&rt, rt.alloc(), FAULTS_OF_DOMAINS)
+}
+
+#[test]
+fn faults_of_problems_are_told(rt: HostRuntime) -> Result<(), Fail> {
+    assert_rows(&rt, rt.alloc(), FAULTS_OF_PROBLEMS)
+}
+
+#[test]
+fn faults_come_in_order(rt: HostRuntime) -> Result<(), Fail> {
+    assert_rows(&rt, rt.alloc(), ORDER)
+}
+
+#[test]
+fn the_cheapest_way_is_found(rt: HostRuntime) -> Result<(), Fail> {
+    assert_rows(&rt, rt.alloc(), WAYS)
+}
+
+#[test]
+fn a_number_that_leaves_the_range_is_told(rt: HostRuntime) -> Result<(), Fail> {
+    assert_rows(&rt, rt.alloc(), RANGES)
+}
+
+#[test]
+fn effects_read_the_values_before(rt: HostRuntime) -> Result<(), Fail> {
+    assert_rows(&rt, rt.alloc(), EFFECTS)
+}
+
+#[test]
+fn actions_are_listed_by_number(rt: HostRuntime) -> Result<(), Fail> {
+    assert_rows(&rt, rt.alloc(), LISTS)
+}
+
+#[test]
+fn what_nothing_uses_does_no_harm(rt: HostRuntime) -> Result<(), Fail> {
+    assert_rows(&rt, rt.alloc(), UNUSED)
+}
+
+#[test]
+fn deep_and_long_texts_are_refused(rt: HostRuntime) -> Result<(), Fail> {
+    let alloc = rt.alloc();
     for (domain, want) in BYTES {
         let files = [("d", *domain), ("p", b"".as_slice())];
         let fine = prints(&rt, alloc, &["solve", "d", "p"], &files, want)?;

@@ -1,6 +1,6 @@
 //! What `replay` prints of schedules in a third file. The answers were worked out by hand.
 use crate::command::B_ALONE;
-use crate::running::prints;
+use crate::running::run;
 use std::alloc::{AllocError, Global};
 use std::io::Eprint;
 use std::sync::Wait;
@@ -52,6 +52,22 @@ fn schedule_of(alloc: Global, moves: &str, byte: &str) -> Result<String, AllocEr
     text.as_str().replace(alloc, ", ", "\n")
 }
 
+/// The run of `replay` on three texts.
+fn replayed<R: Threads + Wait + Sync + Eprint + Clock>(
+    rt: &R,
+    alloc: Global,
+    domain: &str,
+    problem: &str,
+    schedule: &str,
+) -> Result<Vec<u8>, AllocError> {
+    let files = [
+        ("d", domain.as_bytes()),
+        ("p", problem.as_bytes()),
+        ("s", schedule.as_bytes()),
+    ];
+    run(rt, alloc, &["replay", "d", "p", "s"], &files)
+}
+
 /// Whether `replay` prints this of the texts of a task, and of moves.
 fn reports<R: Threads + Wait + Sync + Eprint + Clock>(
     rt: &R,
@@ -62,12 +78,8 @@ fn reports<R: Threads + Wait + Sync + Eprint + Clock>(
     want: &str,
 ) -> Result<bool, AllocError> {
     let schedule = schedule_of(alloc, moves, byte)?;
-    let files = [
-        ("d", domain.as_bytes()),
-        ("p", problem.as_bytes()),
-        ("s", schedule.as_bytes()),
-    ];
-    prints(rt, alloc, &["replay", "d", "p", "s"], &files, want)
+    let found = replayed(rt, alloc, domain, problem, schedule.as_str())?;
+    Ok(found.as_slice() == want.as_bytes())
 }
 
 /// A domain, a problem, moves, the byte that a stop leaves, and the run.

@@ -88,20 +88,39 @@ fn assert_run(
     Ok(())
 }
 
-const TABLES: [&[Run]; 5] = [
-    documents::RUNS,
-    equalities::RUNS,
-    letters::RUNS,
-    negatives::RUNS,
-    reasons::RUNS,
-];
-
-#[test]
-fn runs_print_what_the_tables_say(rt: HostRuntime) -> Result<(), Fail> {
-    for runs in &TABLES {
-        for run in *runs {
-            assert_run(&rt, rt.alloc(), run)?;
-        }
+/// Asserts that each run prints what is wanted.
+fn assert_runs(
+    rt: &(impl Abort + Threads + Wait + Sync + Eprint + Clock),
+    alloc: Global,
+    runs: &[Run],
+) -> Result<(), Fail> {
+    for run in runs {
+        assert_run(rt, alloc, run)?;
     }
     Ok(())
+}
+
+#[test]
+fn runs_of_the_documents(rt: HostRuntime) -> Result<(), Fail> {
+    assert_runs(&rt, rt.alloc(), documents::RUNS)
+}
+
+#[test]
+fn goals_with_equalities(rt: HostRuntime) -> Result<(), Fail> {
+    assert_runs(&rt, rt.alloc(), equalities::RUNS)
+}
+
+#[test]
+fn letters_of_either_case(rt: HostRuntime) -> Result<(), Fail> {
+    assert_runs(&rt, rt.alloc(), letters::RUNS)
+}
+
+#[test]
+fn goals_that_an_atom_is_false(rt: HostRuntime) -> Result<(), Fail> {
+    assert_runs(&rt, rt.alloc(), negatives::RUNS)
+}
+
+#[test]
+fn reasons_for_a_refused_step(rt: HostRuntime) -> Result<(), Fail> {
+    assert_runs(&rt, rt.alloc(), reasons::RUNS)
 }
