@@ -2,8 +2,9 @@
 # Kills searches, and lets others go on from their journals: bench/kill.sh FOLDER [RUNS]
 # FOLDER is as for costs.sh. A run (100 of them, if not said otherwise) takes the tasks in turn: it starts `solve --journal`, kills it (SIGKILL) after
 # a time by chance below that of a whole search, and then `resume` with another number of workers, which is killed in the same way, up to three
-# times; the one after that is let go to its end. Its answer is compared with the list, and what `certify` tells of the journal too.
-# HPLAN names the program, if it is not the one that ./hplan builds. Ends with status 1 where an answer differs.
+# times; the one after that is let go to its end. Its answer is compared with the list, and so is that of one that ended before it was killed, and what
+# `certify` tells of the journal.
+# HPLAN names the program, if it is not the one that ./hplan builds. Ends with status 1 where an answer differs, or nothing was killed.
 here=$(cd "$(dirname "$0")/.." && pwd)
 hplan=${HPLAN:-$here/hplan}
 runs=${2:-100}
@@ -46,6 +47,18 @@ cut_short() {
     [ $? -eq 137 ]
 }
 
+# What the last search said.
+said() {
+    cat "$folder/plan" "$folder/told" | tail -n 1
+}
+
+# Compares an answer, told by whom, with the list.
+compare() {
+    [ "$2" = "$wanted" ] && return
+    echo "$task: $1 '$2', and wanted is '$wanted'"
+    wrong=1
+}
+
 number=0
 while [ "$number" -lt "$runs" ]; do
     line=$(sed -n "$((number % tasks + 1))p" "$1/costs.txt")
@@ -58,19 +71,19 @@ while [ "$number" -lt "$runs" ]; do
     rm -f "$folder/journal"
     verb=solve
     for _again in 1 2 3 4; do
-        cut_short $verb || break
+        if ! cut_short $verb; then
+            compare "$verb, which was not killed, said" "$(said)"
+            break
+        fi
         killed=$((killed + 1))
         [ -e "$folder/journal" ] && verb=resume
     done
     [ -e "$folder/journal" ] && verb=resume || verb=solve
     "$hplan" $verb "$domain" "$problem" --journal "$folder/journal" --workers "$(workers)" \
         >"$folder/plan" 2>"$folder/told" </dev/null
-    said=$(cat "$folder/plan" "$folder/told" | tail -n 1)
-    shown=$("$hplan" certify "$domain" "$problem" --journal "$folder/journal" </dev/null | sed 's/^certified optimal//; s/^certified //')
-    if [ "$said" != "$wanted" ] || [ "$shown" != "$wanted" ]; then
-        echo "$task: '$said', certified as '$shown', and wanted is '$wanted'"
-        wrong=1
-    fi
+    compare "$verb said" "$(said)"
+    compare "certify showed" "$("$hplan" certify "$domain" "$problem" --journal "$folder/journal" </dev/null | sed 's/^certified optimal//; s/^certified //')"
 done
 echo "$runs searches, killed $killed times"
+[ "$killed" -gt 0 ] || wrong=1
 exit $wrong

@@ -49,7 +49,7 @@ StopsRunning old new Failed = (old.failed ≡ true) × (kids_of new ≡ kids_of 
 StopsRunning old new NotOut = Grows old new
 StopsRunning old new NoMemory = Grows old new
 
--- the same of each fault; that a thread does not start is told only where the committer has ended without a fault
+-- the same of each fault, and where a thread does not start
 abbrev pub Stops : {S : Type 0} {G : Ghosts S} → Journal S G → Journal S G → ThreadsFault → Type 0
 Stops old new (Run fault) = StopsRunning old new fault
 Stops old new NoThread = Grows old new

@@ -4,6 +4,7 @@ pub mod Endings
 pub mod Later
 pub mod Parcels
 pub mod Places
+pub mod Redeeming
 pub mod Room
 pub mod Rounds
 pub mod Stays

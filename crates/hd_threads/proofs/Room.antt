@@ -2,6 +2,7 @@
 use Rattle.std.proofs.Common.{◌≡◌, ℕ, ◌+◌, ◌-◌, ◌≤◌, List, [], ◌∷◌, ◌++◌, length, ap, ◌∙◌, arith}
 use Rattle.std.specs.List.{sum_by}
 use Rattle.std.proofs.lemmas.List.Sums.{sum_by-cons, sum_by_push}
+use Rattle.hd_task.specs.declared.plan.Kid.{Kid}
 use Rattle.hd_turns.specs.Worker.{WorkerView}
 use Rattle.hd_threads.specs.declared.working.Held.{Held}
 use Rattle.hd_threads.specs.declared.working.Redemption.TheVariants.{Opened, Waiting}
@@ -19,21 +20,22 @@ pub first_room : (h : Held) (all rest : List Held) (n : ℕ) → all ≡ h ∷ r
 first_room h all rest n e le = let sum : kids_in all ≡ h.kids + kids_in rest = first_in h all rest e in omega (arith, sum, le)
 
 -- it has released that: there is room for what the others release
-pub opened_room : (h : Held) (all rest : List Held) (w w' : WorkerView) → all ≡ h ∷ rest → kids_in all ≤ w.room → HasRedeemed h.kids w w' Opened → kids_in rest ≤ w'.room
-opened_room h all rest w w' e le x =
+pub opened_room : (h : Held) (all rest : List Held) (log : List Kid) (w w' : WorkerView) → all ≡ h ∷ rest → kids_in all ≤ w.room → HasRedeemed log h w w' Opened → kids_in rest ≤ w'.room
+opened_room h all rest log w w' e le x =
     let sum : kids_in all ≡ h.kids + kids_in rest = first_in h all rest e in
-    let room : w'.room ≡ w.room - length x.0 = ap (λ (v : WorkerView). v.room) x.2 in
-    omega (arith, sum, le, room, x.1)
+    let room : w'.room ≡ w.room - length x.parcels.kids = ap (λ (v : WorkerView). v.room) x.opens in
+    omega (arith, sum, le, room, x.few)
 
 -- it waits, and is the oldest again
 pub waiting_room :
-    (h h' : Held) (all rest now : List Held) (w w' : WorkerView) → all ≡ h ∷ rest → now ≡ h' ∷ rest → kids_in all ≤ w.room → HasRedeemed h.kids w w' (Waiting h')
+    (h h' : Held) (all rest now : List Held) (log : List Kid) (w w' : WorkerView) → all ≡ h ∷ rest → now ≡ h' ∷ rest → kids_in all ≤ w.room → HasRedeemed log h w w' (Waiting h')
     → kids_in now ≤ w'.room
-waiting_room h h' all rest now w w' e e' le x =
+waiting_room h h' all rest now log w w' e e' le x =
     let sum : kids_in all ≡ h.kids + kids_in rest = first_in h all rest e in
     let sum' : kids_in now ≡ h'.kids + kids_in rest = first_in h' now rest e' in
     let room : w'.room ≡ w.room = ap (λ (v : WorkerView). v.room) x.0 in
-    omega (arith, sum, sum', le, room, x.1)
+    let same : h'.kids ≡ h.kids = ap (λ (v : Held). v.kids) x.1 in
+    omega (arith, sum, sum', le, room, same)
 
 -- a ticket more, with room for what it releases
 pub taken_room : (h : Held) (old new : List Held) (n n' : ℕ) → new ≡ old ++ h ∷ [] → kids_in old ≤ n → n' ≡ n + h.kids → kids_in new ≤ n'

@@ -14,6 +14,7 @@ use Rattle.hd_turns.specs.Worker.{WorkerView}
 use Rattle.hd_turns.specs.Calls.{batch_of, ExpandsTo, ExpandsBest, AtBest, AtNone}
 use Rattle.hd_threads.specs.declared.posting.Sending.{Sending}
 use Rattle.hd_threads.specs.declared.posting.Sending.TheVariants.{Sent, Full, Empty}
+use Rattle.hd_threads.specs.declared.working.Held.{Held}
 use Rattle.hd_threads.specs.declared.working.Redemption.{Redemption}
 use Rattle.hd_threads.specs.declared.working.Redemption.TheVariants.{Opened, Waiting, Void}
 use Rattle.hd_threads.specs.Posting.{HasSent, HasTaken}
@@ -56,23 +57,25 @@ settle_stays t w w' (Ok x) ok err = expands_best t w w' ok
 settle_stays t w w' (Err e) ok err = stays_same w w' err
 
 -- what a ticket was redeemed for changes neither the task nor the numbers
-redeemed_task : (n : ℕ) (w w' : WorkerView) (r : Redemption) → HasRedeemed n w w' r → w'.task ≡ w.task
-redeemed_task n w w' Opened x = ap (λ (v : WorkerView). v.task) x.2
-redeemed_task n w w' (Waiting held) x = ap (λ (v : WorkerView). v.task) x.0
-redeemed_task n w w' Void x = ap (λ (v : WorkerView). v.task) x
+redeemed_task : (log : List Kid) (h : Held) (w w' : WorkerView) (r : Redemption) → HasRedeemed log h w w' r → w'.task ≡ w.task
+redeemed_task log h w w' Opened x = ap (λ (v : WorkerView). v.task) x.opens
+redeemed_task log h w w' (Waiting again) x = ap (λ (v : WorkerView). v.task) x.0
+redeemed_task log h w w' Void x = ap (λ (v : WorkerView). v.task) x.0
 
-redeemed_given : (n : ℕ) (w w' : WorkerView) (r : Redemption) → HasRedeemed n w w' r → w'.given ≡ w.given
-redeemed_given n w w' Opened x = ap (λ (v : WorkerView). v.given) x.2
-redeemed_given n w w' (Waiting held) x = ap (λ (v : WorkerView). v.given) x.0
-redeemed_given n w w' Void x = ap (λ (v : WorkerView). v.given) x
+redeemed_given : (log : List Kid) (h : Held) (w w' : WorkerView) (r : Redemption) → HasRedeemed log h w w' r → w'.given ≡ w.given
+redeemed_given log h w w' Opened x = ap (λ (v : WorkerView). v.given) x.opens
+redeemed_given log h w w' (Waiting again) x = ap (λ (v : WorkerView). v.given) x.0
+redeemed_given log h w w' Void x = ap (λ (v : WorkerView). v.given) x.0
 
-pub redeem_task : {E : Type 0} (n : ℕ) (w w' : WorkerView) (r : Result Redemption E) → IfOk r (HasRedeemed n w w') → OnErr r (w' ≡ w) → w'.task ≡ w.task
-redeem_task n w w' (Ok r) ok err = redeemed_task n w w' r ok
-redeem_task n w w' (Err e) ok err = ap (λ (v : WorkerView). v.task) err
+pub redeem_task :
+    {E : Type 0} (log : List Kid) (h : Held) (w w' : WorkerView) (r : Result Redemption E) → IfOk r (HasRedeemed log h w w') → OnErr r (w' ≡ w) → w'.task ≡ w.task
+redeem_task log h w w' (Ok r) ok err = redeemed_task log h w w' r ok
+redeem_task log h w w' (Err e) ok err = ap (λ (v : WorkerView). v.task) err
 
-pub redeem_given : {E : Type 0} (n : ℕ) (w w' : WorkerView) (r : Result Redemption E) → IfOk r (HasRedeemed n w w') → OnErr r (w' ≡ w) → w'.given ≡ w.given
-redeem_given n w w' (Ok r) ok err = redeemed_given n w w' r ok
-redeem_given n w w' (Err e) ok err = ap (λ (v : WorkerView). v.given) err
+pub redeem_given :
+    {E : Type 0} (log : List Kid) (h : Held) (w w' : WorkerView) (r : Result Redemption E) → IfOk r (HasRedeemed log h w w') → OnErr r (w' ≡ w) → w'.given ≡ w.given
+redeem_given log h w w' (Ok r) ok err = redeemed_given log h w w' r ok
+redeem_given log h w w' (Err e) ok err = ap (λ (v : WorkerView). v.given) err
 
 -- a worker that has the batch that it gave last numbered
 pub batch_numbered :

@@ -1,9 +1,15 @@
 -- What passes between the book that threads share and the journal behind it. (Our own.)
-use Rattle.std.specs.Prelude.{◌≡◌, ℕ, List, drop}
+use Rattle.std.specs.Prelude.{◌≡◌, ℕ, List, drop, Option, Some, Result, Ok, Err}
 use Rattle.hd_task.specs.declared.plan.Kid.{Kid}
 use Rattle.hd_task.specs.declared.task.Task.{Task}
 use Rattle.hd_desk.specs.Views.{BeginsWith}
 use Rattle.hd_journal.specs.Group.{GroupView}
+use Rattle.hd_tickets.specs.declared.not_out.NotOut.{NotOut}
+use Rattle.hd_tickets.specs.declared.redeemed.Redeemed.{Redeemed}
+use Rattle.hd_tickets.specs.declared.redeemed.Redeemed.TheVariants as redeemed
+use Rattle.hd_tickets.specs.Batches.{TicketView}
+use Rattle.hd_tickets.specs.Redeeming.{redeemed_for}
+use Rattle.hd_book.specs.View.{ParcelsView, BookView}
 use Rattle.hd_threads.specs.declared.shared.Given.{Given}
 use Rattle.hd_threads.specs.declared.shared.Given.TheVariants.{Parcels, NotYet, Void}
 
@@ -17,3 +23,23 @@ abbrev pub IsGivenOf : Task → Given → Type 0
 IsGivenOf t (Parcels parcels) = parcels.task ≡ t
 IsGivenOf t (NotYet ticket) = Unit {0}
 IsGivenOf t Void = Unit {0}
+
+-- what is given where a book redeems a ticket for this: what it releases, the ticket again, or nothing; or it is not out
+abbrev pub given_by : Result (Redeemed ParcelsView) NotOut → Result Given NotOut
+given_by (Ok (redeemed.Released receipt parcels)) = Ok (Parcels parcels)
+given_by (Ok (redeemed.NotYet ticket)) = Ok (NotYet ticket)
+given_by (Ok redeemed.Void) = Ok Void
+given_by (Err error) = Err error
+
+-- the book of this task with this log, as it lay in the lock, has given this for a ticket
+pub record IsGivenBy (task : Option Task) (log : List Kid) (ticket : TicketView) (given : Given) : Type 0 where
+  pub book : BookView
+  pub of_task : task ≡ Some book.state.task
+  pub has : log ≡ book.state.entries
+  pub is : Ok given ≡ given_by (redeemed_for book.batches ticket)
+
+-- what is given for a ticket, with this log in the lock: a ticket that waits comes back, whether or not the book was asked
+abbrev pub IsGivenIn : Option Task → List Kid → TicketView → Given → Type 0
+IsGivenIn task log ticket (Parcels parcels) = IsGivenBy task log ticket (Parcels parcels)
+IsGivenIn task log ticket (NotYet again) = again ≡ ticket
+IsGivenIn task log ticket Void = IsGivenBy task log ticket Void

@@ -11,15 +11,19 @@ use Rattle.hd_entries.specs.declared.refusal.Refusal.{Refusal}
 use Rattle.hd_entries.specs.declared.refusal.Refusal.TheVariants as refusals
 use Rattle.hd_entries.specs.Settling.{entry_of}
 use Rattle.hd_entries.specs.Growing.{kids_in}
-use Rattle.hd_entries.specs.Holding.{Released}
+use Rattle.hd_book.specs.View.{ParcelsView}
 use Rattle.hd_turns.specs.Worker.{WorkerView}
 use Rattle.hd_turns.specs.Calls.{batch_of, after_batch, after_numbering, after_releasing}
 use Rattle.hd_search.specs.declared.fault.RunFault.{RunFault}
 use Rattle.hd_search.specs.declared.fault.RunFault.TheVariants.{Full, NotOut, NoMemory}
+use Rattle.hd_threads.specs.declared.shared.Given.TheVariants as given
+use Rattle.hd_threads.specs.declared.shared.Given.TheVariants.{Parcels}
+use Rattle.hd_threads.specs.declared.working.Held.{Held}
 use Rattle.hd_threads.specs.declared.working.Committed.{Committed}
 use Rattle.hd_threads.specs.declared.working.Committed.TheVariants.{Taken, Halted, Idle}
 use Rattle.hd_threads.specs.declared.working.Redemption.{Redemption}
 use Rattle.hd_threads.specs.declared.working.Redemption.TheVariants.{Opened, Waiting, Void}
+use Rattle.hd_threads.specs.Shared.{IsGivenBy}
 
 -- what is told of why the entries refuse a batch: for want of room or of memory, or for what it says
 abbrev pub fault_of : Refusal → RunFault
@@ -70,8 +74,16 @@ HasCommitted before count seat w after count' seat' w' (Taken held) = IsBatchIn 
 HasCommitted before count seat w after count' seat' w' Halted = (count' ≡ count) × (seat' ≡ seat)
 HasCommitted before count seat w after count' seat' w' Idle = (w.outcomes ≡ []) × (w' ≡ w) × (after ≡ before) × (count' ≡ count) × (seat' ≡ seat)
 
--- what became of a ticket whose batch releases so many parcels at most: they came to the worker; or nothing has changed
-abbrev pub HasRedeemed : ℕ → WorkerView → WorkerView → Redemption → Type 0
-HasRedeemed most w w' Opened = (parcels : List Released) × (length parcels ≤ most) × (w' ≡ after_releasing parcels w)
-HasRedeemed most w w' (Waiting held) = (w' ≡ w) × (held.kids ≡ most)
-HasRedeemed most w w' Void = w' ≡ w
+-- what a ticket releases came to the worker: just the parcels that the book has given for it, with this log, and no more than are held
+pub record IsOpened (log : List Kid) (held : Held) (w w' : WorkerView) : Type 0 where
+  pub parcels : ParcelsView
+  pub given : IsGivenBy (Some w.task) log held.ticket (Parcels parcels)
+  pub few : length parcels.kids ≤ held.kids
+  pub opens : w' ≡ after_releasing parcels.kids w
+
+-- what became of a ticket, with this log in the lock: what it releases came to the worker; it waits, as it was; or the book gives nothing
+-- for it
+abbrev pub HasRedeemed : List Kid → Held → WorkerView → WorkerView → Redemption → Type 0
+HasRedeemed log held w w' Opened = IsOpened log held w w'
+HasRedeemed log held w w' (Waiting again) = (w' ≡ w) × (again ≡ held)
+HasRedeemed log held w w' Void = (w' ≡ w) × IsGivenBy (Some w.task) log held.ticket given.Void

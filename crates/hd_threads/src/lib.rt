@@ -5,6 +5,7 @@
 mod committing;
 mod ending;
 mod gate;
+mod gathering;
 mod halting;
 mod letter;
 mod pausing;
@@ -18,6 +19,7 @@ mod working;
 pub use committing::{Round, committer_round};
 pub use ending::{Concluded, Outcome, answer, commit_all, is_over};
 pub use gate::{Gate, OpenGate, Standing};
+pub use gathering::gather;
 pub use halting::{give_up, halt};
 pub use letter::Letter;
 pub use pausing::Pause;

@@ -1,5 +1,6 @@
 //! What a worker does at its place, call by call.
 ghost use Rattle.std.specs.Prelude.{◌≡◌, ◌<◌, ◌≤◌, length, IfOk, IfErr, OnOk, OnErr};
+ghost use Rattle.crossbeam_queue.specs.Passes.{view};
 ghost use Rattle.hd_zobrist.specs.declared.owners.TheConstants.{MAX_WORKERS};
 ghost use Rattle.hd_threads.specs.Working.{HasRedeemed};
 ghost use Rattle.hd_threads.specs.Faults.{IsOfWorker};
@@ -52,8 +53,8 @@ pub(crate) fn redeem<'t, L: Ledger, A: Ledger, R: Wait>(
     requires room { held.kids ≤ place.old.worker.room }
     ensures at { IsAt desk.now place.new }
     ensures keeps { Keeps place.old place.new }
-    ensures redeemed { IfOk result
-        (HasRedeemed held.kids place.old.worker place.new.worker) }
+    ensures redeemed { IfOk result (HasRedeemed (view place.new.pass).seen.log held
+        place.old.worker place.new.worker) }
     ensures told { IfErr result IsOfWorker }
 {
     redeem_next(

@@ -9,8 +9,9 @@ ghost use Rattle.hd_tickets.specs.Queue.{is_due, is_idle};
 ghost use Rattle.hd_book.specs.View.{counts_of};
 ghost use Rattle.hd_book.specs.Groups.{is_group_out};
 ghost use Rattle.hd_book.specs.Refusing.{refusal_to, IsRefusalTo};
-ghost use Rattle.hd_book.specs.Steps.{after_commit, ticket_after, after_take, after_flush, after_hand_back, after_halt};
-ghost use Rattle.hd_threads.specs.Shared.{IsGroupAt, IsGivenOf};
+ghost use Rattle.hd_book.specs.Steps.{after_commit, ticket_after, after_take, after_flush, after_hand_back, after_redeem, after_halt};
+ghost use Rattle.hd_tickets.specs.Redeeming.{redeemed_for};
+ghost use Rattle.hd_threads.specs.Shared.{IsGroupAt, IsGivenOf, given_by};
 
 use hd_book::{
     Book, CommitRefusal, Counts, Flushed, Group, NotOut, Parcels, Redeemed, Ticket, Verdict,
@@ -205,11 +206,14 @@ impl<'t, L: Ledger, A: Ledger> SharedBook<'t, L, A> {
     ///
     /// # Errors
     /// `NotOut` where no such ticket is out: it is spent, and the book is halted.
-    #[tactic(auto, using(crate::proofs::Begins::begins_same))]
+    #[tactic(auto, using(crate::proofs::Begins::begins_same, crate::proofs::Redeeming::receipt_acknowledged))]
     pub fn redeem(&mut self, ticket: Ticket) -> Result<Given<'t>, NotOut>
         ensures task { self.new.state.task ≡ self.old.state.task }
         ensures begins { BeginsWith self.new.state.entries self.old.state.entries }
-        ensures given { IfOk result (IsGivenOf self.old.state.task) }
+        ensures given { result ≡ given_by (redeemed_for self.old.batches ticket) }
+        ensures of_task { IfOk result (IsGivenOf self.old.state.task) }
+        ensures redeemed { OnOk result (self.new ≡ after_redeem ticket self.old) }
+        ensures err { OnErr result (self.new ≡ after_halt self.old) }
     {
         match self.book.redeem(ticket) {
             Ok(Redeemed::Released(receipt, parcels)) => match self.book.present(receipt) {
@@ -244,6 +248,19 @@ impl<'t, L: Ledger, A: Ledger> SharedBook<'t, L, A> {
             Ok(Redeemed::NotYet(_ticket)) => unreachable!(),
             Err(_) => {}
         }
+    }
+
+    /// How many batches the book has taken, which is what all parts of the count's share amount to.
+    pub fn audit(&mut self, share: &mut Share<L>) -> u64
+        requires whole { share.old.parts ≡ L.parts }
+        ensures same { self.new ≡ self.old }
+        ensures parts { share.new.parts ≡ share.old.parts }
+        ensures kept { share.new.amount ≡ share.old.amount }
+        ensures commits { result ≡ length self.old.batches.tickets }
+        ensures amount { result ≡ share.old.amount }
+    {
+        self.book.audit(share);
+        self.book.counts().commits
     }
 
     /// How far the search has come.

@@ -11,7 +11,7 @@ ghost use Rattle.hd_turns.specs.Calls.{ExpandsBest, after_seeing};
 ghost use Rattle.hd_worker.specs.Lookup.{IsLookupOf};
 ghost use Rattle.hd_threads.specs.Working.{fault_of, with_offer, IsIn, HasCommitted, HasRedeemed};
 ghost use Rattle.hd_threads.specs.Faults.{IsOfWorker};
-ghost use Rattle.hd_threads.specs.Shared.{IsGivenOf};
+ghost use Rattle.hd_threads.specs.Shared.{IsGivenOf, IsGivenIn};
 
 use crate::ending::is_reached;
 use crate::halting::halt;
@@ -221,6 +221,7 @@ pub fn commit_next<'t, L: Ledger, A: Ledger, R: Wait>(
     ensures committed { IfOk result (HasCommitted (view pass.old).seen.log
         share.old.amount seat.old worker.old
         (view pass.new).seen.log share.new.amount seat.new worker.new) }
+    ensures offered { OnErr result (seat.new.offers ≡ seat.old.offers) }
     ensures told { IfErr result IsOfWorker }
 {
     let Some(batch) = worker.next_batch()? else {
@@ -283,7 +284,9 @@ fn redeem_inside<'t, L: Ledger, A: Ledger, R: Wait>(
     ensures parts { (view pass.new).parts ≡ (view pass.old).parts }
     ensures task { (view pass.new).seen.task ≡ (view pass.old).seen.task }
     ensures grows { BeginsWith (view pass.new).seen.log (view pass.old).seen.log }
-    ensures given { IfSome (view pass.old).seen.task (λ t. IfOk result (IsGivenOf t)) }
+    ensures given { IfOk result (IsGivenIn (view pass.old).seen.task
+        (view pass.new).seen.log ticket) }
+    ensures of_task { IfSome (view pass.old).seen.task (λ t. IfOk result (IsGivenOf t)) }
 {
     let Some(mut book) = enter(rt, lock, pass, waits) else {
         return Ok(Given::NotYet(ticket));
@@ -314,7 +317,8 @@ pub fn redeem_next<'t, L: Ledger, A: Ledger, R: Wait>(
     ensures parts { (view pass.new).parts ≡ (view pass.old).parts }
     ensures task { (view pass.new).seen.task ≡ (view pass.old).seen.task }
     ensures grows { BeginsWith (view pass.new).seen.log (view pass.old).seen.log }
-    ensures redeemed { IfOk result (HasRedeemed held.kids worker.old worker.new) }
+    ensures redeemed { IfOk result
+        (HasRedeemed (view pass.new).seen.log held worker.old worker.new) }
     ensures err { OnErr result (worker.new ≡ worker.old) }
     ensures told { IfErr result IsOfWorker }
 {

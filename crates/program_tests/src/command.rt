@@ -610,14 +610,19 @@ type Runs = (
     &'static [&'static str],
 );
 
-/// The answer, or `NoMemory`; of what is explained, the reason may be missing.
+/// The answer, or `NoMemory`; a thread that does not start for want of memory is no other than one that does not start; of what is explained, the
+/// reason may be missing.
 const REFUSED: &[Runs] = &[
     (
         SOLVE,
         L,
         L_PROBLEM,
         "",
-        &["0|(set-a)\n(set-b)\n; cost = 2\n|", "1||hplan: NoMemory\n"],
+        &[
+            "0|(set-a)\n(set-b)\n; cost = 2\n|",
+            "1||hplan: NoMemory\n",
+            "1||hplan: NoThread\n",
+        ],
     ),
     (
         SOLVE,
@@ -627,6 +632,7 @@ const REFUSED: &[Runs] = &[
         &[
             "0|(near)\n(join)\n(fin)\n; cost = 3\n|",
             "1||hplan: NoMemory\n",
+            "1||hplan: NoThread\n",
         ],
     ),
     (

@@ -15,33 +15,39 @@ use text_tests::samples::{G, G_PROBLEM};
 /// Turns of a millisecond, at most.
 const TURNS: u64 = 10_000;
 
-fn wait_for<R: Wait>(rt: &R, word: &AtomicU64) {
+/// Waits until a word is no more 0: whether it came to that.
+fn wait_for<R: Wait>(rt: &R, word: &AtomicU64) -> bool {
     for _ in 0..TURNS {
         if word.load(Ordering::SeqCst) != 0 {
-            break;
+            return true;
         }
         Parker::new().park_timeout(rt, Duration::from_millis(1));
     }
+    false
 }
 
-/// Worker 0's second node and worker 1's first wait for each other.
+/// Worker 0's second node and worker 1's first wait for each other; how often one waited in vain.
 #[derive(Drop)]
 struct Meeting {
     second: AtomicU64,
     first: AtomicU64,
+    missed: AtomicU64,
+}
+
+impl Meeting {
+    fn meet<R: Wait>(&self, rt: &R, here: &AtomicU64, there: &AtomicU64) {
+        here.store(1, Ordering::SeqCst);
+        if !wait_for(rt, there) {
+            self.missed.fetch_add(1, Ordering::SeqCst);
+        }
+    }
 }
 
 impl Gate for Meeting {
     fn before<R: Wait>(&self, rt: &R, worker: usize, nth: u64) {
         match (worker, nth) {
-            (0, 2) => {
-                self.second.store(1, Ordering::SeqCst);
-                wait_for(rt, &self.first);
-            }
-            (1, 1) => {
-                self.first.store(1, Ordering::SeqCst);
-                wait_for(rt, &self.second);
-            }
+            (0, 2) => self.meet(rt, &self.second, &self.first),
+            (1, 1) => self.meet(rt, &self.first, &self.second),
             _ => {}
         }
     }
@@ -56,6 +62,7 @@ fn two_workers_expand_at_the_same_time(rt: HostRuntime) -> Result<(), Fail> {
     let gate = Meeting {
         second: AtomicU64::new(0),
         first: AtomicU64::new(0),
+        missed: AtomicU64::new(0),
     };
     let mut journal = journal_on(alloc, MemoryDisk::new(alloc))?;
     match run(&rt, alloc, &task, &mut journal, 2, 1, None, &gate) {
@@ -64,6 +71,7 @@ fn two_workers_expand_at_the_same_time(rt: HostRuntime) -> Result<(), Fail> {
     }
     assert_eq!(rt; gate.first.load(Ordering::SeqCst), 1);
     assert_eq!(rt; gate.second.load(Ordering::SeqCst), 1);
+    assert_eq!(rt; gate.missed.load(Ordering::SeqCst), 0);
     Ok(())
 }
 

@@ -6,6 +6,8 @@ mod devices;
 #[cfg(test)]
 mod gates;
 #[cfg(test)]
+mod gathered;
+#[cfg(test)]
 mod rows;
 #[cfg(test)]
 mod tasks;
