@@ -127,8 +127,14 @@ fn searches_go_on_behind_each_failing_call(rt: HostRuntime) -> Result<(), Fail> 
             }
             let written = before.has;
             let after = go_on(&rt, alloc, &task, before.disk, 1 + (n % 4) as usize)?;
-            assert!(rt; begin_with(after.found.as_slice(), written.as_slice()), "at {n}");
-            assert!(rt; begin_with(after.has.as_slice(), after.found.as_slice()), "at {n}");
+            assert!(rt;
+                begin_with(after.found.as_slice(), written.as_slice()),
+                "at {n}"
+            );
+            assert!(rt;
+                begin_with(after.has.as_slice(), after.found.as_slice()),
+                "at {n}"
+            );
             assert!(rt; after.says == Some(Says::Optimal(3)), "at {n}");
             if 0 < written.len() && written.len() < after.has.len() {
                 between = between.wrapping_add(1);
