@@ -41,11 +41,16 @@ fn gathered<L: Ledger, A: Ledger, R: Wait>(
     Ok((number, book.counts().posted))
 }
 
+/// The same with two parts of the commits, and one of what is acknowledged.
+fn gathered_of_two<R: Wait>(rt: &R, alloc: Global, task: &Task) -> Result<(u64, u64), Fail> {
+    gathered::<Brand, Brand, R>(rt, alloc, Blank::new(2), Blank::new(1), task)
+}
+
 #[test]
 fn a_book_is_gathered_with_the_number_of_its_commits(rt: HostRuntime) -> Result<(), Fail> {
     let alloc = rt.alloc();
     let task = task(&rt, alloc, G, G_PROBLEM);
-    let told = gathered::<Brand, Brand, _>(&rt, alloc, Blank::new(2), Blank::new(1), &task)?;
+    let told = gathered_of_two(&rt, alloc, &task)?;
     assert_eq!(rt; told.0, 0);
     assert_eq!(rt; told.1, 1);
     Ok(())
