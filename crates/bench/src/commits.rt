@@ -5,7 +5,7 @@ ghost use Rattle.hd_entries.specs.Settling.{IsOf};
 ghost use Rattle.hd_entries.specs.Holding.{IsParcelOf};
 
 use crate::walk::{Tables, expand, root, tables_of};
-use hd_book::{Book, CommitRefusal, Redeemed, Ticket};
+use hd_book::{Book, CommitRefusal, Redeemed, Rooms, Ticket};
 use hd_journal::{DIGEST_LEN, Group, Journal, JournalError};
 use hd_node::{Batch, By, Outcome, Parcel};
 use hd_store::MemoryDisk;
@@ -27,6 +27,13 @@ pub struct Committed {
 struct Place<'t> {
     parcel: Parcel<'t>,
     before: u64,
+}
+
+/// What entries are written to: a journal, and room for the groups on their way.
+#[derive(Drop)]
+struct Written {
+    journal: Journal<MemoryDisk>,
+    rooms: Rooms,
 }
 
 /// A new journal in memory.
@@ -54,18 +61,21 @@ fn commit<'t, L: Ledger>(
 }
 
 /// Appends the group that waits, if there is one, and acknowledges it.
-fn flush<L: Ledger>(
-    book: &mut Book<'_, L>,
-    journal: &mut Journal<MemoryDisk>,
-) -> Result<(), JournalError>
+fn flush<L: Ledger>(book: &mut Book<'_, L>, written: &mut Written) -> Result<(), JournalError>
     ensures { book.new.state.task ≡ book.old.state.task }
 {
-    let Some(group) = book.take_pending()? else {
-        return Ok(());
+    let group = match book.take_pending(written.rooms.take()?) {
+        Ok(group) => group,
+        Err(room) => {
+            written.rooms.put_back(room);
+            return Ok(());
+        }
     };
-    match journal.append(group) {
+    match written.journal.append(group) {
         Ok(flushed) => {
-            let _ = book.acknowledge(flushed);
+            if let Ok(kids) = book.acknowledge(flushed) {
+                written.rooms.reuse(kids);
+            }
             Ok(())
         }
         Err((group, error)) => {
@@ -115,14 +125,14 @@ fn redeem<'t, L: Ledger>(book: &mut Book<'t, L>, ticket: Ticket) -> Option<Vec<P
 /// Appends what a batch has added, and redeems its ticket: the parcels that it releases.
 fn finish<'t, L: Ledger>(
     book: &mut Book<'t, L>,
-    journal: &mut Journal<MemoryDisk>,
+    written: &mut Written,
     ticket: Ticket,
 ) -> anyhow::Result<Vec<Parcel<'t>>>
     ensures task { book.new.state.task ≡ book.old.state.task }
     ensures of_task { IfOk result (λ v. AllByRecursion (IsParcelOf book.old.state.task)
         v.items) }
 {
-    let flushed = flush(book, journal);
+    let flushed = flush(book, written);
     let parcels = redeem(book, ticket);
     match (flushed, parcels) {
         (Ok(()), Some(parcels)) => Ok(parcels),
@@ -138,7 +148,7 @@ fn settle<'t, L: Ledger>(
     tables: &mut Tables<'t>,
     book: &mut Book<'t, L>,
     share: &mut Share<L>,
-    journal: &mut Journal<MemoryDisk>,
+    written: &mut Written,
     parcel: Parcel<'t>,
 ) -> anyhow::Result<Vec<Parcel<'t>>>
     requires of_task { parcel.task ≡ task.now }
@@ -156,7 +166,7 @@ fn settle<'t, L: Ledger>(
     };
     let batch = Batch::of(vec![in alloc; outcome]?);
     match commit(book, share, batch) {
-        Ok(ticket) => finish(book, journal, ticket),
+        Ok(ticket) => finish(book, written, ticket),
         Err((_, refusal)) => Err(refusal.into()),
     }
 }
@@ -166,7 +176,7 @@ fn settle_again<L: Ledger>(
     alloc: Global,
     book: &mut Book<'_, L>,
     share: &mut Share<L>,
-    journal: &mut Journal<MemoryDisk>,
+    written: &mut Written,
     kid: Kid,
     entry: u64,
 ) -> anyhow::Result<()>
@@ -178,7 +188,7 @@ fn settle_again<L: Ledger>(
     let batch = Batch::of(vec![in alloc; outcome]?);
     match commit(book, share, batch) {
         Ok(ticket) => {
-            finish(book, journal, ticket)?;
+            finish(book, written, ticket)?;
             Ok(())
         }
         Err((_, refusal)) => Err(refusal.into()),
@@ -227,7 +237,7 @@ fn turn<'t, L: Ledger>(
     tables: &mut Tables<'t>,
     book: &mut Book<'t, L>,
     share: &mut Share<L>,
-    journal: &mut Journal<MemoryDisk>,
+    written: &mut Written,
     place: Place<'t>,
     done: &mut Committed,
 ) -> anyhow::Result<Option<Place<'t>>>
@@ -242,14 +252,14 @@ fn turn<'t, L: Ledger>(
 {
     let Place { parcel, before } = place;
     let hash = parcel.hash();
-    let parcels = settle(alloc, task, tables, book, share, journal, parcel)?;
+    let parcels = settle(alloc, task, tables, book, share, written, parcel)?;
     done.expansions = done.expansions.wrapping_add(1);
     done.children = done.children.wrapping_add(parcels.len() as u64);
     let number = book.counts().entries;
     if number > 1
         && let Some(kid) = kid_back(&parcels, before)
     {
-        settle_again(alloc, book, share, journal, kid, number - 2)?;
+        settle_again(alloc, book, share, written, kid, number - 2)?;
         done.duplicates = done.duplicates.wrapping_add(1);
     }
     match parcel_on(task, parcels, before, hash ^ done.expansions) {
@@ -273,7 +283,10 @@ fn follow<'t, L: Ledger>(
     requires part { 0 < share.old.parts }
 {
     let mut tables = tables_of(alloc, task)?;
-    let mut journal = journal_of(alloc)?;
+    let mut written = Written {
+        journal: journal_of(alloc)?,
+        rooms: Rooms::new(alloc),
+    };
     let mut done = Committed {
         expansions: 0,
         children: 0,
@@ -290,7 +303,7 @@ fn follow<'t, L: Ledger>(
             &mut tables,
             book,
             share,
-            &mut journal,
+            &mut written,
             place,
             &mut done,
         )? {

@@ -4,10 +4,12 @@ ghost use Rattle.std.specs.List.{AllByRecursion};
 ghost use Rattle.hd_entries.specs.Settling.{IsOf};
 
 use crate::outcomes::{ROOT, assert_sizes, kid};
-use crate::scripts::{assert_counts, commit, end, flush};
+use crate::scripts::{append, assert_counts, commit, end, flush};
 use crate::trials::{MOST, Trial, Which, assert_trial, journal};
-use hd_book::{Book, Ticket};
+use hd_book::{Book, Rooms, Ticket};
+use hd_journal::Journal;
 use hd_node::{Batch, Expansion, MAX_OUTCOMES, Outcome, Parcel};
+use hd_store::MemoryDisk;
 use hd_successors::Successors;
 use hd_task::{Kid, Task};
 use hd_zobrist::Words;
@@ -115,6 +117,26 @@ fn grow<'t, L: Ledger>(
     Ok(())
 }
 
+/// The last entry goes out, in the last list that was kept: one that has room for any group, and not one that has less.
+fn assert_reused<L: Ledger>(
+    rt: &impl Abort,
+    alloc: Global,
+    book: &mut Book<L>,
+    rooms: &mut Rooms,
+    journal: &mut Journal<MemoryDisk>,
+) -> Result<(), Fail> {
+    rooms.reuse(Vec::with_capacity(alloc, 70_000)?);
+    rooms.reuse(Vec::with_capacity(alloc, 65_535)?);
+    let Ok(group) = book.take_pending(rooms.take()?) else {
+        return Err("the last entry waits".into());
+    };
+    match append(rt, book, journal, group) {
+        Some(kids) => assert!(rt; kids.len() == 1 && kids.capacity() == 70_000),
+        None => assert!(rt; false),
+    }
+    Ok(())
+}
+
 /// All fit into a group but the last one.
 fn fill<'t, L: Ledger>(
     rt: &impl Abort,
@@ -130,8 +152,9 @@ fn fill<'t, L: Ledger>(
     grow(rt, alloc, book, share, held, task)?;
     assert_counts(rt, book, [65_537, 131_075, 65_537, 0, 75]);
     let mut journal = journal(alloc)?;
-    assert!(rt; flush(rt, book, &mut journal)? == 65_536);
-    assert!(rt; flush(rt, book, &mut journal)? == 1);
+    let mut rooms = Rooms::new(alloc);
+    assert!(rt; flush(rt, book, &mut rooms, &mut journal)? == 65_536);
+    assert_reused(rt, alloc, book, &mut rooms, &mut journal)?;
     assert!(rt; book.is_idle());
     Ok(())
 }

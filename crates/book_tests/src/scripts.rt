@@ -8,7 +8,9 @@ ghost use Rattle.hd_entries.specs.Settling.{IsOf};
 
 use crate::outcomes::{Pair, Row, batch_of, kid};
 use crate::trials::journal;
-use hd_book::{Book, CommitRefusal, Flushed, Group, NotOut, Redeemed, Ticket, Verdict};
+use hd_book::{
+    Book, CommitRefusal, Flushed, Group, NotOut, Redeemed, Room, Rooms, Ticket, Verdict,
+};
 use hd_journal::{Journal, MAX_GROUP};
 use hd_node::{Batch, By, Parcel};
 use hd_store::MemoryDisk;
@@ -120,53 +122,68 @@ fn duplicates(alloc: Global, count: u32) -> Result<Vec<Row>, Fail> {
 
 // ---- groups
 
-/// Acknowledges what was appended.
-fn acknowledge<L: Ledger>(book: &mut Book<L>, flushed: Flushed) -> Result<(), NotOut>
+/// Acknowledges what was appended: the pairs.
+fn acknowledge<L: Ledger>(book: &mut Book<L>, flushed: Flushed) -> Result<Vec<Kid>, NotOut>
     ensures { book.new.state.task ≡ book.old.state.task }
 {
     book.acknowledge(flushed)
 }
 
-/// Appends a group to a journal and acknowledges it.
-fn append<L: Ledger>(
+/// Appends a group to a journal and acknowledges it: the list of its pairs.
+pub fn append<L: Ledger>(
     rt: &impl Abort,
     book: &mut Book<L>,
     journal: &mut Journal<MemoryDisk>,
     group: Group,
-)
+) -> Option<Vec<Kid>>
     ensures { book.new.state.task ≡ book.old.state.task }
 {
     match journal.append(group) {
-        Ok(flushed) => assert!(rt; acknowledge(book, flushed).is_ok()),
+        Ok(flushed) => match acknowledge(book, flushed) {
+            Ok(kids) => Some(kids),
+            Err(_) => None,
+        },
         Err((group, _)) => {
             assert!(rt; book.hand_back(group).is_ok());
-            assert!(rt; false);
+            None
         }
     }
 }
 
-/// Appends the next group to a journal and acknowledges it: how many entries it has.
+/// Appends the next group to a journal and acknowledges it, and keeps its list for the group after it: how many entries it has.
 pub fn flush<L: Ledger>(
     rt: &impl Abort,
     book: &mut Book<L>,
+    rooms: &mut Rooms,
     journal: &mut Journal<MemoryDisk>,
 ) -> Result<usize, Fail>
     ensures { book.new.state.task ≡ book.old.state.task }
 {
     let before = journal.entries().len();
-    if let Some(group) = book.take_pending()? {
-        append(rt, book, journal, group);
+    match book.take_pending(rooms.take()?) {
+        Ok(group) => match append(rt, book, journal, group) {
+            Some(kids) => {
+                assert!(rt; journal.entries().len().saturating_sub(before) == kids.len());
+                rooms.reuse(kids);
+            }
+            None => assert!(rt; false),
+        },
+        Err(room) => rooms.put_back(room),
     }
     Ok(journal.entries().len().saturating_sub(before))
 }
 
 /// The next group goes out, and comes back.
-fn hand_back<L: Ledger>(rt: &impl Abort, book: &mut Book<L>) -> Result<(), Fail>
+fn hand_back<L: Ledger>(rt: &impl Abort, alloc: Global, book: &mut Book<L>) -> Result<(), Fail>
     ensures { book.new.state.task ≡ book.old.state.task }
 {
-    match book.take_pending()? {
-        Some(group) => assert!(rt; book.hand_back(group).is_ok()),
-        None => assert!(rt; false),
+    let room = Room::new(alloc)?;
+    match book.take_pending(room) {
+        Ok(group) => assert!(rt; book.hand_back(group).is_ok()),
+        Err(room) => {
+            drop(room);
+            assert!(rt; false);
+        }
     }
     Ok(())
 }
@@ -197,7 +214,7 @@ fn try_others<L: Ledger>(
 {
     assert!(rt; book.hand_back(one) == Err(NotOut));
     match elsewhere.append(other) {
-        Ok(flushed) => assert!(rt; book.acknowledge(flushed) == Err(NotOut)),
+        Ok(flushed) => assert!(rt; acknowledge(book, flushed).is_err()),
         Err((other, _)) => assert!(rt; book.hand_back(other) == Err(NotOut)),
     }
     assert!(rt; !book.is_halted());
@@ -207,17 +224,17 @@ fn try_others<L: Ledger>(
 fn exchange<L: Ledger>(
     rt: &impl Abort,
     book: &mut Book<L>,
+    room: Room,
     elsewhere: &mut Journal<MemoryDisk>,
     one: Group,
     other: Group,
 )
     ensures { book.new.state.task ≡ book.old.state.task }
 {
-    let taken = book.take_pending();
+    let taken = book.take_pending(room);
     try_others(rt, book, elsewhere, one, other);
     match taken {
-        Ok(Some(group)) => assert!(rt; book.hand_back(group).is_ok()),
-        Ok(None) => assert!(rt; false),
+        Ok(group) => assert!(rt; book.hand_back(group).is_ok()),
         Err(_) => assert!(rt; false),
     }
 }
@@ -235,8 +252,9 @@ fn exchange_for<L: Ledger>(
     let one = kids_of(alloc, pairs)?;
     let other = kids_of(alloc, pairs)?;
     let mut elsewhere = journal(alloc)?;
+    let room = Room::new(alloc)?;
     let (one, other) = (group_of(rt, first, one), group_of(rt, first, other));
-    exchange(rt, book, &mut elsewhere, one, other);
+    exchange(rt, book, room, &mut elsewhere, one, other);
     Ok(())
 }
 
@@ -361,6 +379,7 @@ fn follow_plain<L: Ledger>(
 pub struct Desk<'t> {
     pub task: &'t Task,
     pub journal: Journal<MemoryDisk>,
+    pub rooms: Rooms,
     pub held: Vec<Ticket>,
 }
 
@@ -388,8 +407,11 @@ pub fn follow<'t, L: Ledger>(
             let rows = duplicates(alloc, count)?;
             assert_commit(rt, alloc, book, share, desk, &rows, None)?
         }
-        Line::Flush(count) => assert!(rt; flush(rt, book, &mut desk.journal)? == count),
-        Line::HandBack => hand_back(rt, book)?,
+        Line::Flush(count) => {
+            let flushed = flush(rt, book, &mut desk.rooms, &mut desk.journal)?;
+            assert!(rt; flushed == count);
+        }
+        Line::HandBack => hand_back(rt, alloc, book)?,
         Line::Exchanged(first, pairs) => exchange_for(rt, alloc, book, first, pairs)?,
         line => follow_plain(rt, book, &mut desk.held, line)?,
     }

@@ -7,7 +7,7 @@ use crate::outcomes::Pair;
 use crate::resuming::{Resumption, assert_resumed};
 use crate::scripts::{Desk, Line, end, follow};
 use crate::tasks::{idle_actions, two_idle, two_steps, two_ways};
-use hd_book::Book;
+use hd_book::{Book, Rooms};
 use hd_journal::Journal;
 use hd_store::MemoryDisk;
 use hd_task::{ROOT_PARENT, Task};
@@ -71,6 +71,7 @@ fn desk<'t>(alloc: Global, task: &'t Task) -> Result<Desk<'t>, Fail>
         held: Vec::with_capacity(alloc, 100)?,
         task,
         journal,
+        rooms: Rooms::new(alloc),
     })
 }
 
@@ -116,6 +117,7 @@ fn assert_script<'t, L: Ledger>(
     let Desk {
         task: _,
         journal,
+        rooms: _,
         held,
     } = desk;
     end(rt, book, held);

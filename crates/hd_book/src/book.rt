@@ -1,8 +1,8 @@
 //! The book of a search.
 use crate::content::Content;
 use crate::{
-    CommitRefusal, Counts, Flushed, Group, NotOut, Parcels, Receipt, Redeemed, Refusal, Ticket,
-    Verdict,
+    CommitRefusal, Counts, Flushed, Group, NotOut, Parcels, Receipt, Redeemed, Refusal, Room,
+    Ticket, Verdict,
 };
 use hd_entries::{Entries, HashedRow};
 use hd_node::{Batch, Parcel};
@@ -39,7 +39,7 @@ impl<'t, L: Ledger> Model for Book<'t, L> {
 }
 
 impl<'t, L: Ledger> Book<'t, L> {
-    ghost use Rattle.std.specs.Prelude.{◌≡◌, ◌+◌, ◌<◌, ◌≤◌, ◌^◌, ◌&&◌, [], None, length, map, slice_get, option_map, is_ok, is_some, IfOk, IfErr, IfSome, OnOk, OnErr};
+    ghost use Rattle.std.specs.Prelude.{◌≡◌, ◌+◌, ◌<◌, ◌≤◌, ◌^◌, ◌&&◌, [], None, Some, length, map, slice_get, option_map, is_ok, is_some, IfOk, IfErr, IfSome, OnOk, OnErr};
     ghost use Rattle.std.specs.List.{AllByRecursion};
     ghost use Rattle.hd_task.specs.declared.plan.TheConstants.{ROOT_PARENT};
     ghost use Rattle.hd_task.specs.Plans.{node};
@@ -160,29 +160,31 @@ impl<'t, L: Ledger> Book<'t, L> {
     }
 
     /// The next group goes out, to be appended to a journal: whole batches in the order of their commits, from the oldest on, as many as
-    /// fit into a group. None where nothing waits, or a group is out.
+    /// fit into a group. Its pairs are put into the room that is handed in. It takes no memory.
     ///
     /// # Errors
-    /// `NoMemory` where there is no room for the group's pairs: nothing has changed.
-    pub fn take_pending(&mut self) -> Result<Option<Group>, NoMemory>
+    /// The room again, where nothing waits, or a group is out: nothing has changed.
+    pub fn take_pending(&mut self, room: Room) -> Result<Group, Room>
         ensures task { self.new.state.task ≡ self.old.state.task }
         ensures begins { BeginsWith self.new.state.entries self.old.state.entries }
-        ensures due { IfOk result (λ g. is_some g ≡ is_due self.old.batches.queue) }
-        ensures group { IfOk result (λ g. g ≡ next_group self.old) }
-        ensures taken { OnOk result (self.new ≡ after_take self.old) }
-        ensures err { OnErr result (self.new ≡ self.old) }
+        ensures due { is_ok result ≡ is_due self.old.batches.queue }
+        ensures group { IfOk result (λ g. Some g ≡ next_group self.old) }
+        ensures none { OnErr result (next_group self.old ≡ None) }
+        ensures taken { self.new ≡ after_take self.old }
     {
-        self.content.take_pending()
+        self.content.take_pending(room)
     }
 
-    /// Acknowledges the entries of the group that is out: they are appended. It takes no memory.
+    /// Acknowledges the entries of the group that is out: they are appended. The list of its pairs comes back, to be
+    /// used again ([`crate::Rooms`]), or let go where the book is not locked any more. It takes no memory.
     ///
     /// # Errors
     /// `NotOut` where this group is not the one that is out: what said that it was appended is spent, and nothing has changed.
-    pub fn acknowledge(&mut self, flushed: Flushed) -> Result<(), NotOut>
+    pub fn acknowledge(&mut self, flushed: Flushed) -> Result<Vec<Kid>, NotOut>
         ensures task { self.new.state.task ≡ self.old.state.task }
         ensures begins { BeginsWith self.new.state.entries self.old.state.entries }
         ensures out { is_ok result ≡ is_group_out self.old flushed }
+        ensures kids { IfOk result (λ kids. kids.items ≡ flushed.kids) }
         ensures flushed { OnOk result (self.new ≡ after_flush self.old) }
         ensures err { OnErr result (self.new ≡ self.old) }
     {

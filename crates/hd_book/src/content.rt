@@ -1,12 +1,11 @@
 //! The parts of a book.
-ghost use Rattle.std.specs.Prelude.{◌≡◌, ℕ, ◌+◌, ◌-◌, ◌<◌, ◌≤◌, ◌^◌, ◌++◌, ◌&&◌, true, false, [], None, length, drop, slice_get, vec_len, vec_capacity, is_ok, is_some, IfOk, IfErr, IfSome, OnOk, OnErr};
+ghost use Rattle.std.specs.Prelude.{◌≡◌, ◌+◌, ◌-◌, ◌<◌, ◌≤◌, ◌^◌, ◌++◌, ◌&&◌, true, false, None, Some, length, drop, slice_get, vec_len, vec_capacity, is_ok, is_some, IfOk, IfErr, IfSome, OnOk, OnErr};
 ghost use Rattle.std.specs.List.{AllByRecursion};
 ghost use Rattle.hd_kids.specs.Kids.{same_kid};
 ghost use Rattle.hd_entries.specs.Settling.{IsOf, IsKept};
 ghost use Rattle.hd_entries.specs.Holding.{BeginsWith};
 ghost use Rattle.hd_entries.specs.Refusing.{has_room};
 ghost use Rattle.hd_entries.specs.Answers.{is_over, IsCoveredBook, IsAnswerOf, IsTrueAnswer};
-ghost use Rattle.hd_tickets.specs.declared.queue.TheConstants.{MAX_GROUP};
 ghost use Rattle.hd_tickets.specs.Queue.{is_due, is_idle};
 ghost use Rattle.hd_tickets.specs.Redeeming.{redeemed_for};
 ghost use Rattle.hd_book.specs.View.{book_of, counts_of};
@@ -16,19 +15,19 @@ ghost use Rattle.hd_book.specs.Refusing.{refusal_to, IsRefusalTo};
 ghost use Rattle.hd_book.specs.Redeeming.{IsReleasedOf};
 
 use crate::{
-    CommitRefusal, Counts, Flushed, Group, NotOut, Parcels, Redeemed, Refusal, Ticket, Verdict,
+    CommitRefusal, Counts, Flushed, Group, NotOut, Parcels, Redeemed, Refusal, Room, Ticket,
+    Verdict,
 };
 use hd_entries::Entries;
 use hd_node::Batch;
 use hd_task::{Kid, NoMemory};
-use hd_tickets::{MAX_GROUP, Tickets};
+use hd_tickets::Tickets;
 use std::alloc::Global;
 use std::marker::Model;
 
 /// The parts of a book: its entries, and the tickets and groups of its batches.
 #[derive(Debug, Drop)]
 pub(crate) struct Content<'t> {
-    alloc: Global,
     pub(crate) entries: Entries<'t>,
     pub(crate) tickets: Tickets<Parcels<'t>>,
 }
@@ -134,7 +133,6 @@ impl<'t> Content<'t> {
     {
         let acknowledged = entries.len();
         Content {
-            alloc,
             entries,
             tickets: Tickets::new(alloc, acknowledged),
         }
@@ -169,42 +167,27 @@ impl<'t> Content<'t> {
         }
     }
 
-    /// A `Vec` with room for the pairs of the next group.
-    fn room_for_group(&self) -> Result<Vec<Kid>, NoMemory>
-        ensures none { IfOk result (λ kids. kids.items ≡ []) }
-        ensures room { IfOk result (λ kids. (n : ℕ) → n ≤ MAX_GROUP
-            → self.now.batches.queue.acknowledged + n ≤ length self.now.state.entries
-            → n ≤ vec_capacity kids) }
-    {
-        let waiting = self.entries.len() - self.tickets.acknowledged();
-        let count = if waiting < MAX_GROUP {
-            waiting
-        } else {
-            MAX_GROUP
-        };
-        Vec::with_capacity(self.alloc, count as usize)
-    }
-
     /// The next group goes out, as [`crate::Book::take_pending`] says.
-    pub(crate) fn take_pending(&mut self) -> Result<Option<Group>, NoMemory>
-        ensures due { IfOk result (λ g. is_some g ≡ is_due self.old.batches.queue) }
-        ensures group { IfOk result (λ g. g ≡ next_group self.old) }
-        ensures taken { OnOk result (self.new ≡ after_take self.old) }
-        ensures err { OnErr result (self.new ≡ self.old) }
+    pub(crate) fn take_pending(&mut self, room: Room) -> Result<Group, Room>
+        ensures due { is_ok result ≡ is_due self.old.batches.queue }
+        ensures group { IfOk result (λ g. Some g ≡ next_group self.old) }
+        ensures none { OnErr result (next_group self.old ≡ None) }
+        ensures taken { self.new ≡ after_take self.old }
     {
-        let mut kids = self.room_for_group()?;
         match self.tickets.take() {
             Some(range) => {
+                let mut kids = room.into_vec();
                 push_entries(&mut kids, &self.entries, range.start, range.end);
-                Ok(Some(Group::of(range.start, kids)))
+                Ok(Group::of(range.start, kids))
             }
-            None => Ok(None),
+            None => Err(room),
         }
     }
 
     /// Acknowledges the group that is out, as [`crate::Book::acknowledge`] says.
-    pub(crate) fn acknowledge(&mut self, flushed: Flushed) -> Result<(), NotOut>
+    pub(crate) fn acknowledge(&mut self, flushed: Flushed) -> Result<Vec<Kid>, NotOut>
         ensures out { is_ok result ≡ is_group_out self.old flushed }
+        ensures kids { IfOk result (λ kids. kids.items ≡ flushed.kids) }
         ensures flushed { OnOk result (self.new ≡ after_flush self.old) }
         ensures err { OnErr result (self.new ≡ self.old) }
     {
@@ -212,7 +195,10 @@ impl<'t> Content<'t> {
         if !begin_with(&self.entries, first, &kids) {
             return Err(NotOut);
         }
-        self.tickets.acknowledge(first, first + kids.len() as u64)
+        match self.tickets.acknowledge(first, first + kids.len() as u64) {
+            Ok(()) => Ok(kids),
+            Err(error) => Err(error),
+        }
     }
 
     /// Hands back the group that is out, as [`crate::Book::hand_back`] says.

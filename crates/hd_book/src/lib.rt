@@ -10,6 +10,7 @@ mod content;
 mod counts;
 mod parcels;
 mod refusal;
+mod room;
 
 pub use book::Book;
 pub use counts::Counts;
@@ -18,3 +19,4 @@ pub use hd_journal::{Flushed, Group};
 pub use hd_tickets::{NotOut, Receipt, Redeemed, Ticket};
 pub use parcels::Parcels;
 pub use refusal::CommitRefusal;
+pub use room::{Room, Rooms};

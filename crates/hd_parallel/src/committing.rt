@@ -7,6 +7,7 @@ use hd_journal::Journal;
 use hd_search::RunFault;
 use hd_store::Store;
 use hd_threads::{Desk, Gate, commit_all, halt};
+use std::alloc::Global;
 use std::sync::Wait;
 use std::sync::ledger::Ledger;
 
@@ -31,6 +32,7 @@ pub(crate) trait Beside {
 #[derive(Drop)]
 pub(crate) struct Committer<'d, 't, 'j, L: Ledger, A: Ledger, S: Store, G: Gate, R: Wait> {
     pub(crate) rt: &'d R,
+    pub(crate) alloc: Global,
     pub(crate) desk: &'d Desk<'t, L, A>,
     pub(crate) place: CommitterPlace<'t, L, A>,
     pub(crate) journal: &'j mut Journal<S>,
@@ -53,6 +55,7 @@ pub(crate) struct Ended<'t, 'j, L: Ledger, A: Ledger, S: Store> {
 #[tactic(auto, using(crate::proofs::Stopping::along))]
 fn commit_beside<'t, L: Ledger, A: Ledger, S: Store, G: Gate, R: Wait>(
     rt: &R,
+    alloc: Global,
     desk: &Desk<'t, L, A>,
     place: &mut CommitterPlace<'t, L, A>,
     journal: &mut Journal<S>,
@@ -71,6 +74,7 @@ fn commit_beside<'t, L: Ledger, A: Ledger, S: Store, G: Gate, R: Wait>(
         &desk.lock,
         &mut place.pass,
         &mut place.share,
+        alloc,
         journal,
         limit,
         gate,
@@ -89,6 +93,7 @@ impl<'d, 't, 'j, L: Ledger, A: Ledger, S: Store, G: Gate, R: Wait> Beside
     fn run(self, started: bool) -> Ended<'t, 'j, L, A, S> {
         let Committer {
             rt,
+            alloc,
             desk,
             place,
             journal,
@@ -96,7 +101,7 @@ impl<'d, 't, 'j, L: Ledger, A: Ledger, S: Store, G: Gate, R: Wait> Beside
             gate,
         } = self;
         let mut place = place;
-        let done = commit_beside(rt, desk, &mut place, journal, limit, gate, started);
+        let done = commit_beside(rt, alloc, desk, &mut place, journal, limit, gate, started);
         Ended {
             journal,
             place,

@@ -66,6 +66,7 @@ fn run_threads<
 {
     let beside = Committer {
         rt,
+        alloc,
         desk,
         place,
         journal,

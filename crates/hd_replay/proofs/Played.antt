@@ -10,14 +10,11 @@ use Rattle.hd_node.specs.declared.batch.TheConstants.{MAX_OUTCOMES}
 use Rattle.hd_entries.specs.declared.refusal.Refusal.TheVariants.{UnknownParent, NotAKid, SettledBefore, StateDiffers, NotDominated, BelowBound, Full, NoMemory}
 use Rattle.hd_entries.specs.Holding.{Released}
 use Rattle.hd_tickets.specs.declared.not_out.NotOut.{NotOut}
-use Rattle.hd_tickets.specs.declared.outgoing.Outgoing.{Outgoing}
 use Rattle.hd_tickets.specs.declared.redeemed.Redeemed.{Redeemed}
 use Rattle.hd_tickets.specs.declared.redeemed.Redeemed.TheVariants as given
-use Rattle.hd_tickets.specs.Batches.{TicketView, Batches, is_its}
-use Rattle.hd_tickets.specs.Queue.{are_acknowledged}
-use Rattle.hd_tickets.specs.Redeeming.{given_for, answer_for, redeemed_for}
-use Rattle.hd_tickets.specs.Slots.{ticket_at}
-use Rattle.hd_tickets.specs.Steps as tickets
+use Rattle.hd_tickets.specs.Batches.{TicketView, Batches}
+use Rattle.hd_tickets.specs.Redeeming.{redeemed_for}
+use Rattle.hd_tickets.proofs.Redeeming.{comes_back}
 use Rattle.hd_book.specs.declared.refusal.CommitRefusal.{CommitRefusal}
 use Rattle.hd_book.specs.declared.refusal.CommitRefusal.TheVariants.{Halted, Refused}
 use Rattle.hd_book.specs.View.{BookView, ParcelsView}
@@ -124,33 +121,13 @@ committed_ends k r s e is = sym (committed_is k r s e) ∙ ap (option_map (with_
 
 -- ---- `redeem`
 
--- a ticket that comes back is the same, and the batches are as they were
-abbrev IsAgain : Batches ParcelsView → TicketView → TicketView → Type 0
-IsAgain b k again = (again ≡ k) × (tickets.redeemed k b ≡ b)
-
-given_again : (b : Batches ParcelsView) (k again : TicketView) (o : Outgoing ParcelsView) (acknowledged halted : Bool)
-    → cond {A = Redeemed ParcelsView} acknowledged (given.Released (record { first = k.first; end = k.end }) o.released) (cond halted given.Void (given.NotYet k)) ≡ given.NotYet again
-    → (again ≡ k) × (cond (acknowledged || halted) (tickets.without k.number b) b ≡ b)
-given_again b k again o true halted e = absurd (cc)
-given_again b k again o false true e = absurd (cc)
-given_again b k again o false false e = (cc, refl)
-
-answer_again : (b : Batches ParcelsView) (k again : TicketView) (slot : Option (Outgoing ParcelsView)) → answer_for b k slot ≡ Ok (given.NotYet again) → IsAgain b k again
-answer_again b k again None e = absurd (cc)
-answer_again b k again (Some o) e =
-    elim (is_its k (Some o)) as (λ y. cond {A = Result (Redeemed ParcelsView) NotOut} y (Ok (given_for b k o.released)) (Err (record {})) ≡ Ok (given.NotYet again) → IsAgain b k again) [
-      | true ↦ λ e.
-          given_again b k again o (are_acknowledged b.queue k.first k.end) b.halted (let same : given_for b k o.released ≡ given.NotYet again = cc in same)
-      | false ↦ λ e. absurd (cc)
-    ] e
-
 -- the run of a book and a seat, where the oldest ticket was redeemed for this
 redeemed_for_is : (k : ℕ) (r : Run) (s : Seat) (ticket : TicketView) (rest : List TicketView) (a : Result (Redeemed ParcelsView) NotOut)
     → slice_get r.seats k ≡ Some s → s.tickets ≡ ticket ∷ rest → redeemed_for r.book.batches ticket ≡ a
     → with_book k r (book_redeemed_for r.book ticket a, seat_redeemed_for s ticket rest a) ≡ redeemed_by k r s ticket rest a
 redeemed_for_is k r s ticket rest (Ok (given.Released receipt parcels)) e held is = refl
 redeemed_for_is k r s ticket rest (Ok (given.NotYet again)) e held is =
-    let same = answer_again r.book.batches ticket again (ticket_at r.book.batches.tickets ticket.number) is in
+    let same = comes_back r.book.batches ticket again is in
     ap (λ (x : Batches ParcelsView). with_book k r (record r.book { batches = x }, record s { tickets = again ∷ rest })) same.1
     ∙ ap (λ (x : TicketView). with_seat k (record s { tickets = x ∷ rest }) r) same.0
     ∙ ap (λ (x : List TicketView). with_seat k (record s { tickets = x }) r) (sym held)

@@ -46,6 +46,7 @@ pub(crate) fn end<L: Ledger>(run: Run<'_, L>) {
         mailboxes,
         bound: _,
         out,
+        rooms: _,
     } = run;
     end_out(out);
     book.halt();

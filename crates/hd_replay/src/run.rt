@@ -3,7 +3,7 @@ ghost use Rattle.std.specs.Prelude.{◌≡◌, None};
 ghost use Rattle.hd_replay.specs.Held.{pulled_in, flushed_in};
 
 use crate::seat::Seat;
-use hd_book::{Book, Flushed, Group};
+use hd_book::{Book, Flushed, Group, Rooms};
 use hd_node::Parcel;
 use hd_worker::Lookup;
 use std::collections::VecDeque;
@@ -25,7 +25,7 @@ pub(crate) enum Out {
 }
 
 /// A search that runs, but for the journal: the book with the share that counts its commits, what workers look up, the workers at their places,
-/// a mailbox for each, the least bound that was offered, and the group that is out.
+/// a mailbox for each, the least bound that was offered, the group that is out, and room for the next one.
 ///
 /// It must be ended: tickets and groups can't be let go.
 #[must_use]
@@ -37,6 +37,7 @@ pub(crate) struct Run<'t, L: Ledger> {
     pub(crate) mailboxes: Vec<VecDeque<Parcel<'t>>>,
     pub(crate) bound: Option<u64>,
     pub(crate) out: Out,
+    pub(crate) rooms: Rooms,
 }
 
 impl<'t, L: Ledger> Model for Run<'t, L> {

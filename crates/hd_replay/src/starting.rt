@@ -11,6 +11,7 @@ use crate::fault::{ReplayFault, told_of_recovery};
 use crate::run::{Out, Run};
 use crate::seat::Seat;
 use hd_base::NoMemory;
+use hd_book::Rooms;
 use hd_journal::Journal;
 use hd_node::Parcel;
 use hd_recovery::{Recovered, recover};
@@ -90,6 +91,7 @@ fn begun<'t, L: Ledger>(
         mailboxes,
         bound,
         out: Out::Nothing,
+        rooms: Rooms::new(alloc),
     })
 }
 

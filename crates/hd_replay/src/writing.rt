@@ -40,12 +40,16 @@ impl<'t, L: Ledger> Run<'t, L> {
         if self.is_out() {
             return Ok(());
         }
-        match self.book.take_pending()? {
-            Some(group) => {
+        let room = self.rooms.take()?;
+        match self.book.take_pending(room) {
+            Ok(group) => {
                 self.put_out(Out::Pulled(group));
                 Ok(())
             }
-            None => Ok(()),
+            Err(room) => {
+                self.rooms.put_back(room);
+                Ok(())
+            }
         }
     }
 
@@ -55,7 +59,9 @@ impl<'t, L: Ledger> Run<'t, L> {
     {
         match self.take_out() {
             Out::Flushed(flushed) => {
-                let _ = self.book.acknowledge(flushed);
+                if let Ok(kids) = self.book.acknowledge(flushed) {
+                    self.rooms.reuse(kids);
+                }
             }
             out => self.put_out(out),
         }

@@ -11,18 +11,19 @@ ghost use Rattle.hd_search.specs.Fault.{Stops};
 
 use crate::RunFault;
 use crate::fault::of_journal;
-use hd_book::Book;
+use hd_book::{Book, Rooms};
 use hd_journal::{Flushed, Group, Journal};
 use hd_store::Store;
+use hd_task::Kid;
 use std::sync::ledger::Ledger;
 
-/// Acknowledges the group that is out, which was appended.
-fn acknowledge<L: Ledger>(book: &mut Book<'_, L>, flushed: Flushed)
+/// Acknowledges the group that is out, which was appended: the list of its pairs.
+fn acknowledge<L: Ledger>(book: &mut Book<'_, L>, flushed: Flushed) -> Vec<Kid>
     requires { is_group_out book.old flushed ≡ true }
     ensures { book.new ≡ after_flush book.old }
 {
     match book.acknowledge(flushed) {
-        Ok(()) => {}
+        Ok(kids) => kids,
         Err(_) => unreachable!(),
     }
 }
@@ -44,6 +45,7 @@ fn hand_back<L: Ledger>(book: &mut Book<'_, L>, group: Group)
 /// Why it is not appended.
 fn append_group<L: Ledger, S: Store>(
     book: &mut Book<'_, L>,
+    rooms: &mut Rooms,
     journal: &mut Journal<S>,
     group: Group,
 ) -> Result<(), RunFault>
@@ -58,7 +60,7 @@ fn append_group<L: Ledger, S: Store>(
 {
     match journal.append(group) {
         Ok(flushed) => {
-            acknowledge(book, flushed);
+            rooms.reuse(acknowledge(book, flushed));
             Ok(())
         }
         Err((group, error)) => {
@@ -74,6 +76,7 @@ fn append_group<L: Ledger, S: Store>(
 /// `NoMemory` where there is no room for the group, or why it is not appended.
 pub(crate) fn append_pending<L: Ledger, S: Store>(
     book: &mut Book<'_, L>,
+    rooms: &mut Rooms,
     journal: &mut Journal<S>,
 ) -> Result<(), RunFault>
     requires pending { (count : ℕ) × IsPending (most_of journal.old.version)
@@ -90,12 +93,15 @@ pub(crate) fn append_pending<L: Ledger, S: Store>(
     ensures grows { OnOk result (Grows journal.old journal.new) }
     ensures told { IfErr result (Stops journal.old journal.new) }
 {
-    match book.take_pending() {
-        Ok(Some(group)) => append_group(book, journal, group),
-        Ok(None) => Ok(()),
-        Err(_) => {
-            book.halt();
-            Err(RunFault::NoMemory)
+    let Ok(room) = rooms.take() else {
+        book.halt();
+        return Err(RunFault::NoMemory);
+    };
+    match book.take_pending(room) {
+        Ok(group) => append_group(book, rooms, journal, group),
+        Err(room) => {
+            rooms.put_back(room);
+            Ok(())
         }
     }
 }

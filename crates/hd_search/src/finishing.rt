@@ -161,7 +161,7 @@ pub(crate) fn finish<'t, L: Ledger, S: Store>(
     ensures told { IfErr result (Stops journal.old journal.new) }
 {
     let ticket = commit(searching, batch)?;
-    match append_pending(&mut searching.book, journal) {
+    match append_pending(&mut searching.book, &mut searching.rooms, journal) {
         Ok(()) => {
             redeem(&mut searching.book, &mut searching.worker, ticket);
             Ok(())

@@ -19,7 +19,7 @@ ghost use Rattle.hd_search.specs.Fault.{IsFaulty};
 use crate::RunFault;
 use crate::searching::Searching;
 use hd_base::NoMemory;
-use hd_book::{Book, Refusal};
+use hd_book::{Book, Refusal, Rooms};
 use hd_journal::{Entry, Journal};
 use hd_node::Parcel;
 use hd_store::Store;
@@ -212,5 +212,6 @@ pub(crate) fn recovered<'t, L: Ledger, S: Store>(
         share,
         worker,
         lookup,
+        rooms: Rooms::new(alloc),
     })
 }

@@ -13,19 +13,21 @@ ghost use Rattle.hd_search.specs.Fault.{Stops};
 use crate::RunFault;
 use crate::finishing::finish;
 use hd_base::NoMemory;
-use hd_book::Book;
+use hd_book::{Book, Rooms};
 use hd_journal::Journal;
 use hd_store::Store;
 use hd_worker::{Lookup, Worker};
 use std::sync::ledger::{Ledger, Share};
 
-/// A search that goes on: the book, the share that counts its commits, and the worker that settles what is open.
+/// A search that goes on: the book, the share that counts its commits, the worker that settles what is open, and room for the groups that
+/// are appended.
 #[derive(Drop)]
 pub(crate) struct Searching<'t, L: Ledger> {
     pub(crate) book: Book<'t, L>,
     pub(crate) share: Share<L>,
     pub(crate) worker: Worker<'t>,
     pub(crate) lookup: Lookup<'t>,
+    pub(crate) rooms: Rooms,
 }
 
 /// Settles the best open nodes: so many of them, or as many as are open, and one at least.

@@ -12,11 +12,12 @@ use Rattle.hd_tickets.specs.Queue.{are_acknowledged}
 use Rattle.hd_tickets.specs.Redeeming.{given_for, answer_for, redeemed_for}
 use Rattle.hd_tickets.specs.Slots.{ticket_at}
 use Rattle.hd_tickets.specs.Steps as tickets
+use Rattle.hd_tickets.proofs.Redeeming.{comes_back}
 use Rattle.hd_book.specs.View.{ParcelsView, BookView}
 use Rattle.hd_book.specs.Steps.{after_redeem, after_halt}
 use Rattle.hd_threads.specs.declared.shared.Given.{Given}
 use Rattle.hd_threads.specs.declared.shared.Given.TheVariants.{Parcels, NotYet, Void}
-use Rattle.hd_threads.specs.Shared.{given_by, IsGivenIn}
+use Rattle.hd_threads.specs.Shared.{given_by, IsGivenBy, IsGivenIn}
 
 -- ---- a receipt is of entries that are acknowledged
 
@@ -55,26 +56,11 @@ receipt_acknowledged b k parcels receipt e =
 
 -- ---- a ticket that comes back is the same
 
-given_again : (b : Batches ParcelsView) (k again : TicketView) (released : ParcelsView) (acknowledged halted : Bool)
-    → cond {A = Redeemed ParcelsView} acknowledged (redeemed.Released (record { first = k.first; end = k.end }) released) (cond halted redeemed.Void (redeemed.NotYet k)) ≡ redeemed.NotYet again
-    → again ≡ k
-given_again b k again released true halted e = absurd (cc)
-given_again b k again released false true e = absurd (cc)
-given_again b k again released false false e = cc
-
-answer_again : (b : Batches ParcelsView) (k again : TicketView) (slot : Option (Outgoing ParcelsView)) → answer_for b k slot ≡ Ok (redeemed.NotYet again) → again ≡ k
-answer_again b k again None e = absurd (cc)
-answer_again b k again (Some o) e =
-    elim (is_its k (Some o)) as (λ y. cond {A = Result (Redeemed ParcelsView) NotOut} y (Ok (given_for b k o.released)) (Err (record {})) ≡ Ok (redeemed.NotYet again) → again ≡ k) [
-      | true ↦ λ e. given_again b k again o.released (are_acknowledged b.queue k.first k.end) b.halted (let same : given_for b k o.released ≡ redeemed.NotYet again = cc in same)
-      | false ↦ λ e. absurd (cc)
-    ] e
-
 by_again : (k again : TicketView) (b : Batches ParcelsView) (a : Result (Redeemed ParcelsView) NotOut) → redeemed_for b k ≡ a → Ok (NotYet again) ≡ given_by a → again ≡ k
 by_again k again b (Ok (redeemed.Released receipt parcels)) is e = absurd (cc)
 by_again k again b (Ok (redeemed.NotYet ticket)) is e =
     let same : again ≡ ticket = cc in
-    same ∙ answer_again b k ticket (ticket_at b.tickets k.number) is
+    same ∙ (comes_back b k ticket is).0
 by_again k again b (Ok redeemed.Void) is e = absurd (cc)
 by_again k again b (Err error) is e = absurd (cc)
 
@@ -95,3 +81,14 @@ pub given_in : (task : Option Task) (log : List Kid) (k : TicketView) (b b' : Bo
     → task ≡ Some b.state.task → log ≡ b'.state.entries → r ≡ given_by (redeemed_for b.batches k) → OnOk r (b' ≡ after_redeem k b) → OnErr r (b' ≡ after_halt b)
     → IfOk r (IsGivenIn task log k)
 given_in task log k b b' r of_task has is ok err = given_before task log k b r of_task (has ∙ redeemed_entries k b b' r ok err) is
+
+asked_before : (task : Option Task) (log : List Kid) (k : TicketView) (b : BookView) (r : Result Given NotOut)
+    → task ≡ Some b.state.task → log ≡ b.state.entries → r ≡ given_by (redeemed_for b.batches k) → IfOk r (IsGivenBy task log k)
+asked_before task log k b (Ok given) of_task has is = record { book = b; of_task = of_task; has = has; is = is }
+asked_before task log k b (Err error) of_task has is = tt
+
+-- the same of a ticket that the book was asked for
+pub asked_in : (task : Option Task) (log : List Kid) (k : TicketView) (b b' : BookView) (r : Result Given NotOut)
+    → task ≡ Some b.state.task → log ≡ b'.state.entries → r ≡ given_by (redeemed_for b.batches k) → OnOk r (b' ≡ after_redeem k b) → OnErr r (b' ≡ after_halt b)
+    → IfOk r (IsGivenBy task log k)
+asked_in task log k b b' r of_task has is ok err = asked_before task log k b r of_task (has ∙ redeemed_entries k b b' r ok err) is

@@ -1,6 +1,6 @@
 -- A group that goes out, and the log that it is of.
 use Rattle.std.proofs.Common.{◌≡◌, ℕ, ◌-◌, Option, Some, None, List, ◌++◌, length, drop, refl, sym, ap, subst, ◌∙◌, append_assoc}
-use Rattle.std.specs.Prelude.{option_map, IfSome}
+use Rattle.std.specs.Prelude.{option_map, Result, Ok, Err, IfOk}
 use Rattle.std.specs.declared.ops.Range.{Range}
 use Rattle.std.proofs.lemmas.List.{take-append-drop}
 use Rattle.std.proofs.lemmas.Option.{none-some, same_Some}
@@ -42,9 +42,9 @@ begins_with_group log kids more first at is has =
     (has.0, is.1 ∙ (ap (λ l. kids ++ l) (sym rest ∙ has.1) ∙ sym (append_assoc kids more has.0)))
 
 -- what went out of a book is such a group, where so many entries are acknowledged
-pub taken_at :
-    (g : Option GroupView) (b b' : BookView) (n : ℕ) → n ≡ b.batches.queue.acknowledged → b' ≡ after_take b → g ≡ next_group b → IfSome g (IsGroupAt b'.state.entries n)
-taken_at None b b' n e after is = tt
-taken_at (Some g) b b' n e after is =
+pub taken_at : {X : Type 0} (r : Result GroupView X) (b b' : BookView) (n : ℕ)
+    → n ≡ b.batches.queue.acknowledged → b' ≡ after_take b → IfOk r (λ g. Some g ≡ next_group b) → IfOk r (IsGroupAt b'.state.entries n)
+taken_at (Ok g) b b' n e after is =
     subst (λ (x : BookView). IsGroupAt x.state.entries n g) (sym after)
     (subst (λ (m : ℕ). IsGroupAt b.state.entries m g) (sym e) (next_at b.state.entries b.batches.queue g is))
+taken_at (Err x) b b' n e after is = tt

@@ -87,3 +87,9 @@ abbrev pub HasRedeemed : List Kid → Held → WorkerView → WorkerView → Red
 HasRedeemed log held w w' Opened = IsOpened log held w w'
 HasRedeemed log held w w' (Waiting again) = (w' ≡ w) × (again ≡ held)
 HasRedeemed log held w w' Void = (w' ≡ w) × IsGivenBy (Some w.task) log held.ticket given.Void
+
+-- the book of this task was asked for a ticket, with this log in the lock: one that waits does so by what the book has said
+abbrev pub IsAsked : Option Task → List Kid → Held → Redemption → Type 0
+IsAsked task log held Opened = Unit {0}
+IsAsked task log held (Waiting again) = IsGivenBy task log held.ticket (given.NotYet held.ticket)
+IsAsked task log held Void = Unit {0}

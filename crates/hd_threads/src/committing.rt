@@ -1,5 +1,5 @@
 //! What the committer does.
-ghost use Rattle.std.specs.Prelude.{◌≡◌, ◌+◌, ◌<◌, length, IfOk, IfErr, IfSome, OnOk, OnErr};
+ghost use Rattle.std.specs.Prelude.{◌≡◌, ◌+◌, ◌<◌, length, IfOk, IfErr, OnOk, OnErr};
 ghost use Rattle.crossbeam_queue.specs.Passes.{view};
 ghost use Rattle.hd_desk.specs.Passes.{IsOutside};
 ghost use Rattle.hd_desk.specs.Views.{BeginsWith};
@@ -10,12 +10,14 @@ ghost use Rattle.hd_threads.specs.Shared.{IsGroupAt};
 ghost use Rattle.hd_threads.specs.Committing.{HasRun, StopsRound};
 
 use crate::SharedBook;
+use crate::halting::halt;
 use hd_base::NoMemory;
-use hd_book::{Flushed, Group, NotOut};
+use hd_book::{Flushed, Group, NotOut, Room, Rooms};
 use hd_desk::{Lock, Pass};
 use hd_journal::{Journal, JournalError};
 use hd_search::RunFault;
 use hd_store::Store;
+use hd_task::Kid;
 use std::ops::Range;
 use std::sync::Wait;
 use std::sync::ledger::{Ledger, Share};
@@ -45,34 +47,60 @@ fn told_of(error: JournalError) -> RunFault
     }
 }
 
-/// Takes the next group out of the book, if one is due; a book without room for its pairs is halted.
+/// Room for a group; where there is none, the book is halted, in a turn of its own under the lock.
 ///
 /// # Errors
-/// `NoMemory` where there is no room for them.
+/// `NoMemory` where there is none.
+#[tactic(auto, using(crate::proofs::Begins::begins_itself))]
+fn room_for<'t, L: Ledger, A: Ledger, R: Wait>(
+    rt: &R,
+    lock: &Lock<SharedBook<'t, L, A>>,
+    pass: &mut Pass<SharedBook<'t, L, A>>,
+    rooms: &mut Rooms,
+) -> Result<Room, NoMemory>
+    requires { IsOutside lock.now.place pass.old }
+    ensures pass { IsOutside lock.now.place pass.new }
+    ensures parts { (view pass.new).parts ≡ (view pass.old).parts }
+    ensures task { (view pass.new).seen.task ≡ (view pass.old).seen.task }
+    ensures grows { BeginsWith (view pass.new).seen.log (view pass.old).seen.log }
+{
+    match rooms.take() {
+        Ok(room) => Ok(room),
+        Err(error) => {
+            halt(rt, lock, pass);
+            Err(error)
+        }
+    }
+}
+
+/// Takes the next group out of the book, if one is due.
+///
+/// # Errors
+/// The room again, where none is.
 fn take_group<'t, L: Ledger, A: Ledger, R: Wait>(
     rt: &R,
     lock: &Lock<SharedBook<'t, L, A>>,
     pass: &mut Pass<SharedBook<'t, L, A>>,
     share: &mut Share<A>,
-) -> Result<Option<Group>, NoMemory>
+    room: Room,
+) -> Result<Group, Room>
     requires pass { IsOutside lock.now.place pass.old }
     requires whole { share.old.parts ≡ A.parts }
     ensures pass { IsOutside lock.now.place pass.new }
     ensures parts { (view pass.new).parts ≡ (view pass.old).parts }
     ensures task { (view pass.new).seen.task ≡ (view pass.old).seen.task }
     ensures grows { BeginsWith (view pass.new).seen.log (view pass.old).seen.log }
-    ensures group { IfOk result (λ g. IfSome g
-        (IsGroupAt (view pass.new).seen.log share.old.amount)) }
+    ensures group { IfOk result (IsGroupAt (view pass.new).seen.log share.old.amount) }
     ensures share { share.new.parts ≡ share.old.parts }
     ensures amount { share.new.amount ≡ share.old.amount }
 {
     let mut book = lock.enter(rt, pass);
-    let taken = book.take_pending(share);
+    let taken = book.take_pending(share, room);
     lock.leave(rt, pass, book);
     taken
 }
 
-/// Acknowledges a group that was appended; a book that does not have it out is halted.
+/// Acknowledges a group that was appended: the list of its pairs. A book that does not have it out is halted.
 ///
 /// # Errors
 /// `NotOut` where it is not the group that is out.
@@ -82,7 +110,7 @@ fn acknowledge<'t, L: Ledger, A: Ledger, R: Wait>(
     pass: &mut Pass<SharedBook<'t, L, A>>,
     share: &mut Share<A>,
     flushed: Flushed,
-) -> Result<(), NotOut>
+) -> Result<Vec<Kid>, NotOut>
     requires pass { IsOutside lock.now.place pass.old }
     requires some { 0 < share.old.parts }
     ensures pass { IsOutside lock.now.place pass.new }
@@ -92,6 +120,7 @@ fn acknowledge<'t, L: Ledger, A: Ledger, R: Wait>(
     ensures share { share.new.parts ≡ share.old.parts }
     ensures counted { OnOk result (share.new.amount ≡ share.old.amount + length flushed.kids) }
     ensures uncounted { OnErr result (share.new.amount ≡ share.old.amount) }
+    ensures kids { IfOk result (λ kids. kids.items ≡ flushed.kids) }
 {
     let mut book = lock.enter(rt, pass);
     let done = book.acknowledge(share, flushed);
@@ -127,6 +156,7 @@ fn append_group<'t, L: Ledger, A: Ledger, S: Store, R: Wait>(
     lock: &Lock<SharedBook<'t, L, A>>,
     pass: &mut Pass<SharedBook<'t, L, A>>,
     share: &mut Share<A>,
+    rooms: &mut Rooms,
     journal: &mut Journal<S>,
     group: Group,
 ) -> Result<Round, RunFault>
@@ -150,7 +180,10 @@ fn append_group<'t, L: Ledger, A: Ledger, S: Store, R: Wait>(
     let start = journal.entries().len() as u64;
     match journal.append(group) {
         Ok(flushed) => match acknowledge(rt, lock, pass, share, flushed) {
-            Ok(()) => Ok(Round::Flushed(start..journal.entries().len() as u64)),
+            Ok(kids) => {
+                rooms.reuse(kids);
+                Ok(Round::Flushed(start..journal.entries().len() as u64))
+            }
             Err(_) => Err(RunFault::NotOut),
         },
         Err((group, error)) => {
@@ -161,20 +194,22 @@ fn append_group<'t, L: Ledger, A: Ledger, S: Store, R: Wait>(
 }
 
 /// One round of the committer: takes the next group out of the book under the lock, if one is due, appends it to the journal outside the
-/// lock, and acknowledges it under the lock.
+/// lock, and acknowledges it under the lock. What the group is put into is asked for before the lock is taken, also where none is due, and
+/// kept for the next round: so no memory is taken under the lock, and none is given back there but where the group is not appended.
 ///
 /// The journal's list is a beginning of the log that the pass has seen, and the entries that are acknowledged are just those of the
 /// journal: so it is before a round, and so it is after one, unless that answers `NotOut`. A group that goes out is whole batches.
 ///
 /// # Errors
-/// `NoMemory` where there is no room for the group, `Device` or `Failed` where the journal does not take it: it is handed back, nothing is
-/// appended. `NotOut` where the journal can't take it, or the book does not have it out any more. After each of them the book is halted.
+/// `NoMemory` where there is no room for a group: none goes out. `Device`, `Failed` or `NoMemory` where the journal does not take it: it is
+/// handed back, nothing is appended. `NotOut` where the journal can't take it, or the book does not have it out any more. After each of them the book is halted.
 #[tactic(auto, using(crate::proofs::Begins::begins_along, crate::proofs::Begins::begins_itself))]
 pub fn committer_round<'t, L: Ledger, A: Ledger, S: Store, R: Wait>(
     rt: &R,
     lock: &Lock<SharedBook<'t, L, A>>,
     pass: &mut Pass<SharedBook<'t, L, A>>,
     share: &mut Share<A>,
+    rooms: &mut Rooms,
     journal: &mut Journal<S>,
 ) -> Result<Round, RunFault>
     requires pass { IsOutside lock.now.place pass.old }
@@ -194,8 +229,12 @@ pub fn committer_round<'t, L: Ledger, A: Ledger, S: Store, R: Wait>(
     ensures kids { BeginsWith (kids_of journal.new) (kids_of journal.old) }
     ensures told { IfErr result (StopsRound journal.old journal.new share.new.amount) }
 {
-    match take_group(rt, lock, pass, share)? {
-        Some(group) => append_group(rt, lock, pass, share, journal, group),
-        None => Ok(Round::Idle),
+    let room = room_for(rt, lock, pass, rooms)?;
+    match take_group(rt, lock, pass, share, room) {
+        Ok(group) => append_group(rt, lock, pass, share, rooms, journal, group),
+        Err(room) => {
+            rooms.put_back(room);
+            Ok(Round::Idle)
+        }
     }
 }

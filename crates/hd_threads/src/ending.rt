@@ -13,12 +13,13 @@ use crate::SharedBook;
 use crate::committing::{Round, committer_round};
 use crate::gate::{Gate, Standing};
 use crate::pausing::Pause;
-use hd_book::{Counts, Verdict};
+use hd_book::{Counts, Rooms, Verdict};
 use hd_desk::{Lock, Pass};
 use hd_journal::Journal;
 use hd_search::RunFault;
 use hd_store::Store;
 use hd_task::{Departure, Plan};
+use std::alloc::Global;
 use std::sync::Wait;
 use std::sync::ledger::{Ledger, Share};
 
@@ -119,6 +120,7 @@ pub fn commit_all<'t, L: Ledger, A: Ledger, S: Store, R: Wait, G: Gate>(
     lock: &Lock<SharedBook<'t, L, A>>,
     pass: &mut Pass<SharedBook<'t, L, A>>,
     share: &mut Share<A>,
+    alloc: Global,
     journal: &mut Journal<S>,
     limit: Option<u64>,
     gate: &G,
@@ -139,11 +141,12 @@ pub fn commit_all<'t, L: Ledger, A: Ledger, S: Store, R: Wait, G: Gate>(
     ensures kids { BeginsWith (kids_of journal.new) (kids_of journal.old) }
     ensures told { IfErr result (StopsLater journal.old journal.new) }
 {
+    let mut rooms = Rooms::new(alloc);
     let mut pause = Pause::new();
     let mut over = false;
     for _round in rt.forever() {
         tell(rt, lock, pass, gate);
-        match committer_round(rt, lock, pass, share, journal)? {
+        match committer_round(rt, lock, pass, share, &mut rooms, journal)? {
             Round::Flushed(_) => pause.reset(),
             Round::Idle => {
                 if over {

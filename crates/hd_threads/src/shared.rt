@@ -14,7 +14,7 @@ ghost use Rattle.hd_tickets.specs.Redeeming.{redeemed_for};
 ghost use Rattle.hd_threads.specs.Shared.{IsGroupAt, IsGivenOf, given_by};
 
 use hd_book::{
-    Book, CommitRefusal, Counts, Flushed, Group, NotOut, Parcels, Redeemed, Ticket, Verdict,
+    Book, CommitRefusal, Counts, Flushed, Group, NotOut, Parcels, Redeemed, Room, Ticket, Verdict,
 };
 use hd_desk::Locked;
 use hd_node::Batch;
@@ -88,42 +88,37 @@ impl<'t, L: Ledger, A: Ledger> SharedBook<'t, L, A> {
     /// The next group goes out, as from [`Book::take_pending`]. It begins where the share says that the acknowledged entries end.
     ///
     /// # Errors
-    /// `NoMemory` where there is no room for the group's pairs: the book is halted.
-    #[tactic(auto, using(crate::proofs::Begins::begins_same))]
-    pub fn take_pending(&mut self, share: &mut Share<A>) -> Result<Option<Group>, NoMemory>
+    /// The room again, where nothing waits, or a group is out: nothing has changed.
+    pub fn take_pending(&mut self, share: &mut Share<A>, room: Room) -> Result<Group, Room>
         requires whole { share.old.parts ≡ A.parts }
         ensures task { self.new.state.task ≡ self.old.state.task }
         ensures begins { BeginsWith self.new.state.entries self.old.state.entries }
-        ensures due { IfOk result (λ g. is_some g ≡ is_due self.old.batches.queue) }
-        ensures group { IfOk result (λ g. IfSome g
-            (IsGroupAt self.new.state.entries share.old.amount)) }
-        ensures taken { OnOk result (self.new ≡ after_take self.old) }
-        ensures err { OnErr result (self.new ≡ after_halt self.old) }
+        ensures due { is_ok result ≡ is_due self.old.batches.queue }
+        ensures group { IfOk result (IsGroupAt self.new.state.entries share.old.amount) }
+        ensures taken { self.new ≡ after_take self.old }
         ensures parts { share.new.parts ≡ share.old.parts }
         ensures amount { share.new.amount ≡ share.old.amount }
     {
         let SharedBook { book, appended } = self;
         appended.audit(share);
-        let group = match book.take_pending() {
-            Ok(group) => group,
-            Err(error) => {
-                book.halt();
-                return Err(error);
-            }
-        };
-        Ok(group)
+        book.take_pending(room)
     }
 
-    /// Acknowledges the entries of the group that is out, as [`Book::acknowledge`] does; the share counts them.
+    /// Acknowledges the entries of the group that is out, as [`Book::acknowledge`] does: the list of its pairs. The share counts them.
     ///
     /// # Errors
     /// `NotOut` where this group is not the one that is out: what said that it was appended is spent, and the book is halted.
     #[tactic(auto, using(crate::proofs::Begins::begins_same))]
-    pub fn acknowledge(&mut self, share: &mut Share<A>, flushed: Flushed) -> Result<(), NotOut>
+    pub fn acknowledge(
+        &mut self,
+        share: &mut Share<A>,
+        flushed: Flushed,
+    ) -> Result<Vec<Kid>, NotOut>
         requires some { 0 < share.old.parts }
         ensures task { self.new.state.task ≡ self.old.state.task }
         ensures begins { BeginsWith self.new.state.entries self.old.state.entries }
         ensures out { is_ok result ≡ is_group_out self.old flushed }
+        ensures kids { IfOk result (λ kids. kids.items ≡ flushed.kids) }
         ensures flushed { OnOk result (self.new ≡ after_flush self.old) }
         ensures err { OnErr result (self.new ≡ after_halt self.old) }
         ensures parts { share.new.parts ≡ share.old.parts }
@@ -133,9 +128,9 @@ impl<'t, L: Ledger, A: Ledger> SharedBook<'t, L, A> {
         let SharedBook { book, appended } = self;
         let before = book.counts().acknowledged;
         match book.acknowledge(flushed) {
-            Ok(()) => {
+            Ok(kids) => {
                 appended.add(share, book.counts().acknowledged - before);
-                Ok(())
+                Ok(kids)
             }
             Err(error) => {
                 book.halt();

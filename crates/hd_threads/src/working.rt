@@ -9,9 +9,9 @@ ghost use Rattle.hd_entries.specs.Settling.{IsOf};
 ghost use Rattle.hd_entries.specs.Growing.{kids_in};
 ghost use Rattle.hd_turns.specs.Calls.{ExpandsBest, after_seeing};
 ghost use Rattle.hd_worker.specs.Lookup.{IsLookupOf};
-ghost use Rattle.hd_threads.specs.Working.{fault_of, with_offer, IsIn, HasCommitted, HasRedeemed};
+ghost use Rattle.hd_threads.specs.Working.{fault_of, with_offer, IsIn, HasCommitted, HasRedeemed, IsAsked};
 ghost use Rattle.hd_threads.specs.Faults.{IsOfWorker};
-ghost use Rattle.hd_threads.specs.Shared.{IsGivenOf, IsGivenIn};
+ghost use Rattle.hd_threads.specs.Shared.{IsGivenOf, IsGivenBy, IsGivenIn};
 
 use crate::ending::is_reached;
 use crate::halting::halt;
@@ -286,6 +286,8 @@ fn redeem_inside<'t, L: Ledger, A: Ledger, R: Wait>(
     ensures grows { BeginsWith (view pass.new).seen.log (view pass.old).seen.log }
     ensures given { IfOk result (IsGivenIn (view pass.old).seen.task
         (view pass.new).seen.log ticket) }
+    ensures asked { waits ≡ true → IfOk result (IsGivenBy (view pass.old).seen.task
+        (view pass.new).seen.log ticket) }
     ensures of_task { IfSome (view pass.old).seen.task (λ t. IfOk result (IsGivenOf t)) }
 {
     let Some(mut book) = enter(rt, lock, pass, waits) else {
@@ -319,6 +321,8 @@ pub fn redeem_next<'t, L: Ledger, A: Ledger, R: Wait>(
     ensures grows { BeginsWith (view pass.new).seen.log (view pass.old).seen.log }
     ensures redeemed { IfOk result
         (HasRedeemed (view pass.new).seen.log held worker.old worker.new) }
+    ensures asked { waits ≡ true → IfOk result
+        (IsAsked (view pass.old).seen.task (view pass.new).seen.log held) }
     ensures err { OnErr result (worker.new ≡ worker.old) }
     ensures told { IfErr result IsOfWorker }
 {

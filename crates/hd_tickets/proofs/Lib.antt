@@ -1,4 +1,5 @@
 pub mod Ends
 pub mod Following
+pub mod Redeeming
 pub mod Spent
 pub mod Taking

@@ -31,21 +31,9 @@ pub fn kid(pair: Pair) -> Kid {
 pub enum Row {
     /// The expansion of the root.
     Root,
-    /// The expansion of a kid that is said to lead to these atoms at this cost.
-    Expanded(Pair, &'static [bool], u64),
     Duplicate(Pair, By),
     /// A kid bounded by the estimate of the state with these atoms.
     Bounded(Pair, &'static [bool]),
-}
-
-/// The kid that an outcome settles.
-pub fn kid_in(row: Row) -> Pair {
-    match row {
-        Row::Root => ROOT,
-        Row::Expanded(kid, _, _) => kid,
-        Row::Duplicate(kid, _) => kid,
-        Row::Bounded(kid, _) => kid,
-    }
 }
 
 /// Asserts that a state has as many atoms and fluents as a task.
@@ -132,10 +120,6 @@ pub fn outcome_of<'t>(
         Row::Root => {
             let start = task.initial.copied(alloc)?;
             Ok(Outcome::Expanded(expansion(rt, alloc, task, ROOT, start, 0)?))
-        }
-        Row::Expanded(pair, atoms, cost) => {
-            let state = state(alloc, atoms, &[])?;
-            Ok(Outcome::Expanded(expansion(rt, alloc, task, pair, state, cost)?))
         }
         Row::Duplicate(pair, by) => Ok(Outcome::Duplicate(kid(pair), by)),
         Row::Bounded(pair, atoms) => {

@@ -371,7 +371,7 @@ fn is_watched(alloc: Global, task: Task, watched: &[Watch]) -> Result<bool, Fail
 }
 
 #[test]
-fn actions_watch_what_fewest_ask_for(rt: HostRuntime) -> Result<(), Fail> {
+fn actions_watch_atoms_that_decide(rt: HostRuntime) -> Result<(), Fail> {
     let alloc = rt.alloc();
     for (number, (of, watched)) in WATCHED.iter().enumerate() {
         let held = is_watched(alloc, task_with(&rt, alloc, *of)?, *watched)?;

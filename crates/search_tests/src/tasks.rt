@@ -90,11 +90,9 @@ pub fn increase(alloc: Global, by: i64) -> Result<Change, Fail> {
 #[derive(Clone, Copy)]
 struct Row {
     needs: &'static [Literal],
-    deletes: &'static [u32],
     adds: &'static [u32],
     /// What is added to x: nothing, or one number.
     increases: &'static [i64],
-    costs: &'static [i64],
 }
 
 fn effects_of(alloc: Global, increases: &[i64]) -> Result<Sequence<Effect>, Fail> {
@@ -136,10 +134,9 @@ pub fn action_from(
 
 fn action_of(alloc: Global, symbol: usize, row: Row) -> Result<Action, Fail> {
     let condition = when(alloc, list(alloc, row.needs)?);
-    let deletes = list(alloc, row.deletes)?;
     let adds = list(alloc, row.adds)?;
     let effects = effects_of(alloc, row.increases)?;
-    let costs = numbers(alloc, row.costs)?;
+    let (deletes, costs) = (Sequence::empty(alloc), Sequence::empty(alloc));
     Ok(action_from(alloc, symbol, condition, deletes, adds, effects, costs))
 }
 
@@ -176,15 +173,13 @@ pub fn task_from(
     Ok(Task::new(names, atoms, fluents, initial, actions, goal, metric))
 }
 
-/// The names of a task's schemas and atoms, its atoms at first, the literals that are its goal, and whether its actions say
-/// what they cost.
+/// The names of a task's schemas and atoms, its atoms at first, and the literals that are its goal. Each of its actions costs 1.
 #[derive(Clone, Copy)]
 struct Outline {
     schemas: &'static str,
     predicates: &'static str,
     atoms: &'static [bool],
     goal: &'static [Literal],
-    metric: bool,
 }
 
 /// The task that its parts give, which the tests' parts always do.
@@ -204,7 +199,7 @@ fn task_of(
     let initial = state(alloc, outline.atoms, fluents)?;
     let names = names(alloc, outline.schemas, outline.predicates)?;
     let actions = actions_of(alloc, rows)?;
-    let task = task_from(alloc, names, initial, actions, goal, outline.metric)?;
+    let task = task_from(alloc, names, initial, actions, goal, false)?;
     Ok(given(rt, task))
 }
 
@@ -223,11 +218,6 @@ const SECOND: Literal = Literal {
     positive: true,
 };
 
-const THIRD: Literal = Literal {
-    atom: 2,
-    positive: true,
-};
-
 const NOT_SECOND: Literal = Literal {
     positive: false,
     ..SECOND
@@ -236,10 +226,8 @@ const NOT_SECOND: Literal = Literal {
 /// Asks for nothing and does nothing.
 const IDLE: Row = Row {
     needs: &[],
-    deletes: &[],
     adds: &[],
     increases: &[],
-    costs: &[],
 };
 
 const SET_A: Row = Row {
@@ -259,22 +247,11 @@ const TWO_STEPS: Outline = Outline {
     predicates: "a b",
     atoms: &[false, false],
     goal: &[SECOND],
-    metric: false,
 };
 
 /// `set-a` makes a true where it is false, and `set-b` makes b true where a is. Each costs 1, and the goal is b.
 pub fn two_steps(rt: &impl Abort, alloc: Global) -> Result<Task, Fail> {
     task_of(rt, alloc, TWO_STEPS, &[], &[SET_A, SET_B])
-}
-
-const ONE_STEP: Outline = Outline {
-    schemas: "set-b",
-    ..TWO_STEPS
-};
-
-/// `set-b` alone, which needs a.
-pub fn one_step(rt: &impl Abort, alloc: Global) -> Result<Task, Fail> {
-    task_of(rt, alloc, ONE_STEP, &[], &[SET_B])
 }
 
 const COUNTED: [Row; 3] = [
@@ -305,111 +282,6 @@ pub fn three_actions(rt: &impl Abort, alloc: Global, x: i64) -> Result<Task, Fai
     task_of(rt, alloc, THREE_ACTIONS, &[x], &COUNTED)
 }
 
-const DEAR: Row = Row {
-    costs: &[5],
-    ..SET_A
-};
-
-const NEAR: Row = Row {
-    adds: &[1],
-    costs: &[1],
-    ..IDLE
-};
-
-const JOIN: Row = Row {
-    needs: &[SECOND],
-    deletes: &[1],
-    adds: &[0],
-    costs: &[1],
-    ..IDLE
-};
-
-const FIN: Row = Row {
-    needs: &[FIRST],
-    adds: &[2],
-    costs: &[1],
-    ..IDLE
-};
-
-const TWO_WAYS: Outline = Outline {
-    schemas: "dear near join fin",
-    predicates: "m k g",
-    atoms: &[false, false, false],
-    goal: &[THIRD],
-    metric: true,
-};
-
-/// The atoms are m, k and g. `dear` makes m true at a cost of 5; `near` and `join` do so at a cost of 2, by k; `fin` needs m and
-/// reaches the goal.
-pub fn two_ways(rt: &impl Abort, alloc: Global) -> Result<Task, Fail> {
-    task_of(rt, alloc, TWO_WAYS, &[], &[DEAR, NEAR, JOIN, FIN])
-}
-
-const PUT_B: Row = Row {
-    needs: &[NOT_SECOND],
-    adds: &[1],
-    ..IDLE
-};
-
-const TWO_ATOMS: Outline = Outline {
-    schemas: "put-a put-b",
-    goal: &[FIRST, SECOND],
-    ..TWO_STEPS
-};
-
-/// `put-a` makes a true where it is false, `put-b` makes b true where that is. Each costs 1, and the goal is both.
-pub fn two_atoms(rt: &impl Abort, alloc: Global) -> Result<Task, Fail> {
-    task_of(rt, alloc, TWO_ATOMS, &[], &[SET_A, PUT_B])
-}
-
-const LOSE: Row = Row {
-    needs: &[FIRST],
-    deletes: &[0],
-    ..IDLE
-};
-
-const TRAP: Outline = Outline {
-    schemas: "lose win",
-    atoms: &[true, false],
-    ..TWO_STEPS
-};
-
-/// a is true at first. `lose` needs a and makes it false; `win` needs a and makes b true. Each costs 1, and the goal is b: there
-/// is no way to it without a.
-pub fn trap(rt: &impl Abort, alloc: Global) -> Result<Task, Fail> {
-    task_of(rt, alloc, TRAP, &[], &[LOSE, SET_B])
-}
-
-const GET: Row = Row { adds: &[1], ..IDLE };
-
-const DROP: Row = Row {
-    needs: &[SECOND],
-    deletes: &[0],
-    ..IDLE
-};
-
-const GET_AND_DROP: Outline = Outline {
-    schemas: "get drop",
-    atoms: &[true, false],
-    goal: &[NOT_FIRST],
-    ..TWO_STEPS
-};
-
-/// a is true at first. `get` makes b true; `drop` needs b and makes a false. Each costs 1, and the goal is that a is false.
-pub fn get_and_drop(rt: &impl Abort, alloc: Global) -> Result<Task, Fail> {
-    task_of(rt, alloc, GET_AND_DROP, &[], &[GET, DROP])
-}
-
-const GET_ALONE: Outline = Outline {
-    schemas: "get",
-    ..GET_AND_DROP
-};
-
-/// The same without `drop`.
-pub fn get_alone(rt: &impl Abort, alloc: Global) -> Result<Task, Fail> {
-    task_of(rt, alloc, GET_ALONE, &[], &[GET])
-}
-
 const UP: Row = Row {
     increases: &[1],
     ..IDLE
@@ -423,23 +295,4 @@ const COUNTING: Outline = Outline {
 /// `up` adds 1 to x, which starts at some value; the goal is b, which nothing adds.
 pub fn counting(rt: &impl Abort, alloc: Global, value: i64) -> Result<Task, Fail> {
     task_of(rt, alloc, COUNTING, &[value], &[UP])
-}
-
-/// So many actions, each of the same name, that ask for nothing and do nothing.
-fn idle_rows(alloc: Global, count: u32) -> Result<Sequence<Action>, Fail> {
-    let mut actions = Vec::new(alloc);
-    for _ in 0..count {
-        actions.push(action_of(alloc, 0, IDLE)?)?;
-    }
-    Ok(Sequence::from_vec(actions))
-}
-
-/// So many actions that do nothing, each at a cost of 1; the goal is b, which nothing adds.
-pub fn idle_actions(rt: &impl Abort, alloc: Global, count: u32) -> Result<Task, Fail> {
-    let goal = when(alloc, list(alloc, &[SECOND])?);
-    let initial = state(alloc, &[false, false], &[])?;
-    let names = names(alloc, "idle", "a b")?;
-    let actions = idle_rows(alloc, count)?;
-    let task = task_from(alloc, names, initial, actions, goal, false)?;
-    Ok(given(rt, task))
 }

@@ -1,4 +1,4 @@
-//! Tests of searches by threads: hd_parallel, over hd_threads and hd_recovery.
+//! Tests of searches by threads: hd_parallel, over hd_threads and hd_recovery; and of what hd_progress tells of them.
 #![tactic(auto)]
 
 #[cfg(test)]
@@ -11,3 +11,5 @@ mod gathered;
 mod rows;
 #[cfg(test)]
 mod tasks;
+#[cfg(test)]
+mod watched;

@@ -4,7 +4,7 @@ use Rattle.std.proofs.lemmas.List.{length-map}
 use Rattle.crossbeam_queue.specs.Passes.{view}
 use Rattle.hd_entries.specs.Holding.{parcel_of}
 use Rattle.hd_turns.specs.Calls.{after_releasing}
-use Rattle.hd_threads.specs.declared.shared.Given.TheVariants.{Parcels}
+use Rattle.hd_threads.specs.declared.shared.Given.TheVariants.{Parcels, NotYet}
 use Rattle.hd_threads.specs.Shared.{IsGivenBy, IsGivenIn}
 use Rattle.hd_threads.proofs.working.redeem_next.Goals as goal
 
@@ -23,3 +23,12 @@ returns-else-len-kids-clause-redeemed g c =
       few = omega (arith, count, c.len.ensures, c.if-len-kids.false);
       opens = subst (λ ks. c.released.new.self ≡ after_releasing ks c.args.worker.now) kids c.released.ensures;
     }
+
+pub returns-in-Ok-NotYet-clause-asked : goal.returns-in-Ok-NotYet-clause-asked
+returns-in-Ok-NotYet-clause-asked g c waits =
+    let task = (view c.args.pass.now).seen.task in
+    let log = (view c.redeem_inside.new.pass).seen.log in
+    let ticket = c.args.held.ticket in
+    let k = c.in-Ok-NotYet in
+    let same : k.ticket ≡ ticket = subst (IsGivenIn task log ticket) k.field-0-is k.ensures.given in
+    subst (λ t. IsGivenBy task log ticket (NotYet t)) same (subst (IsGivenBy task log ticket) k.field-0-is (k.ensures.asked waits))
