@@ -1,12 +1,13 @@
 -- What is told where a search by threads stops.
-use Rattle.std.proofs.Common.{inl, inr, ℕ, List, [], Result, Ok, Err, refl, sym, ◌∙◌, append-nil}
-use Rattle.std.specs.Prelude.{OnOk, IfErr}
+use Rattle.std.proofs.Common.{◌≡◌, inl, inr, ℕ, Option, Some, List, [], Result, Ok, Err, refl, sym, subst, ◌∙◌, append-nil}
+use Rattle.std.specs.Prelude.{IfErr, IfSome, OnOk}
 use Rattle.hd_task.specs.declared.task.Task.{Task}
 use Rattle.hd_task.specs.declared.plan.Kid.{Kid}
 use Rattle.hd_store.specs.declared.store.Store.{Ghosts}
 use Rattle.hd_image.specs.Image.{most_of}
 use Rattle.hd_journal.specs.declared.journal.Journal.{Journal}
-use Rattle.hd_journal.specs.Journal.{kids_of}
+use Rattle.hd_journal.specs.Journal.{device_of, kids_of}
+use Rattle.hd_journal.specs.Moments.{IsSettled}
 use Rattle.hd_search.specs.declared.fault.RunFault.{RunFault}
 use Rattle.hd_search.specs.declared.fault.RunFault.TheVariants.{Full, Damaged, Device, Failed, NotOut, NoMemory}
 use Rattle.hd_search.specs.Searching.{Grows}
@@ -14,7 +15,9 @@ use Rattle.hd_desk.specs.Views.{BeginsWith}
 use Rattle.hd_threads.specs.declared.placing.Desk.{Desk}
 use Rattle.hd_threads.specs.Committing.{StopsLater}
 use Rattle.hd_threads.specs.Faults.{IsOfAnswer}
+use Rattle.hd_threads.specs.Surviving.{Survives}
 use Rattle.hd_threads.proofs.Begins.{begins_along}
+use Rattle.hd_threads.proofs.Surviving.{survives_itself}
 use Rattle.hd_parallel.specs.declared.fault.ThreadsFault.{ThreadsFault}
 use Rattle.hd_parallel.specs.declared.fault.ThreadsFault.TheVariants.{Run, NoThread}
 use Rattle.hd_parallel.specs.declared.opening.CommitterPlace.{CommitterPlace}
@@ -54,6 +57,12 @@ module _ {S : Type 0} {G : Ghosts S} (old new : Journal S G) where
   first_grows (Ok d) (Err fault) grows = tt
   first_grows (Err fault) joined grows = tt
 
+  -- and its device is settled
+  pub first_settled : (done : Result (Unit {0}) RunFault) (joined : Result (Unit {0}) ThreadsFault) → (IsSettled (device_of old) → OnOk done (IsSettled (device_of new))) → IsSettled (device_of old) → OnOk (first_of done joined) (IsSettled (device_of new))
+  first_settled (Ok d) (Ok j) settles settled = settles settled
+  first_settled (Ok d) (Err fault) settles settled = tt
+  first_settled (Err fault) joined settles settled = tt
+
   -- a book has no answer, behind threads that ended without a fault
   pub answer_stops : (fault : RunFault) → Grows old new → IsOfAnswer fault → StopsRunning old new fault
   answer_stops Full grows told = absurd told
@@ -67,6 +76,16 @@ module _ {S : Type 0} {G : Ghosts S} (old new : Journal S G) where
   pub tells_later : (t : Task) (fault : ThreadsFault) → Stops old new fault → Tells t old new fault
   tells_later t NoThread told = told
   tells_later t (Run fault) told = inr told
+
+-- nothing of a journal is lost, for a task that is known
+pub survives_along : {S : Type 0} {G : Ghosts S} (old new : Journal S G) (task later : Option Task) → later ≡ task → IfSome later (λ t. Survives t old new) → IfSome task (λ t. Survives t old new)
+survives_along old new task later same survives = subst (λ o. IfSome o (λ t. Survives t old new)) same survives
+
+pub survives_of : {S : Type 0} {G : Ghosts S} (old new : Journal S G) (t : Task) (task : Option Task) → task ≡ Some t → IfSome task (λ t. Survives t old new) → Survives t old new
+survives_of old new t task same survives = subst (λ o. IfSome o (λ t. Survives t old new)) same survives
+
+pub survives_unchanged : {S : Type 0} {G : Ghosts S} (t : Task) (journal : Journal S G) → Survives t journal journal
+survives_unchanged t journal = survives_itself (Some t) journal
 
 -- a search can't go on from entries, and nothing is written
 pub tells_faulty : {S : Type 0} {G : Ghosts S} (journal : Journal S G) (t : Task) (fault : RunFault) → IsFaulty t (most_of journal.version) journal.entries.items fault → Tells t journal journal (Run fault)

@@ -52,7 +52,7 @@ pub(crate) struct Ended<'t, 'j, L: Ledger, A: Ledger, S: Store> {
 ///
 /// # Errors
 /// Those of a round.
-#[tactic(auto, using(crate::proofs::Stopping::along))]
+#[tactic(auto, using(crate::proofs::Stopping::along, crate::proofs::Stopping::survives_along))]
 fn commit_beside<'t, L: Ledger, A: Ledger, S: Store, G: Gate, R: Wait>(
     rt: &R,
     alloc: Global,

@@ -1,12 +1,14 @@
 //! A search by threads, from a journal's entries to the answer.
-ghost use Rattle.std.specs.Prelude.{◌≡◌, ◌<◌, ◌≤◌, IfOk, IfErr, OnOk};
+ghost use Rattle.std.specs.Prelude.{◌≡◌, ◌<◌, ◌≤◌, IfOk, IfErr, IfSome, OnOk};
 ghost use Rattle.hd_zobrist.specs.declared.owners.TheConstants.{MAX_WORKERS};
 ghost use Rattle.crossbeam_queue.specs.Passes.{view};
 ghost use Rattle.hd_desk.specs.Passes.{IsOutside};
-ghost use Rattle.hd_journal.specs.Journal.{kids_of};
+ghost use Rattle.hd_journal.specs.Journal.{device_of, kids_of};
+ghost use Rattle.hd_journal.specs.Moments.{IsSettled};
 ghost use Rattle.hd_desk.specs.Views.{BeginsWith};
 ghost use Rattle.hd_search.specs.Searching.{Grows};
 ghost use Rattle.hd_threads.specs.Ending.{IsOutcomeOf, IsTrueOutcome, IsCountedBy};
+ghost use Rattle.hd_threads.specs.Surviving.{Survives};
 ghost use Rattle.hd_parallel.specs.Committing.{CanRun};
 ghost use Rattle.hd_parallel.specs.Fault.{Stops, Tells};
 ghost use Rattle.hd_parallel.specs.Opening.{AreAt, CanCommit};
@@ -36,7 +38,7 @@ fn take_back<T>(_journal: &mut T)
 ///
 /// # Errors
 /// The committer's fault, else that of the least worker; `NoThread` where a thread does not start.
-#[tactic(auto, using(crate::proofs::Stopping::first_stops, crate::proofs::Stopping::first_grows))]
+#[tactic(auto, using(crate::proofs::Stopping::first_stops, crate::proofs::Stopping::first_grows, crate::proofs::Stopping::first_settled))]
 fn run_threads<
     't,
     L: Ledger + Send + Sync,
@@ -63,6 +65,10 @@ fn run_threads<
     ensures begins { BeginsWith (kids_of journal.new) (kids_of journal.old) }
     ensures grows { OnOk result.1 (Grows journal.old journal.new) }
     ensures told { IfErr result.1 (Stops journal.old journal.new) }
+    ensures survives { IfSome (view place.entry.pass).seen.task (λ t.
+        Survives t journal.old journal.new) }
+    ensures settled { IsSettled (device_of journal.old)
+        → OnOk result.1 (IsSettled (device_of journal.new)) }
 {
     let beside = Committer {
         rt,
@@ -97,7 +103,7 @@ fn run_threads<
 ///
 /// # Errors
 /// Those of the threads; `NotOut` where the book and the journal do not fit together; `NoMemory` where there is no room for a plan.
-#[tactic(auto, using(crate::proofs::Stopping::can_run, crate::proofs::Stopping::answer_stops))]
+#[tactic(auto, using(crate::proofs::Stopping::can_run, crate::proofs::Stopping::answer_stops, crate::proofs::Stopping::survives_of))]
 fn run_opened<
     't,
     L: Ledger + Send + Sync,
@@ -124,6 +130,9 @@ fn run_opened<
     ensures grows { OnOk result (Grows journal.old journal.new) }
     ensures begins { BeginsWith (kids_of journal.new) (kids_of journal.old) }
     ensures told { IfErr result (Stops journal.old journal.new) }
+    ensures survives { Survives task.now journal.old journal.new }
+    ensures settled { IsSettled (device_of journal.old)
+        → OnOk result (IsSettled (device_of journal.new)) }
 {
     let _ = task;
     let Opened {
@@ -177,6 +186,9 @@ fn run_as<
     ensures grows { OnOk result (Grows journal.old journal.new) }
     ensures begins { BeginsWith (kids_of journal.new) (kids_of journal.old) }
     ensures told { IfErr result (Tells task.now journal.old journal.new) }
+    ensures survives { Survives task.now journal.old journal.new }
+    ensures settled { IsSettled (device_of journal.old)
+        → OnOk result (IsSettled (device_of journal.new)) }
 {
     match open_search::<L, A, S, R>(rt, alloc, commits, flushes, task, journal, workers) {
         Ok(search) => run_opened(rt, alloc, task, search, journal, together, limit, gate),
@@ -216,6 +228,11 @@ pub fn run<S: Store, G: Gate + Sync, R: Threads + Wait + Sync>(
     ensures grows { OnOk result (Grows journal.old journal.new) }
     ensures begins { BeginsWith (kids_of journal.new) (kids_of journal.old) }
     ensures told { IfErr result (Tells task.now journal.old journal.new) }
+    // Where nothing was pending on the journal's device, whatever a stop leaves there, at any moment from the call to its end, has all the
+    // entries that the journal had, and maybe more, in whole groups; where there are more, all together name a legal list.
+    ensures survives { Survives task.now journal.old journal.new }
+    ensures settled { IsSettled (device_of journal.old)
+        → OnOk result (IsSettled (device_of journal.new)) }
 {
     let commits = Blank::new(workers as u64 + 1);
     run_as::<Brand, Brand, S, G, R>(

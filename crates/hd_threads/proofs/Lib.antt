@@ -4,8 +4,10 @@ pub mod Endings
 pub mod Later
 pub mod Parcels
 pub mod Places
+pub mod Reading
 pub mod Redeeming
 pub mod Room
 pub mod Rounds
 pub mod Stays
 pub mod Steps
+pub mod Surviving

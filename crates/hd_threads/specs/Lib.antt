@@ -4,5 +4,6 @@ pub mod Faults
 pub mod Placing
 pub mod Posting
 pub mod Shared
+pub mod Surviving
 pub mod Turning
 pub mod Working

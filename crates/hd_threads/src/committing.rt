@@ -1,13 +1,17 @@
 //! What the committer does.
-ghost use Rattle.std.specs.Prelude.{◌≡◌, ◌+◌, ◌<◌, length, IfOk, IfErr, OnOk, OnErr};
+ghost use Rattle.std.specs.Prelude.{◌≡◌, ◌+◌, ◌<◌, ◌≤◌, ◌^◌, length, IfOk, IfErr, IfSome, OnOk, OnErr};
+ghost use Rattle.std.specs.List.{AllByRecursion};
 ghost use Rattle.crossbeam_queue.specs.Passes.{view};
 ghost use Rattle.hd_desk.specs.Passes.{IsOutside};
 ghost use Rattle.hd_desk.specs.Views.{BeginsWith};
-ghost use Rattle.hd_journal.specs.Journal.{kids_of};
+ghost use Rattle.hd_image.specs.declared.entry.TheConstants.{MAX_GROUP};
+ghost use Rattle.hd_journal.specs.Journal.{device_of, kids_of};
+ghost use Rattle.hd_journal.specs.Moments.{IsSettled};
 ghost use Rattle.hd_search.specs.Fault.{of_journal};
 ghost use Rattle.hd_search.specs.Searching.{Grows};
 ghost use Rattle.hd_threads.specs.Shared.{IsGroupAt};
 ghost use Rattle.hd_threads.specs.Committing.{HasRun, StopsRound};
+ghost use Rattle.hd_threads.specs.Surviving.{IsLegalLog, Survives};
 
 use crate::SharedBook;
 use crate::halting::halt;
@@ -121,6 +125,7 @@ fn acknowledge<'t, L: Ledger, A: Ledger, R: Wait>(
     ensures counted { OnOk result (share.new.amount ≡ share.old.amount + length flushed.kids) }
     ensures uncounted { OnErr result (share.new.amount ≡ share.old.amount) }
     ensures kids { IfOk result (λ kids. kids.items ≡ flushed.kids) }
+    ensures legal { IsLegalLog (view pass.new).seen.task (view pass.new).seen.log }
 {
     let mut book = lock.enter(rt, pass);
     let done = book.acknowledge(share, flushed);
@@ -140,10 +145,39 @@ fn hand_back<'t, L: Ledger, A: Ledger, R: Wait>(
     ensures parts { (view pass.new).parts ≡ (view pass.old).parts }
     ensures task { (view pass.new).seen.task ≡ (view pass.old).seen.task }
     ensures grows { BeginsWith (view pass.new).seen.log (view pass.old).seen.log }
+    ensures legal { IsLegalLog (view pass.new).seen.task (view pass.new).seen.log }
 {
     let mut book = lock.enter(rt, pass);
     book.hand_back(group);
     lock.leave(rt, pass, book);
+}
+
+/// Does nothing: an action is a number of four bytes.
+fn action_fits(_action: u32)
+    ensures { _action < 2 ^ 32 }
+{}
+
+/// Does nothing but look at each pair.
+fn actions_fit(kids: &[Kid])
+    ensures { AllByRecursion (λ kid. kid.action < 2 ^ 32) kids.now }
+{
+    let mut rest = kids;
+    while let [kid, after @ ..] = rest {
+        action_fits(kid.action);
+        rest = after;
+    }
+}
+
+/// A group that was not appended, as it is, and that its pairs can be written: what a stop leaves of it is told by that. Only a search that
+/// ends by a fault comes here.
+fn looked_through(group: Group) -> Group
+    ensures group { result ≡ group }
+    ensures most { length group.kids ≤ MAX_GROUP }
+    ensures actions { AllByRecursion (λ kid. kid.action < 2 ^ 32) group.kids }
+{
+    let (first, kids) = group.parts();
+    actions_fit(kids.as_slice());
+    Group::of(first, kids)
 }
 
 /// Appends the group that is out, outside the lock, and acknowledges it; where that fails, the group is handed back, or the book is halted.
@@ -176,6 +210,8 @@ fn append_group<'t, L: Ledger, A: Ledger, S: Store, R: Wait>(
     ensures journal { OnOk result (Grows journal.old journal.new) }
     ensures kids { BeginsWith (kids_of journal.new) (kids_of journal.old) }
     ensures told { IfErr result (StopsRound journal.old journal.new share.new.amount) }
+    ensures survives { IfSome (view pass.old).seen.task (λ t. Survives t journal.old journal.new) }
+    ensures settled { OnOk result (IsSettled (device_of journal.new)) }
 {
     let start = journal.entries().len() as u64;
     match journal.append(group) {
@@ -187,7 +223,7 @@ fn append_group<'t, L: Ledger, A: Ledger, S: Store, R: Wait>(
             Err(_) => Err(RunFault::NotOut),
         },
         Err((group, error)) => {
-            hand_back(rt, lock, pass, group);
+            hand_back(rt, lock, pass, looked_through(group));
             Err(told_of(error))
         }
     }
@@ -203,7 +239,7 @@ fn append_group<'t, L: Ledger, A: Ledger, S: Store, R: Wait>(
 /// # Errors
 /// `NoMemory` where there is no room for a group: none goes out. `Device`, `Failed` or `NoMemory` where the journal does not take it: it is
 /// handed back, nothing is appended. `NotOut` where the journal can't take it, or the book does not have it out any more. After each of them the book is halted.
-#[tactic(auto, using(crate::proofs::Begins::begins_along, crate::proofs::Begins::begins_itself))]
+#[tactic(auto, using(crate::proofs::Begins::begins_along, crate::proofs::Begins::begins_itself, crate::proofs::Surviving::survives_itself))]
 pub fn committer_round<'t, L: Ledger, A: Ledger, S: Store, R: Wait>(
     rt: &R,
     lock: &Lock<SharedBook<'t, L, A>>,
@@ -228,6 +264,10 @@ pub fn committer_round<'t, L: Ledger, A: Ledger, S: Store, R: Wait>(
     ensures journal { OnOk result (Grows journal.old journal.new) }
     ensures kids { BeginsWith (kids_of journal.new) (kids_of journal.old) }
     ensures told { IfErr result (StopsRound journal.old journal.new share.new.amount) }
+    // What a stop leaves at any moment of the round has all that was in the journal before it, so all that is acknowledged.
+    ensures survives { IfSome (view pass.old).seen.task (λ t. Survives t journal.old journal.new) }
+    ensures settled { IsSettled (device_of journal.old)
+        → OnOk result (IsSettled (device_of journal.new)) }
 {
     let room = room_for(rt, lock, pass, rooms)?;
     match take_group(rt, lock, pass, share, room) {

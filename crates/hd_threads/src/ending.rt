@@ -3,9 +3,11 @@ ghost use Rattle.std.specs.Prelude.{◌≡◌, ◌<◌, length, IfOk, IfErr, IfS
 ghost use Rattle.crossbeam_queue.specs.Passes.{view};
 ghost use Rattle.hd_desk.specs.Passes.{IsOutside};
 ghost use Rattle.hd_desk.specs.Views.{BeginsWith};
-ghost use Rattle.hd_journal.specs.Journal.{kids_of};
+ghost use Rattle.hd_journal.specs.Journal.{device_of, kids_of};
+ghost use Rattle.hd_journal.specs.Moments.{IsSettled};
 ghost use Rattle.hd_search.specs.Searching.{Grows};
 ghost use Rattle.hd_threads.specs.Committing.{StopsLater};
+ghost use Rattle.hd_threads.specs.Surviving.{Survives};
 ghost use Rattle.hd_threads.specs.Faults.{IsOfAnswer};
 ghost use Rattle.hd_threads.specs.Ending.{is_reached, outcome_of, IsOutcomeOf, IsTrueOutcome, IsCountedBy};
 
@@ -140,6 +142,9 @@ pub fn commit_all<'t, L: Ledger, A: Ledger, S: Store, R: Wait, G: Gate>(
     ensures journal { OnOk result (Grows journal.old journal.new) }
     ensures kids { BeginsWith (kids_of journal.new) (kids_of journal.old) }
     ensures told { IfErr result (StopsLater journal.old journal.new) }
+    ensures survives { IfSome (view pass.old).seen.task (λ t. Survives t journal.old journal.new) }
+    ensures settled { IsSettled (device_of journal.old)
+        → OnOk result (IsSettled (device_of journal.new)) }
 {
     let mut rooms = Rooms::new(alloc);
     let mut pause = Pause::new();

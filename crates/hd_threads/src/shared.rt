@@ -124,6 +124,7 @@ impl<'t, L: Ledger, A: Ledger> SharedBook<'t, L, A> {
         ensures parts { share.new.parts ≡ share.old.parts }
         ensures counted { OnOk result (share.new.amount ≡ share.old.amount + length flushed.kids) }
         ensures uncounted { OnErr result (share.new.amount ≡ share.old.amount) }
+        ensures kept { IsKept self.new.state }
     {
         let SharedBook { book, appended } = self;
         let before = book.counts().acknowledged;
@@ -148,11 +149,14 @@ impl<'t, L: Ledger, A: Ledger> SharedBook<'t, L, A> {
         ensures handed_back { is_group_out self.old group ≡ true
             → self.new ≡ after_hand_back self.old }
         ensures halted { is_group_out self.old group ≡ false → self.new ≡ after_halt self.old }
+        ensures kept { IsKept self.new.state }
     {
         match self.book.hand_back(group) {
             Ok(()) => {}
             Err(_) => self.book.halt(),
         }
+        // What each book keeps is said where it counts.
+        let _ = self.book.counts();
     }
 
     /// From now on each commit is refused. It takes no memory.

@@ -1,5 +1,5 @@
 -- From what is told of a journal to what is told of the file that holds it.
-use Rattle.std.proofs.Common.{◌≡◌, ◌⊎◌, inl, inr, ℕ, ◌+◌, true, false, Ok, Err, Option, List, [], ◌∷◌, ◌++◌, map, length, refl, sym, ap, ◌∙◌, subst, IfSome}
+use Rattle.std.proofs.Common.{◌≡◌, ◌⊎◌, inl, inr, ℕ, ◌+◌, true, false, Ok, Err, Option, List, [], ◌∷◌, ◌++◌, map, length, refl, sym, ap, ◌∙◌, subst, IfSome, arith}
 use Rattle.std.specs.Prelude.{Result, IfOk, IfErr, OnOk}
 use Rattle.std.proofs.lemmas.List.{append-nil, map-append}
 use Rattle.std.proofs.lemmas.Option.{none-some}
@@ -9,16 +9,20 @@ use Rattle.hd_store.specs.declared.store.Store.{Ghosts}
 use Rattle.hd_store.specs.Device.{Device, content_of}
 use Rattle.hd_image.specs.declared.version.Version.{Version}
 use Rattle.hd_image.specs.declared.entry.Entry.{Entry}
-use Rattle.hd_image.specs.declared.header.TheConstants.{FIRST_GATE}
+use Rattle.hd_image.specs.declared.version.Version.TheVariants.{Two}
+use Rattle.hd_image.specs.declared.header.TheConstants.{DIGEST_LEN, FIRST_GATE}
 use Rattle.hd_image.specs.Image.{most_of, opened, entry_width, entries_of, entries_in}
 use Rattle.hd_journal.specs.declared.error.JournalError.{JournalError}
 use Rattle.hd_journal.specs.declared.error.JournalError.TheVariants as journal
 use Rattle.hd_journal.specs.declared.journal.Journal as of
 use Rattle.hd_image.specs.declared.contents.Found.{Found}
 use Rattle.hd_image.specs.Reading.{IsFound}
+use Rattle.hd_image.specs.Stops.{IsMaking}
+use Rattle.hd_store.specs.declared.error.StoreError.{StoreError}
 use Rattle.hd_store.specs.declared.error.StoreError.TheVariants as store
-use Rattle.hd_journal.specs.Answers.{IsOpened, IsNotMade, IsNotOpened, IsSeen, MayTellLength, BreaksMending}
-use Rattle.hd_journal.specs.Journal.{IsOf, device_of, kid_of, kids_of, found_in}
+use Rattle.hd_journal.specs.Answers.{IsOpened, IsNotMade, IsNotOpened, IsSeen, LengthFails, MayTellLength, BreaksMending}
+use Rattle.hd_journal.specs.Calls.{Ran}
+use Rattle.hd_journal.specs.Journal.{IsOf, device_of, kid_of, kids_of, found_in, create_calls}
 use Rattle.hd_migrate.specs.Copy.{kids_in}
 use Rattle.hd_search.specs.declared.fault.RunFault.{RunFault}
 use Rattle.hd_search.specs.declared.fault.RunFault.TheVariants as searching
@@ -27,6 +31,9 @@ use Rattle.hd_parallel.specs.declared.fault.ThreadsFault.{ThreadsFault}
 use Rattle.hd_parallel.specs.declared.fault.ThreadsFault.TheVariants as threads
 use Rattle.hd_parallel.specs.Fault.{IsFaulty, StopsRunning, Tells}
 use Rattle.hd_search.specs.Searching.{Grows}
+use Rattle.hd_entries.specs.Resuming.{AreLegal}
+use Rattle.hd_threads.specs.Surviving.{StillStand, Survives}
+use Rattle.hd_migrate.proofs.Contents.{create_ends}
 use Rattle.hplan.specs.declared.fault.Fault.{Fault}
 use Rattle.hplan.specs.declared.kept.Start.{Start}
 use Rattle.hplan.specs.declared.kept.Start.TheVariants.{New, Kept}
@@ -34,7 +41,7 @@ use Rattle.hplan.specs.Fault.{journal_in, run_in, search_in}
 use Rattle.hplan.specs.declared.told.Told.{Told}
 use Rattle.hplan.specs.Answer.{IsSolution, IsKeptSolution}
 use Rattle.hplan.specs.PlanText.{printed}
-use Rattle.hplan.specs.Kept.{FailsIn, InMemory, InFile, IsJournalOf, BeganWith, GoesOn, IsKept, AreKept, TellsOfFile, HasFaultyEntry, HasNoSolution, OfMemory, OfMemoryLater, OfThreads, OfFile, OfEntry, OfSearch, IsResumed, IsBegun, IsRefusedRun}
+use Rattle.hplan.specs.Kept.{FailsIn, InMemory, InFile, IsJournalOf, BeganWith, GoesOn, IsKept, WereThere, AreKept, IsAsItWasOrMaking, IsLeftByDevice, TellsOfFile, HasFaultyEntry, HasNoSolution, OfMemory, OfMemoryLater, OfThreads, OfFile, OfEntry, OfSearch, IsResumed, IsBegun, IsRefusedRun}
 
 -- ---- a journal that is not begun
 
@@ -149,74 +156,104 @@ module _ {S : Type 0} {G : Ghosts S} where
             (subst (IsKept Kept digest (kids_of new) before) left kept),
       )
 
+  -- a journal that has just the entries that it was begun with
+  were_there : (start : Start) (digest before : List ℕ) (old new : of.Journal S G) → IsBegun start digest before old → kids_of new ≡ kids_of old
+      → WereThere start digest before (kids_of new)
+  were_there New digest before old new begun same = same ∙ ap (map kid_of) begun.2.entries
+  were_there Kept digest before old new begun same = (begun.found, begun.is_found, same ∙ ap (map kid_of) begun.entries)
+
   -- the entries that a journal has then are kept
-  are_kept : (start : Start) (digest before after : List ℕ) (old new : of.Journal S G) → IsBegun start digest before old → Grows old new
-      → content_of (device_of new) ≡ after → AreKept start digest before after
-  are_kept start digest before after old new begun grows left =
-      (kids_of new, subst (IsKept start digest (kids_of new) before) left (is_kept start digest before old new begun grows))
+  are_kept : (start : Start) (t : Task) (digest before after : List ℕ) (old new : of.Journal S G) → IsBegun start digest before old → Grows old new
+      → Survives t old new → content_of (device_of new) ≡ after → AreKept start t digest before after
+  are_kept start t digest before after old new begun grows survives left = (
+    kids_of new,
+    subst (IsKept start digest (kids_of new) before) left (is_kept start digest before old new begun grows),
+    elim survives.legal [
+      | inl same ↦ inl (were_there start digest before old new begun same)
+      | inr legal ↦ inr legal
+    ],
+  )
+
+  -- the device failed while it was searched
+  left_by_device : (start : Start) (t : Task) (digest before after : List ℕ) (old new : of.Journal S G) → IsBegun start digest before old
+      → Survives t old new → content_of (device_of new) ≡ after → IsLeftByDevice start t digest after
+  left_by_device New t digest before after old new begun survives left =
+      subst (λ v. StillStand t v digest [] after) begun.1
+      (subst (StillStand t old.version digest []) left (survives.read digest [] begun.2 begun.3))
+  left_by_device Kept t digest before after old new begun survives left = tt
 
   refused_first : (start : Start) (t : Task) (digest before after : List ℕ) (old new : of.Journal S G) (why : RunFault)
-      → IsBegun start digest before old → new ≡ old → content_of (device_of new) ≡ after → IsFaulty t (most_of old.version) old.entries.items why
+      → IsBegun start digest before old → Survives t old new → new ≡ old → content_of (device_of new) ≡ after → IsFaulty t (most_of old.version) old.entries.items why
       → HasNoSolution start t digest before after (run_in why)
-  refused_first start t digest before after old new searching.Full begun same left k =
-      OfSearch searching.Full (are_kept start digest before after old new begun (stays old new same) left)
-  refused_first start t digest before after old new (searching.Damaged at) begun same left k =
+  refused_first start t digest before after old new searching.Full begun survives same left k =
+      OfSearch searching.Full (are_kept start t digest before after old new begun (stays old new same) survives left)
+  refused_first start t digest before after old new (searching.Damaged at) begun survives same left k =
       OfEntry at (faulty_entry start t digest before after old new at begun same left k.1)
-  refused_first start t digest before after old new searching.Device begun same left k = absurd (k)
-  refused_first start t digest before after old new searching.Failed begun same left k = absurd (k)
-  refused_first start t digest before after old new searching.NotOut begun same left k = absurd (k)
-  refused_first start t digest before after old new searching.NoMemory begun same left k =
-      OfMemoryLater (are_kept start digest before after old new begun (stays old new same) left)
+  refused_first start t digest before after old new searching.Device begun survives same left k = absurd (k)
+  refused_first start t digest before after old new searching.Failed begun survives same left k = absurd (k)
+  refused_first start t digest before after old new searching.NotOut begun survives same left k = absurd (k)
+  refused_first start t digest before after old new searching.NoMemory begun survives same left k =
+      OfMemoryLater (are_kept start t digest before after old new begun (stays old new same) survives left)
 
   stopped : (start : Start) (t : Task) (digest before after : List ℕ) (old new : of.Journal S G) (why : RunFault)
-      → IsBegun start digest before old → content_of (device_of new) ≡ after → StopsRunning old new why
+      → IsBegun start digest before old → Survives t old new → content_of (device_of new) ≡ after → StopsRunning old new why
       → HasNoSolution start t digest before after (run_in why)
-  stopped start t digest before after old new searching.Full begun left k =
-      OfSearch searching.Full (are_kept start digest before after old new begun k left)
-  stopped start t digest before after old new (searching.Damaged at) begun left k = absurd (k)
-  stopped start t digest before after old new searching.Device begun left k = OfSearch searching.Device tt
-  stopped start t digest before after old new searching.Failed begun left k =
+  stopped start t digest before after old new searching.Full begun survives left k =
+      OfSearch searching.Full (are_kept start t digest before after old new begun k survives left)
+  stopped start t digest before after old new (searching.Damaged at) begun survives left k = absurd (k)
+  stopped start t digest before after old new searching.Device begun survives left k = OfSearch searching.Device (left_by_device start t digest before after old new begun survives left)
+  stopped start t digest before after old new searching.Failed begun survives left k =
       let no : false ≡ true = sym (runs_on start digest before old begun) ∙ k.0 in absurd (cc)
-  stopped start t digest before after old new searching.NotOut begun left k =
-      OfSearch searching.NotOut (are_kept start digest before after old new begun k left)
-  stopped start t digest before after old new searching.NoMemory begun left k =
-      OfMemoryLater (are_kept start digest before after old new begun k left)
+  stopped start t digest before after old new searching.NotOut begun survives left k =
+      OfSearch searching.NotOut (are_kept start t digest before after old new begun k survives left)
+  stopped start t digest before after old new searching.NoMemory begun survives left k =
+      OfMemoryLater (are_kept start t digest before after old new begun k survives left)
 
   told_by : (start : Start) (t : Task) (digest before after : List ℕ) (old new : of.Journal S G) (why : ThreadsFault)
-      → IsBegun start digest before old → content_of (device_of new) ≡ after → Tells t old new why
+      → IsBegun start digest before old → Survives t old new → content_of (device_of new) ≡ after → Tells t old new why
       → HasNoSolution start t digest before after (search_in why)
-  told_by start t digest before after old new (threads.Run why) begun left (inl k) =
-      refused_first start t digest before after old new why begun k.0 left k.1
-  told_by start t digest before after old new (threads.Run why) begun left (inr k) = stopped start t digest before after old new why begun left k
-  told_by start t digest before after old new threads.NoThread begun left k = OfThreads (are_kept start digest before after old new begun k left)
+  told_by start t digest before after old new (threads.Run why) begun survives left (inl k) =
+      refused_first start t digest before after old new why begun survives k.0 left k.1
+  told_by start t digest before after old new (threads.Run why) begun survives left (inr k) = stopped start t digest before after old new why begun survives left k
+  told_by start t digest before after old new threads.NoThread begun survives left k = OfThreads (are_kept start t digest before after old new begun k survives left)
 
   pub refused_run : (start : Start) (t : Task) (digest before after : List ℕ) (old new : of.Journal S G) (f : Fault)
-      → IsBegun start digest before old → content_of (device_of new) ≡ after → IsRefusedRun t old new f
+      → IsBegun start digest before old → Survives t old new → content_of (device_of new) ≡ after → IsRefusedRun t old new f
       → HasNoSolution start t digest before after f
-  refused_run start t digest before after old new f begun left (inl k) =
+  refused_run start t digest before after old new f begun survives left (inl k) =
       subst (HasNoSolution start t digest before after) (sym k.0)
-      (OfMemoryLater (are_kept start digest before after old new begun k.1 left))
-  refused_run start t digest before after old new f begun left (inr k) =
-      subst (HasNoSolution start t digest before after) (sym k.1) (told_by start t digest before after old new k.0 begun left k.2)
+      (OfMemoryLater (are_kept start t digest before after old new begun k.1 survives left))
+  refused_run start t digest before after old new f begun survives left (inr k) =
+      subst (HasNoSolution start t digest before after) (sym k.1) (told_by start t digest before after old new k.0 begun survives left k.2)
 
 -- ---- a journal that is not begun, by what is answered
 
-module _ (digest : List ℕ) (old : Device) where
+module _ (digest : List ℕ) (old : Device) (len : length digest ≡ DIGEST_LEN) where
+  making : (new : Device) (error : StoreError) → content_of old ≡ [] → Ran old (create_calls digest) (Err error) new → IsMaking Two digest (content_of new)
+  making new error empty ran = create_ends digest old new (Err error) len (omega (arith, ap length empty)) ran
+
+  -- the length was not told, or a header was begun
+  as_it_was_or_making : (new : Device) → LengthFails old new ⊎ (MayTellLength old (Ok tt) × (content_of old ≡ []) × Ran old (create_calls digest) (Err store.Failed) new)
+      → IsAsItWasOrMaking digest (content_of old) (content_of new)
+  as_it_was_or_making new (inl k) = inl (ap content_of k.1)
+  as_it_was_or_making new (inr k) = inr (k.1, making new store.Failed k.1 k.2)
+
   not_made : (e : JournalError) (new : Device) → IsNotMade digest old e new → TellsOfFile New digest (content_of old) (content_of new) e
   not_made journal.NotAJournal new k = k
   not_made journal.OtherTask new k = k
   not_made (journal.Damaged at) new k = k
-  not_made journal.Device new k = tt
+  not_made journal.Device new k = as_it_was_or_making new k
   not_made journal.Failed new k = k
   not_made journal.JournalExists new k = (k.1, ap content_of k.2)
   not_made journal.NotOut new k = k
-  not_made journal.NoMemory new k = k.1
+  not_made journal.NoMemory new k = (k.1, making new store.NoMemory k.1 k.2)
 
   pub made_not : {S : Type 0} {G : Ghosts S} (r : Result (of.Journal S G) (S × JournalError)) → IfErr r (λ e. IsNotMade digest old e.1 (G.device e.0))
       → IfErr r (λ e. TellsOfFile New digest (content_of old) (content_of (G.device e.0)) e.1)
   made_not (Ok j) k = tt
   made_not {S} {G} (Err e) k = not_made e.1 (G.device e.0) k
 
+module _ (digest : List ℕ) (old : Device) where
   seen_same : (new : Device) → IsSeen old new → content_of new ≡ content_of old
   seen_same new k = ap content_of k.2
 
@@ -271,11 +308,11 @@ module _ {S : Type 0} {G : Ghosts S} where
   solved_on start limit t digest before after old new (Err f) begun left solution grows = tt
 
   pub unsolved_on : (start : Start) (t : Task) (digest before after : List ℕ) (old new : of.Journal S G) (r : Result Told Fault)
-      → IsBegun start digest before old → content_of (device_of new) ≡ after → IfErr r (IsRefusedRun t old new)
+      → IsBegun start digest before old → Survives t old new → content_of (device_of new) ≡ after → IfErr r (IsRefusedRun t old new)
       → IfErr r (HasNoSolution start t digest before after)
-  unsolved_on start t digest before after old new (Ok told) begun left refused = tt
-  unsolved_on start t digest before after old new (Err f) begun left refused =
-      refused_run start t digest before after old new f begun left refused
+  unsolved_on start t digest before after old new (Ok told) begun survives left refused = tt
+  unsolved_on start t digest before after old new (Err f) begun survives left refused =
+      refused_run start t digest before after old new f begun survives left refused
 
 -- ---- in memory
 

@@ -12,14 +12,18 @@ use Rattle.hd_image.specs.declared.header.TheConstants.{FIRST_GATE}
 use Rattle.hd_image.specs.declared.error.ImageError.TheVariants as image
 use Rattle.hd_image.specs.Image.{IsGroup, entries_in, image}
 use Rattle.hd_image.specs.Reading.{IsFound, IsRefused}
+use Rattle.hd_image.specs.Stops.{IsMaking}
 use Rattle.hd_journal.specs.declared.error.JournalError.{JournalError}
 use Rattle.hd_journal.specs.declared.error.JournalError.TheVariants as journal
 use Rattle.hd_journal.specs.declared.journal.Journal as of
-use Rattle.hd_journal.specs.Journal.{IsOf, kid_of, found_in, version_in}
+use Rattle.hd_journal.specs.Journal.{IsOf, device_of, kid_of, found_in, version_in}
+use Rattle.hd_journal.specs.Moments.{IsSettled}
+use Rattle.hd_entries.specs.Resuming.{AreLegal}
 use Rattle.hd_migrate.specs.Copy.{kids_in}
 use Rattle.hd_search.specs.declared.fault.RunFault.{RunFault}
 use Rattle.hd_search.specs.declared.fault.RunFault.TheVariants as searching
 use Rattle.hd_certify.specs.Error.{IsDamagedAt}
+use Rattle.hd_threads.specs.Surviving.{StillStand}
 use Rattle.hd_parallel.specs.declared.fault.ThreadsFault.{ThreadsFault}
 use Rattle.hd_search.specs.Searching.{Grows}
 use Rattle.hd_parallel.specs.Fault.{Tells}
@@ -64,18 +68,22 @@ pub record IsKept (start : Start) (digest : List ℕ) (kids : List Kid) (before 
 
 -- ---- why a search over a file has no answer
 
+-- a file is as it was; or it was empty, and a header is being made in it, which a later search makes again
+abbrev pub IsAsItWasOrMaking : List ℕ → List ℕ → List ℕ → Type 0
+IsAsItWasOrMaking digest before after = (after ≡ before) ⊎ ((before ≡ []) × IsMaking Two digest after)
+
 -- what is told of a file that is to be begun, or gone on with: it is not empty; or it is no journal, one of another task or damaged. It is as
--- it was then. Memory runs out over an empty file; or over one that is left as it was; or over the task's journal, or one that was being
--- made, and what it holds then is not said here
+-- it was then. Where a journal is to be begun, and the device failed or memory ran out, nothing is lost. Where one is to be gone on with, memory
+-- runs out over a file that is left as it was; or over the task's journal, or one that was being made, and what it holds then is not said here
 abbrev pub TellsOfFile : Start → List ℕ → List ℕ → List ℕ → JournalError → Type 0
 TellsOfFile New digest before after journal.NotAJournal = ⊥
 TellsOfFile New digest before after journal.OtherTask = ⊥
 TellsOfFile New digest before after (journal.Damaged at) = ⊥
-TellsOfFile New digest before after journal.Device = Unit {0}
+TellsOfFile New digest before after journal.Device = IsAsItWasOrMaking digest before after
 TellsOfFile New digest before after journal.Failed = ⊥
 TellsOfFile New digest before after journal.JournalExists = (before ≢ []) × (after ≡ before)
 TellsOfFile New digest before after journal.NotOut = ⊥
-TellsOfFile New digest before after journal.NoMemory = before ≡ []
+TellsOfFile New digest before after journal.NoMemory = (before ≡ []) × IsMaking Two digest after
 TellsOfFile Kept digest before after journal.NotAJournal = IsRefused digest before image.NotAJournal × (after ≡ before)
 TellsOfFile Kept digest before after journal.OtherTask = IsRefused digest before image.OtherTask × (after ≡ before)
 TellsOfFile Kept digest before after (journal.Damaged at) = IsRefused digest before (image.Damaged at) × (after ≡ before)
@@ -92,29 +100,41 @@ HasFaultyEntry New t digest before after at = ⊥
 HasFaultyEntry Kept t digest before after at =
     (found : Found) × IsFound digest before found × IsDamagedAt t (found_in found) at × IsKept Kept digest (map kid_of (found_in found)) before after
 
--- some entries are kept in a file
-abbrev pub AreKept : Start → List ℕ → List ℕ → List ℕ → Type 0
-AreKept start digest before after = (kids : List Kid) × IsKept start digest kids before after
+-- these are the entries that a file held before; a new one held none
+abbrev pub WereThere : Start → List ℕ → List ℕ → List Kid → Type 0
+WereThere New digest before kids = kids ≡ []
+WereThere Kept digest before kids = (found : Found) × IsFound digest before found × (kids ≡ map kid_of (found_in found))
+
+-- some entries are kept in a file: just those that it held before, or they name a legal list
+abbrev pub AreKept : Start → Task → List ℕ → List ℕ → List ℕ → Type 0
+AreKept start t digest before after =
+    (kids : List Kid) × IsKept start digest kids before after × (WereThere start digest before kids ⊎ AreLegal t kids)
+
+-- the device failed while it was searched: a new file is a journal all the same, without entries or with ones that name a legal list; of one that
+-- was gone on with nothing is said here
+abbrev pub IsLeftByDevice : Start → Task → List ℕ → List ℕ → Type 0
+IsLeftByDevice New t digest after = StillStand t Two digest [] after
+IsLeftByDevice Kept t digest after = Unit {0}
 
 -- what a fault of the search itself may be: there is no room for more entries, or what the threads share did not fit together, and those that
 -- there are are kept; or the device failed. No other is told
-abbrev pub TellsOfSearch : Start → List ℕ → List ℕ → List ℕ → RunFault → Type 0
-TellsOfSearch start digest before after searching.Full = AreKept start digest before after
-TellsOfSearch start digest before after (searching.Damaged at) = ⊥
-TellsOfSearch start digest before after searching.Device = Unit {0}
-TellsOfSearch start digest before after searching.Failed = ⊥
-TellsOfSearch start digest before after searching.NotOut = AreKept start digest before after
-TellsOfSearch start digest before after searching.NoMemory = ⊥
+abbrev pub TellsOfSearch : Start → Task → List ℕ → List ℕ → List ℕ → RunFault → Type 0
+TellsOfSearch start t digest before after searching.Full = AreKept start t digest before after
+TellsOfSearch start t digest before after (searching.Damaged at) = ⊥
+TellsOfSearch start t digest before after searching.Device = IsLeftByDevice start t digest after
+TellsOfSearch start t digest before after searching.Failed = ⊥
+TellsOfSearch start t digest before after searching.NotOut = AreKept start t digest before after
+TellsOfSearch start t digest before after searching.NoMemory = ⊥
 
 -- why the search of a task over a file has no answer: memory ran out before it began, or later, and the entries that there are are kept; a
 -- thread did not start, and they are kept too; or what is told of the file, of an entry in it, or of the search
 pub data HasNoSolution (start : Start) (t : Task) (digest before after : List ℕ) : Fault → Type 0 where
   OfMemory : TellsOfFile start digest before after journal.NoMemory → HasNoSolution start t digest before after NoMemory
-  OfMemoryLater : AreKept start digest before after → HasNoSolution start t digest before after NoMemory
-  OfThreads : AreKept start digest before after → HasNoSolution start t digest before after NoThread
+  OfMemoryLater : AreKept start t digest before after → HasNoSolution start t digest before after NoMemory
+  OfThreads : AreKept start t digest before after → HasNoSolution start t digest before after NoThread
   OfFile : (error : JournalError) → TellsOfFile start digest before after error → HasNoSolution start t digest before after (Journal error)
   OfEntry : (at : ℕ) → HasFaultyEntry start t digest before after at → HasNoSolution start t digest before after (Search (searching.Damaged at))
-  OfSearch : (fault : RunFault) → TellsOfSearch start digest before after fault → HasNoSolution start t digest before after (Search fault)
+  OfSearch : (fault : RunFault) → TellsOfSearch start t digest before after fault → HasNoSolution start t digest before after (Search fault)
 
 -- ---- where a search is kept
 
@@ -161,9 +181,9 @@ pub record IsResumed {S : Type 0} {G : Ghosts S} (digest before : List ℕ) (beg
   pub groups : List (List Kid)
   pub is : IsOf digest groups begun
 
--- a journal was begun, where the file was empty, of the second version and without groups; or one is gone on with
+-- a journal was begun, where the file was empty, of the second version and without groups, and its device is settled; or one is gone on with
 abbrev pub IsBegun : {S : Type 0} {G : Ghosts S} → Start → List ℕ → List ℕ → of.Journal S G → Type 0
-IsBegun New digest before begun = (before ≡ []) × (begun.version ≡ Two) × IsOf digest [] begun
+IsBegun New digest before begun = (before ≡ []) × (begun.version ≡ Two) × IsOf digest [] begun × IsSettled (device_of begun)
 IsBegun Kept digest before begun = IsResumed digest before begun
 
 -- a search over a journal has no answer: memory ran out, and the journal is the same or a later one; or this is told of the fault by which it ended

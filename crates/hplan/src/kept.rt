@@ -5,6 +5,7 @@ ghost use Rattle.hd_store.specs.Device.{content_of};
 ghost use Rattle.hd_journal.specs.Journal.{kids_of};
 ghost use Rattle.hd_search.specs.Searching.{Grows};
 ghost use Rattle.hd_threads.specs.Ending.{IsOutcomeOf, IsTrueOutcome};
+ghost use Rattle.hd_threads.specs.Surviving.{Survives};
 ghost use Rattle.hd_parallel.specs.Fault.{Tells};
 ghost use Rattle.hd_words.specs.Request.{IsWorkers};
 ghost use Rattle.hplan.specs.declared.fault.Fault.TheVariants as faults;
@@ -54,6 +55,7 @@ fn concluded_of<S: Store, R: Threads + Wait + Sync + Eprint + Clock>(
     ensures truth { IfOk result (λ e. IsTrueOutcome task.now e.outcome) }
     ensures grows { OnOk result (Grows journal.old journal.new) }
     ensures told { IfErr result (Tells task.now journal.old journal.new) }
+    ensures survives { Survives task.now journal.old journal.new }
 {
     let workers = how.workers as usize;
     if !how.progress {
@@ -85,6 +87,7 @@ fn solution_of<S: Store, R: Threads + Wait + Sync + Eprint + Clock>(
         told.ending (printed told.plan)) }
     ensures grows { OnOk result (Grows journal.old journal.new) }
     ensures refusal { IfErr result (IsRefusedRun task.now journal.old journal.new) }
+    ensures survives { Survives task.now journal.old journal.new }
 {
     let concluded = match concluded_of(rt, alloc, task, journal, how) {
         Ok(concluded) => concluded,

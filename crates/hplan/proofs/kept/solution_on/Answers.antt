@@ -14,7 +14,7 @@ pub returns-in-Ok-clause-refusal : goal.returns-in-Ok-clause-refusal
 returns-in-Ok-clause-refusal g c =
     unsolved_on c.args.start c.args.task.now c.args.digest.now (content_of (g.S.Store.device c.args.store))
     (content_of (g.S.Store.device c.into_store.result)) c.in-Ok.journal c.solution_of-found.new.journal c.solution_of-found.result
-    c.in-Ok.ensures.begun (sym (ap content_of c.into_store.ensures)) c.solution_of-found.ensures.refusal
+    c.in-Ok.ensures.begun c.solution_of-found.ensures.survives (sym (ap content_of c.into_store.ensures)) c.solution_of-found.ensures.refusal
 
 pub returns-in-Err-clause-refusal : goal.returns-in-Err-clause-refusal
 returns-in-Err-clause-refusal g c =
