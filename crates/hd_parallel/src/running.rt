@@ -228,8 +228,9 @@ pub fn run<S: Store, G: Gate + Sync, R: Threads + Wait + Sync>(
     ensures grows { OnOk result (Grows journal.old journal.new) }
     ensures begins { BeginsWith (kids_of journal.new) (kids_of journal.old) }
     ensures told { IfErr result (Tells task.now journal.old journal.new) }
-    // Where nothing was pending on the journal's device, whatever a stop leaves there, at any moment from the call to its end, has all the
-    // entries that the journal had, and maybe more, in whole groups; where there are more, all together name a legal list.
+    // Where the journal has not failed, and nothing is pending on its device: whatever a stop leaves there, at any moment from the call to its
+    // end, has all the entries that the journal had, and maybe more, in whole groups, which with them name a legal list. What a read gives in
+    // the end has all that the journal lists, also behind a fault.
     ensures survives { Survives task.now journal.old journal.new }
     ensures settled { IsSettled (device_of journal.old)
         → OnOk result (IsSettled (device_of journal.new)) }

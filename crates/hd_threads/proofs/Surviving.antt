@@ -16,7 +16,7 @@ use Rattle.hd_image.specs.declared.entry.Entry.{Entry}
 use Rattle.hd_image.specs.declared.entry.TheConstants.{MAX_GROUP}
 use Rattle.hd_image.specs.declared.version.Version.{Version}
 use Rattle.hd_image.specs.declared.header.TheConstants.{DIGEST_LEN, FIRST_GATE}
-use Rattle.hd_image.specs.Image.{IsGroup, IsHeld, HasNumber, counted, entries_in, entries_of, entry_width, fits_parent, front}
+use Rattle.hd_image.specs.Image.{IsGroup, IsHeld, HasNumber, counted, entries_in, entries_of, entry_width, fits_parent, front, opened}
 use Rattle.hd_image.specs.Stops.{IsBeforeOrAfter}
 use Rattle.hd_image.proofs.Numbering.{all_told}
 use Rattle.hd_image.proofs.Stopping.{appended_entries}
@@ -30,12 +30,13 @@ use Rattle.hd_journal.specs.Journal.{IsOf, IsSame, device_of, kid_of, kids_of}
 use Rattle.hd_journal.specs.Moments.{LeavesSince, IsSettled}
 use Rattle.hd_journal.proofs.Passing.{then_since, unchanged}
 use Rattle.hd_journal.proofs.Standing.{stop_stands}
-use Rattle.hd_desk.specs.Views.{BeginsWith}
+use Rattle.hd_entries.specs.Holding.{BeginsWith}
 use Rattle.hd_entries.specs.Resuming.{AreLegal, first_fault, fault_at}
 use Rattle.hd_entries.specs.Settling.{BookState, IsKept}
 use Rattle.hd_entries.proofs.Again.{nothing_kept}
 use Rattle.hd_entries.proofs.Faultless.{kept_from, legal_from, no_faults}
 use Rattle.hd_search.specs.Searching.{Grows}
+use Rattle.hd_search.proofs.Journals.{begins_through}
 use Rattle.hd_threads.specs.Surviving.{IsLegalLog, kids_of_groups, StillStand, Survives}
 use Rattle.hd_threads.proofs.Reading.{leaves_last, read_is_left, weaker_since}
 
@@ -66,6 +67,21 @@ kids_back : (v : Version) (at : ℕ) (kids : List Kid) → map kid_of (entries_o
 kids_back v at [] = refl
 kids_back v at (kid ∷ kids) = ap (λ (ks : List Kid). kid ∷ ks) (kids_back v (at + entry_width v) kids)
 
+-- the pairs of groups begin with those of the first ones
+kids_begin : (v : Version) (gate : ℕ) (groups more : List (List Kid))
+    → BeginsWith (map kid_of (entries_in v gate (groups ++ more))) (map kid_of (entries_in v gate groups))
+kids_begin v gate [] more = (map kid_of (entries_in v gate more), refl)
+kids_begin v gate (group ∷ groups) more =
+    let here = entries_of v (gate + 5) group in
+    let next = gate + length (opened v group) in
+    let rest = kids_begin v next groups more in (
+      rest.0,
+      map-append kid_of here (entries_in v next (groups ++ more))
+          ∙ (ap (λ ks. map kid_of here ++ ks) rest.1
+          ∙ (sym (append_assoc (map kid_of here) (map kid_of (entries_in v next groups)) rest.0)
+          ∙ ap (λ ks. ks ++ rest.0) (sym (map-append kid_of here (entries_in v next groups))))),
+    )
+
 last_group : (P : List Kid → Type 0) (groups : List (List Kid)) (next : List Kid) → AllByRecursion P (groups ++ next ∷ []) → P next
 last_group P [] next all = all.0
 last_group P (group ∷ groups) next all = last_group P groups next all.1
@@ -82,12 +98,23 @@ group_by : (v : Version) (kids : List Kid) → 1 ≤ length kids → length kids
 group_by v kids some most fit actions = record { some = some; most = most; held = held_by v kids (all_told v kids fit) actions }
 
 -- just these groups stand
-just_these : (t : Task) (v : Version) (digest : List ℕ) (groups : List (List Kid)) (content : List ℕ) → StandsIn v digest groups content
-    → StillStand t v digest groups content
-just_these t v digest groups content stand = record {
+just_these : (t : Task) (v : Version) (digest : List ℕ) (groups : List (List Kid)) (kids : List Kid) (content : List ℕ) → StandsIn v digest groups content
+    → BeginsWith (kids_of_groups v groups) kids → StillStand t v digest groups kids content
+just_these t v digest groups kids content stand has = record {
   more = [];
   stand = subst (λ gs. StandsIn v digest gs content) (sym (append-nil groups)) stand;
+  has = subst (λ gs. BeginsWith (kids_of_groups v gs) kids) (sym (append-nil groups)) has;
   legal = inl (ap (kids_of_groups v) (append-nil groups));
+}
+
+-- fewer pairs are wanted
+fewer : (t : Task) (v : Version) (digest : List ℕ) (groups : List (List Kid)) (few kids : List Kid) (content : List ℕ) → BeginsWith kids few
+    → StillStand t v digest groups kids content → StillStand t v digest groups few content
+fewer t v digest groups few kids content begins s = record {
+  more = s.more;
+  stand = s.stand;
+  has = begins_through few kids (kids_of_groups v (groups ++ s.more)) begins s.has;
+  legal = s.legal;
 }
 
 module _ {S : Type 0} {G : Ghosts S} where
@@ -115,9 +142,14 @@ module _ {S : Type 0} {G : Ghosts S} where
     whole = is.content;
   }
 
+  -- its list has just its pairs
+  lists_all : (digest : List ℕ) (groups : List (List Kid)) (j : Journal S G) → IsOf digest groups j → BeginsWith (kids_of_groups j.version groups) (kids_of j)
+  lists_all digest groups j is = ([], sym (kids_by digest groups j is) ∙ sym (append-nil (kids_of j)))
+
   still_whole : (t : Task) (digest : List ℕ) (groups : List (List Kid)) (j : Journal S G) → IsOf digest groups j
-      → StillStand t j.version digest groups (content_of (device_of j))
-  still_whole t digest groups j is = just_these t j.version digest groups (content_of (device_of j)) (stands_whole digest groups j is)
+      → StillStand t j.version digest groups (kids_of j) (content_of (device_of j))
+  still_whole t digest groups j is =
+      just_these t j.version digest groups (kids_of j) (content_of (device_of j)) (stands_whole digest groups j is) (lists_all digest groups j is)
 
   -- ---- nothing is appended
 
@@ -125,10 +157,11 @@ module _ {S : Type 0} {G : Ghosts S} where
   same_survives t old new device kids = record {
     legal = inl kids;
     moments = λ digest groups is settled.
-        unchanged (StillStand t old.version digest groups) (device_of old) (device_of new)
+        unchanged (StillStand t old.version digest groups (kids_of old)) (device_of old) (device_of new)
         (ap (λ (d : Device). d.start) device) (ap (λ (d : Device). d.steps) device) settled (still_whole t digest groups old is);
     read = λ digest groups is settled.
-        subst (λ d. StillStand t old.version digest groups (content_of d)) (sym device) (still_whole t digest groups old is);
+        subst (λ ks. StillStand t old.version digest groups ks (content_of (device_of new))) (sym kids)
+        (subst (λ d. StillStand t old.version digest groups (kids_of old) (content_of d)) (sym device) (still_whole t digest groups old is));
   }
 
   pub survives_itself : (task : Option Task) (j : Journal S G) → IfSome task (λ t. Survives t j j)
@@ -143,27 +176,31 @@ module _ {S : Type 0} {G : Ghosts S} where
     v = old.version
 
     with_next : (digest : List ℕ) (groups : List (List Kid)) (content : List ℕ) → IsOf digest groups old → StandsIn v digest (groups ++ next ∷ []) content
-        → StillStand t v digest groups content
-    with_next digest groups content is stand = record {
-      more = next ∷ [];
-      stand = stand;
-      legal = inr (subst (AreLegal t) (sym (kids_with digest groups next old is)) legal);
-    }
+        → StillStand t v digest groups (kids_of old ++ next) content
+    with_next digest groups content is stand =
+        let all = kids_with digest groups next old is in
+        record {
+          more = next ∷ [];
+          stand = stand;
+          has = ([], all ∙ sym (append-nil (kids_of old ++ next)));
+          legal = inr (subst (AreLegal t) (sym all) legal);
+        }
 
     still_left : (digest : List ℕ) (groups : List (List Kid)) (content : List ℕ) → IsOf digest groups old → IsBeforeOrAfter v digest groups next content
-        → StillStand t v digest groups content
+        → StillStand t v digest groups (kids_of old) content
     still_left digest groups content is left =
         elim (stop_stands v digest groups next content is.sound (group digest groups is) left) [
-          | inl stand ↦ just_these t v digest groups content stand
-          | inr stand ↦ with_next digest groups content is stand
+          | inl stand ↦ just_these t v digest groups (kids_of old) content stand (lists_all digest groups old is)
+          | inr stand ↦
+              fewer t v digest groups (kids_of old) (kids_of old ++ next) content (next, refl) (with_next digest groups content is stand)
         ]
 
     still_moments : ((digest : List ℕ) (groups : List (List Kid)) → IsOf digest groups old → IsSettled (device_of old)
         → LeavesSince (IsBeforeOrAfter v digest groups next) (device_of old) (device_of new))
         → (digest : List ℕ) (groups : List (List Kid)) → IsOf digest groups old → IsSettled (device_of old)
-        → LeavesSince (StillStand t v digest groups) (device_of old) (device_of new)
+        → LeavesSince (StillStand t v digest groups (kids_of old)) (device_of old) (device_of new)
     still_moments moments digest groups is settled =
-        weaker_since (IsBeforeOrAfter v digest groups next) (StillStand t v digest groups)
+        weaker_since (IsBeforeOrAfter v digest groups next) (StillStand t v digest groups (kids_of old))
         (λ content left. still_left digest groups content is left) (device_of old) (device_of new) (moments digest groups is settled)
 
   -- a group was appended
@@ -180,9 +217,10 @@ module _ {S : Type 0} {G : Ghosts S} where
         legal = inr (subst (AreLegal t) (sym kids) legal);
         moments = still_moments t old new next legal sound moments;
         read = λ digest groups is settled.
-            with_next t old new next legal sound digest groups (content_of (device_of new)) is
+            subst (λ ks. StillStand t old.version digest groups ks (content_of (device_of new))) (sym kids)
+            (with_next t old new next legal sound digest groups (content_of (device_of new)) is
             (subst (λ v. StandsIn v digest (groups ++ next ∷ []) (content_of (device_of new))) a.version
-            (stands_whole digest (groups ++ next ∷ []) new (whole digest groups is)));
+            (stands_whole digest (groups ++ next ∷ []) new (whole digest groups is))));
       }
 
   -- the device failed meanwhile
@@ -197,10 +235,11 @@ module _ {S : Type 0} {G : Ghosts S} where
         legal = inl kids;
         moments = all;
         read = λ digest groups is settled.
-            leaves_last (StillStand t old.version digest groups) (device_of old) (device_of new) (all digest groups is settled)
+            subst (λ ks. StillStand t old.version digest groups ks (content_of (device_of new))) (sym kids)
+            (leaves_last (StillStand t old.version digest groups (kids_of old)) (device_of old) (device_of new) (all digest groups is settled)
             (content_of (device_of new))
             (read_is_left (Writing (old.last_gate + 1) (counted old.version next ++ 0 ∷ []) ∷ Writing old.last_gate (1 ∷ []) ∷ [])
-            (device_of old) (device_of new) (Err store.Failed) (tt, (tt, tt)) settled b.ran);
+            (device_of old) (device_of new) (Err store.Failed) (tt, (tt, tt)) settled b.ran));
       }
 
   not_appended_by : (t : Task) (old new : Journal S G) (group : GroupView) (error : JournalError) → IsNotAppended old group error new
@@ -255,16 +294,18 @@ module _ {S : Type 0} {G : Ghosts S} where
           ]
         ]
 
-    still_through : (digest : List ℕ) (groups more : List (List Kid)) (content : List ℕ) → IsOf digest groups a → IsOf digest (groups ++ more) b
-        → StillStand t b.version digest (groups ++ more) content → StillStand t a.version digest groups content
-    still_through digest groups more content was is later =
-        let s : StillStand t a.version digest (groups ++ more) content = subst (λ v. StillStand t v digest (groups ++ more) content) grows.version later in
+    still_through : (digest : List ℕ) (groups more : List (List Kid)) (kids : List Kid) (content : List ℕ) → IsOf digest groups a
+        → IsOf digest (groups ++ more) b → StillStand t b.version digest (groups ++ more) kids content → StillStand t a.version digest groups kids content
+    still_through digest groups more kids content was is later =
+        let s : StillStand t a.version digest (groups ++ more) kids content =
+        subst (λ v. StillStand t v digest (groups ++ more) kids content) grows.version later in
         let all : (groups ++ more) ++ s.more ≡ groups ++ (more ++ s.more) = append_assoc groups more s.more in
         let here : kids_of b ≡ kids_of_groups a.version (groups ++ more) =
         kids_by digest (groups ++ more) b is ∙ ap (λ v. kids_of_groups v (groups ++ more)) grows.version in
         record {
           more = more ++ s.more;
           stand = subst (λ gs. StandsIn a.version digest gs content) all s.stand;
+          has = subst (λ gs. BeginsWith (kids_of_groups a.version gs) kids) all s.has;
           legal =
               elim s.legal [
                 | inr legal ↦ inr (subst (λ gs. AreLegal t (kids_of_groups a.version gs)) all legal)
@@ -283,13 +324,15 @@ module _ {S : Type 0} {G : Ghosts S} where
       legal = legal_through;
       moments = λ digest groups is settled.
           let first = grows.groups digest groups is in
-          then_since (StillStand t a.version digest groups) (device_of a) (device_of b) (device_of c) (x.moments digest groups is settled)
-          (weaker_since (StillStand t b.version digest (groups ++ first.0)) (StillStand t a.version digest groups)
-          (λ content left. still_through digest groups first.0 content is first.1 left) (device_of b) (device_of c)
-          (y.moments digest (groups ++ first.0) first.1 (settles settled)));
+          then_since (StillStand t a.version digest groups (kids_of a)) (device_of a) (device_of b) (device_of c) (x.moments digest groups is settled)
+          (weaker_since (StillStand t b.version digest (groups ++ first.0) (kids_of b)) (StillStand t a.version digest groups (kids_of a))
+          (λ content left.
+          fewer t a.version digest groups (kids_of a) (kids_of b) content grows.begins
+          (still_through digest groups first.0 (kids_of b) content is first.1 left))
+          (device_of b) (device_of c) (y.moments digest (groups ++ first.0) first.1 (settles settled)));
       read = λ digest groups is settled.
           let first = grows.groups digest groups is in
-          still_through digest groups first.0 (content_of (device_of c)) is first.1
+          still_through digest groups first.0 (kids_of c) (content_of (device_of c)) is first.1
           (y.read digest (groups ++ first.0) first.1 (settles settled));
     }
 

@@ -12,9 +12,10 @@ use Rattle.hd_journal.specs.declared.journal.Journal.{Journal}
 use Rattle.hd_journal.specs.Answers.{StandsIn}
 use Rattle.hd_journal.specs.Journal.{IsOf, device_of, kid_of, kids_of}
 use Rattle.hd_journal.specs.Moments.{LeavesSince, IsSettled}
+use Rattle.hd_entries.specs.Holding.{BeginsWith}
 use Rattle.hd_entries.specs.Resuming.{AreLegal}
 
--- a log names a legal list of the task, where that is known
+-- a log names a legal list of the task, where that is known, and its entries can be numbered
 abbrev pub IsLegalLog : Option Task → List Kid → Type 0
 IsLegalLog task log = IfSome task (λ t. AreLegal t log × (length log < ROOT_PARENT))
 
@@ -22,21 +23,22 @@ IsLegalLog task log = IfSome task (λ t. AreLegal t log × (length log < ROOT_PA
 abbrev pub kids_of_groups : Version → List (List Kid) → List Kid
 kids_of_groups v groups = map kid_of (entries_in v FIRST_GATE groups)
 
--- these groups stand in a content, and maybe more behind them: whoever opens it finds just these and those. Where entries were added, all of
--- them together name a legal list
-pub record StillStand (t : Task) (v : Version) (digest : List ℕ) (groups : List (List Kid)) (content : List ℕ) : Type 0 where
+-- These groups stand in a content, and maybe more behind them: whoever opens it finds just these and those. All their pairs begin with the pairs
+-- that are wanted there; and where there are more than those of the groups, all together name a legal list.
+pub record StillStand (t : Task) (v : Version) (digest : List ℕ) (groups : List (List Kid)) (kids : List Kid) (content : List ℕ) : Type 0 where
   pub more : List (List Kid)
   pub stand : StandsIn v digest (groups ++ more) content
+  pub has : BeginsWith (kids_of_groups v (groups ++ more)) kids
   pub legal : (kids_of_groups v (groups ++ more) ≡ kids_of_groups v groups) ⊎ AreLegal t (kids_of_groups v (groups ++ more))
 
--- A journal becomes another one, and nothing of it is lost at any moment, where nothing was pending on its device: whatever a stop leaves, also
--- one within a call on the device, still has its groups, and so has what a read gives in the end. Either it has no new entries, or all that it has
--- name a legal list.
+-- A journal becomes another one, and nothing that it had is lost at any moment, where it had not failed and nothing was pending on its device:
+-- whatever a stop leaves, also one within a call on the device, still has its groups. What a read gives in the end has them too, and all pairs that
+-- the journal lists then, also behind a call that failed. Those that it lists are the ones that it had, or name a legal list.
 pub record Survives {S : Type 0} {G : Ghosts S} (t : Task) (old new : Journal S G) : Type 0 where
   pub legal : (kids_of new ≡ kids_of old) ⊎ AreLegal t (kids_of new)
   pub moments :
       (digest : List ℕ) (groups : List (List Kid)) → IsOf digest groups old → IsSettled (device_of old)
-      → LeavesSince (StillStand t old.version digest groups) (device_of old) (device_of new)
+      → LeavesSince (StillStand t old.version digest groups (kids_of old)) (device_of old) (device_of new)
   pub read :
       (digest : List ℕ) (groups : List (List Kid)) → IsOf digest groups old → IsSettled (device_of old)
-      → StillStand t old.version digest groups (content_of (device_of new))
+      → StillStand t old.version digest groups (kids_of new) (content_of (device_of new))

@@ -153,30 +153,30 @@ fn hand_back<'t, L: Ledger, A: Ledger, R: Wait>(
 }
 
 /// Does nothing: an action is a number of four bytes.
-fn action_fits(_action: u32)
+fn is_four_bytes(_action: u32)
     ensures { _action < 2 ^ 32 }
 {}
 
 /// Does nothing but look at each pair.
-fn actions_fit(kids: &[Kid])
+fn are_four_bytes(kids: &[Kid])
     ensures { AllByRecursion (λ kid. kid.action < 2 ^ 32) kids.now }
 {
     let mut rest = kids;
     while let [kid, after @ ..] = rest {
-        action_fits(kid.action);
+        is_four_bytes(kid.action);
         rest = after;
     }
 }
 
-/// A group that was not appended, as it is, and that its pairs can be written: what a stop leaves of it is told by that. Only a search that
-/// ends by a fault comes here.
-fn looked_through(group: Group) -> Group
+/// A group that was not appended, as it is. What its type says of it is known behind: how many pairs it has at most, and that their actions
+/// are numbers of four bytes. So it may stand on the device all the same. Only a search that ends by a fault comes here.
+fn look_through(group: Group) -> Group
     ensures group { result ≡ group }
     ensures most { length group.kids ≤ MAX_GROUP }
     ensures actions { AllByRecursion (λ kid. kid.action < 2 ^ 32) group.kids }
 {
     let (first, kids) = group.parts();
-    actions_fit(kids.as_slice());
+    are_four_bytes(kids.as_slice());
     Group::of(first, kids)
 }
 
@@ -223,7 +223,7 @@ fn append_group<'t, L: Ledger, A: Ledger, S: Store, R: Wait>(
             Err(_) => Err(RunFault::NotOut),
         },
         Err((group, error)) => {
-            hand_back(rt, lock, pass, looked_through(group));
+            hand_back(rt, lock, pass, look_through(group));
             Err(told_of(error))
         }
     }
@@ -264,7 +264,8 @@ pub fn committer_round<'t, L: Ledger, A: Ledger, S: Store, R: Wait>(
     ensures journal { OnOk result (Grows journal.old journal.new) }
     ensures kids { BeginsWith (kids_of journal.new) (kids_of journal.old) }
     ensures told { IfErr result (StopsRound journal.old journal.new share.new.amount) }
-    // What a stop leaves at any moment of the round has all that was in the journal before it, so all that is acknowledged.
+    // Where the journal has not failed, and nothing is pending on its device: what a stop leaves at any moment of the round has all that was in
+    // the journal before it, so all that was acknowledged then. What a read gives behind it has all that the journal lists.
     ensures survives { IfSome (view pass.old).seen.task (λ t. Survives t journal.old journal.new) }
     ensures settled { IsSettled (device_of journal.old)
         → OnOk result (IsSettled (device_of journal.new)) }

@@ -142,6 +142,7 @@ pub fn commit_all<'t, L: Ledger, A: Ledger, S: Store, R: Wait, G: Gate>(
     ensures journal { OnOk result (Grows journal.old journal.new) }
     ensures kids { BeginsWith (kids_of journal.new) (kids_of journal.old) }
     ensures told { IfErr result (StopsLater journal.old journal.new) }
+    // As of a round, of what was in the journal before the first.
     ensures survives { IfSome (view pass.old).seen.task (λ t. Survives t journal.old journal.new) }
     ensures settled { IsSettled (device_of journal.old)
         → OnOk result (IsSettled (device_of journal.new)) }

@@ -155,7 +155,7 @@ impl<'t, L: Ledger, A: Ledger> SharedBook<'t, L, A> {
             Ok(()) => {}
             Err(_) => self.book.halt(),
         }
-        // What each book keeps is said where it counts.
+        // The clauses of `counts` say what each book keeps.
         let _ = self.book.counts();
     }
 

@@ -234,20 +234,41 @@ fn replay<'a>(alloc: Global) -> Result<Command<'a>, AllocError> {
         .arg(file(alloc, "schedule", "SCHEDULE", "The file with the schedule"))
 }
 
+/// A command with one more below it, if that could be made.
+fn with<'a>(
+    command: Command<'a>,
+    below: Result<Command<'a>, AllocError>,
+) -> Result<Command<'a>, AllocError> {
+    match below {
+        Ok(below) => command.subcommand(below),
+        Err(error) => {
+            drop(command);
+            Err(error)
+        }
+    }
+}
+
+/// The program without its commands.
+fn program<'a>(alloc: Global) -> Result<Command<'a>, AllocError> {
+    Ok(
+        Command::new(alloc, NAME)
+            .bin_name(NAME)?
+            .about("A planner for numeric planning tasks written in PDDL")
+            .version("0.1.0")
+            .subcommand_required(true)
+            .arg_required_else_help(true),
+    )
+}
+
 /// The whole command line.
 pub fn command_line<'a>(alloc: Global) -> Result<Command<'a>, AllocError> {
-    Command::new(alloc, NAME)
-        .bin_name(NAME)?
-        .about("A planner for numeric planning tasks written in PDDL")
-        .version("0.1.0")
-        .subcommand_required(true)
-        .arg_required_else_help(true)
-        .subcommand(solve(alloc)?)?
-        .subcommand(resume(alloc)?)?
-        .subcommand(certify(alloc)?)?
-        .subcommand(migrate(alloc)?)?
-        .subcommand(inspect(alloc)?)?
-        .subcommand(ground(alloc)?)?
-        .subcommand(validate(alloc)?)?
-        .subcommand(replay(alloc)?)
+    let line = program(alloc)?;
+    let line = with(line, solve(alloc))?;
+    let line = with(line, resume(alloc))?;
+    let line = with(line, certify(alloc))?;
+    let line = with(line, migrate(alloc))?;
+    let line = with(line, inspect(alloc))?;
+    let line = with(line, ground(alloc))?;
+    let line = with(line, validate(alloc))?;
+    with(line, replay(alloc))
 }

@@ -16,13 +16,14 @@ use Rattle.hd_journal.specs.declared.error.JournalError.{JournalError}
 use Rattle.hd_journal.specs.declared.error.JournalError.TheVariants as journal
 use Rattle.hd_journal.specs.declared.journal.Journal as of
 use Rattle.hd_image.specs.declared.contents.Found.{Found}
+use Rattle.hd_image.specs.declared.contents.Found.TheVariants.{Unmade, HalfMade, Journal}
 use Rattle.hd_image.specs.Reading.{IsFound}
 use Rattle.hd_image.specs.Stops.{IsMaking}
 use Rattle.hd_store.specs.declared.error.StoreError.{StoreError}
 use Rattle.hd_store.specs.declared.error.StoreError.TheVariants as store
 use Rattle.hd_journal.specs.Answers.{IsOpened, IsNotMade, IsNotOpened, IsSeen, LengthFails, MayTellLength, BreaksMending}
 use Rattle.hd_journal.specs.Calls.{Ran}
-use Rattle.hd_journal.specs.Journal.{IsOf, device_of, kid_of, kids_of, found_in, create_calls}
+use Rattle.hd_journal.specs.Journal.{IsOf, device_of, kid_of, kids_of, found_in, create_calls, open_calls}
 use Rattle.hd_migrate.specs.Copy.{kids_in}
 use Rattle.hd_search.specs.declared.fault.RunFault.{RunFault}
 use Rattle.hd_search.specs.declared.fault.RunFault.TheVariants as searching
@@ -33,6 +34,7 @@ use Rattle.hd_parallel.specs.Fault.{IsFaulty, StopsRunning, Tells}
 use Rattle.hd_search.specs.Searching.{Grows}
 use Rattle.hd_entries.specs.Resuming.{AreLegal}
 use Rattle.hd_threads.specs.Surviving.{StillStand, Survives}
+use Rattle.hd_journal.proofs.Staying.{mending_grows_not}
 use Rattle.hd_migrate.proofs.Contents.{create_ends}
 use Rattle.hplan.specs.declared.fault.Fault.{Fault}
 use Rattle.hplan.specs.declared.kept.Start.{Start}
@@ -41,7 +43,7 @@ use Rattle.hplan.specs.Fault.{journal_in, run_in, search_in}
 use Rattle.hplan.specs.declared.told.Told.{Told}
 use Rattle.hplan.specs.Answer.{IsSolution, IsKeptSolution}
 use Rattle.hplan.specs.PlanText.{printed}
-use Rattle.hplan.specs.Kept.{FailsIn, InMemory, InFile, IsJournalOf, BeganWith, GoesOn, IsKept, WereThere, AreKept, IsAsItWasOrMaking, IsLeftByDevice, TellsOfFile, HasFaultyEntry, HasNoSolution, OfMemory, OfMemoryLater, OfThreads, OfFile, OfEntry, OfSearch, IsResumed, IsBegun, IsRefusedRun}
+use Rattle.hplan.specs.Kept.{FailsIn, InMemory, InFile, IsJournalOf, BeganWith, GoesOn, IsKept, WereThere, AreKept, HasNoHeader, IsAsItWasOrMaking, IsLeftByDevice, TellsOfFile, HasFaultyEntry, HasNoSolution, OfMemory, OfMemoryLater, OfThreads, OfFile, OfEntry, OfSearch, IsResumed, IsBegun, IsRefusedRun}
 
 -- ---- a journal that is not begun
 
@@ -176,10 +178,15 @@ module _ {S : Type 0} {G : Ghosts S} where
 
   -- the device failed while it was searched
   left_by_device : (start : Start) (t : Task) (digest before after : List ℕ) (old new : of.Journal S G) → IsBegun start digest before old
-      → Survives t old new → content_of (device_of new) ≡ after → IsLeftByDevice start t digest after
-  left_by_device New t digest before after old new begun survives left =
-      subst (λ v. StillStand t v digest [] after) begun.1
-      (subst (StillStand t old.version digest []) left (survives.read digest [] begun.2 begun.3))
+      → Survives t old new → content_of (device_of new) ≡ after → IsLeftByDevice start t digest before after
+  left_by_device New t digest before after old new begun survives left = (
+    begun.0,
+    (
+      kids_of new,
+      subst (λ v. StillStand t v digest [] (kids_of new) after) begun.1
+          (subst (StillStand t old.version digest [] (kids_of new)) left (survives.read digest [] begun.2 begun.3)),
+    ),
+  )
   left_by_device Kept t digest before after old new begun survives left = tt
 
   refused_first : (start : Start) (t : Task) (digest before after : List ℕ) (old new : of.Journal S G) (why : RunFault)
@@ -257,11 +264,19 @@ module _ (digest : List ℕ) (old : Device) where
   seen_same : (new : Device) → IsSeen old new → content_of new ≡ content_of old
   seen_same new k = ap content_of k.2
 
+  -- memory ran out while a journal was mended: it was still to be made
+  unmade : (seen new : Device) (found : Found) → content_of seen ≡ content_of old → IsFound digest (content_of old) found
+      → Ran seen (open_calls digest found) (Err store.NoMemory) new → HasNoHeader digest (content_of old)
+  unmade seen new Unmade same is ran = inl is
+  unmade seen new HalfMade same is ran = inr is
+  unmade seen new (Journal contents) same is ran =
+      absurd (mending_grows_not digest seen new contents (subst (λ c. IsFound digest c (Journal contents)) (sym same) is) ran)
+
   mended_not : (new : Device) → (MayTellLength old (Ok tt) × (new ≡ old)) ⊎ (IsSeen old new ⊎ BreaksMending digest old store.NoMemory new)
-      → (content_of new ≡ content_of old) ⊎ ((found : Found) × IsFound digest (content_of old) found)
+      → (content_of new ≡ content_of old) ⊎ HasNoHeader digest (content_of old)
   mended_not new (inl k) = inl (ap content_of k.1)
   mended_not new (inr (inl k)) = inl (seen_same new k)
-  mended_not new (inr (inr k)) = inr (k.found, k.is)
+  mended_not new (inr (inr k)) = inr (unmade k.seen new k.found (ap content_of k.looked.2) k.is k.ran)
 
   not_opened : (e : JournalError) (new : Device) → IsNotOpened digest old e new → TellsOfFile Kept digest (content_of old) (content_of new) e
   not_opened journal.NotAJournal new k = (k.0, seen_same new k.1)

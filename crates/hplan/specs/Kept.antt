@@ -8,6 +8,7 @@ use Rattle.hd_store.specs.declared.error.StoreError.{StoreError}
 use Rattle.hd_image.specs.declared.version.Version.{Version}
 use Rattle.hd_image.specs.declared.version.Version.TheVariants.{Two}
 use Rattle.hd_image.specs.declared.contents.Found.{Found}
+use Rattle.hd_image.specs.declared.contents.Found.TheVariants.{Unmade, HalfMade}
 use Rattle.hd_image.specs.declared.header.TheConstants.{FIRST_GATE}
 use Rattle.hd_image.specs.declared.error.ImageError.TheVariants as image
 use Rattle.hd_image.specs.Image.{IsGroup, entries_in, image}
@@ -68,13 +69,18 @@ pub record IsKept (start : Start) (digest : List ℕ) (kids : List Kid) (before 
 
 -- ---- why a search over a file has no answer
 
--- a file is as it was; or it was empty, and a header is being made in it, which a later search makes again
+-- a file is as it was; or it was empty, and a header is being made in it, or is made: whoever goes on with it has a journal without entries
 abbrev pub IsAsItWasOrMaking : List ℕ → List ℕ → List ℕ → Type 0
 IsAsItWasOrMaking digest before after = (after ≡ before) ⊎ ((before ≡ []) × IsMaking Two digest after)
 
+-- a header is still to be made in a file, which has no entries
+abbrev pub HasNoHeader : List ℕ → List ℕ → Type 0
+HasNoHeader digest content = IsFound digest content Unmade ⊎ IsFound digest content HalfMade
+
 -- what is told of a file that is to be begun, or gone on with: it is not empty; or it is no journal, one of another task or damaged. It is as
 -- it was then. Where a journal is to be begun, and the device failed or memory ran out, nothing is lost. Where one is to be gone on with, memory
--- runs out over a file that is left as it was; or over the task's journal, or one that was being made, and what it holds then is not said here
+-- runs out over a file that is left as it was, or over one in which a header was still to be made: it had no entries. What it holds there behind
+-- a fault of the device is not said here
 abbrev pub TellsOfFile : Start → List ℕ → List ℕ → List ℕ → JournalError → Type 0
 TellsOfFile New digest before after journal.NotAJournal = ⊥
 TellsOfFile New digest before after journal.OtherTask = ⊥
@@ -91,7 +97,7 @@ TellsOfFile Kept digest before after journal.Device = Unit {0}
 TellsOfFile Kept digest before after journal.Failed = ⊥
 TellsOfFile Kept digest before after journal.JournalExists = ⊥
 TellsOfFile Kept digest before after journal.NotOut = ⊥
-TellsOfFile Kept digest before after journal.NoMemory = (after ≡ before) ⊎ ((found : Found) × IsFound digest before found)
+TellsOfFile Kept digest before after journal.NoMemory = (after ≡ before) ⊎ HasNoHeader digest before
 
 -- the entry that is found at this place of a file is the first that is faulty, and the file has just the entries that were found; a new file
 -- has none
@@ -110,18 +116,18 @@ abbrev pub AreKept : Start → Task → List ℕ → List ℕ → List ℕ → T
 AreKept start t digest before after =
     (kids : List Kid) × IsKept start digest kids before after × (WereThere start digest before kids ⊎ AreLegal t kids)
 
--- the device failed while it was searched: a new file is a journal all the same, without entries or with ones that name a legal list; of one that
--- was gone on with nothing is said here
-abbrev pub IsLeftByDevice : Start → Task → List ℕ → List ℕ → Type 0
-IsLeftByDevice New t digest after = StillStand t Two digest [] after
-IsLeftByDevice Kept t digest after = Unit {0}
+-- the device failed while it was searched: a new file was empty, and groups stand in it, or none, whose entries name a legal list; of one that was
+-- gone on with nothing is said here
+abbrev pub IsLeftByDevice : Start → Task → List ℕ → List ℕ → List ℕ → Type 0
+IsLeftByDevice New t digest before after = (before ≡ []) × ((kids : List Kid) × StillStand t Two digest [] kids after)
+IsLeftByDevice Kept t digest before after = Unit {0}
 
 -- what a fault of the search itself may be: there is no room for more entries, or what the threads share did not fit together, and those that
 -- there are are kept; or the device failed. No other is told
 abbrev pub TellsOfSearch : Start → Task → List ℕ → List ℕ → List ℕ → RunFault → Type 0
 TellsOfSearch start t digest before after searching.Full = AreKept start t digest before after
 TellsOfSearch start t digest before after (searching.Damaged at) = ⊥
-TellsOfSearch start t digest before after searching.Device = IsLeftByDevice start t digest after
+TellsOfSearch start t digest before after searching.Device = IsLeftByDevice start t digest before after
 TellsOfSearch start t digest before after searching.Failed = ⊥
 TellsOfSearch start t digest before after searching.NotOut = AreKept start t digest before after
 TellsOfSearch start t digest before after searching.NoMemory = ⊥

@@ -59,7 +59,7 @@ returns-in-Err-clause-survives g c =
     let same = c.in-Err.ensures.handed_back in
     not_appended_survives seen.task later.log c.args.journal.now c.append.new.self c.args.group c.in-Err.error c.in-Err.ensures.refused
     c.in-Err.ensures.same_kids c.in-Err.ensures.moments c.in-Err.ensures.some
-    (subst (λ (x : GroupView). length x.kids ≤ MAX_GROUP) same c.looked_through.ensures.most)
-    (subst (λ (x : GroupView). AllByRecursion (λ kid. kid.action < 2 ^ 32) x.kids) same c.looked_through.ensures.actions)
+    (subst (λ (x : GroupView). length x.kids ≤ MAX_GROUP) same c.look_through.ensures.most)
+    (subst (λ (x : GroupView). AllByRecursion (λ kid. kid.action < 2 ^ 32) x.kids) same c.look_through.ensures.actions)
     (subst (λ task. IsLegalLog task later.log) c.hand_back.ensures.task c.hand_back.ensures.legal)
     (begins_along later.log seen.log _ c.hand_back.ensures.grows all)

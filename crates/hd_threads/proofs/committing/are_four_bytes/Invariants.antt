@@ -1,6 +1,6 @@
 use Rattle.std.proofs.Common.{◌<◌, ◌^◌, length}
 use Rattle.std.specs.List.{AllByRecursion}
-use Rattle.hd_threads.proofs.committing.actions_fit.Given as goal
+use Rattle.hd_threads.proofs.committing.are_four_bytes.Given as goal
 
 abbrev pub invariant-loop-rest : goal.invariant-loop-rest
 invariant-loop-rest l =
