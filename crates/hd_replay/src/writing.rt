@@ -31,7 +31,7 @@ impl<'t, L: Ledger> Run<'t, L> {
     /// What is pending is pulled out of the book, if no group is out.
     ///
     /// # Errors
-    /// `NoMemory` where there is no room for the group.
+    /// `NoMemory` where there is no room for a group.
     pub(crate) fn pull(&mut self) -> Result<(), ReplayFault>
         requires sound { IsSoundRun self.old }
         ensures ok { OnOk result (TurnsTo self.old.book.state.task self.old moves.Pull self.new) }

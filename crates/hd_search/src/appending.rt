@@ -73,7 +73,7 @@ fn append_group<L: Ledger, S: Store>(
 /// Appends what waits to be appended, and acknowledges it. Where that fails, the book is halted.
 ///
 /// # Errors
-/// `NoMemory` where there is no room for the group, or why it is not appended.
+/// `NoMemory` where there is no room for a group, or why this one is not appended.
 pub(crate) fn append_pending<L: Ledger, S: Store>(
     book: &mut Book<'_, L>,
     rooms: &mut Rooms,

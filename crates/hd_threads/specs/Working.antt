@@ -88,7 +88,7 @@ HasRedeemed log held w w' Opened = IsOpened log held w w'
 HasRedeemed log held w w' (Waiting again) = (w' ≡ w) × (again ≡ held)
 HasRedeemed log held w w' Void = (w' ≡ w) × IsGivenBy (Some w.task) log held.ticket given.Void
 
--- the book of this task was asked for a ticket, with this log in the lock: one that waits does so by what the book has said
+-- a ticket that waits does so by what a book of this task with this log gives for it; of the other answers nothing is said here
 abbrev pub IsAsked : Option Task → List Kid → Held → Redemption → Type 0
 IsAsked task log held Opened = Unit {0}
 IsAsked task log held (Waiting again) = IsGivenBy task log held.ticket (given.NotYet held.ticket)
