@@ -65,6 +65,7 @@ fn empty(
 fn a_full_mailbox_hands_the_letter_back(rt: HostRuntime) -> Result<(), Fail> {
     let of = 7;
     let places = MAILBOX_PLACES as u64;
+    assert_eq!(rt; places, 1024);
     let seed = Letter { of, number: 0 };
     let (boxes, mut hands) = Mailboxes::new(&rt, rt.alloc(), 1, &of, seed)?;
     fill(&rt, &boxes, &mut hands, of, [0, places]);

@@ -3,6 +3,7 @@ use crate::files::TWO;
 use crate::journals::{
     FILLS, appends, assert_opens, disk_of, kid, not_created, not_opened, rooted,
 };
+use crate::stopped::stopped_append;
 use hd_journal::{Journal, JournalError};
 use hd_store::{MemoryDisk, Store};
 use std::alloc::Global;
@@ -126,6 +127,30 @@ fn append_makes_four_calls(rt: HostRuntime) -> Result<(), Fail> {
     assert!(rt; appends(rt.alloc(), &mut journal, 1, &[kid(0, 0)])?.is_none());
     let refused = appends(rt.alloc(), &mut journal, 2, &[kid(0, 0)])?;
     assert!(rt; refused == Some(JournalError::Device));
+    Ok(())
+}
+
+/// A gate was being opened and reads `37`; the n-th change of the `open` that closes it fails, and then the machine stops.
+fn assert_open_fails(rt: &impl Abort, alloc: Global, n: u64, fill: u8) -> Result<(), Fail> {
+    let mut disk = stopped_append(alloc, 3, 0x37)?;
+    if n == 0 {
+        return Err("calls are counted from 1".into());
+    }
+    disk.fail_at(n);
+    let (mut disk, error) = not_opened(alloc, disk)?;
+    assert!(rt; error == JournalError::Device);
+    disk.settle(fill)?;
+    let entries = if n < 3 && fill == 1 { 2 } else { 1 };
+    assert_opens(rt, alloc, disk, entries, 39 + 14 * entries)
+}
+
+#[test]
+fn each_change_of_open_fails(rt: HostRuntime) -> Result<(), Fail> {
+    for n in 1..=4 {
+        for fill in FILLS {
+            assert_open_fails(&rt, rt.alloc(), n, fill)?;
+        }
+    }
     Ok(())
 }
 

@@ -31,7 +31,7 @@ fn stops_in_create(rt: HostRuntime) -> Result<(), Fail> {
 }
 
 /// The disk that a stop in the n-th change of an `append` behind the root leaves.
-fn stopped_append(alloc: Global, n: u64, fill: u8) -> Result<MemoryDisk, Fail> {
+pub fn stopped_append(alloc: Global, n: u64, fill: u8) -> Result<MemoryDisk, Fail> {
     let mut disk = rooted(alloc)?.into_store();
     if n == 0 {
         return Err("calls are counted from 1".into());

@@ -9,7 +9,9 @@ use crate::memory::end_of;
 use crate::store::Store;
 use std::alloc::Global;
 use std::fs::{File, OpenOptions};
+use std::io::ErrorKind;
 use std::os::unix::fs::FileExt;
+use std::path::Path;
 use std::rt::Files;
 
 /// A disk over a file, which is locked as long as the store is there.
@@ -46,13 +48,36 @@ fn whole(alloc: Global, file: &File) -> Result<Vec<u8>, StoreError> {
     Ok(bytes)
 }
 
+/// Makes the name of a file sure in its folder. A folder that may not be read cannot be asked for that, and some systems do not do it for
+/// folders: then it is left to the system.
+fn sync_folder<R: Files<File = File>>(rt: &R, path: &str) -> Result<(), StoreError> {
+    let folder = match Path::new(path).parent() {
+        Some(folder) if !folder.as_os_str().is_empty() => folder,
+        _ => Path::new("."),
+    };
+    let mut options = OpenOptions::new();
+    options.read(true);
+    let synced = match options.open(rt, folder) {
+        Ok(folder) => folder.sync_all(),
+        Err(error) => Err(error),
+    };
+    match synced {
+        Ok(()) => Ok(()),
+        Err(error) => match error.kind() {
+            ErrorKind::PermissionDenied | ErrorKind::InvalidInput => Ok(()),
+            _ => Err(StoreError::Failed),
+        },
+    }
+}
+
 impl FileStore {
     ghost use Rattle.hd_store.specs.FileStore.{device_of, IsOpened};
 
-    /// Opens a file of this name, and makes it if it is to be made and is not there. What it holds counts as sure.
+    /// Opens a file of this name, and makes it if it is to be made and is not there. What it holds is made sure before it is read, also
+    /// what a run had written that was killed before its sync was done; and so is the file's name in its folder, where the system does that.
     ///
     /// # Errors
-    /// A failure where the file cannot be opened or read, or another store has it open. Want of memory.
+    /// A failure where the file cannot be opened, made sure or read, or another store has it open. Want of memory.
     pub fn open<R: Files<File = File>>(
         rt: &R,
         alloc: Global,
@@ -66,9 +91,10 @@ impl FileStore {
         let Ok(file) = options.open(rt, path) else {
             return Err(StoreError::Failed);
         };
-        if file.try_lock().is_err() {
+        if file.try_lock().is_err() || file.sync_all().is_err() {
             return Err(StoreError::Failed);
         }
+        sync_folder(rt, path)?;
         let bytes = whole(alloc, &file)?;
         Ok(FileStore {
             file,

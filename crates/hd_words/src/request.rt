@@ -358,7 +358,7 @@ pub fn read_words<'a>(alloc: Global, words: &'a [String]) -> Result<Request, Wor
             Some(request) => Ok(request),
             None => Err(WordsError::Fault(String::from_str(
                 alloc,
-                "error: the files of the command, 1 to 64 workers, and a limit of 1 at least are wanted\n",
+                "error: both texts of a task or neither, 1 to 64 workers, and a limit of 1 at least are wanted\n",
             )?)),
         },
         Err(error) => Err(refusal_of(alloc, error)),

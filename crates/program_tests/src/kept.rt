@@ -507,13 +507,30 @@ fn a_search_that_stopped_at_its_limit_goes_on(rt: HostRuntime) -> Result<(), Fai
     Ok(())
 }
 
-/// The files of the task of two actions, and an empty disk for its journal that fails in its n-th write, sync or cut.
-fn failing_at(alloc: Global, n: u64) -> Result<Shelf, AllocError>
+/// A command of a search over a journal, and what the journal's file holds before.
+type Begun = (&'static [&'static str], &'static [Part]);
+
+/// A journal is made on an empty file: six calls of the device, and four for each of the three groups.
+const FROM_NOTHING: Begun = (&BEGIN, &[]);
+
+/// A stop had left the root's group, a gate behind it that was being opened, and the second group: four calls mend that, and two groups are appended.
+const FROM_A_STOP: Begun = (
+    &GO_ON,
+    &[
+        Part::Cut(&WHOLE, 0, 52),
+        Part::All(&[0x37]),
+        Part::Cut(&WHOLE, 53, 66),
+        Part::All(&[0]),
+    ],
+);
+
+/// The files of the task of two actions, and a disk with this for its journal that fails in its n-th write, sync or cut.
+fn failing_at(alloc: Global, held: &[Part], n: u64) -> Result<Shelf, Fail>
     requires { 0 < n }
 {
     let files = [("d", L.as_bytes()), ("p", L_PROBLEM.as_bytes())];
     let mut shelf = shelf_of(alloc, &files)?;
-    let mut disk = MemoryDisk::new(alloc);
+    let mut disk = MemoryDisk::of(alloc, bytes_of(alloc, held)?)?;
     disk.fail_at(n);
     shelf.put_disk(alloc, "j", disk)?;
     Ok(shelf)
@@ -531,13 +548,15 @@ fn stop(alloc: Global, shelf: &mut Shelf, fill: u8) -> Result<(), Fail> {
 fn goes_on_behind<R: Threads + Wait + Sync + Eprint + Clock>(
     rt: &R,
     alloc: Global,
+    begun: Begun,
     n: u64,
     fill: u8,
 ) -> Result<bool, Fail>
     requires { 0 < n }
 {
-    let mut shelf = failing_at(alloc, n)?;
-    let first = run_over(rt, alloc, &BEGIN, &mut shelf)?;
+    let (words, held) = begun;
+    let mut shelf = failing_at(alloc, held, n)?;
+    let first = run_over(rt, alloc, words, &mut shelf)?;
     stop(alloc, &mut shelf, fill)?;
     let then = run_over(rt, alloc, &GO_ON, &mut shelf)?;
     let left = journal_on(alloc, &mut shelf);
@@ -551,25 +570,31 @@ fn goes_on_behind<R: Threads + Wait + Sync + Eprint + Clock>(
 fn is_done_before<R: Threads + Wait + Sync + Eprint + Clock>(
     rt: &R,
     alloc: Global,
+    begun: Begun,
     n: u64,
-) -> Result<bool, AllocError>
+) -> Result<bool, Fail>
     requires { 0 < n }
 {
-    let mut shelf = failing_at(alloc, n)?;
-    let run = run_over(rt, alloc, &BEGIN, &mut shelf)?;
+    let (words, held) = begun;
+    let mut shelf = failing_at(alloc, held, n)?;
+    let run = run_over(rt, alloc, words, &mut shelf)?;
     Ok(run.as_slice() == PLAN.as_bytes())
 }
 
-/// A journal is made by six calls of the device, and each of the three groups takes four: whichever fails, a later run goes on. Where a later
-/// one would fail, that does not matter.
+/// Whichever call of the device fails, a later run goes on. Where a later one would fail, that does not matter.
 #[test]
 fn a_device_that_fails_is_told_and_the_search_goes_on(rt: HostRuntime) -> Result<(), Fail> {
     let alloc = rt.alloc();
-    for n in 1..=18 {
-        for fill in [0, 1, 0x37] {
-            assert!(rt; goes_on_behind(&rt, alloc, n, fill)?, "at {n}, {fill}");
+    for (begun, calls) in [(FROM_NOTHING, 18), (FROM_A_STOP, 12)] {
+        for n in 1..=calls {
+            for fill in [0, 1, 0x37] {
+                assert!(rt;
+                    goes_on_behind(&rt, alloc, begun, n, fill)?,
+                    "at {n}, {fill}"
+                );
+            }
         }
+        assert!(rt; is_done_before(&rt, alloc, begun, calls + 1)?);
     }
-    assert!(rt; is_done_before(&rt, alloc, 19)?);
     Ok(())
 }

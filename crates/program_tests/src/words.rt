@@ -228,7 +228,7 @@ const FAULTS: &[Told] = &[
     ),
     (
         &["inspect", "d", "--journal", "j"],
-        "fault: error: the files of the command",
+        "fault: error: both texts of a task or neither",
         &[],
     ),
     (

@@ -1,4 +1,4 @@
-//! The worked rows of `apply`, run, and each public function of hd_task once on its happy path.
+//! Worked examples of `apply`, run, and each public function of hd_task once on its happy path.
 use crate::expressions::{fluent, negated, number};
 use crate::outcomes::assert_sizes;
 use crate::tasks::{action_from, always, list, names, numbers, state, task_from};
