@@ -452,7 +452,7 @@ fn answer<P: Places, O: Write, E: Write, R: Threads + Wait + Sync + Eprint + Clo
 
 /// Runs the words of a command line, of which the first is the program's name, and answers the exit status.
 ///
-/// The status is 0 for a plan, the actions of a task, a valid plan, a journal that shows a verdict or was migrated, a schedule that was played, the help and the
+/// The status is 0 for a plan, the actions of a task, a valid plan, a journal that shows a verdict, was migrated or was inspected, a schedule that was played, the help and the
 /// version, 1 for a fault and a journal that shows no verdict, 2 for a faulty command line, 10 where there is no plan, 11 where a number left the range and 12 where the search has
 /// stopped at its limit.
 ///
