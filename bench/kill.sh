@@ -14,15 +14,19 @@ trap 'rm -rf "$folder"' EXIT
 tasks=$(grep -c . "$1/costs.txt")
 killed=0
 wrong=0
+workers=0
 
 # A number by chance, below another.
 chance() {
     echo $(($(od -An -N4 -tu4 /dev/urandom) % $1))
 }
 
-# A number of workers.
-workers() {
-    case $(chance 4) in 0) echo 1 ;; 1) echo 2 ;; 2) echo 4 ;; *) echo 7 ;; esac
+# Takes a number of workers by chance, another one than the last.
+choose_workers() {
+    last=$workers
+    while [ "$workers" = "$last" ]; do
+        case $(chance 4) in 0) workers=1 ;; 1) workers=2 ;; 2) workers=4 ;; *) workers=7 ;; esac
+    done
 }
 
 # So many milliseconds as `timeout` reads them.
@@ -42,8 +46,9 @@ whole() {
 # Starts a search, or goes on with one, and kills it: whether it was still there to be killed. In the foreground `timeout` waits until it is gone, and
 # with it its lock of the journal.
 cut_short() {
+    choose_workers
     timeout --foreground -s KILL "$(seconds "$(chance "$took")")" "$hplan" "$1" "$domain" "$problem" --journal "$folder/journal" \
-        --workers "$(workers)" >"$folder/plan" 2>"$folder/told" </dev/null
+        --workers "$workers" >"$folder/plan" 2>"$folder/told" </dev/null
     [ $? -eq 137 ]
 }
 
@@ -79,7 +84,8 @@ while [ "$number" -lt "$runs" ]; do
         [ -e "$folder/journal" ] && verb=resume
     done
     [ -e "$folder/journal" ] && verb=resume || verb=solve
-    "$hplan" $verb "$domain" "$problem" --journal "$folder/journal" --workers "$(workers)" \
+    choose_workers
+    "$hplan" $verb "$domain" "$problem" --journal "$folder/journal" --workers "$workers" \
         >"$folder/plan" 2>"$folder/told" </dev/null
     compare "$verb said" "$(said)"
     compare "certify showed" "$("$hplan" certify "$domain" "$problem" --journal "$folder/journal" </dev/null | sed 's/^certified optimal//; s/^certified //')"
