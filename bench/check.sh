@@ -1,24 +1,21 @@
 #!/bin/sh
-# Compares the check of 8000 names that all collide in a table that hashes with a seed known beforehand (std's default) with that of 8000
-# ordinary ones of the same length: bench/check.sh. The status is 1 where the first takes more than twice the instructions of the second, or,
-# where there is no valgrind, more than twice the time. The crate `bench` is built and proved as the gate does it.
+# Compares the check of 8000 names that all collide in a table that hashes with a seed known beforehand (std's
+# default) with that of 8000 ordinary ones of the same length: bench/check.sh. The status is 1 if the first takes
+# more than twice the instructions of the second. Needs valgrind and the built program (HPLAN, if it is elsewhere).
 set -e
 here=$(cd "$(dirname "$0")/.." && pwd)
-program=$here/crates/bench/out/bench
+program=${HPLAN:-$here/crates/hplan_main/out/hplan_main}
 folder=$(mktemp -d)
 trap 'rm -rf "$folder"' EXIT
 echo "(define (domain roads))" >"$folder/domain.pddl"
-(cd "$here/crates/bench" && rt run) >&2
+: >"$folder/plan"
 
-# The instructions that all of reading and checking takes, or the microseconds of the check.
+# The instructions of reading and checking a problem of such names: those of `validate` of an empty plan.
 effort() {
     awk -v kind="$1" -f "$here/bench/names.awk" >"$folder/$1.pddl"
-    if command -v valgrind >"$folder/where"; then
-        valgrind --tool=cachegrind --cache-sim=no --cachegrind-out-file="$folder/counts" \
-            "$program" "$folder/domain.pddl" "$folder/$1.pddl" 2>&1 >"$folder/times" | awk '/I *refs:/ { gsub(",", ""); print $NF }'
-    else
-        "$program" "$folder/domain.pddl" "$folder/$1.pddl" | awk '/ checking / { print $(NF - 1) }'
-    fi
+    valgrind --tool=cachegrind --cache-sim=no --cachegrind-out-file="$folder/counts" \
+        "$program" validate "$folder/domain.pddl" "$folder/$1.pddl" "$folder/plan" 2>&1 >"$folder/said" |
+        awk '/I *refs:/ { gsub(",", ""); print $NF }'
 }
 
 ordinary=$(effort ordinary)

@@ -4,7 +4,7 @@
 # The first has 200 packages, 10 trucks and 50 places with a road map that never changes; each of its packages can be loaded and
 # unloaded everywhere, so that it has some 200,000 actions. Of the others each is a schema over 1000 objects whose conditions bind
 # its parameters; three have no instance at all. The greatest size of the process is printed beside each, in kilobytes.
-# The crate `bench` is built and proved as the gate does it.
+# Needs the built program (HPLAN, if it is elsewhere).
 set -e
 folder=$(mktemp -d)
 trap 'rm -rf "$folder"' EXIT
@@ -63,14 +63,13 @@ objects '(s @)' >"$folder/unreached-problem"
 schema '?a ?b' '(r ?a ?b) (r ?b ?a)' >"$folder/mutual-domain"
 objects '(r @ o0) (r o0 @)' >"$folder/mutual-problem"
 
-# Grounds the task of two files, and prints it under a name.
+# Grounds the task of two files, and prints under a name how many actions it has, the time and the memory.
 row() {
-    /usr/bin/time -f %M -o "$folder/peak" "$program" "$2" "$3" ground >"$folder/said"
-    echo "$1: $(cat "$folder/said"), $(tail -n 1 "$folder/peak") KB"
+    /usr/bin/time -f '%U s, %M kB' -o "$folder/taken" "$program" ground "$2" "$3" >"$folder/said"
+    echo "$1: $(head -n 1 "$folder/said"), $(tail -n 1 "$folder/taken")"
 }
 here=$(cd "$(dirname "$0")/.." && pwd)
-program=$here/crates/bench/out/bench
-(cd "$here/crates/bench" && rt run) >/dev/null
+program=${HPLAN:-$here/crates/hplan_main/out/hplan_main}
 for name in logistics equal static empty unreached mutual; do
     row "$name" "$folder/$name-domain" "$folder/$name-problem"
 done

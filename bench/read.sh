@@ -1,8 +1,9 @@
 #!/bin/sh
-# Times the words, the reading and the check of a domain and a problem: bench/read.sh [ATOMS], 100000 if ATOMS is not given.
-# The problem has 10000 objects, ATOMS initial atoms, and a value for every ten of these. Then the same is done with 8000 objects of
-# ordinary names, and with 8000 of names that all collide in a table that hashes with a seed known beforehand (std's default), which
-# bench/check.sh compares. The crate `bench` is built and proved as the gate does it.
+# Prints the time and the memory that it takes to read and check a domain and a problem: bench/read.sh [ATOMS],
+# 100000 if ATOMS is not given. The problem has 10000 objects, ATOMS initial atoms, and a value for every ten of
+# these. Then the same is done with 8000 objects of ordinary names, and with 8000 whose names all collide
+# (bench/check.sh compares these). Measured is `validate` of an empty plan, which grounds nothing. Needs the built
+# program (HPLAN, if it is elsewhere).
 set -e
 folder=$(mktemp -d)
 trap 'rm -rf "$folder"' EXIT
@@ -35,11 +36,14 @@ awk -v atoms="${1:-100000}" '
         print ")\n (:goal (at parcel-0 city-0)) (:metric minimize (total-cost)))"
     }' >"$folder/problem.pddl"
 here=$(cd "$(dirname "$0")/.." && pwd)
+program=${HPLAN:-$here/crates/hplan_main/out/hplan_main}
 for kind in ordinary colliding; do
     awk -v kind="$kind" -f "$here/bench/names.awk" >"$folder/$kind.pddl"
 done
-cd "$here/crates/bench"
+: >"$folder/plan"
 for name in problem ordinary colliding; do
-    echo "$name:"
-    rt run -- "$folder/domain.pddl" "$folder/$name.pddl" | tail -n 3
+    printf '%s: ' "$name"
+    /usr/bin/time -f '%U s, %M kB' -o "$folder/taken" \
+        "$program" validate "$folder/domain.pddl" "$folder/$name.pddl" "$folder/plan" >"$folder/said" 2>&1 || true
+    tail -n 1 "$folder/taken"
 done

@@ -6,7 +6,21 @@ use hd_texts::task_of;
 use std::alloc::Global;
 use std::sync::Wait;
 use std::thread::Threads;
-use text_tests::samples::{N, N_PROBLEM};
+
+/// A task whose cheapest plan has three steps: the domain.
+const N: &str = "(define (domain n) (:requirements :negative-preconditions :action-costs)
+  (:predicates (m) (k) (g)) (:functions (total-cost) - number)
+  (:action dear :parameters () :precondition (not (m))
+    :effect (and (m) (increase (total-cost) 5)))
+  (:action near :parameters () :effect (and (k) (increase (total-cost) 1)))
+  (:action join :parameters () :precondition (k)
+    :effect (and (m) (not (k)) (increase (total-cost) 1)))
+  (:action fin :parameters () :precondition (m)
+    :effect (and (g) (increase (total-cost) 1))))";
+
+/// The problem.
+const N_PROBLEM: &str = "(define (problem n1) (:domain n) (:init (= (total-cost) 0)) (:goal (g))
+  (:metric minimize (total-cost)))";
 
 /// How many entries the first part stops at.
 const LIMIT: u64 = 2;

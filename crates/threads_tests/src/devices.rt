@@ -1,8 +1,7 @@
 //! Devices that fail, and searches that go on behind.
 ghost use Rattle.std.specs.Prelude.{◌≤◌, ◌<◌};
 
-use crate::rows::{Says, said};
-use crate::tasks::{DIGEST, task};
+use crate::tasks::{DIGEST, N, N_PROBLEM, Says, said, task};
 use hd_journal::{Entry, Journal, JournalError};
 use hd_parallel::{OpenGate, ThreadsFault, run};
 use hd_search::RunFault;
@@ -12,7 +11,6 @@ use std::alloc::Global;
 use std::sync::Wait;
 use std::test::Fail;
 use std::thread::Threads;
-use text_tests::samples::{N, N_PROBLEM};
 
 /// What a search leaves: the disk, the entries that its journal had and those that it has, and what it said, if its device did not fail before.
 #[derive(Drop)]

@@ -1,8 +1,7 @@
 //! Gates that wait and count.
 ghost use Rattle.std.specs.Prelude.{◌≤◌};
 
-use crate::rows::{Says, said};
-use crate::tasks::{journal_on, task};
+use crate::tasks::{G, G_PROBLEM, Says, journal_on, said, task};
 use hd_parallel::{Gate, run};
 use hd_store::MemoryDisk;
 use std::sync::Wait;
@@ -10,7 +9,6 @@ use std::sync::atomic::{AtomicU64, Ordering};
 use std::test::Fail;
 use std::thread::Parker;
 use std::time::Duration;
-use text_tests::samples::{G, G_PROBLEM};
 
 /// Turns of a millisecond, at most.
 const TURNS: u64 = 10_000;

@@ -1,7 +1,7 @@
 //! A book that comes back from its lock.
 ghost use Rattle.std.specs.Prelude.{◌≡◌, ◌<◌};
 
-use crate::tasks::task;
+use crate::tasks::{G, G_PROBLEM, task};
 use hd_book::Book;
 use hd_desk::Lock;
 use hd_task::Task;
@@ -11,7 +11,6 @@ use std::marker::Brand;
 use std::sync::Wait;
 use std::sync::ledger::{Blank, Ledger};
 use std::test::Fail;
-use text_tests::samples::{G, G_PROBLEM};
 
 /// A new book in a lock, of which two have a pass and a share of the commits; what is told when both give them back: how many commits, and how
 /// many kids are posted.

@@ -8,8 +8,6 @@ mod gates;
 #[cfg(test)]
 mod gathered;
 #[cfg(test)]
-mod rows;
-#[cfg(test)]
 mod tasks;
 #[cfg(test)]
 mod watched;

@@ -1,1 +1,0 @@
-(define (problem numbers-1) (:domain numbers) (:init (= (x) 0)) (:goal (< 1 0)))

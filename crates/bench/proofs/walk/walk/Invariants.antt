@@ -1,9 +1,0 @@
-use Rattle.std.proofs.Common.{◌≡◌}
-use Rattle.bench.proofs.walk.walk.Given as goal
-
--- the parcel and the index are of the task
-abbrev pub invariant-loop-turn : goal.invariant-loop-turn
-invariant-loop-turn l = record {
-  index : l.tables.successors.task ≡ l.task;
-  parcel : l.parcel.task ≡ l.task;
-}
