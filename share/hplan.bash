@@ -1,0 +1,40 @@
+# Completion for bash: the commands of hplan, their options, and files.
+_hplan() {
+    local word=${COMP_WORDS[COMP_CWORD]} before=${COMP_WORDS[COMP_CWORD-1]} command= options= i
+    for ((i = 1; i < COMP_CWORD; i++)); do
+        case ${COMP_WORDS[i]} in
+        solve | resume | certify | inspect | migrate | validate | ground | replay | help)
+            command=${COMP_WORDS[i]}
+            break
+            ;;
+        esac
+    done
+    case $before in
+    --journal | --to)
+        COMPREPLY=($(compgen -f -- "$word"))
+        return
+        ;;
+    --workers | --limit)
+        COMPREPLY=()
+        return
+        ;;
+    esac
+    case $command in
+    '' | help)
+        options="solve resume certify inspect migrate validate ground replay"
+        [ -n "$command" ] || options="$options help --help --version"
+        COMPREPLY=($(compgen -W "$options" -- "$word"))
+        return
+        ;;
+    solve | resume) options="--journal --workers --limit --progress --help" ;;
+    certify | inspect) options="--journal --help" ;;
+    migrate) options="--journal --to --help" ;;
+    validate) options="--explain --help" ;;
+    ground | replay) options="--help" ;;
+    esac
+    case $word in
+    -*) COMPREPLY=($(compgen -W "$options" -- "$word")) ;;
+    *) COMPREPLY=($(compgen -f -- "$word")) ;;
+    esac
+}
+complete -o filenames -F _hplan hplan

@@ -1,0 +1,35 @@
+#compdef hplan
+# Completion for zsh: the commands of hplan, their options, and files.
+_hplan() {
+    local -a commands search
+    commands=(
+        'solve:find a plan of least cost'
+        'resume:go on with a search that was stopped'
+        'certify:report what a journal shows by itself'
+        'inspect:describe a journal'
+        'migrate:copy the entries of a journal to a new one'
+        'validate:check a plan'
+        'ground:print the ground actions of a task'
+        'replay:play a schedule of a search'
+        'help:print help'
+    )
+    search=(
+        '--workers[number of threads, 1 to 64]:number'
+        '--limit[stop once so many nodes are expanded]:number'
+        '--progress[print a line each second]'
+    )
+    if (( CURRENT == 2 )); then
+        _describe command commands
+        _arguments '--help[print help]' '--version[print the version]'
+        return
+    fi
+    case $words[2] in
+        solve | resume) _arguments '*:file:_files' '--journal[file of the search]:file:_files' $search '--help[print help]' ;;
+        certify | inspect) _arguments '*:file:_files' '--journal[file of the search]:file:_files' '--help[print help]' ;;
+        migrate) _arguments '*:file:_files' '--journal[file to copy]:file:_files' '--to[file to write]:file:_files' '--help[print help]' ;;
+        validate) _arguments '*:file:_files' '--explain[print the reason of an error]' '--help[print help]' ;;
+        ground | replay) _arguments '*:file:_files' '--help[print help]' ;;
+        help) _describe command commands ;;
+    esac
+}
+_hplan "$@"
