@@ -20,7 +20,8 @@ use std::sync::ledger::{Blank, Ledger, Share};
 
 // ---- resumed books
 
-/// Writes how many successors a resumed book has generated, and those that are left with their costs.
+/// Writes how many successors a resumed book has generated, and those that are left with their
+/// costs.
 fn left_text(alloc: Global, posted: u64, parcels: &[Parcel]) -> Result<String, AllocError> {
     let mut list = format!(in alloc; "posted {posted}")?;
     for parcel in parcels {
@@ -31,7 +32,8 @@ fn left_text(alloc: Global, posted: u64, parcels: &[Parcel]) -> Result<String, A
     Ok(list)
 }
 
-/// Resumes a book from entries: what is left, or the refusal with the number of the first bad entry.
+/// Resumes a book from entries: what is left, or the refusal with the number of the first bad
+/// entry.
 fn resumed<L: Ledger>(
     blank: Blank,
     alloc: Global,

@@ -21,7 +21,8 @@ pub struct Setting<'a> {
 /// Most tickets that are held at a time.
 const MOST_HELD: usize = 100;
 
-/// The task with its domain's text and its digest, a journal in memory, and the tickets that are held.
+/// The task with its domain's text and its digest, a journal in memory, and the tickets that are
+/// held.
 pub struct Desk<'t> {
     pub alloc: Global,
     pub task: &'t Task,

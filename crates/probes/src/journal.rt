@@ -37,8 +37,8 @@ pub fn group_in(alloc: Global, text: &str) -> Result<Option<Group>, AllocError> 
     }
 }
 
-/// Answers `append FIRST: KIDS`: that the group is appended, or the refusal and the group that comes
-/// back.
+/// Answers `append FIRST: KIDS`: that the group is appended, or the refusal and the group that
+/// comes back.
 fn appended(desk: &mut Desk, text: &str) -> Result<Option<String>, AllocError>
     ensures { desk.new.task.now ≡ desk.old.task.now }
 {
@@ -79,7 +79,8 @@ fn damage(bytes: &mut Vec<u8>, text: &str) {
     }
 }
 
-/// Returns a disk of these bytes after what `text` says: as above, `read N fails` or `change N fails`.
+/// Returns a disk of these bytes after what `text` says: as above, `read N fails` or `change N
+/// fails`.
 fn disk_of(alloc: Global, bytes: Vec<u8>, text: &str) -> Result<MemoryDisk, AllocError> {
     let mut bytes = bytes;
     damage(&mut bytes, text);

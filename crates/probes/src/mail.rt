@@ -118,8 +118,8 @@ fn play(
     Ok(Some(list))
 }
 
-/// Answers `mailbox MOVES`: `+N` sends N letters, one that comes back is sent again by the next `+`;
-/// `-N` takes N. The answer tells how many went and came.
+/// Answers `mailbox MOVES`: `+N` sends N letters, one that comes back is sent again by the next
+/// `+`; `-N` takes N. The answer tells how many went and came.
 pub fn mailbox<R: Wait>(rt: &R, alloc: Global, moves: &str) -> Result<Option<String>, AllocError> {
     let seed = Letter { of: OF, number: 0 };
     let (boxes, mut hands) = Mailboxes::new(rt, alloc, 1, &OF, seed)?;

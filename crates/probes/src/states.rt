@@ -33,7 +33,8 @@ fn put<T: Copy + Drop>(items: &mut Vec<T>, place: Option<usize>, item: T) -> boo
     }
 }
 
-/// Does what a word of a state says: `ATOM` is true, or `FLUENT=NUMBER`; reports whether it is known.
+/// Does what a word of a state says: `ATOM` is true, or `FLUENT=NUMBER`; reports whether it is
+/// known.
 fn put_word(task: &Task, atoms: &mut Vec<bool>, fluents: &mut Vec<i64>, word: &str) -> bool {
     let Some((name, number)) = word.split_once('=') else {
         let names = task.names.predicates.as_slice();
@@ -75,8 +76,8 @@ fn parts_of(alloc: Global, task: &Task, text: &str) -> Result<Option<State>, All
     }))
 }
 
-/// Reads a state: words of it, after `start` if they change the initial state. Else no other atom is
-/// true, and `-` stands for no atom. Fluents that it does not name are as in the initial state.
+/// Reads a state: words of it, after `start` if they change the initial state. Else no other atom
+/// is true, and `-` stands for no atom. Fluents that it does not name are as in the initial state.
 pub fn state_of(alloc: Global, task: &Task, text: &str) -> Result<Option<State>, AllocError>
     ensures { IfOk result (λ r. IfSome r (IsStateOf task.now)) }
 {

@@ -131,7 +131,8 @@ fn beginning(alloc: Global, domain: &[u8], length: usize) -> Result<String, Allo
     }
 }
 
-/// Answers `beginnings FROM..TO`: what reading the beginnings of these lengths gives, if all are alike.
+/// Answers `beginnings FROM..TO`: what reading the beginnings of these lengths gives, if all are
+/// alike.
 pub fn beginnings(
     alloc: Global,
     domain: &[u8],

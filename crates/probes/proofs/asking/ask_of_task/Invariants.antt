@@ -1,4 +1,4 @@
 use Rattle.probes.proofs.asking.ask_of_task.Given as goal
 
 abbrev pub ghosts-play : goal.ghosts-play
-ghosts-play g a = record { name = a.blank.name; parts = a.blank.parts }
+ghosts-play a = record { name = a.blank.name; parts = a.blank.parts }

@@ -1,4 +1,4 @@
 use Rattle.probes.proofs.asking.resume.Given as goal
 
 abbrev pub ghosts-resumed : goal.ghosts-resumed
-ghosts-resumed g a = record { name = a.blank.name; parts = a.blank.parts }
+ghosts-resumed a = record { name = a.blank.name; parts = a.blank.parts }

@@ -5,7 +5,7 @@ use Rattle.probes.proofs.mail.play.Given as goal
 
 -- the hands stay those of the mailbox
 abbrev pub invariant-loop-step : goal.invariant-loop-step
-invariant-loop-step g l = record {
+invariant-loop-step l = record {
   of : IsFor l.boxes l.hands;
   fits : l.hands.of ≡ OF;
 }

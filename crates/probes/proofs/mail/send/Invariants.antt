@@ -4,7 +4,7 @@ use Rattle.probes.proofs.mail.send.Given as goal
 
 -- the hands stay those of the mailbox
 abbrev pub invariant-loop-done : goal.invariant-loop-done
-invariant-loop-done g l = record {
+invariant-loop-done l = record {
   of : IsFor l.boxes l.hands;
   same : l.hands.of ≡ l.initial.hands.of;
 }

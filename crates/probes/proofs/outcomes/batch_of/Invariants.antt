@@ -4,4 +4,4 @@ use Rattle.probes.proofs.outcomes.batch_of.Given as goal
 
 -- the outcomes so far are of the task
 abbrev pub invariant-loop-part : goal.invariant-loop-part
-invariant-loop-part g l = AllByRecursion (IsOf l.task) l.outcomes.items
+invariant-loop-part l = AllByRecursion (IsOf l.task) l.outcomes.items

@@ -3,4 +3,4 @@ use Rattle.probes.proofs.shared.bounds.Given as goal
 
 -- the seat stays one of the word
 abbrev pub invariant-loop-offer : goal.invariant-loop-offer
-invariant-loop-offer g l = l.seat.of ≡ l.word.of
+invariant-loop-offer l = l.seat.of ≡ l.word.of
