@@ -25,19 +25,35 @@ fn add_bound(
     }
 }
 
+/// Offers costs one after the other, and appends what the word then loads: whether all are numbers.
+fn offer_all(
+    alloc: Global,
+    word: &BoundWord,
+    seat: &mut BoundSeat,
+    offers: &str,
+    list: &mut String,
+) -> Result<bool, AllocError>
+    requires { seat.old.of ≡ word.now.of }
+{
+    for offer in offers.split(' ') {
+        let Ok(cost) = offer.parse::<u64>() else {
+            return Ok(false);
+        };
+        word.offer(seat, cost);
+        add_bound(alloc, word, seat, list)?;
+    }
+    Ok(true)
+}
+
 /// Answers `bound COSTS`: what a fresh word loads, and then after each offer.
 pub fn bounds(alloc: Global, offers: &str) -> Result<Option<String>, AllocError> {
     let (word, mut seat) = BoundWord::new(alloc, None)?;
     let mut list = String::new(alloc);
     add_bound(alloc, &word, &mut seat, &mut list)?;
-    for offer in offers.split(' ') {
-        let Ok(cost) = offer.parse::<u64>() else {
-            return Ok(None);
-        };
-        word.offer(&mut seat, cost);
-        add_bound(alloc, &word, &mut seat, &mut list)?;
+    match offer_all(alloc, &word, &mut seat, offers, &mut list)? {
+        true => Ok(Some(list)),
+        false => Ok(None),
     }
-    Ok(Some(list))
 }
 
 /// A node of an open list: its number, and its cost with its estimate.

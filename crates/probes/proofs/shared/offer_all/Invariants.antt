@@ -1,5 +1,5 @@
 use Rattle.std.proofs.Common.{◌≡◌}
-use Rattle.probes.proofs.shared.bounds.Given as goal
+use Rattle.probes.proofs.shared.offer_all.Given as goal
 
 -- the seat stays one of the word
 abbrev pub invariant-loop-offer : goal.invariant-loop-offer
