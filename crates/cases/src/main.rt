@@ -1,5 +1,6 @@
-//! Plays files of test cases: command lines of hplan over files in memory or of the system, each with
-//! the exit status, the two outputs and the files that are wanted. docs/CASES.md has the form.
+//! Plays files of test cases: command lines of hplan over files in memory or of the system,
+//! each with the exit status, the two outputs and the files that are wanted.
+//! docs/CASES.md has the form.
 //!
 //! `cases FILE..` plays these files; with no names it plays those that the file `all` lists.
 #![tactic(auto)]
