@@ -10,16 +10,23 @@ use crate::store::Store;
 use std::alloc::Global;
 use std::fs::{File, OpenOptions};
 use std::io::ErrorKind;
-use std::os::unix::fs::FileExt;
+use std::os::fd::AsRawFd;
+use std::os::unix::fs::{FileExt, MetadataExt};
 use std::path::Path;
 use std::rt::Files;
 
+/// The descriptor of standard error, the last of the three streams.
+const LAST_STREAM: i32 = 2;
+
 /// A disk over a file, which is locked as long as the store is there.
 ///
-/// What was read of the file at the start, and what was written since then, is kept in memory too: what the file answers is held
-/// against it, and an answer that differs is a failure. After a write, a cut or a sync that failed, no call reaches the file any
-/// more: each fails. No contract can say what a file holds: that it is the disk that contracts see is a premise, and so is that
-/// nobody else writes it.
+/// Keeps in memory what was read of the file at the start and what was written since then. An
+/// answer of the file that differs from it is a failure. After a write, a cut or a sync that
+/// failed, no call reaches the file any more: each fails.
+///
+/// No contract can say what a file holds. That it is the disk that contracts see is a premise,
+/// and so is that nobody else writes it. Each sync first looks whether the file has the length
+/// that it should have, and still has a name: else the premise is broken, and the sync fails.
 #[derive(Drop)]
 pub struct FileStore {
     file: File,
@@ -28,14 +35,42 @@ pub struct FileStore {
     is_broken: bool,
 }
 
-/// Whether these are the same bytes.
+/// Compares two lists of bytes.
 fn is_same(one: &[u8], other: &[u8]) -> bool
     ensures { IsTrue result ↔ (one.now ≡ other.now) }
 {
     one == other
 }
 
-/// All bytes of a file.
+/// Moves an open file away from the descriptors of the three streams.
+///
+/// A program that was started with a closed stream gets that stream's descriptor for the next file
+/// that it opens. Whatever is then written to the stream would land in the file.
+///
+/// # Errors
+/// - `Failed`: the system has no other descriptor.
+fn off_the_streams(file: File) -> Result<File, StoreError> {
+    if file.as_raw_fd() > LAST_STREAM {
+        return Ok(file);
+    }
+    match file.try_clone() {
+        Ok(moved) => {
+            drop(file);
+            Ok(moved)
+        }
+        Err(_) => Err(StoreError::Failed),
+    }
+}
+
+/// Tells whether a file keeps bytes: no folder, no terminal, no pipe and no device does.
+fn is_regular(file: &File) -> bool {
+    match file.metadata() {
+        Ok(metadata) => metadata.is_file(),
+        Err(_) => false,
+    }
+}
+
+/// Reads all bytes of a file.
 fn whole(alloc: Global, file: &File) -> Result<Vec<u8>, StoreError> {
     let Ok(metadata) = file.metadata() else {
         return Err(StoreError::Failed);
@@ -48,8 +83,10 @@ fn whole(alloc: Global, file: &File) -> Result<Vec<u8>, StoreError> {
     Ok(bytes)
 }
 
-/// Makes the name of a file sure in its folder. A folder that may not be read cannot be asked for that, and some systems do not do it for
-/// folders: then it is left to the system.
+/// Syncs the folder of a file, so that the file keeps its name.
+///
+/// A folder that may not be read cannot be synced, and some systems sync no folders. Then it is
+/// left to the system.
 fn sync_folder<R: Files<File = File>>(rt: &R, path: &str) -> Result<(), StoreError> {
     let folder = match Path::new(path).parent() {
         Some(folder) if !folder.as_os_str().is_empty() => folder,
@@ -73,11 +110,16 @@ fn sync_folder<R: Files<File = File>>(rt: &R, path: &str) -> Result<(), StoreErr
 impl FileStore {
     ghost use Rattle.hd_store.specs.FileStore.{device_of, IsOpened};
 
-    /// Opens a file of this name, and makes it if it is to be made and is not there. What it holds is made sure before it is read, also
-    /// what a run had written that was killed before its sync was done; and so is the file's name in its folder, where the system does that.
+    /// Opens and locks a file, and makes it first if `make` says so and it is not there.
+    ///
+    /// Syncs the file before it is read: a run that was killed may have left bytes in the
+    /// system's memory alone. Syncs its folder too, where the system does that. Never keeps a
+    /// file under the descriptor of a stream.
     ///
     /// # Errors
-    /// A failure where the file cannot be opened, made sure or read, or another store has it open. Want of memory.
+    /// - `Failed`: the file or its folder cannot be opened, locked, synced or read; it is no regular
+    ///   file; another store has it open. An empty file may have been made.
+    /// - `NoMemory`: there is no room for the file's bytes.
     pub fn open<R: Files<File = File>>(
         rt: &R,
         alloc: Global,
@@ -91,7 +133,8 @@ impl FileStore {
         let Ok(file) = options.open(rt, path) else {
             return Err(StoreError::Failed);
         };
-        if file.try_lock().is_err() || file.sync_all().is_err() {
+        let file = off_the_streams(file)?;
+        if !is_regular(&file) || file.try_lock().is_err() || file.sync_all().is_err() {
             return Err(StoreError::Failed);
         }
         sync_folder(rt, path)?;
@@ -104,14 +147,14 @@ impl FileStore {
         })
     }
 
-    /// One failure more.
+    /// Counts one failure more.
     fn count(&mut self)
         ensures { self.new ≡ record self.old { failures = one_more self.old.failures } }
     {
         self.failures = self.failures.saturating_add(1);
     }
 
-    /// A write, a cut or a sync failed: the file is not asked any more.
+    /// Counts a write, a cut or a sync that failed. The file is not asked any more.
     fn break_off(&mut self)
         ensures { self.new
             ≡ record self.old { failures = one_more self.old.failures; is_broken = true } }
@@ -120,7 +163,17 @@ impl FileStore {
         self.count();
     }
 
-    /// Whether the file can be asked: else the call fails.
+    /// Looks whether the file is as long as it should be and still has a name.
+    fn is_there(&self) -> bool {
+        match self.file.metadata() {
+            Ok(metadata) => {
+                metadata.nlink() > 0 && metadata.len() == self.image.bytes().len() as u64
+            }
+            Err(_) => false,
+        }
+    }
+
+    /// Begins a call. It fails where the file is not to be asked any more.
     fn begin(&mut self) -> Result<(), StoreError>
         ensures begun { OnOk result (self.new ≡ self.old) }
         ensures few { OnOk result ((self.old.failures == MOST_FAILURES) ≡ false) }
@@ -188,7 +241,7 @@ impl Store for FileStore {
 
     fn sync(&mut self) -> Result<(), StoreError> {
         self.begin()?;
-        if self.file.sync_data().is_err() {
+        if !self.is_there() || self.file.sync_data().is_err() {
             self.image.break_sync();
             self.break_off();
             return Err(StoreError::Failed);
