@@ -1,4 +1,5 @@
 pub mod Frontier
+pub mod Held
 pub mod Kept
 pub mod Least
 pub mod Lookup

@@ -1,5 +1,5 @@
 //! How parcels that came become open nodes.
-ghost use Rattle.std.specs.Prelude.{◌≡◌, ◌+◌, ◌<◌, ◌≤◌, ◌++◌, [], ◌∷◌, drop, IfOk, OnOk, OnErr};
+ghost use Rattle.std.specs.Prelude.{◌≡◌, ◌==◌, ◌+◌, ◌<◌, ◌≤◌, ◌++◌, [], ◌∷◌, drop, length, IfOk, OnOk, OnErr};
 ghost use Rattle.std.specs.List.{AllByRecursion};
 ghost use Rattle.std.specs.VecDeque.{deque_len, deque_capacity};
 ghost use Rattle.hd_entries.specs.Holding.{parcel_of, IsParcelOf};
@@ -124,4 +124,45 @@ pub(crate) fn open_all<'t>(
     }
     give_back(fresh, room);
     Ok(())
+}
+
+/// The first parcels that came become open nodes, as by [`open_all`], but so many of them at most:
+/// whether all are open nodes now.
+///
+/// # Errors
+/// As there.
+pub(crate) fn open_some<'t>(
+    alloc: Global,
+    known: &mut ClosedList<'t>,
+    nodes: &mut OpenList<Node>,
+    fresh: &mut VecDeque<Parcel<'t>>,
+    room: usize,
+    estimates: &mut Hmax<'t>,
+    most: usize,
+) -> Result<bool, NoMemory>
+    requires room { deque_len fresh.old + room ≤ deque_capacity fresh.old }
+    requires estimates { estimates.old.task ≡ known.old.task }
+    requires nodes { AllByRecursion (IsNodeOf known.old.task known.old.states) nodes.old.nodes }
+    requires parcels { AllByRecursion (IsParcelOf known.old.task) fresh.old.items }
+    ensures task { known.new.task ≡ known.old.task }
+    ensures closed { known.new.closed ≡ known.old.closed }
+    ensures begins { BeginsWith known.new.states known.old.states }
+    ensures estimates { estimates.new.task ≡ estimates.old.task }
+    ensures nodes { AllByRecursion (IsNodeOf known.old.task known.new.states) nodes.new.nodes }
+    ensures parcels { AllByRecursion (IsParcelOf known.old.task) fresh.new.items }
+    ensures waiting { waiting_by known.new.states nodes.new.nodes fresh.new.items
+        ≡ waiting_by known.old.states nodes.old.nodes fresh.old.items }
+    ensures room { deque_len fresh.new + room ≤ deque_capacity fresh.new }
+    ensures all { IfOk result (λ all. all ≡ (length fresh.new.items == 0)) }
+{
+    for _parcel in 0..most {
+        let Some(parcel) = fresh.front() else {
+            break;
+        };
+        let node = node_for(alloc, known, estimates, parcel)?;
+        open_first(nodes, fresh, node)?;
+    }
+    let all = fresh.is_empty();
+    give_back(fresh, room);
+    Ok(all)
 }

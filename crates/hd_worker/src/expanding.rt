@@ -1,8 +1,9 @@
 //! The calls that settle open nodes.
-ghost use Rattle.std.specs.Prelude.{◌≡◌, ◌+◌, ◌≤◌, [], vec_len, IfOk, IfSome, IfNone, OnOk, OnErr};
+ghost use Rattle.std.specs.Prelude.{◌≡◌, ◌+◌, ◌-◌, ◌≤◌, ◌^◌, [], min, vec_len, IfOk, IfSome, IfNone, OnOk, OnErr};
 ghost use Rattle.hd_hmax.specs.Rounds.{hmax};
 ghost use Rattle.hd_node.specs.declared.batch.TheConstants.{MAX_OUTCOMES};
 ghost use Rattle.hd_open.specs.Totals.{IsBest};
+ghost use Rattle.hd_worker.specs.Held.{bytes_of, last_bytes};
 ghost use Rattle.hd_worker.specs.Least.{IsLeast};
 ghost use Rattle.hd_worker.specs.Lookup.{IsLookupOf};
 ghost use Rattle.hd_turns.specs.Totals.{total_at};
@@ -23,7 +24,45 @@ fn next_place(given: &Vec<u64>, outcomes: &Vec<Outcome<'_>>) -> usize
     given.len() + outcomes.len()
 }
 
+/// The bytes of the states of an outcome's children.
+fn bytes_of(outcome: &Outcome<'_>) -> usize
+    ensures { result ≡ min (bytes_of outcome.now) (2 ^ 64 - 1) }
+{
+    match outcome {
+        Outcome::Expanded(expansion) => {
+            let each = expansion.state().bytes().len();
+            expansion.children().len().saturating_mul(each)
+        }
+        Outcome::Duplicate(_, _) | Outcome::Bounded(_, _) => 0,
+    }
+}
+
 impl<'t> Worker<'t> {
+    /// The bytes of the states of the last outcome's children: 0 where it has none, or there is no
+    /// outcome.
+    pub fn last_bytes(&self) -> usize
+        ensures { result ≡ min (last_bytes self.now.outcomes) (2 ^ 64 - 1) }
+    {
+        match self.outcomes.as_slice().last() {
+            Some(outcome) => bytes_of(outcome),
+            None => 0,
+        }
+    }
+
+    /// Estimates open nodes that have no estimate yet, so many of them at most, unless their state
+    /// was before: whether all have one now. The calls below estimate all that are left; so a
+    /// caller that is not to be away for long calls this one first, until it answers true.
+    ///
+    /// # Errors
+    /// `NoMemory` where there is no room for what is kept of estimates.
+    pub fn open_some(&mut self, lookup: &mut Lookup<'t>, most: usize) -> Result<bool, NoMemory>
+        requires { IsLookupOf self.old.task lookup.old }
+        ensures lookup { IsLookupOf self.old.task lookup.new }
+        ensures same { self.new ≡ self.old }
+    {
+        self.frontier.open_some(&mut lookup.hmax, most)
+    }
+
     /// The place of the open node of the least cost plus estimate, the earliest of equal ones; those of infinite estimates come last. None
     /// where nothing is open. Nodes that have no estimate yet are estimated, unless their state was before.
     ///

@@ -8,7 +8,7 @@ ghost use Rattle.hd_worker.specs.Lookup.{IsLookupOf};
 ghost use Rattle.hd_turns.specs.Totals.{total_at};
 ghost use Rattle.hd_worker.specs.Frontier.{empty_frontier, arrived, received, with_room, closed_too, all_numbered, SettlesAt, SettlesBest};
 
-use crate::arriving::open_all;
+use crate::arriving::{open_all, open_some};
 use crate::deque::{push_beside, push_reserved, reserve_more};
 use crate::judging::settle_taken;
 use crate::lookup::Lookup;
@@ -125,6 +125,31 @@ impl<'t> Frontier<'t> {
         ensures { self.new ≡ with_room (self.old.room - less) self.old }
     {
         self.room -= less;
+    }
+
+    /// Estimates parcels that came behind the open nodes, so many of them at most: whether all that
+    /// are open are estimated now.
+    ///
+    /// # Errors
+    /// `NoMemory` where there is no room for the estimates.
+    pub(crate) fn open_some(
+        &mut self,
+        estimates: &mut Hmax<'t>,
+        most: usize,
+    ) -> Result<bool, NoMemory>
+        requires { estimates.old.task ≡ self.old.task }
+        ensures same { self.new ≡ self.old }
+        ensures estimates { estimates.new.task ≡ estimates.old.task }
+    {
+        open_some(
+            self.alloc,
+            &mut self.known,
+            &mut self.nodes,
+            &mut self.fresh,
+            self.room,
+            estimates,
+            most,
+        )
     }
 
     /// The place of the open node of the least cost plus estimate, the earliest of equal ones; none where nothing is open.
