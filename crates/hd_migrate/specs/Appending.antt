@@ -10,14 +10,15 @@ use Rattle.hd_journal.specs.Journal.{IsOf, device_of}
 use Rattle.hd_journal.specs.Moments.{IsSettled, LeavesSince}
 use Rattle.hd_migrate.specs.Copy.{kids_in, AreFull, HasFirstOf}
 
--- a stop leaves at each moment, from when a journal was the old one until it is the new one, groups with the first of these entries behind
--- those that were there, of which others may follow
+-- a stop leaves at each moment, from when a journal was the old one until it is the new one,
+-- groups with the first of these entries behind those that were there, of which others may follow
 abbrev pub LeavesFirst : {S : Type 0} {G : Ghosts S} → Journal S G → List Kid → Journal S G → Type 0
 LeavesFirst old kids new =
     (digest : List ℕ) (before : List (List Kid)) (rest : List Kid) → IsOf digest before old → IsSettled (device_of old)
     → LeavesSince (HasFirstOf old.version digest (kids_in before ++ (kids ++ rest))) (device_of old) (device_of new)
 
--- a journal of these groups has become that of these and more, which are as large as may be and have these entries
+-- a journal of these groups has become that of these and more, which are as large as may be and
+-- have these entries
 pub record HasMore {S : Type 0} {G : Ghosts S} (digest : List ℕ) (before : List (List Kid)) (kids : List Kid) (new : Journal S G) : Type 0 where
   pub more : List (List Kid)
   pub full : AreFull more
@@ -42,7 +43,8 @@ pub record AppendsOne {S : Type 0} {G : Ghosts S} (old : Journal S G) (kids : Li
   pub moments : LeavesFirst old kids new
   pub settled : IsSettled (device_of new)
 
--- why entries are not appended, or not all, where they may be: the device failed, and has counted that; or there is no memory, and nothing failed
+-- why entries are not appended, or not all, where they may be: the device failed, and has counted
+-- that; or there is no memory, and nothing failed
 abbrev pub Tells : {S : Type 0} {G : Ghosts S} → Journal S G → JournalError → Journal S G → Type 0
 Tells old NotAJournal new = ⊥
 Tells old OtherTask new = ⊥

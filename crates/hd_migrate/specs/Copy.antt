@@ -1,4 +1,5 @@
--- What entries are written as anew, what is there while they are, and why it ends before. (Our own.)
+-- What entries are written as anew, what is there while they are, and why it ends before. (Our
+-- own.)
 use Rattle.std.specs.Prelude.{◌≡◌, ◌≢◌, ◌⊎◌, ℕ, List, [], ◌∷◌, ◌++◌, length}
 use Rattle.std.specs.List.{flat_map, AllByRecursion}
 use Rattle.hd_task.specs.declared.plan.Kid.{Kid}
@@ -40,14 +41,15 @@ pub record HasFirstOf (v : Version) (digest : List ℕ) (kids : List Kid) (conte
   pub begins : kids_in groups ++ rest ≡ kids
   pub stands : StandsIn v digest groups content
 
--- a content is a header of version two that is still to be made, or a journal of the first of these entries
+-- a content is a header of version two that is still to be made, or a journal of the first of
+-- these entries
 abbrev pub IsUnderWay : List ℕ → List Kid → List ℕ → Type 0
 IsUnderWay digest kids content = IsMaking Two digest content ⊎ HasFirstOf Two digest kids content
 
 -- ---- why it ends before
 
--- why entries are not written, or not all: the store is not empty, and is as it was then; or the device failed, and has counted that; or there
--- is no memory, and nothing failed
+-- why entries are not written, or not all: the store is not empty, and is as it was then; or the
+-- device failed, and has counted that; or there is no memory, and nothing failed
 abbrev pub IsNotCopied : Device → JournalError → Device → Type 0
 IsNotCopied old NotAJournal new = ⊥
 IsNotCopied old OtherTask new = ⊥

@@ -1,2 +1,3 @@
 pub mod Copy
 pub mod Appending
+pub mod Salvage

@@ -12,12 +12,14 @@ use hd_journal::{DIGEST_LEN, Journal, JournalError, Kid};
 use hd_store::Store;
 use std::alloc::Global;
 
-/// Makes a journal of version two on an empty store, for the task of this digest, and appends these entries to it, in groups as large as
-/// may be. The store is answered, as it is then, and whether all are there.
+/// Makes a journal of version two on an empty store, for the task of this digest, and appends
+/// these entries to it, in groups as large as may be. The store is answered, as it is then, and
+/// whether all are there.
 ///
 /// # Errors
-/// `JournalExists` where the store is not empty, and then it is as it was; `Device` where the device failed; `NoMemory`. After these two
-/// the store has a header that is still to be made, or a journal of the first of the entries.
+/// `JournalExists` where the store is not empty, and then it is as it was; `Device` where the
+/// device failed; `NoMemory`. After these two the store has a header that is still to be made, or
+/// a journal of the first of the entries.
 pub fn copy<S: Store>(
     alloc: Global,
     kids: &[Kid],
@@ -35,8 +37,8 @@ pub fn copy<S: Store>(
     // A store that is not empty is as it was.
     ensures kept { content_of (S.device store) ≢ []
         → content_of (S.device result.0) ≡ content_of (S.device store) }
-    // What is there in the end, also after an error, is a header that is still to be made, or a journal of the first of the entries; and so
-    // is what a stop leaves at any moment.
+    // What is there in the end, also after an error, is a header that is still to be made, or a
+    // journal of the first of the entries; and so is what a stop leaves at any moment.
     ensures left { content_of (S.device store) ≡ []
         → IsUnderWay digest.now kids.now (content_of (S.device result.0)) }
     ensures moments { IsSettled (S.device store) → content_of (S.device store) ≡ []
