@@ -23,7 +23,7 @@ abbrev pub IsWithin : Request → Type 0
 IsWithin (Solve domain problem journal search) = IsSearchOf search
 IsWithin (Resume domain problem journal search) = IsSearchOf search
 IsWithin (Certify domain problem journal) = Unit {0}
-IsWithin (Migrate domain problem journal to) = Unit {0}
+IsWithin (Migrate domain problem journal to salvage) = Unit {0}
 IsWithin (Inspect journal) = Unit {0}
 IsWithin (Survey domain problem journal) = Unit {0}
 IsWithin (Ground domain problem) = Unit {0}

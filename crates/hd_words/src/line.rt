@@ -6,82 +6,122 @@ use std::alloc::{AllocError, Global};
 /// The name of the program, whatever its file is called.
 const NAME: &str = "hplan";
 
+/// What `--version` says behind the name: the version, the versions of journals, and the toolchain
+/// that has proved the program.
+const VERSION: &str = "\
+0.1.0
+journals: writes version 2, reads versions 1 and 2
+toolchain: rattle-kit-13f";
+
 /// What the help of `solve` ends with.
 const SOLVE_HELP: &str = "\
-Reads both files, searches, and writes the plan that it finds to standard output: an action on a line, then its cost. All else
-goes to standard error.
-With --journal each step of the search is kept in a file before the search goes on from it: after a stop, at any moment,
-`resume` goes on from there. The file must not be there, or be empty.
-Exit status: 0 a plan of least cost is printed: it is valid, and no valid plan costs less;
-  10 `no plan` is told: there is none, of any length;
-  11 a number left the range from -10^15 to 10^15, and where it did is told: a plan that is printed is valid, but nothing is
-     said of other plans, so one of them may cost less;
-  12 `stopped at the limit`: a plan that is printed is valid, but nothing is said of other plans; `resume` goes on with a journal;
-  1 a refusal, told on one line: nothing is printed, or a beginning of the plan where the output fails;
-  2 the command line is at fault.";
+Reads both files, searches, and prints the plan that it finds: an action on each
+line, then the cost. All else goes to standard error.
+
+With --journal the search is kept in FILE, which must be new or empty. After a
+stop at any moment, `resume` continues from FILE.
+
+Exit status:
+  0   an optimal plan: it is valid, and no valid plan costs less
+  10  `no plan`: no valid plan exists
+  11  `range left`: a number left the range from -10^15 to 10^15; a plan that is
+      printed is valid, but another may cost less
+  12  `stopped at the limit`: a plan that is printed is valid, but another may
+      cost less; with a journal, `resume` continues
+  1   an error, on one line; if the output failed, a part of the plan may have
+      been printed
+  2   the command line is wrong";
 
 /// What the help of `resume` ends with.
 const RESUME_HELP: &str = "\
-Goes on with the search of the same two files that `solve --journal` began, from what its journal holds, and answers as `solve`
-does. Of what was being written when it stopped nothing is left, or the whole. A journal that is whole is answered at once.
-Exit status: 0, 10, 11 and 12 as of `solve`;
-  1 a refusal, told on one line: the journal is not there, or is one of other files, or damaged, or in use; or as of `solve`;
-  2 the command line is at fault.";
+Continues the search that `solve --journal` began with the same two files, and
+answers as `solve` does. What was being written at the stop is in FILE as a
+whole, or not at all. If FILE holds a whole search, nothing is searched again.
+
+Exit status:
+  0, 10, 11, 12  as of `solve`
+  1   an error, on one line: FILE is not there, belongs to other files, is
+      damaged or in use; or as of `solve`
+  2   the command line is wrong";
 
 /// What the help of `certify` ends with.
 const CERTIFY_HELP: &str = "\
-Tells what the journal of a search of the same two files shows by itself, whoever made it: `certified optimal; cost = N`,
-`certified no plan`, or `not certified`, which is said of a search that has not ended, and of one where a number left the range.
-The journal is read, and left as it is.
-Exit status: 0 the verdict is certified: it is true of all plans;
-  1 it is not; or a refusal, told on one line: the journal is not there, or is one of other files, or damaged;
-  2 the command line is at fault.";
+Prints the verdict that a journal of the same two files shows by itself, no
+matter who made it: `certified optimal; cost = N`, `certified no plan`, or
+`not certified` if the search has not ended or a number left the range. FILE is
+only read.
+
+Exit status:
+  0   the verdict is certified: it is true of all plans
+  1   `not certified`; or an error, on one line: FILE is not there, belongs to
+      other files, or is damaged
+  2   the command line is wrong";
 
 /// What the help of `migrate` ends with.
 const MIGRATE_HELP: &str = "\
-Writes all entries of a journal of the same two files to another file, as a journal of the second version, which may have more
-entries; and `migrated N` to standard output. The journal is read, and left as it is.
-Exit status: 0 all N entries are there, and a search can go on from them;
-  1 a refusal, told on one line: the journal is not there, or is one of other files, or damaged, or the other file is not empty;
-    or writing failed, and the other file holds a journal of the first entries, or none;
-  2 the command line is at fault.";
+Copies all entries of a journal of the same two files to a new journal, of
+version 2, which can have more entries. Prints `migrated N`. FILE is only read.
+
+With --salvage a journal that is damaged from a gate on, as by a copy that was
+cut, is copied up to there, and a second line `dropped from byte P` has the
+place. An entry that is no step of the search is still an error.
+
+Exit status:
+  0   all N entries are in NEW, and `resume` can continue from it
+  1   an error, on one line: FILE is not there, belongs to other files or is
+      damaged, or NEW is not empty; or writing failed, and NEW holds the first
+      of the entries, or none
+  2   the command line is wrong";
 
 /// What the help of `inspect` ends with.
 const INSPECT_HELP: &str = "\
-Tells of the journal of a search, whatever its task: its version, the digest of the task's two texts, how many entries and groups
-it has, and how many bytes stand behind the last whole group, which are no part of it. With both files of the task also how far
-the search has come by the entries: posted and settled plans, the bound with its plan, the first departure, and how many entries
-there are of each depth and each cost. The journal is read, and left as it is: a search may be writing it.
-Exit status: 0 what the file is has been told;
-  1 a refusal, told on one line: the file is not there, or is no journal, or damaged;
-  2 the command line is at fault.";
+Describes a journal, also while a search writes it: its version, the digest of
+the task's two texts, its entries and groups, and the bytes of an incomplete
+group at its end. With both files of the task it also reports how far the search
+has come: generated and settled nodes, the cheapest plan, the first number that
+left the range, and how many entries have each depth and each cost. FILE is only
+read.
+
+Exit status:
+  0   the file is described
+  1   an error, on one line: the file is not there, is no journal, or is damaged
+  2   the command line is wrong";
 
 /// What the help of `ground` ends with.
 const GROUND_HELP: &str = "\
-Reads both files, and writes to standard output how many actions, atoms and fluents the task has, and then each action behind
-its number. A refusal goes to standard error.
-Exit status: 0 the task is printed;
-  1 a refusal, told on one line: nothing is printed, or a beginning where the output fails;
-  2 the command line is at fault.";
+Reads both files, and prints how many actions, atoms and fluents the task has,
+then each action after its number.
+
+Exit status:
+  0   the task is printed
+  1   an error, on one line; if the output failed, a part may have been printed
+  2   the command line is wrong";
 
 /// What the help of `validate` ends with.
 const VALIDATE_HELP: &str = "\
-Reads the three files, and writes `valid; cost = N` to standard output. Each line of PLAN is an action as `(name object ..)`, or a
-comment behind `;`. The first fault goes to standard error.
-Exit status: 0 the plan is valid, at the cost that is printed;
-  1 a refusal, told on one line: of a file, or of the plan, which is then not valid; with --explain a line with the reason may
-    follow;
-  2 the command line is at fault.";
+Reads the three files, and prints `valid; cost = N` if the plan is valid. Each
+line of PLAN is an action as `(name object ..)`, or a comment after `;`.
+
+Exit status:
+  0   the plan is valid, at the printed cost
+  1   an error, on one line, of a file or of the plan. At 20, 21 and 23 the plan
+      is not valid. At 15 and 22 it may be: a fluent has no first value, or a
+      number leaves the range of hplan. With --explain a second line may follow
+  2   the command line is wrong";
 
 /// What the help of `replay` ends with.
 const REPLAY_HELP: &str = "\
-Plays the moves in SCHEDULE, one on a line, on the search of the two files, whose journal is in memory and empty at first: workers
-one step at a time, flushes, stops at any moment, resumptions. Where nothing runs at the end, one worker resumes. Then four lines
-go to standard output: `expansions N`, `acknowledged N`, `bytes N` (of the journal), and `verdict none`, `verdict optimal COST`,
-`verdict no-plan` or `verdict range-left ENTRY`. The same files give the same lines each time.
-Exit status: 0 the schedule is played, and the lines are printed, whatever the verdict;
-  1 a refusal, told on one line: of a file, or `19 BadLine(N)` of the first line of SCHEDULE that is no move;
-  2 the command line is at fault.";
+Plays the moves in SCHEDULE, one on each line, on the search of the two files:
+steps of workers, flushes, stops at any moment, resumptions. The journal is in
+memory, and empty at first. If nothing runs at the end, one worker resumes. Then
+four lines are printed: `expansions N`, `acknowledged N`, `bytes N` of the
+journal, and `verdict none`, `verdict optimal COST`, `verdict no-plan` or
+`verdict range-left ENTRY`. The same files give the same lines each time.
+
+Exit status:
+  0   the schedule is played, whatever the verdict
+  1   an error, on one line; `19 BadLine(N)`: line N is no move
+  2   the command line is wrong";
 
 /// An argument that has to be given, by its place.
 fn file<'a>(alloc: Global, id: &'a str, name: &'a str, help: &'a str) -> Arg<'a> {
@@ -106,9 +146,7 @@ fn limit<'a>(alloc: Global) -> Arg<'a> {
     Arg::new(alloc, "limit")
         .long("limit")
         .value_name("N")
-        .help(
-            "Stops once the journal has N expansions, those before a `resume` counted; by default not",
-        )
+        .help("Stop at N expanded nodes, those before a `resume` included")
         .value_parser(clap::value_parser!(u64).range(1..=1_099_511_627_774))
 }
 
@@ -116,7 +154,7 @@ fn limit<'a>(alloc: Global) -> Arg<'a> {
 fn progress<'a>(alloc: Global) -> Arg<'a> {
     Arg::new(alloc, "progress")
         .long("progress")
-        .help("Tells on standard error, a line a second, how the search stands")
+        .help("Print a line each second about the search")
         .action(ArgAction::SetTrue)
 }
 
@@ -139,11 +177,11 @@ fn journal<'a>(alloc: Global, help: &'a str, required: bool) -> Arg<'a> {
 /// `solve DOMAIN PROBLEM [--journal FILE] [--workers N] [--limit N] [--progress]`.
 fn solve<'a>(alloc: Global) -> Result<Command<'a>, AllocError> {
     of_task(alloc, "solve")?
-        .about("Prints a plan of least cost")
+        .about("Prints an optimal plan")
         .after_help(SOLVE_HELP)
         .arg(journal(
             alloc,
-            "The file to keep the search in; in memory if not given",
+            "The file to keep the search in; without it, memory",
             false,
         ))?
         .arg(workers(alloc))?
@@ -154,7 +192,7 @@ fn solve<'a>(alloc: Global) -> Result<Command<'a>, AllocError> {
 /// `resume DOMAIN PROBLEM --journal FILE [--workers N] [--limit N] [--progress]`.
 fn resume<'a>(alloc: Global) -> Result<Command<'a>, AllocError> {
     of_task(alloc, "resume")?
-        .about("Goes on with a search that was stopped")
+        .about("Continues a search that was stopped")
         .after_help(RESUME_HELP)
         .arg(journal(alloc, "The file that the search is kept in", true))?
         .arg(workers(alloc))?
@@ -165,24 +203,33 @@ fn resume<'a>(alloc: Global) -> Result<Command<'a>, AllocError> {
 /// `certify DOMAIN PROBLEM --journal FILE`.
 fn certify<'a>(alloc: Global) -> Result<Command<'a>, AllocError> {
     of_task(alloc, "certify")?
-        .about("Tells what the journal of a search shows")
+        .about("Prints the verdict that a journal shows")
         .after_help(CERTIFY_HELP)
         .arg(journal(alloc, "The file that the search is kept in", true))
 }
 
-/// `migrate DOMAIN PROBLEM --journal OLD --to NEW`.
+/// Whether what stands before the damage of a journal is kept.
+fn salvage<'a>(alloc: Global) -> Arg<'a> {
+    Arg::new(alloc, "salvage")
+        .long("salvage")
+        .help("Keeps the entries before the gate that `34 Damaged` names, and drops the rest")
+        .action(ArgAction::SetTrue)
+}
+
+/// `migrate DOMAIN PROBLEM --journal OLD --to NEW [--salvage]`.
 fn migrate<'a>(alloc: Global) -> Result<Command<'a>, AllocError> {
     of_task(alloc, "migrate")?
-        .about("Writes the entries of a journal to a new one, of the second version")
+        .about("Copies a journal to a new one of version 2")
         .after_help(MIGRATE_HELP)
         .arg(journal(alloc, "The file that the search is kept in", true))?
         .arg(
             Arg::new(alloc, "to")
                 .long("to")
                 .value_name("NEW")
-                .help("The file to write to, which is made, or empty")
+                .help("The new journal: a new or empty file")
                 .required(true),
-        )
+        )?
+        .arg(salvage(alloc))
 }
 
 /// An argument that may be given, by its place.
@@ -195,7 +242,7 @@ fn inspect<'a>(alloc: Global) -> Result<Command<'a>, AllocError> {
     Command::new(alloc, "inspect")
         .arg(file_if(alloc, "domain", "DOMAIN", "The file with the domain"))?
         .arg(file_if(alloc, "problem", "PROBLEM", "The file with the problem"))?
-        .about("Tells of the journal of a search")
+        .about("Describes a journal")
         .after_help(INSPECT_HELP)
         .arg(journal(alloc, "The file that the search is kept in", true))
 }
@@ -204,7 +251,7 @@ fn inspect<'a>(alloc: Global) -> Result<Command<'a>, AllocError> {
 fn ground<'a>(alloc: Global) -> Result<Command<'a>, AllocError> {
     Ok(
         of_task(alloc, "ground")?
-            .about("Prints the actions of a task, without parameters")
+            .about("Prints the ground actions of a task")
             .after_help(GROUND_HELP),
     )
 }
@@ -213,14 +260,14 @@ fn ground<'a>(alloc: Global) -> Result<Command<'a>, AllocError> {
 fn explain<'a>(alloc: Global) -> Arg<'a> {
     Arg::new(alloc, "explain")
         .long("explain")
-        .help("Tells on a second line why an action or the goal is refused (21, 22, 23)")
+        .help("Print the reason of 21, 22 and 23 on a second line")
         .action(ArgAction::SetTrue)
 }
 
 /// `validate DOMAIN PROBLEM PLAN [--explain]`.
 fn validate<'a>(alloc: Global) -> Result<Command<'a>, AllocError> {
     of_task(alloc, "validate")?
-        .about("Tells whether a plan is valid, and what it costs")
+        .about("Checks a plan, and prints its cost")
         .after_help(VALIDATE_HELP)
         .arg(file(alloc, "plan", "PLAN", "The file with the plan"))?
         .arg(explain(alloc))
@@ -229,7 +276,7 @@ fn validate<'a>(alloc: Global) -> Result<Command<'a>, AllocError> {
 /// `replay DOMAIN PROBLEM SCHEDULE`.
 fn replay<'a>(alloc: Global) -> Result<Command<'a>, AllocError> {
     of_task(alloc, "replay")?
-        .about("Plays a schedule of a search, step by step, with stops, and reports its end")
+        .about("Plays a schedule of a search, with stops at any moment")
         .after_help(REPLAY_HELP)
         .arg(file(alloc, "schedule", "SCHEDULE", "The file with the schedule"))
 }
@@ -254,7 +301,7 @@ fn program<'a>(alloc: Global) -> Result<Command<'a>, AllocError> {
         Command::new(alloc, NAME)
             .bin_name(NAME)?
             .about("A planner for numeric planning tasks written in PDDL")
-            .version("0.1.0")
+            .version(VERSION)
             .subcommand_required(true)
             .arg_required_else_help(true),
     )

@@ -69,6 +69,8 @@ pub enum Request {
         journal: String,
         /// The name of the file that they are written to.
         to: String,
+        /// Whether those before the damage of a journal are kept.
+        salvage: bool,
     },
     /// To tell of a journal, whatever its task.
     Inspect {
@@ -241,6 +243,7 @@ fn migrate_request(
         problem: String::from_str(alloc, problem)?,
         journal: String::from_str(alloc, journal)?,
         to: String::from_str(alloc, to)?,
+        salvage: found.get_flag("salvage"),
     }))
 }
 
