@@ -35,22 +35,24 @@ struct Last {
     bound: AtomicU64,
 }
 
-/// A gate of a search that tells how it stands on standard error, a line a second: the workers are asked for their least cost plus estimate a
-/// tenth of a second before, and who does not answer by then is told as of the last time.
+/// A gate of a search that tells how it stands on standard error, a line a second: the workers
+/// are asked for their least cost plus estimate a tenth of a second before, and who does not
+/// answer by then is told as of the last time.
 #[derive(Drop)]
 pub struct Watch<'r, R: Eprint + Clock> {
     rt: &'r R,
     began: Option<Instant>,
     words: Vec<Word>,
     last: Last,
-    /// When the last line was told, in milliseconds since the search began, and how many entries there were.
+    /// When the last line was told, in milliseconds since the search began, and how many entries
+    /// there were.
     told_at: AtomicU64,
     told_entries: AtomicU64,
 }
 
 impl<'r, R: Eprint + Clock> Watch<'r, R> {
-    /// That of a search that begins now, by so many workers, with so many entries, which count as none of those that it makes. Where the
-    /// clock can't be read, the last line alone is told.
+    /// That of a search that begins now, by so many workers, with so many entries, which count as
+    /// none of those that it makes. Where the clock can't be read, the last line alone is told.
     ///
     /// # Errors
     /// `AllocError` where there is no room for what workers tell.
@@ -81,6 +83,15 @@ impl<'r, R: Eprint + Clock> Watch<'r, R> {
             told_at: AtomicU64::new(0),
             told_entries: AtomicU64::new(entries),
         })
+    }
+
+    /// Tells that a search first rebuilds the entries of its journal, if there are any.
+    pub fn tell_rebuilding(&self) {
+        let entries = self.last.entries.load(Ordering::Relaxed);
+        if entries > 0 {
+            // A line that can't be told is no reason to end a search.
+            let _ = eprintln!(self.rt; "rebuilding {entries} entries");
+        }
     }
 
     /// How many milliseconds ago the search began.

@@ -110,7 +110,8 @@ module _ {S : Type 0} {G : Ghosts S} where
     begins = refl;
   }
 
-  -- a journal that was begun has become a later one: it has whole groups, behind what it began with
+  -- a journal that was begun has become a later one: it has whole groups, behind what it began
+  -- with
   grown : (start : Start) (digest before : List ℕ) (old new : of.Journal S G) → IsBegun start digest before old → Grows old new
       → (groups : List (List Kid)) × IsOf digest groups new × BeganWith start digest before new.version groups
   grown New digest before old new begun grows =

@@ -29,9 +29,10 @@ abbrev pub IsValidInDomain : LiftedTask → Task → Option (List ℕ) → Type 
 IsValidInDomain l t None = Unit {0}
 IsValidInDomain l t (Some p) = (cost : ℕ) × plans.IsValidAt l (plan_of t p) (pos cost)
 
--- what an answer says is true of all plans of the domain, which its task is the grounding of: the instances of an optimal plan are
--- an optimal plan of the domain, where there is no plan the domain has none, and the plan beside a departure, or of a search that stopped,
--- is valid in the domain
+-- what an answer says is true of all plans of the domain, which its task is the grounding of: the
+-- instances of an optimal plan are an optimal plan of the domain, where there is no plan the
+-- domain has none, and the plan beside a departure, or of a search that stopped, is valid in the
+-- domain
 abbrev pub IsTrueOfDomain : LiftedTask → Task → Outcome → Type 0
 IsTrueOfDomain l t (Optimal p) = plans.IsOptimal l (plan_of t p)
 IsTrueOfDomain l t NoPlan = plans.HasNoPlan l
@@ -61,7 +62,8 @@ ending_of t NoPlan = Ending.NoPlan
 ending_of t (RangeLeft d p) = Ending.RangeLeft (departure_text t d)
 ending_of t (Stopped p) = Ending.Stopped
 
--- the search of a task with a limit, if there is one, that has these entries has this answer, which ends so and is written so
+-- the search of a task with a limit, if there is one, that has these entries has this answer,
+-- which ends so and is written so
 pub record IsSolution (limit : Option ℕ) (task : Task) (kids : List Kid) (ending : Ending) (written : List ℕ) : Type 0 where
   pub outcome : Outcome
   pub is_outcome : IsOutcomeOf task limit kids outcome
@@ -75,7 +77,8 @@ pub record IsKeptSolution (k : Keeping) (limit : Option ℕ) (task : Task) (dige
   pub solution : IsSolution limit task kids ending written
   pub kept : IsKeptIn k digest kids
 
--- two texts have this answer: that of the search of the task that they say, and it is true of the lifted task that they say
+-- two texts have this answer: that of the search of the task that they say, and it is true of the
+-- lifted task that they say
 pub record IsSolved (limit : Option ℕ) (domain problem : List ℕ) (ending : Ending) (written : List ℕ) : Type 0 where
   pub task : Task
   pub is_task : IsTaskOf domain problem task
@@ -99,9 +102,10 @@ pub record IsAnswerText (k : Keeping) (limit : Option ℕ) (domain problem : Lis
   pub ending : Ending
   pub answer : IsKeptAnswer k limit domain problem ending text
 
--- why two texts have no answer: what is told of the texts, and nothing was begun; or they say a task, and its search has none; or they have
--- one, and there is no memory for its text; or they have one, of whose text a beginning is written, and what is told of the error that the
--- writer has answered. The writer is untouched where it is not to blame
+-- why two texts have no answer: what is told of the texts, and nothing was begun; or they say a
+-- task, and its search has none; or they have one, and there is no memory for its text; or they
+-- have one, of whose text a beginning is written, and what is told of the error that the writer
+-- has answered. The writer is untouched where it is not to blame
 pub data HasNoAnswer (k : Keeping) (limit : Option ℕ) (domain problem : List ℕ) (old new : Option (List ℕ)) (before noted : Option ErrorKind) : Fault → Type 0 where
   OfTexts : IsUntouched old new before noted → IsLeftAlone k → (f : TaskFault) → Explains domain problem f
       → HasNoAnswer k limit domain problem old new before noted (task_in f)
@@ -117,8 +121,8 @@ abbrev pub HasNoAnswerYet : Keeping → Option ℕ → List ℕ → List ℕ →
 HasNoAnswerYet k limit domain problem f =
     (bytes : Option (List ℕ)) (noted : Option ErrorKind) → HasNoAnswer k limit domain problem bytes bytes noted noted f
 
--- a text is not written, or not all of it: memory ran out, and nothing is written; or a beginning is, which is not all of it, and the writer
--- has answered an error. This is told of it
+-- a text is not written, or not all of it: memory ran out, and nothing is written; or a beginning
+-- is, which is not all of it, and the writer has answered an error. This is told of it
 pub record IsUnwritten (text : List ℕ) (old new : Option (List ℕ)) (before noted : Option ErrorKind) (fault : Fault) : Type 0 where
   pub error : WriteError
   pub short : AppendsShort old new text

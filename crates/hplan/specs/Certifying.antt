@@ -1,4 +1,5 @@
--- What the bytes of a journal show of the task of two texts, how that is told, and why nothing is. (That a journal is a certificate is our own.)
+-- What the bytes of a journal show of the task of two texts, how that is told, and why nothing
+-- is. (That a journal is a certificate is our own.)
 use Rattle.std.specs.Prelude.{◌≡◌, ◌⊎◌, ℕ, Bool, true, is_some, List, [], ◌++◌, Option, Some, None, IfSome, codes, decimal}
 use Rattle.std.specs.declared.io.ErrorKind.{ErrorKind}
 use Rattle.hd_lifted.specs.declared.task.LiftedTask.{LiftedTask}
@@ -29,8 +30,9 @@ use Rattle.hplan.specs.Written.{IsUntouched, FailsToWrite}
 
 -- ---- what is shown, and how it is told
 
--- what is shown is true of all plans of the domain, which its task is the grounding of: the instances of an optimal plan are an optimal
--- plan of the domain; and where there is no plan, the domain has none
+-- what is shown is true of all plans of the domain, which its task is the grounding of: the
+-- instances of an optimal plan are an optimal plan of the domain; and where there is no plan, the
+-- domain has none
 abbrev pub IsTrueThere : LiftedTask → Task → Certified → Type 0
 IsTrueThere l t (Optimal p) = plans.IsOptimal l (plan_of t p)
 IsTrueThere l t NoPlan = plans.HasNoPlan l
@@ -50,7 +52,8 @@ abbrev pub certified_text : Task → Option Certified → List ℕ
 certified_text t None = codes "not certified" ++ line_end
 certified_text t (Some verdict) = verdict_text t verdict
 
--- a content is a journal of the task of this digest, or one that is being made, and its entries show this of the task
+-- a content is a journal of the task of this digest, or one that is being made, and its entries
+-- show this of the task
 pub record IsShownIn (t : Task) (digest content : List ℕ) (shown : Option Certified) : Type 0 where
   pub found : Found
   pub is_found : IsFound digest content found
@@ -61,14 +64,16 @@ pub record IsToldOf (t : Task) (digest content : List ℕ) (shown : Option Certi
   pub shown_in : IsShownIn t digest content shown
   pub told : text ≡ certified_text t shown
 
--- this is told of a task, where a content shows something of it, and where it does not; and what is shown is true of all plans of the task
+-- this is told of a task, where a content shows something of it, and where it does not; and what
+-- is shown is true of all plans of the task
 pub record IsToldBy (t : Task) (digest content : List ℕ) (answer : Bool) (text : List ℕ) : Type 0 where
   pub shown : Option Certified
   pub answers : answer ≡ is_some shown
   pub told : IsToldOf t digest content shown text
   pub is_true : IfSome shown (IsTrueOf t)
 
--- two texts say a task, and this is told of what a content shows of it; it is true of all plans of the domain
+-- two texts say a task, and this is told of what a content shows of it; it is true of all plans
+-- of the domain
 pub record IsCertified (domain problem content : List ℕ) (answer : Bool) (text : List ℕ) : Type 0 where
   pub task : Task
   pub is_task : IsTaskOf domain problem task
@@ -83,7 +88,8 @@ pub record OnContent (file : Option (List ℕ)) (P : List ℕ → Type 0) : Type
   pub known : IfSome file (λ bytes. content ≡ bytes)
   pub holds : P content
 
--- this is told of what the file of a journal shows of the task of two texts, where that is something, and where it is not
+-- this is told of what the file of a journal shows of the task of two texts, where that is
+-- something, and where it is not
 abbrev pub IsCertificate : List ℕ → List ℕ → Option (List ℕ) → Bool → List ℕ → Type 0
 IsCertificate domain problem file answer text = OnContent file (λ content. IsCertified domain problem content answer text)
 
@@ -98,7 +104,8 @@ CanBeTold t NoPlan = Unit {0}
 
 -- ---- why nothing is told
 
--- why nothing is shown of a task in a content: memory ran out; or the content is refused; or its entries are
+-- why nothing is shown of a task in a content: memory ran out; or the content is refused; or its
+-- entries are
 pub data ShowsNothing (t : Task) (digest content : List ℕ) : Fault → Type 0 where
   OfMemory : ShowsNothing t digest content NoMemory
   OfContent : (error : ImageError) → IsRefused digest content error → ShowsNothing t digest content (journal_in (of_image error))
@@ -113,8 +120,9 @@ IsUnread fault = (kind : ErrorKind) × TellsKind kind fault
 abbrev pub FailsOnFile : Task → List ℕ → Option (List ℕ) → Fault → Type 0
 FailsOnFile t digest file fault = IsUnread fault ⊎ OnContent file (λ content. ShowsNothing t digest content fault)
 
--- why nothing is told, or not all: what is told of the texts; or they say a task, and nothing is shown of it; or a beginning of what is to
--- be told is written, and what is told of the error that the writer has answered. The writer is untouched where it is not to blame
+-- why nothing is told, or not all: what is told of the texts; or they say a task, and nothing is
+-- shown of it; or a beginning of what is to be told is written, and what is told of the error
+-- that the writer has answered. The writer is untouched where it is not to blame
 pub data HasNoCertificate (domain problem : List ℕ) (file old new : Option (List ℕ)) (before noted : Option ErrorKind) : Fault → Type 0 where
   OfTexts : IsUntouched old new before noted → (f : TaskFault) → Explains domain problem f
       → HasNoCertificate domain problem file old new before noted (task_in f)

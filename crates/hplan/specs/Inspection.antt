@@ -49,13 +49,15 @@ pub record IsToldOfContent (content text : List ℕ) : Type 0 where
 abbrev pub IsInspection : Option (List ℕ) → List ℕ → Type 0
 IsInspection file text = OnContent file (λ content. IsToldOfContent content text)
 
--- why nothing is told of a content: it is no journal of any task, or a damaged one; or memory ran out
+-- why nothing is told of a content: it is no journal of any task, or a damaged one; or memory ran
+-- out
 pub data IsNotTold (content : List ℕ) : Fault → Type 0 where
   OfContent : (error : ImageError) → IsRefused content error → IsNotTold content (journal_in (of_image error))
   OfMemory : IsNotTold content NoMemory
 
--- why nothing is told of a file, or not all: it was not read; or nothing is told of its bytes; or a beginning of what is to be told is
--- written, and what is told of the error that the writer has answered. The writer is untouched where it is not to blame
+-- why nothing is told of a file, or not all: it was not read; or nothing is told of its bytes; or
+-- a beginning of what is to be told is written, and what is told of the error that the writer has
+-- answered. The writer is untouched where it is not to blame
 pub data HasNoInspection (file old new : Option (List ℕ)) (before noted : Option ErrorKind) : Fault → Type 0 where
   Unread : IsUntouched old new before noted → (f : Fault) → IsUnread f → HasNoInspection file old new before noted f
   Untold : IsUntouched old new before noted → (f : Fault) → OnContent file (λ content. IsNotTold content f)

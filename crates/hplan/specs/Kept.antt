@@ -36,8 +36,8 @@ use Rattle.hplan.specs.Fault.{search_in, store_in}
 
 -- ---- what a file holds
 
--- a content is the whole journal of these entries, for the task of this digest: their groups, each behind its open gate, and then a closed
--- gate, which is the last byte
+-- a content is the whole journal of these entries, for the task of this digest: their groups,
+-- each behind its open gate, and then a closed gate, which is the last byte
 pub record IsJournalOf (digest : List ℕ) (kids : List Kid) (content : List ℕ) : Type 0 where
   pub version : Version
   pub groups : List (List Kid)
@@ -45,8 +45,9 @@ pub record IsJournalOf (digest : List ℕ) (kids : List Kid) (content : List ℕ
   pub bytes : content ≡ image version digest groups
   pub entries : kids ≡ kids_in groups
 
--- a journal of these groups, of this version, goes on from a content: it is the task's journal, or one that is being made, of this version;
--- and the first groups have just the entries that are found in it, at the places that they had there
+-- a journal of these groups, of this version, goes on from a content: it is the task's journal,
+-- or one that is being made, of this version; and the first groups have just the entries that are
+-- found in it, at the places that they had there
 pub record GoesOn (digest content : List ℕ) (v : Version) (groups : List (List Kid)) : Type 0 where
   pub found : Found
   pub is_found : IsFound digest content found
@@ -56,8 +57,8 @@ pub record GoesOn (digest content : List ℕ) (v : Version) (groups : List (List
   pub entries : found_in found ≡ entries_in v FIRST_GATE stood
   pub begins : groups ≡ stood ++ more
 
--- what a journal of these groups, of this version, began with: an empty file, where it is new, and then its version is the second; else
--- what it goes on from
+-- what a journal of these groups, of this version, began with: an empty file, where it is new,
+-- and then its version is the second; else what it goes on from
 abbrev pub BeganWith : Start → List ℕ → List ℕ → Version → List (List Kid) → Type 0
 BeganWith New digest content v groups = (content ≡ []) × (v ≡ Two)
 BeganWith Kept digest content v groups = GoesOn digest content v groups
@@ -69,7 +70,8 @@ pub record IsKept (start : Start) (digest : List ℕ) (kids : List Kid) (before 
 
 -- ---- why a search over a file has no answer
 
--- a file is as it was; or it was empty, and a header is being made in it, or is made: whoever goes on with it has a journal without entries
+-- a file is as it was; or it was empty, and a header is being made in it, or is made: whoever
+-- goes on with it has a journal without entries
 abbrev pub IsAsItWasOrMaking : List ℕ → List ℕ → List ℕ → Type 0
 IsAsItWasOrMaking digest before after = (after ≡ before) ⊎ ((before ≡ []) × IsMaking Two digest after)
 
@@ -77,10 +79,11 @@ IsAsItWasOrMaking digest before after = (after ≡ before) ⊎ ((before ≡ []) 
 abbrev pub HasNoHeader : List ℕ → List ℕ → Type 0
 HasNoHeader digest content = IsFound digest content Unmade ⊎ IsFound digest content HalfMade
 
--- what is told of a file that is to be begun, or gone on with: it is not empty; or it is no journal, one of another task or damaged. It is as
--- it was then. Where a journal is to be begun, and the device failed or memory ran out, nothing is lost. Where one is to be gone on with, memory
--- runs out over a file that is left as it was, or over one in which a header was still to be made: it had no entries. What it holds there behind
--- a fault of the device is not said here
+-- what is told of a file that is to be begun, or gone on with: it is not empty; or it is no
+-- journal, one of another task or damaged. It is as it was then. Where a journal is to be begun,
+-- and the device failed or memory ran out, nothing is lost. Where one is to be gone on with,
+-- memory runs out over a file that is left as it was, or over one in which a header was still to
+-- be made: it had no entries. What it holds there behind a fault of the device is not said here
 abbrev pub TellsOfFile : Start → List ℕ → List ℕ → List ℕ → JournalError → Type 0
 TellsOfFile New digest before after journal.NotAJournal = ⊥
 TellsOfFile New digest before after journal.OtherTask = ⊥
@@ -99,8 +102,8 @@ TellsOfFile Kept digest before after journal.JournalExists = ⊥
 TellsOfFile Kept digest before after journal.NotOut = ⊥
 TellsOfFile Kept digest before after journal.NoMemory = (after ≡ before) ⊎ HasNoHeader digest before
 
--- the entry that is found at this place of a file is the first that is faulty, and the file has just the entries that were found; a new file
--- has none
+-- the entry that is found at this place of a file is the first that is faulty, and the file has
+-- just the entries that were found; a new file has none
 abbrev pub HasFaultyEntry : Start → Task → List ℕ → List ℕ → List ℕ → ℕ → Type 0
 HasFaultyEntry New t digest before after at = ⊥
 HasFaultyEntry Kept t digest before after at =
@@ -116,14 +119,15 @@ abbrev pub AreKept : Start → Task → List ℕ → List ℕ → List ℕ → T
 AreKept start t digest before after =
     (kids : List Kid) × IsKept start digest kids before after × (WereThere start digest before kids ⊎ AreLegal t kids)
 
--- the device failed while it was searched: a new file was empty, and groups stand in it, or none, whose entries name a legal list; of one that was
--- gone on with nothing is said here
+-- the device failed while it was searched: a new file was empty, and groups stand in it, or none,
+-- whose entries name a legal list; of one that was gone on with nothing is said here
 abbrev pub IsLeftByDevice : Start → Task → List ℕ → List ℕ → List ℕ → Type 0
 IsLeftByDevice New t digest before after = (before ≡ []) × ((kids : List Kid) × StillStand t Two digest [] kids after)
 IsLeftByDevice Kept t digest before after = Unit {0}
 
--- what a fault of the search itself may be: there is no room for more entries, or what the threads share did not fit together, and those that
--- there are are kept; or the device failed. No other is told
+-- what a fault of the search itself may be: there is no room for more entries, or what the
+-- threads share did not fit together, and those that there are are kept; or the device failed. No
+-- other is told
 abbrev pub TellsOfSearch : Start → Task → List ℕ → List ℕ → List ℕ → RunFault → Type 0
 TellsOfSearch start t digest before after searching.Full = AreKept start t digest before after
 TellsOfSearch start t digest before after (searching.Damaged at) = ⊥
@@ -132,8 +136,9 @@ TellsOfSearch start t digest before after searching.Failed = ⊥
 TellsOfSearch start t digest before after searching.NotOut = AreKept start t digest before after
 TellsOfSearch start t digest before after searching.NoMemory = ⊥
 
--- why the search of a task over a file has no answer: memory ran out before it began, or later, and the entries that there are are kept; a
--- thread did not start, and they are kept too; or what is told of the file, of an entry in it, or of the search
+-- why the search of a task over a file has no answer: memory ran out before it began, or later,
+-- and the entries that there are are kept; a thread did not start, and they are kept too; or what
+-- is told of the file, of an entry in it, or of the search
 pub data HasNoSolution (start : Start) (t : Task) (digest before after : List ℕ) : Fault → Type 0 where
   OfMemory : TellsOfFile start digest before after journal.NoMemory → HasNoSolution start t digest before after NoMemory
   OfMemoryLater : AreKept start t digest before after → HasNoSolution start t digest before after NoMemory
@@ -144,7 +149,8 @@ pub data HasNoSolution (start : Start) (t : Task) (digest before after : List �
 
 -- ---- where a search is kept
 
--- in memory; or in a file, as a new journal or in the one that is there, and these are its bytes before and afterwards, where they are known
+-- in memory; or in a file, as a new journal or in the one that is there, and these are its bytes
+-- before and afterwards, where they are known
 pub data Keeping : Type 0 where
   InMemory : Keeping
   InFile : Start → Option (List ℕ) → Option (List ℕ) → Keeping
@@ -178,7 +184,8 @@ FailsIn (InFile start old new) t digest fault = IsNotLent old new fault ⊎ OnFi
 
 -- ---- a journal that is begun
 
--- a journal is gone on with: it has the version and just the entries that were found, in whole groups
+-- a journal is gone on with: it has the version and just the entries that were found, in whole
+-- groups
 pub record IsResumed {S : Type 0} {G : Ghosts S} (digest before : List ℕ) (begun : of.Journal S G) : Type 0 where
   pub found : Found
   pub is_found : IsFound digest before found
@@ -187,11 +194,13 @@ pub record IsResumed {S : Type 0} {G : Ghosts S} (digest before : List ℕ) (beg
   pub groups : List (List Kid)
   pub is : IsOf digest groups begun
 
--- a journal was begun, where the file was empty, of the second version and without groups, and its device is settled; or one is gone on with
+-- a journal was begun, where the file was empty, of the second version and without groups, and
+-- its device is settled; or one is gone on with
 abbrev pub IsBegun : {S : Type 0} {G : Ghosts S} → Start → List ℕ → List ℕ → of.Journal S G → Type 0
 IsBegun New digest before begun = (before ≡ []) × (begun.version ≡ Two) × IsOf digest [] begun × IsSettled (device_of begun)
 IsBegun Kept digest before begun = IsResumed digest before begun
 
--- a search over a journal has no answer: memory ran out, and the journal is the same or a later one; or this is told of the fault by which it ended
+-- a search over a journal has no answer: memory ran out, and the journal is the same or a later
+-- one; or this is told of the fault by which it ended
 abbrev pub IsRefusedRun : {S : Type 0} {G : Ghosts S} → Task → of.Journal S G → of.Journal S G → Fault → Type 0
 IsRefusedRun t old new fault = ((fault ≡ NoMemory) × Grows old new) ⊎ ((why : ThreadsFault) × (fault ≡ search_in why) × Tells t old new why)

@@ -1,4 +1,5 @@
--- What is told of the entries of one file that were written anew to another, and why they were not, or not all. (Our own.)
+-- What is told of the entries of one file that were written anew to another, and why they were
+-- not, or not all. (Our own.)
 use Rattle.std.specs.Prelude.{◌≡◌, ◌≢◌, ◌⊎◌, ℕ, List, [], map, length, Option, codes}
 use Rattle.std.specs.declared.io.ErrorKind.{ErrorKind}
 use Rattle.hd_task.specs.declared.task.Task.{Task}
@@ -23,7 +24,8 @@ use Rattle.hplan.specs.Written.{IsUntouched, FailsToWrite}
 
 -- ---- what is read
 
--- a content is a journal of the task of this digest, or one that is being made, and its entries are these pairs, which name a legal list
+-- a content is a journal of the task of this digest, or one that is being made, and its entries
+-- are these pairs, which name a legal list
 pub record IsNamedIn (t : Task) (digest content : List ℕ) (kids : List Kid) : Type 0 where
   pub found : Found
   pub is_found : IsFound digest content found
@@ -36,14 +38,16 @@ pub record AreRead (domain problem : List ℕ) (file : Option (List ℕ)) (kids 
   pub is_task : IsTaskOf domain problem task
   pub named : OnContent file (λ content. IsNamedIn task (digest_of domain problem) content kids)
 
--- why no pairs are read: what is told of the texts; or they say a task, and its journal in a file can't be had
+-- why no pairs are read: what is told of the texts; or they say a task, and its journal in a file
+-- can't be had
 pub data HasNoKids (domain problem : List ℕ) (file : Option (List ℕ)) : Fault → Type 0 where
   OfTexts : (f : TaskFault) → Explains domain problem f → HasNoKids domain problem file (task_in f)
   OfFile : (t : Task) (f : Fault) → IsTaskOf domain problem t → FailsOnFile t (digest_of domain problem) file f → HasNoKids domain problem file f
 
 -- ---- what is written
 
--- a file that was empty has these entries, whole, as a journal of version two, in groups as large as may be
+-- a file that was empty has these entries, whole, as a journal of version two, in groups as large
+-- as may be
 pub record IsCopied (digest : List ℕ) (kids : List Kid) (before after : List ℕ) : Type 0 where
   pub empty : before ≡ []
   pub copy : IsCopyOf digest kids after
@@ -52,13 +56,14 @@ pub record IsCopied (digest : List ℕ) (kids : List Kid) (before after : List �
 abbrev pub migrated_text : ℕ → List ℕ
 migrated_text count = count_line (codes "migrated") count
 
--- what a file holds to which not all entries were written: it is as it was, where it was not empty; else it holds a header that is still to be
--- made, or a journal of the first of them
+-- what a file holds to which not all entries were written: it is as it was, where it was not
+-- empty; else it holds a header that is still to be made, or a journal of the first of them
 pub record IsLeft (digest : List ℕ) (kids : List Kid) (before after : List ℕ) : Type 0 where
   pub kept : before ≢ [] → after ≡ before
   pub under_way : before ≡ [] → IsUnderWay digest kids after
 
--- what is told of a file to which not all entries were written: it is not empty, and is as it was; or it failed; or memory ran out
+-- what is told of a file to which not all entries were written: it is not empty, and is as it
+-- was; or it failed; or memory ran out
 abbrev pub TellsOfCopy : List ℕ → List Kid → List ℕ → List ℕ → JournalError → Type 0
 TellsOfCopy digest kids before after journal.NotAJournal = ⊥
 TellsOfCopy digest kids before after journal.OtherTask = ⊥
@@ -81,7 +86,8 @@ FailsToCopy digest kids old new fault = IsNotLent old new fault ⊎ OnFile old n
 
 -- ---- both
 
--- the two files: their names, what the first holds, and what the other holds before and afterwards, where that is known
+-- the two files: their names, what the first holds, and what the other holds before and
+-- afterwards, where that is known
 pub record Moving : Type 0 where
   pub from : List ℕ
   pub to : List ℕ
@@ -105,8 +111,9 @@ pub record IsMigration (domain problem : List ℕ) (m : Moving) (text : List ℕ
   pub moved : AreMoved domain problem m count
   pub told : text ≡ migrated_text count
 
--- why entries are not written to the other file, or not all: nothing is read, and the other file is as it was; or the files have one name; or
--- there is no memory to tell how many they are; or they are read, and not written
+-- why entries are not written to the other file, or not all: nothing is read, and the other file
+-- is as it was; or the files have one name; or there is no memory to tell how many they are; or
+-- they are read, and not written
 pub data AreNotMoved (domain problem : List ℕ) (m : Moving) : Fault → Type 0 where
   Unread : (f : Fault) → HasNoKids domain problem m.held f → m.after ≡ m.before → AreNotMoved domain problem m f
   OneName : m.from ≡ m.to → m.after ≡ m.before → AreNotMoved domain problem m (Journal journal.JournalExists)
@@ -114,8 +121,9 @@ pub data AreNotMoved (domain problem : List ℕ) (m : Moving) : Fault → Type 0
   Unwritten : (kids : List Kid) (f : Fault) → AreRead domain problem m.held kids → FailsToCopy (digest_of domain problem) kids m.before m.after f
       → AreNotMoved domain problem m f
 
--- why nothing is told, or not all: the entries are not all written; or they are, a beginning of what is to be told is written, and what is told
--- of the error that the writer has answered. The writer is untouched where it is not to blame
+-- why nothing is told, or not all: the entries are not all written; or they are, a beginning of
+-- what is to be told is written, and what is told of the error that the writer has answered. The
+-- writer is untouched where it is not to blame
 pub data HasNoMigration (domain problem : List ℕ) (m : Moving) (old new : Option (List ℕ)) (before noted : Option ErrorKind) : Fault → Type 0 where
   NotMoved : IsUntouched old new before noted → (f : Fault) → AreNotMoved domain problem m f
       → HasNoMigration domain problem m old new before noted f

@@ -11,21 +11,24 @@ use Rattle.hd_validate.specs.Naming.{IsStep}
 use Rattle.hd_texts.specs.Tasks.{IsLiftedOf}
 use Rattle.hplan.specs.Verdict.{AreValid}
 
--- a text is that of a plan at a cost, and as a plan file it is valid at this cost in the task of two texts, as `validate` judges it
+-- a text is that of a plan at a cost, and as a plan file it is valid at this cost in the task of
+-- two texts, as `validate` judges it
 pub record IsValidatedFile (domain problem : List ℕ) (text : List ℕ) : Type 0 where
   pub steps : List Step
   pub cost : ℕ
   pub is : text ≡ plan_text steps cost
   pub valid : AreValid domain problem text cost
 
--- a text is that of steps at a cost; read as a plan file it says the same steps, and they name these instances
+-- a text is that of steps at a cost; read as a plan file it says the same steps, and they name
+-- these instances
 pub record IsFileOf (l : LiftedTask) (plan : List Instance) (cost : ℕ) (text : List ℕ) : Type 0 where
   pub steps : List Step
   pub is : text ≡ plan_text steps cost
   pub reads : ReadsAs text steps
   pub are_steps : AllZip (IsStep l) steps plan
 
--- a text is a file of a plan that is valid in the domain and problem of two texts, at the cost that it tells
+-- a text is a file of a plan that is valid in the domain and problem of two texts, at the cost
+-- that it tells
 pub record IsFileOfValid (domain problem : List ℕ) (text : List ℕ) : Type 0 where
   pub lifted : LiftedTask
   pub is_lifted : IsLiftedOf domain problem lifted

@@ -1,4 +1,5 @@
--- The text of a plan of a task: that of its steps, by their names, at the cost that it has by the task. (Our own.)
+-- The text of a plan of a task: that of its steps, by their names, at the cost that it has by the
+-- task. (Our own.)
 use Rattle.std.specs.Prelude.{ℕ, Bool, true, ◌&&◌, List, [], ◌∷◌, Option, Some, None, option_and_then}
 use Rattle.hd_plan.specs.PlanText as plans
 use Rattle.hd_task.specs.declared.task.Task.{Task}

@@ -24,21 +24,24 @@ use Rattle.hplan.specs.Written.{IsUntouched, FailsToWrite}
 
 -- ---- the report
 
--- a text says moves, and they end with this report of a task's search, whose journal is empty at first
+-- a text says moves, and they end with this report of a task's search, whose journal is empty at
+-- first
 pub record IsPlayed (t : Task) (digest schedule : List ℕ) (report : Report) : Type 0 where
   pub moves : List Move
   pub says : schedule_of schedule ≡ Ok moves
   pub left : List ℕ
   pub reported : IsReported t digest [] moves left report
 
--- what is said is true of all plans of the domain: one is valid at this cost, and optimal; or none is valid
+-- what is said is true of all plans of the domain: one is valid at this cost, and optimal; or
+-- none is valid
 abbrev pub IsTrueThere : LiftedTask → Option Says → Type 0
 IsTrueThere l None = Unit {0}
 IsTrueThere l (Some (Optimal cost)) = (p : List Instance) × plans.IsValidAt l p (pos cost) × plans.IsOptimal l p
 IsTrueThere l (Some NoPlan) = plans.HasNoPlan l
 IsTrueThere l (Some (RangeLeft entry)) = Unit {0}
 
--- three texts say a task and moves that end with this report; what it says is true of all plans of the domain
+-- three texts say a task and moves that end with this report; what it says is true of all plans
+-- of the domain
 pub record IsReportOf (domain problem schedule : List ℕ) (report : Report) : Type 0 where
   pub task : Task
   pub is_task : IsTaskOf domain problem task
@@ -53,15 +56,16 @@ pub record IsReportText (domain problem schedule : List ℕ) (text : List ℕ) :
 
 -- ---- why nothing is told
 
--- why the schedule of a text is not played on a task: memory ran out; or the text's first bad line; or it says moves, and this is told where
--- they are not played to their end
+-- why the schedule of a text is not played on a task: memory ran out; or the text's first bad
+-- line; or it says moves, and this is told where they are not played to their end
 pub data ExplainsSchedule (schedule : List ℕ) : Fault → Type 0 where
   Memory : ExplainsSchedule schedule NoMemory
   Unread : (error : ScheduleError) → IsFault schedule error → ExplainsSchedule schedule (schedule_in error)
   Unplayed : (moves : List Move) (fault : ReplayFault) → schedule_of schedule ≡ Ok moves → ExplainsSchedule schedule (replay_in fault)
 
--- why nothing is told, or not all: what is told of the first two texts; or they say a task, and what is told of the third; or a beginning of
--- the report is written, and what is told of the error that the writer has answered. The writer is untouched where it is not to blame
+-- why nothing is told, or not all: what is told of the first two texts; or they say a task, and
+-- what is told of the third; or a beginning of the report is written, and what is told of the
+-- error that the writer has answered. The writer is untouched where it is not to blame
 pub data HasNoReport (domain problem schedule : List ℕ) (old new : Option (List ℕ)) (before noted : Option ErrorKind) : Fault → Type 0 where
   InTexts : IsUntouched old new before noted → (f : TaskFault) → Explains domain problem f
       → HasNoReport domain problem schedule old new before noted (task_in f)

@@ -7,7 +7,7 @@ abbrev pub AsksNoSearch : Request → Type 0
 AsksNoSearch (Solve domain problem journal search) = ⊥
 AsksNoSearch (Resume domain problem journal search) = ⊥
 AsksNoSearch (Certify domain problem journal) = Unit {0}
-AsksNoSearch (Migrate domain problem journal to) = Unit {0}
+AsksNoSearch (Migrate domain problem journal to salvage) = Unit {0}
 AsksNoSearch (Inspect journal) = Unit {0}
 AsksNoSearch (Survey domain problem journal) = Unit {0}
 AsksNoSearch (Ground domain problem) = Unit {0}

@@ -51,8 +51,9 @@ abbrev pub departure_line : Task → Option Departure → List ℕ
 departure_line t None = codes "nothing left the range" ++ line_end
 departure_line t (Some d) = departure_text t d ++ line_end
 
--- what entries tell of a search: how many plans are posted, how many of them are settled, the bound with its plan, the first departure, and how many
--- entries there are of each depth and of each cost
+-- what entries tell of a search: how many plans are posted, how many of them are settled, the
+-- bound with its plan, the first departure, and how many entries there are of each depth and of
+-- each cost
 abbrev pub survey_text : Task → Survey → List ℕ
 survey_text t s =
     count_line (codes "posted") s.posted ++ count_line (codes "settled") s.settled ++ bound_line s.bound ++ bound_plan t s.plan
@@ -60,8 +61,8 @@ survey_text t s =
 
 -- ---- what is told
 
--- a content is a journal of the task of this digest, or one that is being made, and a text tells what it is, and what its entries tell of the
--- search of the task
+-- a content is a journal of the task of this digest, or one that is being made, and a text tells
+-- what it is, and what its entries tell of the search of the task
 pub record IsSurveyedIn (t : Task) (digest content text : List ℕ) : Type 0 where
   pub found : Found
   pub is_found : IsFound digest content found
@@ -83,7 +84,8 @@ IsSurveyText domain problem file text = OnContent file (λ content. IsSurveyed d
 
 -- ---- why nothing is told
 
--- of a content: its entries can't be had, as for a certificate; or nothing is told of it as of any journal
+-- of a content: its entries can't be had, as for a certificate; or nothing is told of it as of
+-- any journal
 abbrev pub TellsNothing : Task → List ℕ → List ℕ → Fault → Type 0
 TellsNothing t digest content fault = ShowsNothing t digest content fault ⊎ IsNotTold content fault
 
@@ -91,8 +93,9 @@ TellsNothing t digest content fault = ShowsNothing t digest content fault ⊎ Is
 abbrev pub FailsOnSurvey : Task → List ℕ → Option (List ℕ) → Fault → Type 0
 FailsOnSurvey t digest file fault = IsUnread fault ⊎ OnContent file (λ content. TellsNothing t digest content fault)
 
--- why nothing is told, or not all: what is told of the texts; or they say a task, and nothing is told of the file; or a beginning of what is to be
--- told is written, and what is told of the error that the writer has answered. The writer is untouched where it is not to blame
+-- why nothing is told, or not all: what is told of the texts; or they say a task, and nothing is
+-- told of the file; or a beginning of what is to be told is written, and what is told of the
+-- error that the writer has answered. The writer is untouched where it is not to blame
 pub data HasNoSurvey (domain problem : List ℕ) (file old new : Option (List ℕ)) (before noted : Option ErrorKind) : Fault → Type 0 where
   OfTexts : IsUntouched old new before noted → (f : TaskFault) → Explains domain problem f
       → HasNoSurvey domain problem file old new before noted (task_in f)

@@ -1,4 +1,5 @@
--- How a task's actions are printed: alone, in a departure, and by number with what else the task has. (Our own.)
+-- How a task's actions are printed: alone, in a departure, and by number with what else the task
+-- has. (Our own.)
 use Rattle.std.specs.Prelude.{ℕ, List, [], ◌++◌, length, Option, Some, None, codes, decimal, slice_get, flat_map}
 use Rattle.hd_plan.specs.PlanText.{line_end}
 use Rattle.hd_task.specs.declared.action.Action.{Action}

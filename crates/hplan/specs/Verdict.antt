@@ -34,7 +34,8 @@ pub data ExplainsPlan (l : LiftedTask) (plan : List ℕ) : Fault → Type 0 wher
   -- the text says steps, and the validator tells so of them
   Invalid : (steps : List Step) (error : PlanError) → ReadsAs plan steps → Tells l steps error → ExplainsPlan l plan (judged_in error)
 
--- three texts say a plan that is valid at a cost: two of them a lifted task, and the third steps that are validated in it
+-- three texts say a plan that is valid at a cost: two of them a lifted task, and the third steps
+-- that are validated in it
 pub record AreValid (domain problem plan : List ℕ) (cost : ℕ) : Type 0 where
   pub lifted : LiftedTask
   pub is_lifted : IsLiftedOf domain problem lifted
@@ -46,9 +47,10 @@ pub record IsVerdictOf (domain problem plan : List ℕ) (text : List ℕ) : Type
   pub valid : AreValid domain problem plan cost
   pub is : text ≡ valid_text cost
 
--- why no verdict is written: what is told of the first two texts; or they say a lifted task, and what is told of the third in it; or the
--- plan is valid, a beginning of the verdict is written, and what is told of the error that the writer has answered. The writer is untouched
--- where it is not to blame
+-- why no verdict is written: what is told of the first two texts; or they say a lifted task, and
+-- what is told of the third in it; or the plan is valid, a beginning of the verdict is written,
+-- and what is told of the error that the writer has answered. The writer is untouched where it is
+-- not to blame
 pub data HasNoVerdict (domain problem plan : List ℕ) (old new : Option (List ℕ)) (before noted : Option ErrorKind) : Fault → Type 0 where
   InTexts : IsUntouched old new before noted → (f : TaskFault) → ExplainsTexts domain problem f
       → HasNoVerdict domain problem plan old new before noted (task_in f)

@@ -137,13 +137,15 @@ fn certificate_of<P: Places>(
     }
 }
 
-/// Tells what the journal in a file shows by itself of the task that two texts say, whoever made it: `certified optimal; cost = N`,
-/// `certified no plan`, or `not certified`; and answers whether it shows a verdict. The file is read, and left alone.
+/// Tells what the journal in a file shows by itself of the task that two texts say, whoever made
+/// it: `certified optimal; cost = N`, `certified no plan`, or `not certified`; and answers
+/// whether it shows a verdict. The file is read, and left alone.
 ///
 /// # Errors
-/// The first fault of the texts; that the file can't be read; why its bytes are no journal of theirs; the first entry that is no step
-/// of a search of the task; or what is told of the error that the writer has answered. A beginning of the text has then been written,
-/// and not all of it, and else nothing.
+/// The first fault of the texts; that the file can't be read; why its bytes are no journal of
+/// theirs; the first entry that is no step of a search of the task; or what is told of the error
+/// that the writer has answered. A beginning of the text has then been written, and not all of
+/// it, and else nothing.
 pub fn certify<P: Places, W: Write>(
     alloc: Global,
     places: &mut P,

@@ -128,12 +128,14 @@ fn write_told<W: Write>(
     }
 }
 
-/// Answers the task that two texts say, and writes the text of its plan, if it has one. It is searched by so many threads as there are to be
-/// workers, until as many plans are expanded as its limit says, if it has one. The search is kept in memory.
+/// Answers the task that two texts say, and writes the text of its plan, if it has one. It is
+/// searched by so many threads as there are to be workers, until as many plans are expanded as
+/// its limit says, if it has one. The search is kept in memory.
 ///
 /// # Errors
-/// The first fault of the texts, or why the search fails, or what is told of the error that the writer has answered. A beginning of
-/// the text has then been written, and not all of it, and else nothing.
+/// The first fault of the texts, or why the search fails, or what is told of the error that the
+/// writer has answered. A beginning of the text has then been written, and not all of it, and
+/// else nothing.
 pub fn solve<W: Write, R: Threads + Wait + Sync + Eprint + Clock>(
     rt: &R,
     alloc: Global,
@@ -151,8 +153,9 @@ pub fn solve<W: Write, R: Threads + Wait + Sync + Eprint + Clock>(
         ⊎ WritesFrontOfA (IsAnswerText InMemory how.limit domain.now problem.now)
         (W.contents out.old.writer.now) (W.contents out.new.writer.now)) }
 
-    // Why there is no answer, and what is written then. `Fault::Device` is told only of an error that the writer has answered, after which a
-    // beginning of the answer's text is written; none that it answers is passed over. A fault of the journal's device is another one.
+    // Why there is no answer, and what is written then. `Fault::Device` is told only of an error
+    // that the writer has answered, after which a beginning of the answer's text is written; none
+    // that it answers is passed over. A fault of the journal's device is another one.
     ensures refusal { IfErr result (HasNoAnswer InMemory how.limit domain.now problem.now
         (W.contents out.old.writer.now) (W.contents out.new.writer.now)
         out.old.fault out.new.fault) }
@@ -162,11 +165,13 @@ pub fn solve<W: Write, R: Threads + Wait + Sync + Eprint + Clock>(
     write_told(alloc, told, out)
 }
 
-/// The same, where the search is kept in a file: once it has answered, the journal there has all of its entries, also where `out` fails. A
-/// new journal wants a file that is not there or empty; one that is there goes on from the entries that are found in it, in its version.
+/// The same, where the search is kept in a file: once it has answered, the journal there has all
+/// of its entries, also where `out` fails. A new journal wants a file that is not there or empty;
+/// one that is there goes on from the entries that are found in it, in its version.
 ///
 /// # Errors
-/// The same, and, behind the faults of the texts, that the file can't be had, begun or gone on with.
+/// The same, and, behind the faults of the texts, that the file can't be had, begun or gone on
+/// with.
 pub fn solve_kept<P: Places, W: Write, R: Threads + Wait + Sync + Eprint + Clock>(
     rt: &R,
     alloc: Global,
@@ -179,7 +184,8 @@ pub fn solve_kept<P: Places, W: Write, R: Threads + Wait + Sync + Eprint + Clock
     out: &mut Watched<'_, W>,
 ) -> Result<Ending, Fault>
     requires { IsWorkers how.workers }
-    // The text is that of the plan that the entries answer which the file has at the end; they begin with those that were found in it.
+    // The text is that of the plan that the entries answer which the file has at the end; they
+    // begin with those that were found in it.
     ensures whole { IfOk result (Writes
         (InFile start (P.file_of places.old name.now) (P.file_of places.new name.now))
         how.limit domain.now problem.now

@@ -199,7 +199,8 @@ pub fn store_in(error: StoreError) -> Fault
     }
 }
 
-/// A fault of a file, a reader or a writer, by its error's kind: `NoMemory` where memory ran out, else `Device`.
+/// A fault of a file, a reader or a writer, by its error's kind: `NoMemory` where memory ran out,
+/// else `Device`.
 pub fn kind_fault(kind: io::ErrorKind) -> Fault
     ensures { TellsKind kind result }
 {

@@ -30,12 +30,12 @@ fn print_of(alloc: Global, domain: &[u8], problem: &[u8]) -> Result<Vec<u8>, Fau
     }
 }
 
-/// Writes the task that two texts say: how many actions, atoms and fluents it has, and then its actions in the order of their
-/// numbers, a line each.
+/// Writes the task that two texts say: how many actions, atoms and fluents it has, and then its
+/// actions in the order of their numbers, a line each.
 ///
 /// # Errors
-/// The first fault of the texts, or why the writer fails. After a fault of the writer a beginning of the text has been
-/// written, and else nothing.
+/// The first fault of the texts, or why the writer fails. After a fault of the writer a beginning
+/// of the text has been written, and else nothing.
 pub fn ground<W: Write>(
     alloc: Global,
     domain: &[u8],
@@ -50,8 +50,9 @@ pub fn ground<W: Write>(
         ⊎ WritesFrontOfA (IsPrintOf domain.now problem.now)
         (W.contents out.old.writer.now) (W.contents out.new.writer.now)) }
 
-    // Why nothing is written, or not all. `Device` is told only of an error that the writer has answered, after which a beginning of
-    // the task's text is written; none that it answers is passed over.
+    // Why nothing is written, or not all. `Device` is told only of an error that the writer has
+    // answered, after which a beginning of the task's text is written; none that it answers is
+    // passed over.
     ensures refusal { IfErr result (IsNotPrinted domain.now problem.now
         (W.contents out.old.writer.now) (W.contents out.new.writer.now)
         out.old.fault out.new.fault) }

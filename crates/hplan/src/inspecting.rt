@@ -42,12 +42,14 @@ fn told_of_file<P: Places>(alloc: Global, places: &mut P, name: &str) -> Result<
     told
 }
 
-/// Tells what the bytes of a file are, as a journal of any task: its version, the digest of the task's texts, how many entries and groups
-/// it has, and how many bytes stand behind them; or that a header is not there yet. The file is read, and left alone.
+/// Tells what the bytes of a file are, as a journal of any task: its version, the digest of the
+/// task's texts, how many entries and groups it has, and how many bytes stand behind them; or
+/// that a header is not there yet. The file is read, and left alone.
 ///
 /// # Errors
-/// That the file can't be read; why its bytes are no journal, or a damaged one; or what is told of the error that the writer has answered. A
-/// beginning of the text has then been written, and not all of it, and else nothing.
+/// That the file can't be read; why its bytes are no journal, or a damaged one; or what is told
+/// of the error that the writer has answered. A beginning of the text has then been written, and
+/// not all of it, and else nothing.
 pub fn inspect<P: Places, W: Write>(
     alloc: Global,
     places: &mut P,

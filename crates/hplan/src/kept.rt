@@ -29,7 +29,8 @@ use std::sync::Wait;
 use std::thread::Threads;
 use std::time::Clock;
 
-/// How many open nodes a worker settles before their outcomes are committed, or fewer, where no more are open.
+/// How many open nodes a worker settles before their outcomes are committed, or fewer, where no
+/// more are open.
 const TOGETHER: usize = 64;
 
 /// What a search that is kept in a file begins with.
@@ -41,7 +42,20 @@ pub enum Start {
     Kept,
 }
 
-/// What the search of a task by threads ends with over a journal. Where it is to tell how it stands, it does so on standard error.
+/// Answers how many open nodes a worker settles before their outcomes are committed: no more than
+/// the limit leaves, so that few are expanded in vain.
+fn together_for(limit: Option<u64>, entries: u64) -> usize {
+    match limit {
+        Some(limit) => {
+            let left = usize::try_from(limit.saturating_sub(entries)).unwrap_or(TOGETHER);
+            left.min(TOGETHER).max(1)
+        }
+        None => TOGETHER,
+    }
+}
+
+/// What the search of a task by threads ends with over a journal. Where it is to tell how it
+/// stands, it does so on standard error.
 fn concluded_of<S: Store, R: Threads + Wait + Sync + Eprint + Clock>(
     rt: &R,
     alloc: Global,
@@ -58,17 +72,19 @@ fn concluded_of<S: Store, R: Threads + Wait + Sync + Eprint + Clock>(
     ensures survives { Survives task.now journal.old journal.new }
 {
     let workers = how.workers as usize;
+    let found = journal.entries().len() as u64;
+    let together = together_for(how.limit, found);
     if !how.progress {
         return run(
-            rt, alloc, task, journal, workers, TOGETHER, how.limit, &OpenGate,
+            rt, alloc, task, journal, workers, together, how.limit, &OpenGate,
         );
     }
-    let found = journal.entries().len() as u64;
     let Ok(watch) = Watch::begin(rt, alloc, workers, found) else {
         return Err(ThreadsFault::Run(RunFault::NoMemory));
     };
+    watch.tell_rebuilding();
     let ended = run(
-        rt, alloc, task, journal, workers, TOGETHER, how.limit, &watch,
+        rt, alloc, task, journal, workers, together, how.limit, &watch,
     );
     watch.end();
     ended
@@ -192,6 +208,10 @@ pub fn solution_in_file<P: Places, R: Threads + Wait + Sync + Eprint + Clock>(
         Err(error) => return Err(store_in(error)),
     };
     let (disk, found) = solution_on(rt, alloc, task, start, digest, how, disk);
-    places.give_back(name, disk);
+    if is_made && found.is_err() {
+        places.take_back(name, disk);
+    } else {
+        places.give_back(name, disk);
+    }
     found
 }

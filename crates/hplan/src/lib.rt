@@ -1,6 +1,7 @@
-//! The planner hplan: from a command line to a plan (`solve`, `resume`), what a journal shows by itself
-//! (`certify`) or is (`inspect`), its entries in a journal of the second version (`migrate`), the actions of a task (`ground`), the verdict on a
-//! plan (`validate`), or what stands at the end of a schedule of a search (`replay`).
+//! The planner hplan: from a command line to a plan (`solve`, `resume`), what a journal shows by
+//! itself (`certify`) or is (`inspect`), its entries in a journal of the second version
+//! (`migrate`, also of a damaged one: `salvage`), the actions of a task (`ground`), the verdict
+//! on a plan (`validate`), or what stands at the end of a schedule of a search (`replay`).
 #![tactic(auto)]
 
 mod certifying;
@@ -18,6 +19,8 @@ mod places;
 mod program;
 mod reasons;
 mod replaying;
+mod salvaging;
+mod streams;
 mod survey_text;
 mod surveying;
 mod text;
@@ -37,6 +40,7 @@ pub use places::{Places, Shelf, SystemFiles};
 pub use program::{command, start};
 pub use reasons::explain;
 pub use replaying::replay;
+pub use salvaging::salvage;
 pub use surveying::survey;
 pub use told::Ending;
 pub use validating::validate;

@@ -98,7 +98,7 @@ fn kids_of<P: Places>(
 }
 
 /// Writes entries to a file that is not there or empty, as a journal of version two.
-fn copy_to<P: Places>(
+pub fn copy_to<P: Places>(
     alloc: Global,
     places: &mut P,
     name: &str,
@@ -127,7 +127,8 @@ fn copy_to<P: Places>(
     }
 }
 
-/// Writes entries to a file of another name, which is not there or empty, and answers what is told of that.
+/// Writes entries to a file of another name, which is not there or empty, and answers what is
+/// told of that.
 fn moved<P: Places>(
     alloc: Global,
     places: &mut P,
@@ -168,7 +169,8 @@ fn moved<P: Places>(
     }
 }
 
-/// Reads the entries of a journal of two texts in one file, writes them to another, and answers what is told of that.
+/// Reads the entries of a journal of two texts in one file, writes them to another, and answers
+/// what is told of that.
 fn migration<P: Places>(
     alloc: Global,
     places: &mut P,
@@ -200,15 +202,17 @@ fn migration<P: Places>(
     }
 }
 
-/// Writes all entries of the journal in one file, which is one of the task that two texts say, to another file, as a journal of version two
-/// in groups as large as may be; and tells how many they are. The first file is read, and left alone; the other has to be empty, or is
-/// made.
+/// Writes all entries of the journal in one file, which is one of the task that two texts say, to
+/// another file, as a journal of version two in groups as large as may be; and tells how many
+/// they are. The first file is read, and left alone; the other has to be empty, or is made.
 ///
 /// # Errors
-/// The first fault of the texts; that the first file can't be read; why its bytes are no journal of theirs; the first entry that is no step
-/// of a search of the task; that the other file is not empty, or is the same by its name, and then it is as it was; that it can't be had or
-/// written, and then it has a header that is still to be made, or a journal of the first of the entries; or what is told of the error that
-/// the writer has answered. A beginning of the text has then been written, and not all of it, and else nothing.
+/// The first fault of the texts; that the first file can't be read; why its bytes are no journal
+/// of theirs; the first entry that is no step of a search of the task; that the other file is not
+/// empty, or is the same by its name, and then it is as it was; that it can't be had or written,
+/// and then it has a header that is still to be made, or a journal of the first of the entries;
+/// or what is told of the error that the writer has answered. A beginning of the text has then
+/// been written, and not all of it, and else nothing.
 pub fn migrate<P: Places, W: Write>(
     alloc: Global,
     places: &mut P,
@@ -234,7 +238,8 @@ pub fn migrate<P: Places, W: Write>(
         (W.contents out.old.writer.now) (W.contents out.new.writer.now)
         out.old.fault out.new.fault) }
     ensures no_fault { OnOk result (out.new.fault ≡ out.old.fault) }
-    // The file that is read is as it was, and so is each file but the other, which is there still, if its bytes are known.
+    // The file that is read is as it was, and so is each file but the other, which is there
+    // still, if its bytes are known.
     ensures alone { P.file_of places.new from.now ≡ P.file_of places.old from.now }
     ensures known { is_some (P.file_of places.old to.now) ≡ true
         → is_some (P.file_of places.new to.now) ≡ true }

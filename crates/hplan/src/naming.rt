@@ -73,7 +73,8 @@ fn steps_of(alloc: Global, task: &Task, plan: &Plan) -> Result<Sequence<Step>, N
     Ok(Sequence::from_vec(steps))
 }
 
-/// A plan by the names of its steps, with its cost; none where a step of the plan is not applicable.
+/// A plan by the names of its steps, with its cost; none where a step of the plan is not
+/// applicable.
 pub fn named_plan(alloc: Global, task: &Task, plan: &Plan) -> Result<Option<NamedPlan>, NoMemory>
     ensures { IfOk result (λ found. MatchOption found
         (goes_through task.now plan.now ≡ false)

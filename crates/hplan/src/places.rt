@@ -4,6 +4,8 @@ ghost use Rattle.hd_store.specs.Device.{content_of};
 ghost use Rattle.hd_store.specs.MemoryDisk.{device_of};
 ghost use Rattle.hplan.specs.Places.{file_in, place_in, shown};
 
+use crate::streams::{is_output, is_same_file};
+use hd_image::FIRST_GATE;
 use hd_store::{FileStore, MemoryDisk, Store, StoreError};
 use std::alloc::{AllocError, Global};
 use std::fs::File;
@@ -27,7 +29,8 @@ pub trait Places {
             IfSome (file_of self.old name.now) (λ bytes. v.items ≡ bytes)) }
         ensures alone { self.new ≡ self.old };
 
-    /// Lends a file, and makes it, empty, if it is to be made and is not there. It is to be given back. All others are as they were.
+    /// Lends a file, and makes it, empty, if it is to be made and is not there. It is to be given
+    /// back. All others are as they were.
     ///
     /// # Errors
     /// A failure where it can't be had. Want of memory. All files are then as they were.
@@ -40,7 +43,8 @@ pub trait Places {
             → file_of self.new other ≡ file_of self.old other }
         ensures err { OnErr result (self.new ≡ self.old) };
 
-    /// Takes a file back, as it is now: one that is known is known still. All others are as they were.
+    /// Takes a file back, as it is now: one that is known is known still. All others are as they
+    /// were.
     fn give_back(&mut self, name: &str, disk: Self::Disk)
         ensures given { IfSome (file_of self.new name.now)
             (λ bytes. content_of (Self.Disk.device disk) ≡ bytes) }
@@ -48,18 +52,46 @@ pub trait Places {
             → is_some (file_of self.new name.now) ≡ true }
         ensures others { (other : List ℕ) → other ≢ name.now
             → file_of self.new other ≡ file_of self.old other };
+
+    /// Takes a file back behind a search that failed, as `give_back`. The system removes it if the
+    /// last `store` has made it, and it holds no entry.
+    fn take_back(&mut self, name: &str, disk: Self::Disk)
+        ensures given { IfSome (file_of self.new name.now)
+            (λ bytes. content_of (Self.Disk.device disk) ≡ bytes) }
+        ensures known { is_some (file_of self.old name.now) ≡ true
+            → is_some (file_of self.new name.now) ≡ true }
+        ensures others { (other : List ℕ) → other ≢ name.now
+            → file_of self.new other ≡ file_of self.old other };
+
+    /// Tells whether two names lead to the same file.
+    fn is_one_file(&self, one: &str, other: &str) -> bool;
 }
 
 /// The system's files, of whose bytes nothing is known.
 #[derive(Drop)]
 pub struct SystemFiles<'r, R> {
     rt: &'r R,
+    /// The file that was lent last was not there before.
+    is_made: bool,
 }
 
 impl<'r, R> SystemFiles<'r, R> {
     /// The files of this runtime.
     pub fn new(rt: &'r R) -> SystemFiles<'r, R> {
-        SystemFiles { rt }
+        SystemFiles { rt, is_made: false }
+    }
+}
+
+/// Makes an empty file where none is: tells whether it did.
+fn make_new<R: Files<File = File>>(rt: &R, name: &str) -> bool {
+    File::create_new(rt, name).is_ok()
+}
+
+/// Tells whether a file is too short for a journal's first entry.
+fn has_no_entry<R: Files>(rt: &R, name: &str) -> bool {
+    match fs::metadata(rt, name) {
+        Ok(metadata) => metadata.len() <= FIRST_GATE as u64 + 1,
+        Err(_) => false,
     }
 }
 
@@ -70,17 +102,36 @@ impl<R: Files<File = File> + AllocGlobal> Places for SystemFiles<'_, R> {
         fs::read(self.rt, name)
     }
 
+    /// Refuses what standard output or standard error is written to.
     fn store(&mut self, alloc: Global, name: &str, make: bool) -> Result<FileStore, StoreError> {
-        FileStore::open(self.rt, alloc, name, make)
+        if is_output(self.rt, name) {
+            return Err(StoreError::Failed);
+        }
+        let is_made = make && make_new(self.rt, name);
+        let disk = FileStore::open(self.rt, alloc, name, make)?;
+        self.is_made = is_made;
+        Ok(disk)
     }
 
     fn give_back(&mut self, _name: &str, disk: FileStore) {
         drop(disk);
     }
+
+    fn take_back(&mut self, name: &str, disk: FileStore) {
+        if self.is_made && has_no_entry(self.rt, name) {
+            // A file that stays is no reason for another fault: it holds nothing.
+            let _ = fs::remove_file(self.rt, name);
+        }
+        drop(disk);
+    }
+
+    fn is_one_file(&self, one: &str, other: &str) -> bool {
+        is_same_file(self.rt, one, other)
+    }
 }
 
-/// Files in memory, which contracts see as names with their bytes. A name names the first file that has it. A file that is lent is
-/// empty until it is given back.
+/// Files in memory, which contracts see as names with their bytes. A name names the first file
+/// that has it. A file that is lent is empty until it is given back.
 #[derive(Drop)]
 pub struct Shelf {
     files: Vec<(String, MemoryDisk)>,
@@ -137,7 +188,8 @@ impl Shelf {
         self.put_disk(alloc, name, disk)
     }
 
-    /// Puts a disk in the place of the first file of this name, whose disk is answered; or else it is answered itself.
+    /// Puts a disk in the place of the first file of this name, whose disk is answered; or else
+    /// it is answered itself.
     fn swap(&mut self, name: &str, disk: MemoryDisk) -> Result<MemoryDisk, MemoryDisk>
         ensures before { MatchResult result
             (λ was. file_in self.old name.now ≡ Some (content_of (device_of was)))
@@ -189,7 +241,8 @@ fn put_at(files: &mut [(String, MemoryDisk)], place: usize, disk: MemoryDisk) ->
     mem::replace(&mut files[place].1, disk)
 }
 
-/// Puts a disk in the place of the first file of this name, whose disk is answered; or else it is answered itself.
+/// Puts a disk in the place of the first file of this name, whose disk is answered; or else it is
+/// answered itself.
 fn exchange(
     files: &mut [(String, MemoryDisk)],
     name: &str,
@@ -238,5 +291,13 @@ impl Places for Shelf {
 
     fn give_back(&mut self, name: &str, disk: MemoryDisk) {
         let _ = self.swap(name, disk);
+    }
+
+    fn take_back(&mut self, name: &str, disk: MemoryDisk) {
+        self.give_back(name, disk);
+    }
+
+    fn is_one_file(&self, one: &str, other: &str) -> bool {
+        one == other
     }
 }

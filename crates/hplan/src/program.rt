@@ -16,6 +16,8 @@ use crate::output::write_out;
 use crate::places::{Places, SystemFiles};
 use crate::reasons::explain;
 use crate::replaying::replay;
+use crate::salvaging::salvage;
+use crate::streams::HeldStreams;
 use crate::surveying::survey;
 use crate::told::Ending;
 use crate::validating::validate;
@@ -100,7 +102,8 @@ fn read<P: Places>(alloc: Global, places: &mut P, name: &str) -> Result<Vec<u8>,
     }
 }
 
-/// Reads two files, and writes the plan of their task. The search is kept in the file of a journal, if one is named.
+/// Reads two files, and writes the plan of their task. The search is kept in the file of a
+/// journal, if one is named.
 fn solve_files<P: Places, O: Write, R: Threads + Wait + Sync + Eprint + Clock>(
     rt: &R,
     alloc: Global,
@@ -151,7 +154,8 @@ fn ground_files<P: Places, O: Write>(
     flush(out)
 }
 
-/// Reads two files, and tells what the journal in a third shows of their task. Whether it shows a verdict is answered.
+/// Reads two files, and tells what the journal in a third shows of their task. Whether it shows a
+/// verdict is answered.
 fn certify_files<P: Places, O: Write>(
     alloc: Global,
     places: &mut P,
@@ -180,7 +184,16 @@ fn status_of_certificate<E: Write>(err: &mut E, certified: Result<bool, Fault>) 
     }
 }
 
-/// Reads two files, and writes the entries of their journal in a third to a fourth.
+/// Tells whether the file to write a journal to is one of those that are read, by whatever name.
+/// Of the old journal's own name `migrate` tells.
+fn is_read_too<P: Places>(places: &P, texts: (&str, &str), from: &str, to: &str) -> bool {
+    places.is_one_file(to, texts.0)
+        || places.is_one_file(to, texts.1)
+        || (to != from && places.is_one_file(to, from))
+}
+
+/// Reads two files, and writes the entries of their journal in a third to a fourth, which has to
+/// be another file than the three.
 fn migrate_files<P: Places, O: Write>(
     alloc: Global,
     places: &mut P,
@@ -189,10 +202,32 @@ fn migrate_files<P: Places, O: Write>(
     to: &str,
     out: &mut O,
 ) -> Result<(), Fault> {
+    if is_read_too(places, texts, from, to) {
+        return Err(Fault::Device);
+    }
     let domain = read(alloc, places, texts.0)?;
     let problem = read(alloc, places, texts.1)?;
     let watched = &mut Watched::of(&mut *out);
     migrate(alloc, places, from, to, &domain, &problem, watched)?;
+    flush(out)
+}
+
+/// The same, up to the journal's damage.
+fn salvage_files<P: Places, O: Write>(
+    alloc: Global,
+    places: &mut P,
+    texts: (&str, &str),
+    from: &str,
+    to: &str,
+    out: &mut O,
+) -> Result<(), Fault> {
+    if is_read_too(places, texts, from, to) {
+        return Err(Fault::Device);
+    }
+    let domain = read(alloc, places, texts.0)?;
+    let problem = read(alloc, places, texts.1)?;
+    let watched = &mut Watched::of(&mut *out);
+    salvage(alloc, places, from, to, &domain, &problem, watched)?;
     flush(out)
 }
 
@@ -287,7 +322,8 @@ fn tell_reason<E: Write>(alloc: Global, files: &ThreeFiles, err: &mut E) {
     }
 }
 
-/// The exit status of a judged plan: a fault is told, and behind that of a plan its reason, where it is asked for.
+/// The exit status of a judged plan: a fault is told, and behind that of a plan its reason, where
+/// it is asked for.
 fn judge_files<O: Write, E: Write>(
     alloc: Global,
     files: &ThreeFiles,
@@ -304,7 +340,8 @@ fn judge_files<O: Write, E: Write>(
     status
 }
 
-/// The exit status of a search over a journal, if one is named: a new one, or the one that is there.
+/// The exit status of a search over a journal, if one is named: a new one, or the one that is
+/// there.
 fn answer_search<P: Places, O: Write, E: Write, R: Threads + Wait + Sync + Eprint + Clock>(
     rt: &R,
     alloc: Global,
@@ -321,7 +358,8 @@ fn answer_search<P: Places, O: Write, E: Write, R: Threads + Wait + Sync + Eprin
     status_of_search(err, ended)
 }
 
-/// The exit status of a plan in a file that is judged: a fault is told, and its reason, where it is asked for.
+/// The exit status of a plan in a file that is judged: a fault is told, and its reason, where it
+/// is asked for.
 fn answer_plan<P: Places, O: Write, E: Write>(
     alloc: Global,
     places: &mut P,
@@ -362,9 +400,15 @@ fn answer_of_files<P: Places, O: Write, E: Write>(
             problem,
             journal,
             to,
+            salvage,
         } => {
             let texts = (domain.as_str(), problem.as_str());
-            let done = migrate_files(alloc, places, texts, journal.as_str(), to.as_str(), out);
+            let (from, to) = (journal.as_str(), to.as_str());
+            let done = if *salvage {
+                salvage_files(alloc, places, texts, from, to, out)
+            } else {
+                migrate_files(alloc, places, texts, from, to, out)
+            };
             status_of(err, done)
         }
         Request::Inspect { journal } => {
@@ -450,15 +494,18 @@ fn answer<P: Places, O: Write, E: Write, R: Threads + Wait + Sync + Eprint + Clo
     }
 }
 
-/// Runs the words of a command line, of which the first is the program's name, and answers the exit status.
+/// Runs the words of a command line, of which the first is the program's name, and answers the
+/// exit status.
 ///
-/// The status is 0 for a plan, the actions of a task, a valid plan, a journal that shows a verdict, was migrated or was inspected, a schedule that was played, the help and the
-/// version, 1 for a fault and a journal that shows no verdict, 2 for a faulty command line, 10 where there is no plan, 11 where a number left the range and 12 where the search has
-/// stopped at its limit.
+/// The status is 0 for a plan, the actions of a task, a valid plan, a journal that shows a
+/// verdict, was migrated or was inspected, a schedule that was played, the help and the version,
+/// 1 for a fault and a journal that shows no verdict, 2 for a faulty command line, 10 where there
+/// is no plan, 11 where a number left the range and 12 where the search has stopped at its limit.
 ///
-/// What was asked for goes to `out`, and everything else to `err`. Faults are looked for in this order: the command line;
-/// the domain's file, the problem's, the plan's or the schedule's; the domain's text, the problem's; their names, types and metric; the grounding (not to
-/// validate); the plan's or the schedule's text; the journal; the work itself.
+/// What was asked for goes to `out`, and everything else to `err`. Faults are looked for in this
+/// order: the command line; the domain's file, the problem's, the plan's or the schedule's; the
+/// domain's text, the problem's; their names, types and metric; the grounding (not to validate);
+/// the plan's or the schedule's text; the journal; the work itself.
 pub fn command<P: Places, O: Write, E: Write, R: Threads + Wait + Sync + Eprint + Clock>(
     rt: &R,
     alloc: Global,
@@ -484,7 +531,25 @@ fn words_of<R: Env + AllocGlobal>(rt: &R) -> io::Result<Vec<String>> {
 }
 
 /// Runs the program with the system's words and files, and answers the exit status.
+///
+/// Before anything else, takes the places of closed streams, so that no file gets one of them.
 pub fn start<
+    R: Env + Files<File = File> + Threads + Wait + Sync + Eprint + Clock + AllocGlobal,
+    O: Write,
+    E: Write,
+>(rt: &R, out: &mut O, err: &mut E) -> u8 {
+    match HeldStreams::hold(rt) {
+        Ok(held) => {
+            let status = run_words(rt, out, err);
+            drop(held);
+            status
+        }
+        Err(error) => refuse(err, &device_fault(error)),
+    }
+}
+
+/// Runs the program with the system's words and files, where no stream is closed any more.
+fn run_words<
     R: Env + Files<File = File> + Threads + Wait + Sync + Eprint + Clock + AllocGlobal,
     O: Write,
     E: Write,

@@ -41,11 +41,13 @@ fn is_in_texts(fault: &TaskFault) -> bool
     }
 }
 
-/// Why the plan of a third text is not valid in the task that two texts say, in one line without its end: the first condition of an
-/// action or of the goal that does not hold, or what is out of the range, with the values of its fluents. Atoms come first, then
-/// equalities of objects, then comparisons, those of one kind as they are written.
+/// Why the plan of a third text is not valid in the task that two texts say, in one line without
+/// its end: the first condition of an action or of the goal that does not hold, or what is out of
+/// the range, with the values of its fluents. Atoms come first, then equalities of objects, then
+/// comparisons, those of one kind as they are written.
 ///
-/// `None` where the plan is valid, and where the fault itself says all: one of a text, `15`, `16` and `20`.
+/// `None` where the plan is valid, and where the fault itself says all: one of a text, `15`, `16`
+/// and `20`.
 ///
 /// # Errors
 /// Want of memory.

@@ -17,7 +17,8 @@ use hd_texts::{digest_of, task_of};
 use std::alloc::Global;
 use std::io::Write;
 
-/// What stands at the end of the schedule that a text says, played on a task from an empty disk on.
+/// What stands at the end of the schedule that a text says, played on a task from an empty disk
+/// on.
 fn played_in(
     alloc: Global,
     task: &Task,
@@ -65,12 +66,14 @@ fn report_text(alloc: Global, report: &Report) -> Result<Vec<u8>, NoMemory>
     Ok(text.into_bytes())
 }
 
-/// Plays the schedule of a third text on the task that two texts say, and writes what stands at its end: how many expansions there are, how
-/// many of them are acknowledged, how long the journal is, and the verdict, a line each. The journal is in memory, and empty at first.
+/// Plays the schedule of a third text on the task that two texts say, and writes what stands at
+/// its end: how many expansions there are, how many of them are acknowledged, how long the
+/// journal is, and the verdict, a line each. The journal is in memory, and empty at first.
 ///
 /// # Errors
-/// The first fault: of the first two texts; the first line of the third that is no move; why the schedule was not played to its end; or what
-/// is told of the error that the writer has answered. A beginning of the lines has then been written, and else nothing.
+/// The first fault: of the first two texts; the first line of the third that is no move; why the
+/// schedule was not played to its end; or what is told of the error that the writer has answered.
+/// A beginning of the lines has then been written, and else nothing.
 #[tactic(auto, using(crate::proofs::Replays::memory_unreported))]
 pub fn replay<W: Write>(
     alloc: Global,
@@ -79,7 +82,8 @@ pub fn replay<W: Write>(
     schedule: &[u8],
     out: &mut Watched<'_, W>,
 ) -> Result<(), Fault>
-    // The lines are exactly those of what the schedule comes to, and their verdict is true of all plans of the domain.
+    // The lines are exactly those of what the schedule comes to, and their verdict is true of all
+    // plans of the domain.
     ensures whole { OnOk result (WritesA (IsReportText domain.now problem.now schedule.now)
         (W.contents out.old.writer.now) (W.contents out.new.writer.now)) }
     ensures front { OnErr result
@@ -87,8 +91,9 @@ pub fn replay<W: Write>(
         ⊎ WritesFrontOfA (IsReportText domain.now problem.now schedule.now)
         (W.contents out.old.writer.now) (W.contents out.new.writer.now)) }
 
-    // Why nothing is written, or not all. `Device` is told only of an error that the writer has answered, after which a beginning of
-    // the lines is written; none that it answers is passed over.
+    // Why nothing is written, or not all. `Device` is told only of an error that the writer has
+    // answered, after which a beginning of the lines is written; none that it answers is passed
+    // over.
     ensures refusal { IfErr result (HasNoReport domain.now problem.now schedule.now
         (W.contents out.old.writer.now) (W.contents out.new.writer.now)
         out.old.fault out.new.fault) }

@@ -118,14 +118,17 @@ fn survey_of<P: Places>(
     }
 }
 
-/// Tells what the bytes of a file are, as `inspect` does, and behind it how far the search of the task that two texts say has come by the
-/// entries in it: how many plans are posted, and how many of them settled, as far as the entries show it; the bound with its plan; the first
-/// departure; and how many entries there are of each depth, and of each cost. The file is read, and left alone.
+/// Tells what the bytes of a file are, as `inspect` does, and behind it how far the search of the
+/// task that two texts say has come by the entries in it: how many plans are posted, and how many
+/// of them settled, as far as the entries show it; the bound with its plan; the first departure;
+/// and how many entries there are of each depth, and of each cost. The file is read, and left
+/// alone.
 ///
 /// # Errors
-/// The first fault of the texts; that the file can't be read; why its bytes are no journal of theirs; the first entry that is no step
-/// of a search of the task; or what is told of the error that the writer has answered. A beginning of the text has then been written,
-/// and not all of it, and else nothing.
+/// The first fault of the texts; that the file can't be read; why its bytes are no journal of
+/// theirs; the first entry that is no step of a search of the task; or what is told of the error
+/// that the writer has answered. A beginning of the text has then been written, and not all of
+/// it, and else nothing.
 pub fn survey<P: Places, W: Write>(
     alloc: Global,
     places: &mut P,

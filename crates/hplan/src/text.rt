@@ -5,6 +5,7 @@ ghost use Rattle.hd_task.specs.Plans.{Node};
 ghost use Rattle.hplan.specs.Inspection.{digest_line, inspected_text, summary_text, version_number};
 ghost use Rattle.hplan.specs.Certifying.{certified_text, verdict_text, optimal_text, CanBeTold};
 ghost use Rattle.hplan.specs.Migrating.{migrated_text};
+ghost use Rattle.hplan.specs.Salvaging.{dropped_line, salvaged_text};
 ghost use Rattle.hplan.specs.TaskText.{action_text, departing_text, departure_text, count_line, numbered_line, numbered_lines, task_text};
 ghost use Rattle.hplan.specs.Verdict.{valid_text};
 
@@ -106,7 +107,8 @@ fn push_actions(alloc: Global, text: &mut String, task: &Task) -> Result<(), NoM
     Ok(())
 }
 
-/// A task: how many actions, atoms and fluents it has, and then its actions in the order of their numbers, a line each.
+/// A task: how many actions, atoms and fluents it has, and then its actions in the order of their
+/// numbers, a line each.
 pub fn task_text(alloc: Global, task: &Task) -> Result<Vec<u8>, NoMemory>
     ensures { IfOk result (λ v. v.items ≡ task_text task.now) }
 {
@@ -124,6 +126,28 @@ pub fn migrated_text(alloc: Global, entries: u64) -> Result<Vec<u8>, NoMemory>
 {
     let mut text = String::new(alloc);
     push_count(alloc, &mut text, "migrated", entries)?;
+    Ok(text.into_bytes())
+}
+
+/// The line that tells from which byte on a file is dropped, if it is, behind a text.
+fn push_dropped(alloc: Global, text: &mut String, dropped: Option<u64>) -> Result<(), NoMemory>
+    ensures { OnOk result (string_bytes text.new
+        ≡ string_bytes text.old ++ dropped_line dropped) }
+{
+    match dropped {
+        Some(at) => push_count(alloc, text, "dropped from byte", at),
+        None => Ok(()),
+    }
+}
+
+/// How it is told how many entries were written to another file, and from which byte on the rest
+/// is dropped, if it is.
+pub fn salvaged_text(alloc: Global, entries: u64, dropped: Option<u64>) -> Result<Vec<u8>, NoMemory>
+    ensures { IfOk result (λ v. v.items ≡ salvaged_text entries dropped) }
+{
+    let mut text = String::new(alloc);
+    push_count(alloc, &mut text, "migrated", entries)?;
+    push_dropped(alloc, &mut text, dropped)?;
     Ok(text.into_bytes())
 }
 

@@ -51,12 +51,13 @@ fn cost_of_texts(alloc: Global, domain: &[u8], problem: &[u8], plan: &[u8]) -> R
     }
 }
 
-/// Judges the plan of a third text on the task that two texts say, without grounding it, and writes `valid; cost = N`.
+/// Judges the plan of a third text on the task that two texts say, without grounding it, and
+/// writes `valid; cost = N`.
 ///
 /// # Errors
-/// The first fault: of the domain's text, of the problem's, of their names, types and metric; the first bad line of the plan's
-/// text; the first fault of the plan; or why the writer fails. After a fault of the writer a beginning of the verdict has been
-/// written, and else nothing.
+/// The first fault: of the domain's text, of the problem's, of their names, types and metric; the
+/// first bad line of the plan's text; the first fault of the plan; or why the writer fails. After
+/// a fault of the writer a beginning of the verdict has been written, and else nothing.
 #[tactic(auto, using(crate::proofs::Explaining::memory_without_verdict))]
 pub fn validate<W: Write>(
     alloc: Global,
@@ -73,8 +74,9 @@ pub fn validate<W: Write>(
         ⊎ WritesFrontOfA (IsVerdictOf domain.now problem.now plan.now)
         (W.contents out.old.writer.now) (W.contents out.new.writer.now)) }
 
-    // Why nothing is written, or not all. `Device` is told only of an error that the writer has answered, after which a beginning of
-    // the verdict is written; none that it answers is passed over.
+    // Why nothing is written, or not all. `Device` is told only of an error that the writer has
+    // answered, after which a beginning of the verdict is written; none that it answers is passed
+    // over.
     ensures refusal { IfErr result (HasNoVerdict domain.now problem.now plan.now
         (W.contents out.old.writer.now) (W.contents out.new.writer.now)
         out.old.fault out.new.fault) }

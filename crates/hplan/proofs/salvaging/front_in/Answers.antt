@@ -1,0 +1,31 @@
+use Rattle.std.proofs.Common.{ℕ, ◌≤◌, sym, ◌∙◌, ap, subst}
+use Rattle.hd_image.specs.declared.version.Version.TheVariants.{Two}
+use Rattle.hd_image.specs.Image.{most_of}
+use Rattle.hd_journal.specs.Journal.{version_in}
+use Rattle.hplan.specs.Fault.{journal_in}
+use Rattle.hplan.specs.Salvaging.{KeepsNothing, OfContent}
+use Rattle.hplan.proofs.Moving.{most_fits}
+use Rattle.hplan.proofs.Salvages.{salvaged_by, kept_refused}
+use Rattle.hplan.proofs.salvaging.front_in.Goals as goal
+
+pub returns-in-Err-clause-refusal : goal.returns-in-Err-clause-refusal
+returns-in-Err-clause-refusal c =
+    subst (KeepsNothing c.args.task.now c.args.digest.now c.args.content.items) (sym (c.journal_in.ensures ∙ ap journal_in c.from.ensures))
+    (OfContent c.in-Err.error c.in-Err.ensures.refused)
+
+pub returns-in-Ok-kids-clause-kept : goal.returns-in-Ok-kids-clause-kept
+returns-in-Ok-kids-clause-kept c =
+    salvaged_by c.args.task.now c.args.digest.now c.args.content.items c.in-Ok.salvaged.dropped c.in-Ok.salvaged.found _ _ c.in-Ok-kids.kids.items
+    c.in-Ok.ensures.salvaged c.as_slice.ensures c.entries_of-entries.ensures.entries c.in-Ok-kids.ensures.kids c.in-Ok-kids.ensures.legal
+
+pub returns-in-Ok-kids-clause-fit : goal.returns-in-Ok-kids-clause-fit
+returns-in-Ok-kids-clause-fit c =
+    c.in-Ok-kids.ensures.numbered (most_of Two)
+    (subst (λ (m : ℕ). m ≤ most_of Two) (sym c.entries_of-entries.ensures.most) (most_fits (version_in c.in-Ok.salvaged.found)))
+
+pub returns-in-Err-kids-clause-refusal : goal.returns-in-Err-kids-clause-refusal
+returns-in-Err-kids-clause-refusal c =
+    subst (KeepsNothing c.args.task.now c.args.digest.now c.args.content.items) (sym c.certify_in.ensures)
+    (kept_refused c.args.task.now c.args.digest.now c.args.content.items c.in-Ok.salvaged.dropped c.in-Ok.salvaged.found _ _ _
+    c.in-Err-kids.error c.in-Ok.ensures.salvaged c.as_slice.ensures c.entries_of-entries.ensures.entries c.entries_of-entries.ensures.most
+    c.in-Err-kids.ensures.refused)

@@ -1,0 +1,16 @@
+use Rattle.std.proofs.Common.{refl, sym, ◌∙◌}
+use Rattle.hplan.specs.Salvaging.{OneName, OfMemory}
+use Rattle.hplan.proofs.Salvages.{unsaved_by}
+use Rattle.hplan.proofs.Shelves.{same_bytes}
+use Rattle.hplan.proofs.salvaging.saved.Goals as goal
+
+pub returns-then-eq-clause-refusal : goal.returns-then-eq-clause-refusal
+returns-then-eq-clause-refusal g c = OneName (same_bytes c.args.from.now c.args.to.now (sym c.eq.ensures ∙ c.if-eq.true)) refl
+
+pub returns-in_default-clause-refusal : goal.returns-in_default-clause-refusal
+returns-in_default-clause-refusal g c = OfMemory refl
+
+pub returns-in-Err-clause-refusal : goal.returns-in-Err-clause-refusal
+returns-in-Err-clause-refusal g c =
+    unsaved_by c.args.domain.now c.args.problem.now c.args.from.now c.args.to.now _ _ _ c.args.front.now.dropped c.args.front.now.kids.items _
+    _ c.in-Err.fault c.requires.kept c.digest_of.ensures c.deref.ensures.value c.in-Err.ensures.refusal
