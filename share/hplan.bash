@@ -28,7 +28,7 @@ _hplan() {
         ;;
     solve | resume) options="--journal --workers --limit --progress --help" ;;
     certify | inspect) options="--journal --help" ;;
-    migrate) options="--journal --to --help" ;;
+    migrate) options="--journal --to --salvage --help" ;;
     validate) options="--explain --help" ;;
     ground | replay) options="--help" ;;
     esac

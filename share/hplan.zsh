@@ -26,7 +26,7 @@ _hplan() {
     case $words[2] in
         solve | resume) _arguments '*:file:_files' '--journal[file of the search]:file:_files' $search '--help[print help]' ;;
         certify | inspect) _arguments '*:file:_files' '--journal[file of the search]:file:_files' '--help[print help]' ;;
-        migrate) _arguments '*:file:_files' '--journal[file to copy]:file:_files' '--to[file to write]:file:_files' '--help[print help]' ;;
+        migrate) _arguments '*:file:_files' '--journal[file to copy]:file:_files' '--to[file to write]:file:_files' '--salvage[keep what is before the damage]' '--help[print help]' ;;
         validate) _arguments '*:file:_files' '--explain[print the reason of an error]' '--help[print help]' ;;
         ground | replay) _arguments '*:file:_files' '--help[print help]' ;;
         help) _describe command commands ;;
