@@ -1,4 +1,5 @@
--- What stops left is opened, in one way; nothing is said against it; and what the calls that open it make of it.
+-- What stops left is opened, in one way; nothing is said against it; and what the calls that open
+-- it make of it.
 use Rattle.std.proofs.Common.{◌≡◌, ◌≢◌, inl, inr, ℕ, List, [], ◌∷◌, ◌++◌, length, refl, sym, ap, ap₂, ◌∙◌, subst, arith}
 use Rattle.std.specs.List.{AllByRecursion}
 use Rattle.hd_task.specs.declared.plan.Kid.{Kid}

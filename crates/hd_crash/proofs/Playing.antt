@@ -128,7 +128,8 @@ module _ (t : Task) (digest : List ℕ) (doing : Doing) (len : length digest ≡
       subst (IsGoneOn t digest doing) (sym (is ∙ recovered_is t digest workers f (on f found)))
       (found, record { workers = workers; some = few.0; most = few.1; is = refl })
 
-  -- so a search that goes on is the one after the entries of such a journal, with the workers of the resumption
+  -- so a search that goes on is the one after the entries of such a journal, with the workers of
+  -- the resumption
   pub resumed_with : (content : List ℕ) (workers : ℕ) (stop : Option StopAt) (f : File) (r : Run) → IsLeft digest doing content
       → ResumesTo Anything t digest content workers stop (Running f r)
       → IsFoundAfter doing f × (1 ≤ workers) × (workers ≤ MAX_WORKERS) × (r ≡ run_after t (most_of f.version) workers (entries_of f))

@@ -1,4 +1,5 @@
--- The disk that a stop within a call finds: what it may leave is what may be left at one moment of all calls.
+-- The disk that a stop within a call finds: what it may leave is what may be left at one moment
+-- of all calls.
 use Rattle.std.proofs.Common.{◌≡◌, inl, ℕ, zero, suc, List, [], ◌∷◌, ◌++◌, refl, sym, ap, ◌∙◌, subst, append_assoc}
 use Rattle.std.proofs.lemmas.List.{append_cancel_right}
 use Rattle.hd_store.specs.declared.ahead.Ahead.TheVariants.{Unknown}
@@ -43,7 +44,8 @@ at_call d (Writing at bytes) calls = at_one d (Writing at bytes) calls
 at_call d (Cutting len) calls = at_one d (Cutting len) calls
 at_call d Syncing calls = at_first d (Syncing ∷ calls)
 
--- where it is between the device behind a call and the last one, it is between that before it and the last one
+-- where it is between the device behind a call and the last one, it is between that before it and
+-- the last one
 one_earlier : (d now last : Device) (call : Call) → IsBetween (after_call d call) now last → IsBetween d now last
 one_earlier d now last call b = record {
   start = b.start;

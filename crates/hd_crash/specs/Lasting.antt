@@ -11,7 +11,8 @@ use Rattle.hd_world.specs.Stops.{File, entries_of}
 use Rattle.hd_world.specs.World.{World, Stopped, Running, is_recovered}
 use Rattle.hd_crash.specs.Left.{Doing, Standing, Appending, HasGroups, IsLeft, IsFoundAfter}
 
--- what is going on in a run, as far as its disk knows: a journal stands there, and the group that was pulled may be being appended to it
+-- what is going on in a run, as far as its disk knows: a journal stands there, and the group that
+-- was pulled may be being appended to it
 abbrev pub doing_in : File → Option GroupView → Doing
 doing_in f None = Standing f
 doing_in f (Some g) = Appending f g.kids
@@ -27,7 +28,8 @@ pub record IsRunAfter (t : Task) (f : File) (r : Run) : Type 0 where
   pub most : workers ≤ MAX_WORKERS
   pub is : r ≡ run_after t (most_of f.version) workers (entries_of f)
 
--- what resumptions, of what stops left, come to: what these may have left; or a search that goes on from a journal that may be found
+-- what resumptions, of what stops left, come to: what these may have left; or a search that goes
+-- on from a journal that may be found
 abbrev pub IsGoneOn : Task → List ℕ → Doing → World → Type 0
 IsGoneOn t digest doing (Stopped content) = IsLeft digest doing content
 IsGoneOn t digest doing (Running f r) = IsFoundAfter doing f × IsRunAfter t f r

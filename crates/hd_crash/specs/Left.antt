@@ -8,7 +8,8 @@ use Rattle.hd_image.specs.Image.{IsGroup}
 use Rattle.hd_image.specs.Stops.{IsClosed, IsBeforeOrAfter, IsMaking}
 use Rattle.hd_world.specs.Stops.{File, first_file, AreGroups, with_group}
 
--- what was going on when the first of some stops fell: a journal was being made; or one stood there; or a group was being appended to it
+-- what was going on when the first of some stops fell: a journal was being made; or one stood
+-- there; or a group was being appended to it
 pub data Doing : Type 0 where
   Making : Doing
   Standing : File → Doing

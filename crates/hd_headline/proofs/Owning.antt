@@ -1,4 +1,5 @@
--- Where a search goes on, each open kid and each closed entry is at its owner, and each open kid is in exactly one place.
+-- Where a search goes on, each open kid and each closed entry is at its owner, and each open kid
+-- is in exactly one place.
 use Rattle.std.proofs.Common.{◌≡◌, ℕ, ◌%◌, ◌<◌, ◌≤◌, true, false, cond, not, Some, None, List, [], map, length, slice_get, Contains, refl, sym, ap, ◌∙◌, subst, arith, true≢false}
 use Rattle.std.specs.List.{range_with_len}
 use Rattle.std.proofs.lemmas.Bool.{eq-eqb, ltb-true, ltb-false}

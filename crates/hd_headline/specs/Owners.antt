@@ -1,5 +1,5 @@
--- Where the kids and the entries of a search are when it goes on. (Our own; that the hash of a state names its owner is HDA*'s, Kishimoto,
--- Fukunaga and Botea 2013.)
+-- Where the kids and the entries of a search are when it goes on. (Our own; that the hash of a
+-- state names its owner is HDA*'s, Kishimoto, Fukunaga and Botea 2013.)
 use Rattle.std.specs.Prelude.{◌≡◌, ℕ, ◌%◌, List, Some, Contains}
 use Rattle.hd_task.specs.declared.task.Task.{Task}
 use Rattle.hd_task.specs.declared.plan.Kid.{Kid}
@@ -12,14 +12,16 @@ use Rattle.hd_entries.specs.Resuming.{resumed_state}
 use Rattle.hd_closed.specs.Closed.{Closed}
 use Rattle.hd_recovery.specs.Recovered.{recovered_worker}
 
--- a kid is open at the worker that owns its state, with the state and the cost that its plan leads to
+-- a kid is open at the worker that owns its state, with the state and the cost that its plan
+-- leads to
 pub record IsOpenAtOwner (t : Task) (entries : List Kid) (workers : ℕ) (k : Kid) : Type 0 where
   pub parcel : Released
   pub kid : parcel.kid ≡ k
   pub leads : node_of (resumed_state t entries) k ≡ Some (node parcel.state parcel.cost)
   pub among : Contains (recovered_worker t entries (state_hash parcel.state % workers) workers).waiting parcel
 
--- the entry of a number is closed at the worker that owns its state, with the state and the cost that its plan leads to
+-- the entry of a number is closed at the worker that owns its state, with the state and the cost
+-- that its plan leads to
 pub record IsClosedAtOwner (t : Task) (entries : List Kid) (workers : ℕ) (n : ℕ) : Type 0 where
   pub closed : Closed
   pub by : closed.by ≡ Entry n

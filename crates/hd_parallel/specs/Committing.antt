@@ -14,8 +14,8 @@ use Rattle.hd_threads.specs.Committing.{StopsLater}
 use Rattle.hd_threads.specs.Surviving.{Survives}
 use Rattle.hd_parallel.specs.declared.opening.CommitterPlace.{CommitterPlace}
 
--- the committer is at the desk: it has the whole of the ledger of what is acknowledged, which is just the journal's entries, and the log that
--- it has seen begins with these
+-- the committer is at the desk: it has the whole of the ledger of what is acknowledged, which is
+-- just the journal's entries, and the log that it has seen begins with these
 pub record CanRun {L A S : Type 0} {G : Ghosts S} (parts : ℕ) (d : Desk L A) (c : CommitterPlace L A) (journal : Journal S G) : Type 0 where
   pub outside : IsOutside d.lock.place c.pass
   pub whole : c.share.parts ≡ parts
@@ -23,8 +23,9 @@ pub record CanRun {L A S : Type 0} {G : Ghosts S} (parts : ℕ) (d : Desk L A) (
   pub begins : BeginsWith (view c.pass).seen.log (kids_of journal)
   pub counted : c.share.amount ≡ length (kids_of journal)
 
--- the committer has ended: it is at the desk, of the same task, and the log that it has seen begins with the journal's entries, which begin with
--- those before; nothing of the journal was lost at any moment
+-- the committer has ended: it is at the desk, of the same task, and the log that it has seen
+-- begins with the journal's entries, which begin with those before; nothing of the journal was
+-- lost at any moment
 pub record HasEnded {L A S : Type 0} {G : Ghosts S} (d : Desk L A) (c : CommitterPlace L A) (old : Journal S G) (c' : CommitterPlace L A) (new : Journal S G) (done : Result (Unit {0}) RunFault) : Type 0 where
   pub outside : IsOutside d.lock.place c'.pass
   pub task : (view c'.pass).seen.task ≡ (view c.pass).seen.task

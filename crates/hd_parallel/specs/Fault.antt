@@ -20,7 +20,8 @@ abbrev pub text_of : ThreadsFault → List ℕ
 text_of (Run fault) = search.text_of fault
 text_of NoThread = codes "NoThread"
 
--- why a search can't go on from entries: there are more than there may be; the first faulty one stands at this place; or there is no memory
+-- why a search can't go on from entries: there are more than there may be; the first faulty one
+-- stands at this place; or there is no memory
 abbrev pub IsFaulty : Task → ℕ → List Entry → RunFault → Type 0
 IsFaulty t most entries Full = most < length entries
 IsFaulty t most entries (Damaged at) = (length entries ≤ most) × IsDamagedAt t entries at
@@ -29,18 +30,21 @@ IsFaulty t most entries Failed = ⊥
 IsFaulty t most entries NotOut = ⊥
 IsFaulty t most entries NoMemory = Unit {0}
 
--- what the fault may be that the threads of workers give: that of a worker, or that one does not start
+-- what the fault may be that the threads of workers give: that of a worker, or that one does not
+-- start
 abbrev pub IsOfThreads : ThreadsFault → Type 0
 IsOfThreads (Run fault) = IsOfWorker fault
 IsOfThreads NoThread = Unit {0}
 
--- what is told of how the committer ended and of how the threads of workers did: the committer's fault, if it ended by one
+-- what is told of how the committer ended and of how the threads of workers did: the committer's
+-- fault, if it ended by one
 abbrev pub first_of : Result (Unit {0}) RunFault → Result (Unit {0}) ThreadsFault → Result (Unit {0}) ThreadsFault
 first_of (Ok done) threads = threads
 first_of (Err fault) threads = Err (Run fault)
 
--- what a fault tells by which a search stops whose threads run, of the journal before it and of the journal afterwards. Where the device did
--- not fail, the journal has the entries that it had, and maybe more behind them, in whole groups
+-- what a fault tells by which a search stops whose threads run, of the journal before it and of
+-- the journal afterwards. Where the device did not fail, the journal has the entries that it had,
+-- and maybe more behind them, in whole groups
 abbrev pub StopsRunning : {S : Type 0} {G : Ghosts S} → Journal S G → Journal S G → RunFault → Type 0
 StopsRunning old new Full = Grows old new
 StopsRunning old new (Damaged at) = ⊥
@@ -54,7 +58,8 @@ abbrev pub Stops : {S : Type 0} {G : Ghosts S} → Journal S G → Journal S G �
 Stops old new (Run fault) = StopsRunning old new fault
 Stops old new NoThread = Grows old new
 
--- what a fault tells of a search by threads over a journal: it can't go on from the journal's entries, and nothing is written; or it stops later
+-- what a fault tells of a search by threads over a journal: it can't go on from the journal's
+-- entries, and nothing is written; or it stops later
 abbrev pub Tells : {S : Type 0} {G : Ghosts S} → Task → Journal S G → Journal S G → ThreadsFault → Type 0
 Tells t old new (Run fault) = ((new ≡ old) × IsFaulty t (most_of old.version) old.entries.items fault) ⊎ StopsRunning old new fault
 Tells t old new NoThread = Grows old new

@@ -1,4 +1,5 @@
--- A search that is opened for its threads. (Our own; the search is HDA*, Kishimoto, Fukunaga and Botea 2013.)
+-- A search that is opened for its threads. (Our own; the search is HDA*, Kishimoto, Fukunaga and
+-- Botea 2013.)
 use Rattle.std.specs.Prelude.{◌≡◌, ℕ, ◌+◌, ◌<◌, ◌≤◌, List, [], ◌∷◌, length, Some}
 use Rattle.std.specs.List.{AllByRecursion}
 use Rattle.crossbeam_queue.specs.Passes.{view}
@@ -25,7 +26,8 @@ pub record HasSeen (t : Task) (kids : List Kid) (s : Seen Task Kid) : Type 0 whe
   pub task : s.task ≡ Some t
   pub log : s.log ≡ kids
 
--- there is room for so many places more at a desk: of all that a place has a part of, more parts are left
+-- there is room for so many places more at a desk: of all that a place has a part of, more parts
+-- are left
 pub record HasRoom {L A : Type 0} (t : Task) (log : List Kid) (d : Desk L A) (left : ℕ) (r : Rest L A) : Type 0 where
   pub outside : IsOutside d.lock.place r.pass
   pub seen : HasSeen t log (view r.pass).seen
@@ -42,14 +44,16 @@ abbrev pub AreNumbered : {L A : Type 0} → ℕ → ℕ → List (Workplace L A)
 AreNumbered from workers [] = Unit {0}
 AreNumbered from workers (p ∷ places) = (p.worker.id ≡ from) × (p.worker.workers ≡ workers) × AreNumbered (from + 1) workers places
 
--- each place is at the desk, of the worker of its number, and there is a mailbox for each, of as many as there may be
+-- each place is at the desk, of the worker of its number, and there is a mailbox for each, of as
+-- many as there may be
 pub record AreAt {L A : Type 0} (d : Desk L A) (places : List (Workplace L A)) : Type 0 where
   pub each : AllByRecursion (IsAt d) places
   pub numbered : AreNumbered 0 (length places) places
   pub boxes : length places ≡ length d.boxes
   pub few : length places ≤ MAX_WORKERS
 
--- a place is at the desk, which has a mailbox for each of so many workers, of whom the place's has this number
+-- a place is at the desk, which has a mailbox for each of so many workers, of whom the place's
+-- has this number
 pub record IsJob {L A : Type 0} (d : Desk L A) (p : Workplace L A) (id workers : ℕ) : Type 0 where
   pub at : IsAt d p
   pub own : p.worker.id ≡ id
@@ -58,8 +62,8 @@ pub record IsJob {L A : Type 0} (d : Desk L A) (p : Workplace L A) (id workers :
   pub few : workers ≤ MAX_WORKERS
   pub boxes : workers ≤ length d.boxes
 
--- the committer is at the desk: it has the whole of the ledger of what is acknowledged, which is just these entries, and has seen the book
--- with just these
+-- the committer is at the desk: it has the whole of the ledger of what is acknowledged, which is
+-- just these entries, and has seen the book with just these
 pub record CanCommit {L A : Type 0} (t : Task) (parts : ℕ) (d : Desk L A) (c : CommitterPlace L A) (kids : List Kid) : Type 0 where
   pub outside : IsOutside d.lock.place c.pass
   pub seen : HasSeen t kids (view c.pass).seen

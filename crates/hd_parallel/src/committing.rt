@@ -11,8 +11,8 @@ use std::alloc::Global;
 use std::sync::Wait;
 use std::sync::ledger::Ledger;
 
-/// What is done beside the threads of a scope. A closure that holds a `&mut` says nothing of it afterwards, one that holds a value of a type
-/// parameter says what that type's call gives.
+/// What is done beside the threads of a scope. A closure that holds a `&mut` says nothing of it
+/// afterwards, one that holds a value of a type parameter says what that type's call gives.
 pub(crate) trait Beside {
     type Output;
 
@@ -48,7 +48,8 @@ pub(crate) struct Ended<'t, 'j, L: Ledger, A: Ledger, S: Store> {
     pub(crate) done: Result<(), RunFault>,
 }
 
-/// Takes the committer's rounds to the end of the search. Where the threads did not all start, the book is halted first.
+/// Takes the committer's rounds to the end of the search. Where the threads did not all start,
+/// the book is halted first.
 ///
 /// # Errors
 /// Those of a round.

@@ -53,7 +53,8 @@ pub(crate) fn of_recovery(fault: RecoverFault) -> RunFault
     }
 }
 
-/// What is told first, of how the committer ended and of how the workers' threads did: the committer's fault.
+/// What is told first, of how the committer ended and of how the workers' threads did: the
+/// committer's fault.
 pub(crate) fn first_of(
     committer: Result<(), RunFault>,
     threads: Result<(), ThreadsFault>,

@@ -1,5 +1,6 @@
-//! The search of a task over a journal by several workers, each in a thread of its own, and a committer: it is opened from the journal's
-//! entries, run, and answered when all threads have ended.
+//! The search of a task over a journal by several workers, each in a thread of its own, and a
+//! committer: it is opened from the journal's entries, run, and answered when all threads have
+//! ended.
 #![tactic(auto)]
 
 mod committing;

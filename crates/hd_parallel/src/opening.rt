@@ -28,14 +28,16 @@ use std::alloc::Global;
 use std::sync::Wait;
 use std::sync::ledger::{Blank, Ledger, Share};
 
-/// What the committer has of its own: a pass of the lock, and the whole of the ledger of what is acknowledged.
+/// What the committer has of its own: a pass of the lock, and the whole of the ledger of what is
+/// acknowledged.
 #[derive(Drop)]
 pub(crate) struct CommitterPlace<'t, L: Ledger, A: Ledger> {
     pub(crate) pass: Pass<SharedBook<'t, L, A>>,
     pub(crate) share: Share<A>,
 }
 
-/// What is not given to a worker yet: a pass of the lock, a share of the commits, a seat at the bound, and hands at the mailboxes.
+/// What is not given to a worker yet: a pass of the lock, a share of the commits, a seat at the
+/// bound, and hands at the mailboxes.
 #[derive(Drop)]
 pub(crate) struct Rest<'t, L: Ledger, A: Ledger> {
     pass: Pass<SharedBook<'t, L, A>>,
@@ -44,7 +46,8 @@ pub(crate) struct Rest<'t, L: Ledger, A: Ledger> {
     hands: Hands<'t, Task, Letter<'t>>,
 }
 
-/// A search that is opened: what its threads share, the committer's place, and the workers' places in the order of their numbers.
+/// A search that is opened: what its threads share, the committer's place, and the workers'
+/// places in the order of their numbers.
 #[derive(Drop)]
 pub(crate) struct Opened<'t, L: Ledger, A: Ledger> {
     pub(crate) desk: Desk<'t, L, A>,
@@ -68,7 +71,8 @@ fn letter_of<'t>(alloc: Global, task: &'t Task) -> Result<Letter<'t>, NoMemory>
     Ok(Letter::of(Parcel::of(alloc, task, &words, root, initial, 0)?))
 }
 
-/// What threads share of a book, with so many mailboxes; the whole of what a book's committer has; and the rest.
+/// What threads share of a book, with so many mailboxes; the whole of what a book's committer
+/// has; and the rest.
 ///
 /// # Errors
 /// `NoMemory` where there is no room for it.
@@ -172,8 +176,8 @@ fn places_of<'t, L: Ledger, A: Ledger>(
 /// The search with the entries of a journal, opened for so many workers.
 ///
 /// # Errors
-/// `Full` where there are more entries than the journal may have; `Damaged` of the first that makes no legal list with those before it;
-/// `NoMemory`.
+/// `Full` where there are more entries than the journal may have; `Damaged` of the first that
+/// makes no legal list with those before it; `NoMemory`.
 pub(crate) fn open_search<'t, L: Ledger, A: Ledger, S: Store, R: Wait>(
     rt: &R,
     alloc: Global,

@@ -28,13 +28,14 @@ use std::sync::Wait;
 use std::sync::ledger::{Blank, Ledger};
 use std::thread::Threads;
 
-/// Does nothing. With it, what is written through a reference that came back is known of the one that was lent.
+/// Does nothing. With it, what is written through a reference that came back is known of the one
+/// that was lent.
 fn take_back<T>(_journal: &mut T)
     ensures { _journal.new ≡ _journal.old }
 {}
 
-/// Runs an opened search until all its threads have ended: a thread for each place, and the committer in this one. With the committer's place
-/// comes what is told first of how they ended.
+/// Runs an opened search until all its threads have ended: a thread for each place, and the
+/// committer in this one. With the committer's place comes what is told first of how they ended.
 ///
 /// # Errors
 /// The committer's fault, else that of the least worker; `NoThread` where a thread does not start.
@@ -102,7 +103,8 @@ fn run_threads<
 /// Runs an opened search to its end; then says what the book says.
 ///
 /// # Errors
-/// Those of the threads; `NotOut` where the book and the journal do not fit together; `NoMemory` where there is no room for a plan.
+/// Those of the threads; `NotOut` where the book and the journal do not fit together; `NoMemory`
+/// where there is no room for a plan.
 #[tactic(auto, using(crate::proofs::Stopping::can_run, crate::proofs::Stopping::answer_stops, crate::proofs::Stopping::survives_of))]
 fn run_opened<
     't,
@@ -151,7 +153,8 @@ fn run_opened<
     }
 }
 
-/// The same as [`run`], where the commits are counted in one ledger, and the entries that are acknowledged in another.
+/// The same as [`run`], where the commits are counted in one ledger, and the entries that are
+/// acknowledged in another.
 #[tactic(auto, using(crate::proofs::Stopping::tells_later, crate::proofs::Stopping::tells_faulty))]
 fn run_as<
     L: Ledger + Send + Sync,
@@ -196,19 +199,25 @@ fn run_as<
     }
 }
 
-/// Searches a task to the end by so many workers, each in a thread of its own, over a journal: the search goes on from the entries that the
-/// journal has, from the root where it has none. This thread appends the entries of the workers' batches to the journal, and what these
-/// lead to is open only then. Each worker has the states that it owns by their hashes, and sends what leads to others to their owners. It
-/// settles its best open nodes and commits what comes of them, that of `together` nodes at a time, or of fewer where no more are open; while
-/// its batches wait to be appended it goes on with the nodes that are open. The gate is called around each.
+/// Searches a task to the end by so many workers, each in a thread of its own, over a journal:
+/// the search goes on from the entries that the journal has, from the root where it has none.
+/// This thread appends the entries of the workers' batches to the journal, and what these lead to
+/// is open only then. Each worker has the states that it owns by their hashes, and sends what
+/// leads to others to their owners. It settles its best open nodes and commits what comes of
+/// them, that of `together` nodes at a time, or of fewer where no more are open; while its
+/// batches wait to be appended it goes on with the nodes that are open. The gate is called around
+/// each.
 ///
-/// With a limit no batch is committed any more once there are so many entries, those that the journal had among them.
+/// With a limit no batch is committed any more once there are so many entries, those that the
+/// journal had among them.
 ///
 /// # Errors
-/// `Damaged` of the first entry of the journal that makes no legal list with those before it, and nothing is written then; `Full` where
-/// there are more entries than the journal may have, or would be; `NoThread` where the system starts no thread; the journal's own faults;
-/// `NoMemory`. The committer's fault is told before those of workers, and that of the least worker first. The journal has the
-/// entries that it had, and maybe more behind them: a later search goes on from there.
+/// `Damaged` of the first entry of the journal that makes no legal list with those before it, and
+/// nothing is written then; `Full` where there are more entries than the journal may have, or
+/// would be; `NoThread` where the system starts no thread; the journal's own faults; `NoMemory`.
+/// The committer's fault is told before those of workers, and that of the least worker first. The
+/// journal has the entries that it had, and maybe more behind them: a later search goes on from
+/// there.
 pub fn run<S: Store, G: Gate + Sync, R: Threads + Wait + Sync>(
     rt: &R,
     alloc: Global,
@@ -228,9 +237,10 @@ pub fn run<S: Store, G: Gate + Sync, R: Threads + Wait + Sync>(
     ensures grows { OnOk result (Grows journal.old journal.new) }
     ensures begins { BeginsWith (kids_of journal.new) (kids_of journal.old) }
     ensures told { IfErr result (Tells task.now journal.old journal.new) }
-    // Where the journal has not failed, and nothing is pending on its device: whatever a stop leaves there, at any moment from the call to its
-    // end, has all the entries that the journal had, and maybe more, in whole groups, which with them name a legal list. What a read gives in
-    // the end has all that the journal lists, also behind a fault.
+    // Where the journal has not failed, and nothing is pending on its device: whatever a stop
+    // leaves there, at any moment from the call to its end, has all the entries that the journal
+    // had, and maybe more, in whole groups, which with them name a legal list. What a read gives
+    // in the end has all that the journal lists, also behind a fault.
     ensures survives { Survives task.now journal.old journal.new }
     ensures settled { IsSettled (device_of journal.old)
         → OnOk result (IsSettled (device_of journal.new)) }

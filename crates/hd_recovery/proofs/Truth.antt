@@ -1,4 +1,5 @@
--- What the workers have of entries that name a legal list: all of it is true, none of it is lost, and none is there twice.
+-- What the workers have of entries that name a legal list: all of it is true, none of it is lost,
+-- and none is there twice.
 use Rattle.std.proofs.Common.{◌≡◌, ℕ, ◌+◌, ◌%◌, ◌<◌, ◌≤◌, ◌==◌, ◌&&◌, ◌||◌, nat_lt, not, Bool, true, false, cond, Option, Some, None, List, [], ◌∷◌, map, length, slice_get, flat_map, refl, ◌∙◌, arith}
 use Rattle.std.specs.Prelude.{option_and_then}
 use Rattle.std.specs.List.{range_with_len, count_by, sum_by, AllByRecursion}

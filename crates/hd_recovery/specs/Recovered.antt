@@ -1,5 +1,6 @@
--- What a search that goes on from a journal's entries begins with: each worker has its own part of what is closed and of what is open. (Our
--- own; that the hash of a state names its owner is HDA*'s, Kishimoto, Fukunaga and Botea 2013.)
+-- What a search that goes on from a journal's entries begins with: each worker has its own part
+-- of what is closed and of what is open. (Our own; that the hash of a state names its owner is
+-- HDA*'s, Kishimoto, Fukunaga and Botea 2013.)
 use Rattle.std.specs.Prelude.{ℕ, ◌%◌, ◌==◌, Bool, false, List, [], ◌∷◌, Option, Some, None, map, filter, length, flat_map}
 use Rattle.std.specs.List.{range_with_len}
 use Rattle.hd_task.specs.declared.task.Task.{Task}
@@ -45,7 +46,8 @@ open_in t entries = flat_map (open_at (resumed_state t entries)) (open_kids t en
 abbrev pub is_own_closed : ℕ → ℕ → Closed → Bool
 is_own_closed id workers c = state_hash c.state % workers == id
 
--- of what is closed and of what is open, a worker has what it owns, in order; it has seen nothing, given nothing, and sends nothing
+-- of what is closed and of what is open, a worker has what it owns, in order; it has seen
+-- nothing, given nothing, and sends nothing
 abbrev pub with_own : Task → ℕ → List Closed → List Released → ℕ → WorkerView
 with_own t workers closed waiting id = record {
   task = t;
@@ -67,8 +69,8 @@ team t workers closed waiting = map (with_own t workers closed waiting) (range_w
 
 -- ---- the search that goes on
 
--- the worker of this number, of so many, where a search goes on from entries: each entry whose state it owns is closed, and each kid that is
--- no entry and whose state it owns is open
+-- the worker of this number, of so many, where a search goes on from entries: each entry whose
+-- state it owns is closed, and each kid that is no entry and whose state it owns is open
 abbrev pub recovered_worker : Task → List Kid → ℕ → ℕ → WorkerView
 recovered_worker t entries id workers = with_own t workers (closed_in (resumed_state t entries)) (open_in t entries) id
 

@@ -12,8 +12,8 @@ use thiserror::Error;
 pub enum RecoverFault {
     /// There are more entries than there may be.
     Full,
-    /// The entry at this place of the file is not the root in first place, and no kid of an earlier entry, or an entry before it is the
-    /// same.
+    /// The entry at this place of the file is not the root in first place, and no kid of an
+    /// earlier entry, or an entry before it is the same.
     Damaged(u64),
     /// Memory ran out.
     NoMemory,

@@ -30,8 +30,8 @@ pub fn all_is_there()
         → map (λ (r : Released). r.kid) (open_in t entries) ≡ open_kids t entries }
 {}
 
-/// The workers together have all that is open, and all that is closed, each as often as it is there: nothing is lost, and nothing is at two
-/// workers.
+/// The workers together have all that is open, and all that is closed, each as often as it is
+/// there: nothing is lost, and nothing is at two workers.
 pub fn nothing_is_lost()
     ensures open { (t : Task) (entries : List Kid) (workers : ℕ) (p : Released → Bool)
         → 1 ≤ workers

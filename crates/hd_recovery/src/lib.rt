@@ -1,5 +1,5 @@
-//! How a search goes on from a journal's entries, shared among workers: the book with exactly these entries, and the workers, each with what
-//! it owns of what is closed and of what is open.
+//! How a search goes on from a journal's entries, shared among workers: the book with exactly
+//! these entries, and the workers, each with what it owns of what is closed and of what is open.
 #![tactic(auto)]
 
 mod fault;

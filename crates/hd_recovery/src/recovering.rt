@@ -21,7 +21,8 @@ use hd_worker::Worker;
 use std::alloc::Global;
 use std::sync::ledger::{Blank, Ledger, Share};
 
-/// A search that goes on: the book, the share that is the whole of its ledger, and the workers, in the order of their numbers.
+/// A search that goes on: the book, the share that is the whole of its ledger, and the workers,
+/// in the order of their numbers.
 #[derive(Drop)]
 pub struct Recovered<'t, L: Ledger> {
     pub book: Book<'t, L>,
@@ -29,7 +30,8 @@ pub struct Recovered<'t, L: Ledger> {
     pub workers: Vec<Worker<'t>>,
 }
 
-/// So many workers of a book that has just been made again: each entry is closed and each parcel is open, at the worker that owns its state.
+/// So many workers of a book that has just been made again: each entry is closed and each parcel
+/// is open, at the worker that owns its state.
 ///
 /// # Errors
 /// `NoMemory` where there is no room for one.
@@ -56,13 +58,14 @@ fn workers_of<'t, L: Ledger>(
     Ok(workers)
 }
 
-/// The search with exactly these entries, of which there may be `most`, shared among so many workers: all entries are acknowledged, each is
-/// closed at the worker that owns its state, and so each kid that is no entry is open at one worker. With the book comes a share of the
-/// ledger that counts its commits, which is the whole of it.
+/// The search with exactly these entries, of which there may be `most`, shared among so many
+/// workers: all entries are acknowledged, each is closed at the worker that owns its state, and
+/// so each kid that is no entry is open at one worker. With the book comes a share of the ledger
+/// that counts its commits, which is the whole of it.
 ///
 /// # Errors
-/// `Full` where there are more entries than `most`; `Damaged` with the place of the first that makes no legal list with those before it;
-/// `NoMemory`.
+/// `Full` where there are more entries than `most`; `Damaged` with the place of the first that
+/// makes no legal list with those before it; `NoMemory`.
 pub fn recover<'t, L: Ledger>(
     blank: Blank,
     alloc: Global,

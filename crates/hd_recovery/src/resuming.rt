@@ -72,10 +72,12 @@ fn fault_at(entries: &[Entry], number: u64, refusal: Refusal) -> RecoverFault
     }
 }
 
-/// The book with exactly these entries, with the share that is the whole of its ledger, and the parcels of the kids that are no entries.
+/// The book with exactly these entries, with the share that is the whole of its ledger, and the
+/// parcels of the kids that are no entries.
 ///
 /// # Errors
-/// `Full` where there are more entries than `most`; `Damaged` of the first that makes no legal list with those before it; `NoMemory`.
+/// `Full` where there are more entries than `most`; `Damaged` of the first that makes no legal
+/// list with those before it; `NoMemory`.
 pub(crate) fn resume<'t, L: Ledger>(
     blank: Blank,
     alloc: Global,

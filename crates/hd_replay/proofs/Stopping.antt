@@ -14,7 +14,8 @@ use Rattle.hd_journal.specs.Calls.{Call, change_of, content_by, Breaks, Ran, Ran
 use Rattle.hd_journal.specs.Calls.Call.{Writing, Cutting, Syncing}
 use Rattle.hd_world.specs.Stops.{within_call, stopped_in}
 
--- a device of which nothing is known that is to come; and one whose machine stops behind so many more changes
+-- a device of which nothing is known that is to come; and one whose machine stops behind so many
+-- more changes
 abbrev pub quiet : List ℕ → List Step → Device
 quiet start steps = record { start = start; steps = steps; failures = 0; changes = Unknown; reads = Unknown }
 
@@ -31,7 +32,8 @@ pub record IsCutIn (start : List ℕ) (steps : List Step) (calls : List Call) (n
   pub fills : (fill : ℕ) (found : List ℕ) → IsFilled new.start new.steps fill found
       → IsFilled (stopped_in (quiet start steps) calls (suc n)).start (stopped_in (quiet start steps) calls (suc n)).steps fill found
 
--- what a read gives behind a write or a cut does not matter for what a stop leaves; and a sync that failed does not matter
+-- what a read gives behind a write or a cut does not matter for what a stop leaves; and a sync
+-- that failed does not matter
 write_fills : (start : List ℕ) (steps : List Step) (at count : ℕ) (now now' : List ℕ) (fill : ℕ) (found : List ℕ)
     → IsFilled start (step (Write at count) now ∷ steps) fill found → IsFilled start (step (Write at count) now' ∷ steps) fill found
 write_fills start steps at count now now' fill found f = record {
@@ -88,7 +90,8 @@ module _ (start : List ℕ) (steps : List Step) (new : Device) where
 abbrev step_by : List ℕ → List Step → Call → Step
 step_by start steps call = step (change_of call) (content_by call (content_after start steps))
 
--- calls of which one failed: it is the one that was foretold, and what a stop fills then it fills where it falls in that call
+-- calls of which one failed: it is the one that was foretold, and what a stop fills then it fills
+-- where it falls in that call
 pub cut_in : (start : List ℕ) (steps : List Step) (calls : List Call) (n : ℕ) (new : Device) → Ran (planned start steps n) calls (Err Failed) new
     → IsCutIn start steps calls n new
 cut_in start steps [] n new ran = absurd ran.0

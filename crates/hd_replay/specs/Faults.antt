@@ -9,7 +9,8 @@ use Rattle.hd_recovery.specs.Fault as recoveries
 use Rattle.hd_replay.specs.declared.fault.ReplayFault.{ReplayFault}
 use Rattle.hd_replay.specs.declared.fault.ReplayFault.TheVariants.{Recovery, Journal, Full, NoMemory}
 
--- the printed form: that of the part's own fault, or the refusal's number and its name; want of memory has no number
+-- the printed form: that of the part's own fault, or the refusal's number and its name; want of
+-- memory has no number
 abbrev pub text_of : ReplayFault → List ℕ
 text_of (Recovery fault) = recoveries.text_of fault
 text_of (Journal error) = journals.text_of error

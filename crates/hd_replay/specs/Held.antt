@@ -16,14 +16,16 @@ use Rattle.hd_replay.specs.declared.run.Out.TheVariants.{Nothing, Pulled, Flushe
 abbrev pub AreParcelsOf : Task → List ParcelView → Type 0
 AreParcelsOf t parcels = AllByRecursion (IsParcelOf t) parcels
 
--- for so many workers, of which there are some and not too many, there are as many mailboxes, and the parcels in them are of a task
+-- for so many workers, of which there are some and not too many, there are as many mailboxes, and
+-- the parcels in them are of a task
 pub record AreBoxesOf (t : Task) (workers : ℕ) (boxes : List (List ParcelView)) : Type 0 where
   pub parcels : AllByRecursion (AreParcelsOf t) boxes
   pub one_each : length boxes ≡ workers
   pub any : 1 ≤ workers
   pub few : workers ≤ MAX_WORKERS
 
--- the group that is out and not appended yet, and the one that is appended and not acknowledged yet
+-- the group that is out and not appended yet, and the one that is appended and not acknowledged
+-- yet
 abbrev pub pulled_in : Out → Option GroupView
 pulled_in Nothing = None
 pulled_in (Pulled g) = Some g

@@ -65,7 +65,8 @@ stop_in group moves.Flush = None
 stop_in group moves.Ack = None
 stop_in group (moves.Stop stop) = if nat_le stop.call (calls_in group) then Some stop else None
 
--- a journal stands as this file on a disk that was started anew, and whose machine stops in the call of a number, counted from 1
+-- a journal stands as this file on a disk that was started anew, and whose machine stops in the
+-- call of a number, counted from 1
 pub record Stopping {S : Type 0} {G : Ghosts S} (digest : List ℕ) (f : File) (call : ℕ) (journal : Journal S G) : Type 0 where
   pub is_of : IsOf digest f.groups journal
   pub version : journal.version ≡ f.version

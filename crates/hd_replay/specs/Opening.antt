@@ -17,7 +17,8 @@ use Rattle.hd_replay.specs.declared.opening.Opened.{Opened}
 use Rattle.hd_replay.specs.declared.opening.Opened.TheVariants.{Whole, Cut}
 use Rattle.hd_replay.specs.Journals.{StandsAs}
 
--- a journal was opened on a disk that holds this, and no stop falls within the calls that opened it
+-- a journal was opened on a disk that holds this, and no stop falls within the calls that opened
+-- it
 pub record OpensBefore {S : Type 0} {G : Ghosts S} (digest content : List ℕ) (stop : Option StopAt) (journal : Journal S G) : Type 0 where
   pub calls : List Call
   pub file : File
@@ -42,7 +43,8 @@ abbrev pub IsOpenedBy : List ℕ → List ℕ → Option StopAt → Opened → T
 IsOpenedBy digest content stop (Whole journal) = OpensBefore digest content stop journal
 IsOpenedBy digest content stop (Cut disk) = IsCut digest content stop disk
 
--- the run that begins with a journal's entries, which are not too many, and of which none is faulty
+-- the run that begins with a journal's entries, which are not too many, and of which none is
+-- faulty
 pub record IsRunOf (t : Task) (f : File) (workers : ℕ) (r : Run) : Type 0 where
   pub recovered : is_recovered t f ≡ true
   pub is : r ≡ run_after t (most_of f.version) workers (entries_of f)

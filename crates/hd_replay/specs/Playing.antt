@@ -18,16 +18,17 @@ use Rattle.hd_replay.specs.Reporting.{IsReportOf, IsTrueOf}
 
 -- ---- a schedule's end
 
--- A schedule that is played from a world comes to this run over this journal: at its last move, or, where nothing runs behind that, at a
--- resumption with one worker.
+-- A schedule that is played from a world comes to this run over this journal: at its last move,
+-- or, where nothing runs behind that, at a resumption with one worker.
 pub data ComesTo (t : Task) (digest : List ℕ) (w : World) (moves : List Move) (f : File) (r : Run) : Type 0 where
   AtTheEnd : Plays Filled t digest w moves (Running f r) → ComesTo t digest w moves f r
   IsFollowed :
       (content : List ℕ) → Plays Filled t digest w moves (Rests content) → StepsTo Filled t digest (Rests content) (Resume 1 None) (Running f r)
       → ComesTo t digest w moves f r
 
--- The report is that of the run that a schedule comes to, which begins with a disk that holds this; each stop leaves the bytes that are not
--- sure as the schedule names them, and the greatest length. What it says is true, and this is on the disk then.
+-- The report is that of the run that a schedule comes to, which begins with a disk that holds
+-- this; each stop leaves the bytes that are not sure as the schedule names them, and the greatest
+-- length. What it says is true, and this is on the disk then.
 pub record IsReported (t : Task) (digest content : List ℕ) (moves : List Move) (left : List ℕ) (report : Report) : Type 0 where
   pub file : File
   pub run : Run
@@ -44,7 +45,8 @@ pub record IsEndOf (t : Task) (digest : List ℕ) (f : File) (r : Run) (disk : M
   pub truth : IsTrueOf t report.verdict
   pub disk_is : content_of (device_of disk) ≡ bytes_of digest f
 
--- moves were played up to a stop, which left this disk: what the moves behind so many of them come to from there, all come to
+-- moves were played up to a stop, which left this disk: what the moves behind so many of them
+-- come to from there, all come to
 pub record IsStoppedAt (t : Task) (digest : List ℕ) (w : World) (all moves : List Move) (disk : MemoryDisk) (count : ℕ) : Type 0 where
   pub few : count ≤ length moves
   pub content : List ℕ

@@ -17,7 +17,8 @@ use Rattle.hd_replay.specs.declared.report.Report.{Report}
 
 -- ---- the verdict
 
--- what is said for an answer: the bound is the cost of an optimal plan; a departure is told by its entry
+-- what is said for an answer: the bound is the cost of an optimal plan; a departure is told by
+-- its entry
 abbrev pub IsSaidFor : BookState → Verdict → Says → Type 0
 IsSaidFor b (verdicts.Optimal p) says = (cost : ℕ) × (bound_in b ≡ Some cost) × (says ≡ Optimal cost)
 IsSaidFor b verdicts.NoPlan says = says ≡ NoPlan
@@ -32,7 +33,8 @@ abbrev pub IsSaidOf : BookView → Option Says → Type 0
 IsSaidOf b None = is_ended b ≡ false
 IsSaidOf b (Some says) = (is_ended b ≡ true) × ((v : Verdict) × IsAnswerOf b.state v × IsSaidFor b.state v says)
 
--- what is said is true of all plans: a valid one has the cost, and none costs less; or none is valid
+-- what is said is true of all plans: a valid one has the cost, and none costs less; or none is
+-- valid
 abbrev pub IsTrueSaid : Task → Says → Type 0
 IsTrueSaid t (Optimal cost) =
     ((p : List ℕ) × IsValidAt t p cost) × ((p : List ℕ) (other : ℕ) → IsValidAt t p other → cost ≤ other)
@@ -45,8 +47,8 @@ IsTrueOf t (Some says) = IsTrueSaid t says
 
 -- ---- the report
 
--- what is reported of a run over its journal: how many entries its book has, how many of them are acknowledged, the length of the journal,
--- and what is said of the book
+-- what is reported of a run over its journal: how many entries its book has, how many of them are
+-- acknowledged, the length of the journal, and what is said of the book
 pub record IsReportOf (digest : List ℕ) (f : File) (r : Run) (report : Report) : Type 0 where
   pub expansions : report.expansions ≡ length r.book.state.entries
   pub acknowledged : report.acknowledged ≡ r.book.batches.queue.acknowledged

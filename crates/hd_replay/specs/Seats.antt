@@ -1,4 +1,5 @@
--- What a worker's moves make of its own seat, and of the book. (Our own; the search is HDA*, Kishimoto, Fukunaga and Botea 2013.)
+-- What a worker's moves make of its own seat, and of the book. (Our own; the search is HDA*,
+-- Kishimoto, Fukunaga and Botea 2013.)
 use Rattle.std.specs.Prelude.{nat_lt, if◌then◌else◌, List, [], ◌∷◌, ◌++◌, length, Option, Some, None, is_some, Result, Ok, Err}
 use Rattle.hd_task.specs.declared.plan.TheConstants.{ROOT_PARENT}
 use Rattle.hd_entries.specs.declared.refusal.Refusal.TheVariants.{UnknownParent, NotAKid, SettledBefore, StateDiffers, NotDominated, BelowBound, Full, NoMemory}
@@ -78,7 +79,8 @@ seat_committed b s = record s {
 abbrev pub seat_dropped : Seat → Seat
 seat_dropped s = record s { worker = after_numbering ROOT_PARENT (after_batch s.worker) }
 
--- the book and the seat behind a commit that is refused for this, or accepted; none where it ends the run
+-- the book and the seat behind a commit that is refused for this, or accepted; none where it ends
+-- the run
 abbrev pub committed_for : BookView → Seat → Option CommitRefusal → Option (BookView × Seat)
 committed_for b s None = Some (after_commit (batch_of s.worker) b, seat_committed b s)
 committed_for b s (Some why) = if is_dropped why then Some (b, seat_dropped s) else None

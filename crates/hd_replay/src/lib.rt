@@ -1,6 +1,6 @@
-//! Schedules played: the parts of a search - book, workers, mailboxes, journal - moved one step at a time, in any order, with stops
-//! anywhere. What is reported at the end is what the definitions of the world of schedules say (`specs/Playing`), of which the headline
-//! holds.
+//! Schedules played: the parts of a search - book, workers, mailboxes, journal - moved one step
+//! at a time, in any order, with stops anywhere. What is reported at the end is what the
+//! definitions of the world of schedules say (`specs/Playing`), of which the headline holds.
 #![tactic(auto)]
 
 mod ending;

@@ -61,8 +61,8 @@ impl<'t, L: Ledger> Run<'t, L> {
         Ok(())
     }
 
-    /// The worker's first outcomes are committed, if it has any, and may hold another ticket. A batch that is refused for what it says is
-    /// dropped.
+    /// The worker's first outcomes are committed, if it has any, and may hold another ticket. A
+    /// batch that is refused for what it says is dropped.
     ///
     /// # Errors
     /// `Full`, where the book takes no more, or `NoMemory`.

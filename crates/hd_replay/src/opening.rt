@@ -39,7 +39,8 @@ pub(crate) fn open(
     }
 }
 
-/// Opens a journal again that was opened just now, so that nothing is planned any more for its disk.
+/// Opens a journal again that was opened just now, so that nothing is planned any more for its
+/// disk.
 ///
 /// # Errors
 /// `NoMemory`, or what the journal answers.
@@ -80,7 +81,8 @@ fn open_until(
     }
 }
 
-/// Opens the journal on a disk; where a stop is named, the machine stops in that call of it, if there are so many.
+/// Opens the journal on a disk; where a stop is named, the machine stops in that call of it, if
+/// there are so many.
 ///
 /// # Errors
 /// `NoMemory`, or what the journal answers.

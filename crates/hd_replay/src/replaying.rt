@@ -43,7 +43,8 @@ fn possible(workers: u32, stop: Option<StopAt>) -> Option<(u32, Option<StopAt>)>
     }
 }
 
-/// The workers of a resumption that is possible, and where it stops. None where a move does nothing while nothing runs.
+/// The workers of a resumption that is possible, and where it stops. None where a move does
+/// nothing while nothing runs.
 fn resumption_in(next: Move) -> Option<(u32, Option<StopAt>)>
     ensures some { IfSome result (λ r. next ≡ Resume r.0 r.1) }
     ensures may { IfSome result (λ r. MayResume r.0 r.1) }
@@ -58,7 +59,8 @@ fn resumption_in(next: Move) -> Option<(u32, Option<StopAt>)>
     }
 }
 
-/// Plays the first of some moves while nothing runs; where it is a resumption, also those behind it, up to a stop or to their end.
+/// Plays the first of some moves while nothing runs; where it is a resumption, also those behind
+/// it, up to a stop or to their end.
 fn play_next(
     alloc: Global,
     task: &Task,
@@ -119,12 +121,14 @@ fn play_all(
     play_last::<Brand>(Blank::new(1), alloc, task, digest, held)
 }
 
-/// Plays a schedule on a disk, where nothing runs at first: what stands at its end. One that ends while nothing runs is followed by a
-/// resumption with one worker. What was on the disk and not sure reads 0 at first.
+/// Plays a schedule on a disk, where nothing runs at first: what stands at its end. One that ends
+/// while nothing runs is followed by a resumption with one worker. What was on the disk and not
+/// sure reads 0 at first.
 ///
 /// # Errors
-/// `NoMemory`; `Full` where the entries would be more than a journal may have; or what the journal answers of what was on the disk, or why no
-/// search goes on from its entries: from an empty disk neither comes. The disk is empty then.
+/// `NoMemory`; `Full` where the entries would be more than a journal may have; or what the
+/// journal answers of what was on the disk, or why no search goes on from its entries: from an
+/// empty disk neither comes. The disk is empty then.
 pub fn replay(
     alloc: Global,
     task: &Task,
@@ -132,7 +136,8 @@ pub fn replay(
     disk: &mut MemoryDisk,
     moves: &[Move],
 ) -> Result<Report, ReplayFault>
-    // What is on the disk, where each byte that is not sure reads 0, is what the schedule begins with.
+    // What is on the disk, where each byte that is not sure reads 0, is what the schedule begins
+    // with.
     ensures reported { (content : List ℕ) → Filled (device_of disk.old) 0 content
         → IfOk result (IsReported task.now digest.now content moves.now
         (content_of (device_of disk.new))) }

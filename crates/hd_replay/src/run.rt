@@ -24,8 +24,9 @@ pub(crate) enum Out {
     Flushed(Flushed),
 }
 
-/// A search that runs, but for the journal: the book with the share that counts its commits, what workers look up, the workers at their places,
-/// a mailbox for each, the least bound that was offered, the group that is out, and room for the next one.
+/// A search that runs, but for the journal: the book with the share that counts its commits, what
+/// workers look up, the workers at their places, a mailbox for each, the least bound that was
+/// offered, the group that is out, and room for the next one.
 ///
 /// It must be ended: tickets and groups can't be let go.
 #[must_use]

@@ -27,7 +27,8 @@ use std::collections::VecDeque;
 use std::marker::Model;
 use std::sync::ledger::{Ledger, Share};
 
-/// A worker, the parcel in its hand, its tickets, the oldest first, and the bound that the book had behind its last commit.
+/// A worker, the parcel in its hand, its tickets, the oldest first, and the bound that the book
+/// had behind its last commit.
 ///
 /// It must be ended: its tickets can't be let go.
 #[must_use]
@@ -85,7 +86,8 @@ fn ends(refusal: CommitRefusal) -> Option<ReplayFault>
     }
 }
 
-/// A batch that a worker gave is committed: its ticket. None where it is refused for what it says: it is dropped.
+/// A batch that a worker gave is committed: its ticket. None where it is refused for what it
+/// says: it is dropped.
 ///
 /// # Errors
 /// `Full`, where the book takes no more, or `NoMemory`.
@@ -237,8 +239,8 @@ impl<'t> Seat<'t> {
         self.worker.expand(lookup, place)
     }
 
-    /// The worker's first outcomes are committed, if it has any, and may hold another ticket. A batch that is refused for what it says is
-    /// dropped.
+    /// The worker's first outcomes are committed, if it has any, and may hold another ticket. A
+    /// batch that is refused for what it says is dropped.
     ///
     /// # Errors
     /// `Full`, where the book takes no more, or `NoMemory`.

@@ -98,7 +98,8 @@ fn begun<'t, L: Ledger>(
 /// The run that begins with a journal's entries, shared among so many workers.
 ///
 /// # Errors
-/// Why a search can't go on from them: that they are too many, or that one is faulty; or `NoMemory`.
+/// Why a search can't go on from them: that they are too many, or that one is faulty; or
+/// `NoMemory`.
 pub(crate) fn run_of<'t, L: Ledger>(
     blank: Blank,
     alloc: Global,

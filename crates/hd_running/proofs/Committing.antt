@@ -1,4 +1,5 @@
--- Where each kid of a run is in one place at most: no batch is refused, and a batch that is accepted leaves it so.
+-- Where each kid of a run is in one place at most: no batch is refused, and a batch that is
+-- accepted leaves it so.
 use Rattle.std.proofs.Common.{◌≡◌, ℕ, ◌+◌, ◌<◌, ◌≤◌, ◌||◌, Bool, true, false, cond, not, Some, None, List, [], ◌∷◌, ◌++◌, map, length, get_or, refl, sym, ap, ap₂, ◌∙◌, subst, arith, length-append, append_assoc}
 use Rattle.std.specs.Option.{option_or}
 use Rattle.std.specs.List.{list_any, position_or_len, AllByRecursion}

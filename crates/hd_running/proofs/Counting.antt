@@ -210,7 +210,8 @@ module _ (h : Kid → ℕ) where
       released = released r.book batch;
     }
 
-    -- a commit takes the batch's kids from the worker, and puts those that the batch releases into its ticket
+    -- a commit takes the batch's kids from the worker, and puts those that the batch releases
+    -- into its ticket
     pub commit_keeps : (k : ℕ) (s : Seat) → slice_get r.seats k ≡ Some s
         → in_run h (with_commit k (batch_of s.worker) s r) + in_outcomes h (batch_of s.worker)
         ≡ in_run h r + in_parcels h (released_by (length r.book.state.entries) (batch_of s.worker))

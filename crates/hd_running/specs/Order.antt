@@ -50,7 +50,8 @@ HaveRoom r = AllByRecursion (HasRoom r.book) r.seats
 abbrev pub group_in : List Kid → QueueView → GroupView
 group_in entries q = group_of entries (record { start = q.acknowledged; end = group_end q })
 
--- what stands in a journal: the acknowledged ones of a book's entries; and behind them those of the group that is out, once it is appended
+-- what stands in a journal: the acknowledged ones of a book's entries; and behind them those of
+-- the group that is out, once it is appended
 pub data Stands (f : File) (entries : List Kid) (q : QueueView) (group flushed : Option GroupView) : Type 0 where
   NoneIsOut :
       q.out ≡ 0 → group ≡ None → flushed ≡ None → entries_of f ≡ take q.acknowledged entries → Stands f entries q group flushed
@@ -61,8 +62,9 @@ pub data Stands (f : File) (entries : List Kid) (q : QueueView) (group flushed :
       1 ≤ q.out → group ≡ None → flushed ≡ Some (group_in entries q) → entries_of f ≡ take (group_end q) entries
       → Stands f entries q group flushed
 
--- A book of these entries, of which there may be so many, with these batches, is in order with a journal: it accepts batches, which have its
--- entries; there may be as many as the journal may have; and what stands in the journal are groups of it.
+-- A book of these entries, of which there may be so many, with these batches, is in order with a
+-- journal: it accepts batches, which have its entries; there may be as many as the journal may
+-- have; and what stands in the journal are groups of it.
 pub record IsOrderly (f : File) (entries : List Kid) (most : ℕ) (q : QueueView) (halted : Bool) (group flushed : Option GroupView) : Type 0 where
   pub running : halted ≡ false
   pub queue : IsQueue q

@@ -26,8 +26,9 @@ pub record IsTrueSeat (b : BookState) (s : Seat) : Type 0 where
   pub hand : IfTrueOf b s.hand
   pub told : IsSeenOf b s.told
 
--- The book of a running search is of a task and kept, and may not hold so many entries that there is no number for one. What its workers
--- hold, the parcels on their way, what the tickets release, and the bound that the workers share are true of it.
+-- The book of a running search is of a task and kept, and may not hold so many entries that there
+-- is no number for one. What its workers hold, the parcels on their way, what the tickets
+-- release, and the bound that the workers share are true of it.
 pub record IsTrueRun (t : Task) (r : Run) : Type 0 where
   pub of_task : r.book.state.task ≡ t
   pub kept : IsKept r.book.state

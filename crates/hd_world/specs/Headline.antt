@@ -43,8 +43,8 @@ pub record IsAccepted (t : Task) (r : Run) (k : ℕ) (r' : Run) : Type 0 where
   pub plans : map (plan_of (expansions r'.book.state)) (flat_map entry_of (batch_of seat.worker)) ≡ map Some more
   pub extends : Extends t (search_of r) (search_of r') more
 
--- what a move makes of the search of a run: a commit that is accepted lengthens it by exactly its expansions, `ack` acknowledges, and no other
--- move changes it
+-- what a move makes of the search of a run: a commit that is accepted lengthens it by exactly its
+-- expansions, `ack` acknowledges, and no other move changes it
 abbrev pub MovesSearch : Task → Run → Move → Run → Type 0
 MovesSearch t r (Resume workers stop) r' = search_of r' ≡ search_of r
 MovesSearch t r (Pop k) r' = search_of r' ≡ search_of r
@@ -70,18 +70,21 @@ abbrev pub IfNext : File → Option GroupView → Type 0
 IfNext f None = Unit {0}
 IfNext f (Some g) = is_next f g ≡ true
 
--- a batch of a worker is refused for want of room, if it is refused, and each of its tickets is out
+-- a batch of a worker is refused for want of room, if it is refused, and each of its tickets is
+-- out
 pub record IsAdmissible (r : Run) (s : Seat) : Type 0 where
   pub batch : (refusal_to r.book (batch_of s.worker) ≡ None) ⊎ (refusal_to r.book (batch_of s.worker) ≡ Some (Refused Full))
   pub tickets : AllByRecursion (λ (k : TicketView). is_ticket_out r.book.batches k ≡ true) s.tickets
 
--- how many entries stand in the journal: the acknowledged ones, and those of the group that was appended, if one was
+-- how many entries stand in the journal: the acknowledged ones, and those of the group that was
+-- appended, if one was
 abbrev pub written_count : BookView → Option GroupView → ℕ
 written_count b None = b.batches.queue.acknowledged
 written_count b (Some g) = group_end b.batches.queue
 
--- no batch is refused for what it says; and no ticket and no group is refused: each ticket is out, and held once; the group that was pulled may be
--- appended, or handed back, and the one that was appended may be acknowledged; and the journal's entries are the book's first ones
+-- no batch is refused for what it says; and no ticket and no group is refused: each ticket is
+-- out, and held once; the group that was pulled may be appended, or handed back, and the one that
+-- was appended may be acknowledged; and the journal's entries are the book's first ones
 pub record AllIsAdmissible (f : File) (r : Run) : Type 0 where
   pub seats : AllByRecursion (IsAdmissible r) r.seats
   pub group : IfNext f r.group
@@ -90,7 +93,8 @@ pub record AllIsAdmissible (f : File) (r : Run) : Type 0 where
   pub once : (n : ℕ) → times_held n r.seats ≤ 1
   pub written : entries_of f ≡ take (written_count r.book r.flushed) r.book.state.entries
 
--- what a run answers is true of all plans, or names the first departure that was recorded; the plan of the bound is valid, if there is one
+-- what a run answers is true of all plans, or names the first departure that was recorded; the
+-- plan of the bound is valid, if there is one
 pub record AnswersTruly (t : Task) (r : Run) : Type 0 where
   pub covered : is_over r.book.state ≡ true → IsCoveredBook r.book.state
   pub verdict : is_over r.book.state ≡ true → is_idle r.book.batches.queue ≡ true → (v : Verdict) → IsAnswerOf r.book.state v → IsTrueAnswer t v
@@ -104,8 +108,8 @@ Rests t digest content [] left = left ≡ content
 Rests t digest content (m ∷ moves) left =
     (mid : List ℕ) × StepsTo Anything t digest (Stopped content) m (Stopped mid) × Rests t digest mid moves left
 
--- how many entries a stop leaves: the acknowledged ones; or these with the whole group that was pulled; always the latter where a group was
--- appended
+-- how many entries a stop leaves: the acknowledged ones; or these with the whole group that was
+-- pulled; always the latter where a group was appended
 abbrev pub MayBeLeftBy : BookView → Option GroupView → Option GroupView → ℕ → Type 0
 MayBeLeftBy b group (Some g) left = left ≡ group_end b.batches.queue
 MayBeLeftBy b (Some g) None left = (left ≡ b.batches.queue.acknowledged) ⊎ (left ≡ group_end b.batches.queue)
@@ -114,7 +118,8 @@ MayBeLeftBy b None None left = left ≡ b.batches.queue.acknowledged
 abbrev pub MayBeLeft : Run → ℕ → Type 0
 MayBeLeft r left = MayBeLeftBy r.book r.group r.flushed left
 
--- a search goes on, with so many workers, from what was left of another: it is the search after a beginning that has all acknowledged entries
+-- a search goes on, with so many workers, from what was left of another: it is the search after a
+-- beginning that has all acknowledged entries
 pub record IsResumed (r : Run) (t : Task) (workers : ℕ) (f' : File) (r' : Run) : Type 0 where
   pub left : ℕ
   pub some : 1 ≤ workers
@@ -131,11 +136,13 @@ pub record IsFirst (t : Task) (earlier : File) (workers : ℕ) (f : File) (r : R
 
 -- ---- all of it
 
--- for a task, its digest, what the disk holds before the schedule, and the journal of the search that this is
+-- for a task, its digest, what the disk holds before the schedule, and the journal of the search
+-- that this is
 pub record IsHeadline (t : Task) (digest start : List ℕ) (earlier : File) : Type 0 where
   -- on an empty disk that search is the one at first: nothing is expanded
   pub empty : start ≡ [] → search_in t earlier ≡ first_search
-  -- the first run is that search, after the entries of the journal, with the workers of the resumption
+  -- the first run is that search, after the entries of the journal, with the workers of the
+  -- resumption
   pub first :
       (moves : List Move) (content : List ℕ) (workers : ℕ) (stop : Option StopAt) (f : File) (r : Run) → Rests t digest start moves content
       → StepsTo Anything t digest (Stopped content) (Resume workers stop) (Running f r) → IsFirst t earlier workers f r
@@ -143,7 +150,8 @@ pub record IsHeadline (t : Task) (digest start : List ℕ) (earlier : File) : Ty
   pub moves :
       (moves : List Move) (f f' : File) (r r' : Run) (m : Move) → Reaches Anything t digest start moves (Running f r)
       → StepsTo Anything t digest (Running f r) m (Running f' r') → MovesSearch t r m r'
-  -- where a run ends, and after moves during which nothing runs one goes on, a beginning of the search is left that has all acknowledged entries
+  -- where a run ends, and after moves during which nothing runs one goes on, a beginning of the
+  -- search is left that has all acknowledged entries
   pub stops :
       (before between : List Move) (f f' : File) (r r' : Run) (m : Move) (workers : ℕ) (stop : Option StopAt) (content left : List ℕ)
       → Reaches Anything t digest start before (Running f r) → StepsTo Anything t digest (Running f r) m (Stopped content)
@@ -161,7 +169,8 @@ pub record IsHeadline (t : Task) (digest start : List ℕ) (earlier : File) : Ty
       → Opens digest content calls f → is_recovered t f ≡ true
   -- no commit, no ticket and no group is refused for what it says
   pub admissible : (moves : List Move) (f : File) (r : Run) → Reaches Anything t digest start moves (Running f r) → AllIsAdmissible f r
-  -- no kid is lost: each that is posted and not settled is in exactly one place; so where nothing is left to do, all is settled
+  -- no kid is lost: each that is posted and not settled is in exactly one place; so where nothing
+  -- is left to do, all is settled
   pub whole : (moves : List Move) (f : File) (r : Run) → Reaches Anything t digest start moves (Running f r) → IsWhole r
   pub ends : (moves : List Move) (f : File) (r : Run) → Reaches Anything t digest start moves (Running f r) → IsIdle r → is_over r.book.state ≡ true
   -- what is answered is true

@@ -1,5 +1,5 @@
--- What each move of a schedule makes of a running search. A move that is not possible changes nothing. (Our own; the search is HDA*,
--- Kishimoto, Fukunaga and Botea 2013.)
+-- What each move of a schedule makes of a running search. A move that is not possible changes
+-- nothing. (Our own; the search is HDA*, Kishimoto, Fukunaga and Botea 2013.)
 use Rattle.std.specs.Prelude.{◌≡◌, ℕ, ◌%◌, Bool, true, false, ◌&&◌, nat_lt, if◌then◌else◌, List, [], ◌∷◌, ◌++◌, length, Option, Some, None, is_some, slice_get, slice_set, Result, Ok, Err}
 use Rattle.hd_task.specs.declared.task.Task.{Task}
 use Rattle.hd_task.specs.declared.plan.TheConstants.{ROOT_PARENT}
@@ -86,7 +86,8 @@ with_commit k batch s r = record r {
 abbrev pub with_drop : ℕ → Seat → Run → Run
 with_drop k s r = with_seat k (record s { worker = after_numbering ROOT_PARENT (after_batch s.worker) }) r
 
--- a batch that is refused for what it says is dropped; one that is refused for want of room ends the run
+-- a batch that is refused for what it says is dropped; one that is refused for want of room ends
+-- the run
 abbrev pub is_dropped : CommitRefusal → Bool
 is_dropped Halted = false
 is_dropped (Refused UnknownParent) = true

@@ -39,7 +39,8 @@ abbrev pub in_ticket : (Kid → ℕ) → Option (Outgoing ParcelsView) → ℕ
 in_ticket weigh None = 0
 in_ticket weigh (Some o) = in_parcels weigh o.released.kids
 
--- all places: the hands, the open nodes, the outcomes that are not committed, the outboxes, the mailboxes, and the tickets that are out
+-- all places: the hands, the open nodes, the outcomes that are not committed, the outboxes, the
+-- mailboxes, and the tickets that are out
 abbrev pub in_run : (Kid → ℕ) → Run → ℕ
 in_run weigh r = total (in_seat weigh) r.seats + total (in_parcels weigh) r.mailboxes + total (in_ticket weigh) r.book.batches.tickets
 

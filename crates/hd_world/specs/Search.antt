@@ -1,4 +1,5 @@
--- The abstract search: what a search is to whoever looks at it from outside, whatever its workers, its journal and its disk do. (Our own.)
+-- The abstract search: what a search is to whoever looks at it from outside, whatever its
+-- workers, its journal and its disk do. (Our own.)
 use Rattle.std.specs.Prelude.{◌≡◌, ℕ, ◌≤◌, List, [], ◌∷◌, ◌++◌, length, take}
 use Rattle.hd_task.specs.declared.task.Task.{Task}
 use Rattle.hd_task.specs.Expansions.{IsLegal}
@@ -39,7 +40,8 @@ pub record IsCutTo (a b : Search) (left : ℕ) : Type 0 where
   pub front : b.expanded ≡ take left a.expanded
   pub all : b.acknowledged ≡ left
 
--- an abstract search is moved: more is expanded, or more is acknowledged, or a beginning is left; or it stays as it is
+-- an abstract search is moved: more is expanded, or more is acknowledged, or a beginning is left;
+-- or it stays as it is
 pub data IsMoved (t : Task) (a b : Search) : Type 0 where
   Stays : b ≡ a → IsMoved t a b
   Lengthens : (more : List (List ℕ)) → Extends t a b more → IsMoved t a b

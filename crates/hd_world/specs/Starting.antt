@@ -9,12 +9,14 @@ use Rattle.hd_world.specs.Seats.{Seat, Run}
 use Rattle.hd_world.specs.Moves.{bound_in}
 use Rattle.hd_recovery.specs.Recovered.{recovered_worker}
 
--- the seat of a worker after these entries, of so many workers: the hand is empty, it has no tickets, and it was told of no bound
+-- the seat of a worker after these entries, of so many workers: the hand is empty, it has no
+-- tickets, and it was told of no bound
 abbrev pub seat_after : Task → List Kid → ℕ → ℕ → Seat
 seat_after t entries workers id = record { worker = recovered_worker t entries id workers; hand = None; tickets = []; told = None }
 
--- the search after these entries, with so many workers, where there may be so many entries: all entries are acknowledged, no other kid is
--- settled, nothing is on its way, and the workers share the bound of the entries
+-- the search after these entries, with so many workers, where there may be so many entries: all
+-- entries are acknowledged, no other kid is settled, nothing is on its way, and the workers share
+-- the bound of the entries
 abbrev pub run_after : Task → ℕ → ℕ → List Kid → Run
 run_after t most workers entries = record {
   book = resumed_book t most entries;

@@ -1,4 +1,5 @@
--- What is on the disk while a search runs, what a stop leaves of it, and what opens it again. (Our own.)
+-- What is on the disk while a search runs, what a stop leaves of it, and what opens it again.
+-- (Our own.)
 use Rattle.std.specs.Prelude.{◌≡◌, ◌≢◌, ℕ, zero, suc, ◌==◌, Bool, ◌&&◌, if◌then◌else◌, List, [], ◌∷◌, ◌++◌, length, flat_map, Option, Some, None}
 use Rattle.std.specs.List.{list_all, AllByRecursion}
 use Rattle.hd_task.specs.declared.plan.Kid.{Kid}
@@ -55,13 +56,15 @@ is_next f g = (g.first == length (entries_of f)) && list_all (λ (k : Kid). fits
 abbrev pub at_rest : List ℕ → Device
 at_rest content = record { start = content; steps = []; failures = 0; changes = Unknown; reads = Unknown }
 
--- the disk that a stop within a call finds: a write or a cut was begun, a sync has made nothing sure
+-- the disk that a stop within a call finds: a write or a cut was begun, a sync has made nothing
+-- sure
 abbrev pub within_call : Device → Call → Device
 within_call disk (Writing at bytes) = after_call disk (Writing at bytes)
 within_call disk (Cutting len) = after_call disk (Cutting len)
 within_call disk Syncing = disk
 
--- the disk that a stop finds within the call of a number, counted from 1; within the call 0 it finds the disk before them all
+-- the disk that a stop finds within the call of a number, counted from 1; within the call 0 it
+-- finds the disk before them all
 abbrev pub stopped_in : Device → List Call → ℕ → Device
 stopped_in disk calls zero = disk
 stopped_in disk [] (suc number) = disk
@@ -76,7 +79,8 @@ Leaving = Device → ℕ → List ℕ → Type 0
 abbrev pub Anything : Leaving
 Anything disk byte content = MayLeave disk.start disk.steps content
 
--- the calls that append a group to a journal; none where no group was pulled, or this one may not be appended
+-- the calls that append a group to a journal; none where no group was pulled, or this one may not
+-- be appended
 abbrev pub appending : File → List ℕ → Option GroupView → List Call
 appending f digest None = []
 appending f digest (Some g) =
@@ -84,7 +88,8 @@ appending f digest (Some g) =
 
 -- ---- opening
 
--- a content is opened: these calls mend what is found in it, or make it, and this journal is there then
+-- a content is opened: these calls mend what is found in it, or make it, and this journal is
+-- there then
 pub record Opens (digest content : List ℕ) (calls : List Call) (f : File) : Type 0 where
   pub found : Found
   pub is : IsFound digest content found

@@ -1,4 +1,5 @@
--- Schedules, and the world in which they are played: a search that runs over its journal, or nothing but a disk. (Our own.)
+-- Schedules, and the world in which they are played: a search that runs over its journal, or
+-- nothing but a disk. (Our own.)
 use Rattle.std.specs.Prelude.{◌≡◌, ◌⊎◌, ℕ, ◌<◌, ◌≤◌, Bool, true, not, ◌&&◌, nat_le, if◌then◌else◌, List, [], ◌∷◌, length, Option, Some, None, is_some}
 use Rattle.hd_task.specs.declared.task.Task.{Task}
 use Rattle.hd_zobrist.specs.declared.owners.TheConstants.{MAX_WORKERS}
@@ -29,7 +30,8 @@ flushed_to f r (Some g) =
 
 -- ---- `stop`
 
--- a stop falls now, or within a call that appends the group that was pulled; it does nothing where there is no such call
+-- a stop falls now, or within a call that appends the group that was pulled; it does nothing
+-- where there is no such call
 pub data StopsIn (leaves : Leaving) (digest : List ℕ) (f : File) (r : Run) (stop : StopAt) (w' : World) : Type 0 where
   Falls :
       (content : List ℕ) → stop.call ≤ length (appending f digest r.group)
@@ -48,7 +50,8 @@ MayResume workers (Some stop) = (1 ≤ workers) × (workers ≤ MAX_WORKERS) × 
 abbrev pub is_recovered : Task → File → Bool
 is_recovered t f = nat_le (length (entries_of f)) (most_of f.version) && not (is_some (first_fault t [] (entries_of f)))
 
--- what is there where a journal is open: the search after its entries; or nothing runs, where they are refused
+-- what is there where a journal is open: the search after its entries; or nothing runs, where
+-- they are refused
 abbrev pub recovered : Task → List ℕ → ℕ → File → World
 recovered t digest workers f =
     if is_recovered t f then Running f (run_after t (most_of f.version) workers (entries_of f)) else Stopped (bytes_of digest f)
@@ -58,8 +61,8 @@ abbrev pub IsBehind : Option StopAt → ℕ → Type 0
 IsBehind None calls = Unit {0}
 IsBehind (Some stop) calls = calls < stop.call
 
--- a resumption: it is not possible; or the file is refused; or a stop falls within a call that opens it; or it is opened, and the search
--- goes on from its entries
+-- a resumption: it is not possible; or the file is refused; or a stop falls within a call that
+-- opens it; or it is opened, and the search goes on from its entries
 pub data ResumesTo (leaves : Leaving) (t : Task) (digest content : List ℕ) (workers : ℕ) (stop : Option StopAt) (w' : World) : Type 0 where
   IsNot : (MayResume workers stop → ⊥) → w' ≡ Stopped content → ResumesTo leaves t digest content workers stop w'
   IsRefused : MayResume workers stop → IsUnopened digest content → w' ≡ Stopped content → ResumesTo leaves t digest content workers stop w'
@@ -120,8 +123,9 @@ abbrev pub Plays : Leaving → Task → List ℕ → World → List Move → Wor
 Plays leaves t digest w [] w' = w' ≡ w
 Plays leaves t digest w (m ∷ moves) w' = (v : World) × StepsTo leaves t digest w m v × Plays leaves t digest v moves w'
 
--- What a schedule begins with: an empty disk, on which the first resumption makes a journal; or the journal of an earlier search of the task, of
--- either version, from whose entries a search goes on. Both hold a search: that after the entries of the journal.
+-- What a schedule begins with: an empty disk, on which the first resumption makes a journal; or
+-- the journal of an earlier search of the task, of either version, from whose entries a search
+-- goes on. Both hold a search: that after the entries of the journal.
 pub data IsBeginning (t : Task) (digest content : List ℕ) (f : File) : Type 0 where
   IsEmpty : content ≡ [] → f ≡ first_file → IsBeginning t digest content f
   IsJournal : content ≡ bytes_of digest f → AreGroups f → is_recovered t f ≡ true → IsBeginning t digest content f

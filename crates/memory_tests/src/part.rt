@@ -48,13 +48,15 @@ fn end_over<R: Threads + Wait + Sync>(
             Outcome::Stopped(_) => Ok(End::Stopped),
             Outcome::NoPlan | Outcome::RangeLeft(..) => Err("another answer"),
         },
-        // A thread that does not start for want of memory is no other than one that does not start.
+        // A thread that does not start for want of memory is no other than one that does not
+        // start.
         Err(ThreadsFault::Run(RunFault::NoMemory) | ThreadsFault::NoThread) => Ok(End::Refused),
         Err(ThreadsFault::Run(_)) => Err("another fault"),
     }
 }
 
-/// What a part leaves: the disk, the entries of the journal on it, if there was memory to copy them, and how it ended.
+/// What a part leaves: the disk, the entries of the journal on it, if there was memory to copy
+/// them, and how it ended.
 #[derive(Drop)]
 pub struct Left {
     pub disk: MemoryDisk,

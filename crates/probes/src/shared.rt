@@ -25,7 +25,8 @@ fn add_bound(
     }
 }
 
-/// Offers costs one after the other, and appends what the word then loads: whether all are numbers.
+/// Offers costs one after the other, and appends what the word then loads: whether all are
+/// numbers.
 fn offer_all(
     alloc: Global,
     word: &BoundWord,

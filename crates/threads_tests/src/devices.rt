@@ -12,7 +12,8 @@ use std::sync::Wait;
 use std::test::Fail;
 use std::thread::Threads;
 
-/// What a search leaves: the disk, the entries that its journal had and those that it has, and what it said, if its device did not fail before.
+/// What a search leaves: the disk, the entries that its journal had and those that it has, and
+/// what it said, if its device did not fail before.
 #[derive(Drop)]
 struct Left {
     disk: MemoryDisk,
@@ -84,7 +85,8 @@ const EVENTS: [Event; 4] = [
     Event::Stop(0x37),
 ];
 
-/// A search by two workers in whose n-th write, cut or sync this happens: what it leaves, with the disk as it is when it is used again.
+/// A search by two workers in whose n-th write, cut or sync this happens: what it leaves, with
+/// the disk as it is when it is used again.
 fn broken_off<R: Threads + Wait + Sync>(
     rt: &R,
     alloc: Global,
@@ -106,10 +108,12 @@ fn broken_off<R: Threads + Wait + Sync>(
     Ok(left)
 }
 
-/// More calls than the device has in any search of the task: a journal is made by six, and a group takes four.
+/// More calls than the device has in any search of the task: a journal is made by six, and a
+/// group takes four.
 const CALLS: u64 = 40;
 
-/// What was in the journal when the device failed is found there again, and stays; some searches had begun to write and were not at their end.
+/// What was in the journal when the device failed is found there again, and stays; some searches
+/// had begun to write and were not at their end.
 #[test]
 fn searches_go_on_behind_each_failing_call(rt: HostRuntime) -> Result<(), Fail> {
     let alloc = rt.alloc();

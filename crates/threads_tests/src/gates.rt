@@ -146,7 +146,8 @@ fn word(k: u64) -> u64 {
     z ^ (z >> 31)
 }
 
-/// How many calls each of four workers makes: each set of atoms is settled as often as it has atoms, the empty one once.
+/// How many calls each of four workers makes: each set of atoms is settled as often as it has
+/// atoms, the empty one once.
 fn owned() -> [u64; 4] {
     let mut calls = [0u64; 4];
     for set in 0..1024u64 {

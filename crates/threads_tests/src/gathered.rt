@@ -12,8 +12,8 @@ use std::sync::Wait;
 use std::sync::ledger::{Blank, Ledger};
 use std::test::Fail;
 
-/// A new book in a lock, of which two have a pass and a share of the commits; what is told when both give them back: how many commits, and how
-/// many kids are posted.
+/// A new book in a lock, of which two have a pass and a share of the commits; what is told when
+/// both give them back: how many commits, and how many kids are posted.
 fn gathered<L: Ledger, A: Ledger, R: Wait>(
     rt: &R,
     alloc: Global,

@@ -1,4 +1,5 @@
-//! Tests of searches by threads: hd_parallel, over hd_threads and hd_recovery; and of what hd_progress tells of them.
+//! Tests of searches by threads: hd_parallel, over hd_threads and hd_recovery; and of what
+//! hd_progress tells of them.
 #![tactic(auto)]
 
 #[cfg(test)]

@@ -1,4 +1,5 @@
-//! What a user is told of a search while it runs: by a clock that the test sets, on a screen that keeps what it is told.
+//! What a user is told of a search while it runs: by a clock that the test sets, on a screen that
+//! keeps what it is told.
 use hd_book::Counts;
 use hd_progress::Watch;
 use hd_threads::{Gate, Standing};
@@ -9,7 +10,8 @@ use std::io::{self, Eprint};
 use std::test::Fail;
 use std::time::{Clock, Duration};
 
-/// A clock that stands at so many milliseconds, and the last line that was told, with how many there were.
+/// A clock that stands at so many milliseconds, and the last line that was told, with how many
+/// there were.
 #[derive(Drop)]
 struct Screen {
     alloc: Global,
@@ -28,7 +30,8 @@ impl Screen {
         }
     }
 
-    /// Whether just one line was told since this was asked last, and what it was; or whether none was.
+    /// Whether just one line was told since this was asked last, and what it was; or whether none
+    /// was.
     fn is_told(&self, line: Option<&str>) -> bool {
         match (self.line.take(), line) {
             (Some(told), Some(line)) => self.lines.replace(0) == 1 && told.as_str() == line,
@@ -78,8 +81,9 @@ fn standing(counted: [u64; 4], bound: Option<u64>) -> Standing {
     Standing { counts, bound }
 }
 
-/// The search by two workers begins at 5 seconds, with 10 entries. A line is told once a second has passed since the one before, and the
-/// workers are asked a tenth of a second before; the last line is told when the search ends.
+/// The search by two workers begins at 5 seconds, with 10 entries. A line is told once a second
+/// has passed since the one before, and the workers are asked a tenth of a second before; the
+/// last line is told when the search ends.
 #[test]
 fn a_line_is_told_each_second(rt: HostRuntime) -> Result<(), Fail> {
     let screen = Screen::new(rt.alloc(), 5000);

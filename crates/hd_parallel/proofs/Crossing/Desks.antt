@@ -1,4 +1,5 @@
--- That what the threads of a search share may be shared, and that what each has of its own may go to it.
+-- That what the threads of a search share may be shared, and that what each has of its own may go
+-- to it.
 use denote.RattleType.{RattleType}
 use denote.Ref.{NamedLft}
 use denote.Param.Send.{IsSend, IsSync, sendable}
