@@ -22,8 +22,7 @@ pub trait Gate {
     /// The worker of this number has settled its `nth` node, or had no room for it.
     fn after<R: Wait>(&self, rt: &R, worker: usize, nth: u64);
 
-    /// Whether the worker of this number is to tell how it stands; it is asked once a turn, unless it
-    /// only estimates a part of what came to it.
+    /// Whether the worker of this number is to tell how it stands; it is asked once a turn.
     fn asks_worker(&self, _worker: usize) -> bool {
         false
     }

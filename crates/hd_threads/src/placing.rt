@@ -100,24 +100,6 @@ pub(crate) fn take<'t, L: Ledger, A: Ledger>(
     take_next(&desk.boxes, &mut place.hands, &mut place.worker, id)
 }
 
-/// Estimates what came to a worker, so many parcels at most, as [`Worker::open_some`] does: whether
-/// all is estimated now.
-///
-/// # Errors
-/// As there.
-pub(crate) fn open_some<'t, L: Ledger, A: Ledger>(
-    desk: &Desk<'t, L, A>,
-    place: &mut Workplace<'t, L, A>,
-    most: usize,
-) -> Result<bool, NoMemory>
-    requires at { IsAt desk.now place.old }
-    ensures at { IsAt desk.now place.new }
-    ensures still { IsStill place.old place.new }
-{
-    let _ = desk;
-    place.worker.open_some(&mut place.lookup, most)
-}
-
 /// Whether a worker has an open node.
 ///
 /// # Errors

@@ -2,7 +2,7 @@
 ghost use Rattle.std.specs.Prelude.{◌≡◌, ◌<◌, ◌≤◌, true, false, [], ◌∷◌, ◌++◌, IfOk, IfSome, IfNone};
 ghost use Rattle.std.specs.VecDeque.{deque_len, deque_capacity};
 ghost use Rattle.crossbeam_queue.specs.Passes.{view};
-ghost use Rattle.hd_threads.specs.declared.progress.TheConstants.{MOST_TICKETS, MOST_UNCOMMITTED, MOST_BYTES};
+ghost use Rattle.hd_threads.specs.declared.progress.TheConstants.{MOST_TICKETS, MOST_UNCOMMITTED};
 ghost use Rattle.hd_desk.specs.Passes.{IsOutside};
 ghost use Rattle.hd_desk.specs.Views.{BeginsWith};
 
@@ -24,13 +24,8 @@ pub const MOST_TICKETS: usize = 4;
 /// tickets as it may: two batches.
 const MOST_UNCOMMITTED: usize = 2 * MAX_OUTCOMES;
 
-/// How many bytes the states of what uncommitted outcomes lead to take, before the worker settles
-/// no further node and commits: 16 MB.
-const MOST_BYTES: usize = 16 * 1024 * 1024;
-
-/// What a worker's thread holds from turn to turn: its tickets, the oldest first, how many of its
-/// outcomes are not committed and how much they hold, how many nodes it has settled, whether it had
-/// something to do, and whether what came to it is estimated.
+/// What a worker's thread holds from turn to turn: its tickets, the oldest first, how many of its outcomes are not committed, how many
+/// nodes it has settled, and whether it had something to do.
 ///
 /// It must be ended: it can't be let go.
 #[must_use]
@@ -38,13 +33,9 @@ const MOST_BYTES: usize = 16 * 1024 * 1024;
 pub struct Progress {
     held: VecDeque<Held>,
     uncommitted: usize,
-    /// About how many bytes the states take that those outcomes lead to.
-    bytes: usize,
     settled: u64,
     /// The last turn found nothing to do.
     idle: bool,
-    /// The last turn did not estimate all that came to the worker.
-    opening: bool,
     ghost few: { deque_len held ≤ MOST_TICKETS },
     ghost room: { MOST_TICKETS ≤ deque_capacity held },
 }
@@ -61,10 +52,8 @@ impl Progress {
         Ok(Progress {
             held,
             uncommitted: 0,
-            bytes: 0,
             settled: 0,
             idle: false,
-            opening: false,
         })
     }
 
@@ -73,8 +62,6 @@ impl Progress {
         ensures idle { self.now.idle ≡ true → result ≡ true }
         ensures full { deque_len self.now.held ≡ MOST_TICKETS
             → MOST_UNCOMMITTED ≤ self.now.uncommitted → result ≡ true }
-        ensures much { deque_len self.now.held ≡ MOST_TICKETS
-            → MOST_BYTES < self.now.bytes → result ≡ true }
     {
         self.idle || self.is_full()
     }
@@ -86,61 +73,31 @@ impl Progress {
         self.idle = !any;
     }
 
-    /// What came to the worker is all estimated, or not yet.
-    pub(crate) fn note_opened(&mut self, all: bool)
-        ensures { self.new.held ≡ self.old.held }
-    {
-        self.opening = !all;
-    }
-
-    /// Whether some of what came to the worker is not estimated yet.
-    pub(crate) fn is_opening(&self) -> bool
-        ensures { result ≡ self.now.opening }
-    {
-        self.opening
-    }
-
-    /// Whether a batch is to be committed: there is room for its ticket, and there are so many
-    /// outcomes, or some that hold much, or some and no node is open.
+    /// Whether a batch is to be committed: there is room for its ticket, and there are so many outcomes, or some and no node is open.
     pub(crate) fn is_due(&self, open: bool, together: usize) -> bool
         ensures { result ≡ true → deque_len self.now.held < MOST_TICKETS }
     {
-        let enough = self.uncommitted >= together || !open || self.holds_much();
+        let enough = self.uncommitted >= together || !open;
         self.held.len() < MOST_TICKETS && self.uncommitted > 0 && enough
     }
 
     /// Whether the worker is to wait for its tickets before it settles a further node: it holds as many as it may, and outcomes enough are
-    /// uncommitted, or they hold much.
+    /// uncommitted.
     pub(crate) fn is_full(&self) -> bool
         ensures tickets { result ≡ true → deque_len self.now.held ≡ MOST_TICKETS }
-        ensures many { result ≡ true → self.now.bytes ≤ MOST_BYTES
-            → MOST_UNCOMMITTED ≤ self.now.uncommitted }
+        ensures many { result ≡ true → MOST_UNCOMMITTED ≤ self.now.uncommitted }
         ensures full { deque_len self.now.held ≡ MOST_TICKETS
             → MOST_UNCOMMITTED ≤ self.now.uncommitted → result ≡ true }
-        ensures much { deque_len self.now.held ≡ MOST_TICKETS
-            → MOST_BYTES < self.now.bytes → result ≡ true }
     {
         self.held.len() == MOST_TICKETS && self.has_many()
     }
 
-    /// Whether so many outcomes are uncommitted, or hold so much, that a batch is worth a wait for
-    /// the lock.
+    /// Whether so many outcomes are uncommitted that a batch is worth a wait for the lock.
     pub(crate) fn has_many(&self) -> bool
-        ensures many { result ≡ true → self.now.bytes ≤ MOST_BYTES
-            → MOST_UNCOMMITTED ≤ self.now.uncommitted }
+        ensures many { result ≡ true → MOST_UNCOMMITTED ≤ self.now.uncommitted }
         ensures few { result ≡ false → self.now.uncommitted < MOST_UNCOMMITTED }
-        ensures little { result ≡ false → self.now.bytes ≤ MOST_BYTES }
     {
-        self.uncommitted >= MOST_UNCOMMITTED || self.holds_much()
-    }
-
-    /// Whether uncommitted outcomes hold so much that they are to be committed before a further
-    /// node is settled.
-    pub(crate) fn holds_much(&self) -> bool
-        ensures much { result ≡ true → MOST_BYTES < self.now.bytes }
-        ensures little { result ≡ false → self.now.bytes ≤ MOST_BYTES }
-    {
-        self.bytes > MOST_BYTES
+        self.uncommitted >= MOST_UNCOMMITTED
     }
 
     /// A node more is an outcome: the number of this node, from 1.
@@ -152,20 +109,11 @@ impl Progress {
         self.settled
     }
 
-    /// The last outcome leads to states of so many bytes.
-    pub(crate) fn hold_bytes(&mut self, bytes: usize)
-        ensures { self.new.held ≡ self.old.held }
-    {
-        self.bytes = self.bytes.saturating_add(bytes);
-    }
-
-    /// The next batch was made of the outcomes. Where some are left behind it, what they hold is
-    /// not counted any more.
+    /// The next batch was made of the outcomes.
     pub(crate) fn batched(&mut self)
         ensures { self.new.held ≡ self.old.held }
     {
         self.uncommitted = self.uncommitted.saturating_sub(MAX_OUTCOMES);
-        self.bytes = 0;
     }
 
     /// A ticket is the youngest.
@@ -210,10 +158,8 @@ pub(crate) fn end<'t, L: Ledger, A: Ledger, R: Wait>(
     let Progress {
         mut held,
         uncommitted: _,
-        bytes: _,
         settled: _,
         idle: _,
-        opening: _,
     } = progress;
     while let Some(oldest) = held.pop_front() {
         let Held { ticket, kids: _ } = oldest;

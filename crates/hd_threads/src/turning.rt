@@ -11,9 +11,7 @@ use crate::ending::is_over;
 use crate::gate::Gate;
 use crate::halting::halt;
 use crate::pausing::Pause;
-use crate::placing::{
-    Desk, Workplace, commit, has_open, least, open_some, redeem, send, settle, take,
-};
+use crate::placing::{Desk, Workplace, commit, has_open, least, redeem, send, settle, take};
 use crate::posting::Sending;
 use crate::progress::{MOST_TICKETS, Progress, end};
 use crate::working::{Committed, Redemption};
@@ -23,10 +21,6 @@ use hd_search::RunFault;
 use std::alloc::Global;
 use std::sync::Wait;
 use std::sync::ledger::Ledger;
-
-/// How many parcels that came a worker estimates in a turn, at most. Between these turns it looks
-/// whether the search is over.
-const MOST_OPENED: usize = 4096;
 
 /// How a turn ended.
 #[must_use]
@@ -190,7 +184,7 @@ fn take_all<'t, L: Ledger, A: Ledger>(
 }
 
 /// Settles a worker's best open node, if one is open, between the calls of the gate: whether it did. Where the worker is to wait for its
-/// tickets, or its outcomes hold much, what came to it is opened, and nothing is settled.
+/// tickets, what came to it is opened, and nothing is settled.
 ///
 /// # Errors
 /// `NoMemory` where there is no room for an outcome, or for what is kept of estimates.
@@ -207,7 +201,7 @@ fn settle_one<'t, L: Ledger, A: Ledger, R: Wait, G: Gate>(
     ensures still { IsStill place.old place.new }
     ensures tickets { progress.new.held ≡ progress.old.held }
 {
-    if !has_open(desk, place)? || progress.is_full() || progress.holds_much() {
+    if !has_open(desk, place)? || progress.is_full() {
         return Ok(false);
     }
     let nth = progress.count();
@@ -215,12 +209,11 @@ fn settle_one<'t, L: Ledger, A: Ledger, R: Wait, G: Gate>(
     let settled = settle(desk, place);
     gate.after(rt, id, nth);
     settled?;
-    progress.hold_bytes(place.worker.last_bytes());
     Ok(true)
 }
 
-/// Settles a worker's best open nodes, so many of them, or as many as are open before the worker is
-/// to wait for its tickets, or its outcomes hold much: how many these are.
+/// Settles a worker's best open nodes, so many of them, or as many as are open before the worker is to wait for its tickets: how many
+/// these are.
 ///
 /// # Errors
 /// Those of settling one.
@@ -272,43 +265,8 @@ fn tell<'t, L: Ledger, A: Ledger, G: Gate>(
 struct Worked {
     /// Something.
     any: bool,
-    /// It settled as many nodes as it may, and further ones may be open, or are not estimated yet.
+    /// It settled as many nodes as it may, and further ones may be open.
     open: bool,
-}
-
-/// Settles a worker's best open nodes, and tells how it stands where it is asked, once all that
-/// came to it is estimated. Before that only a part of that is estimated, which is something done.
-///
-/// # Errors
-/// `NoMemory` where there is no room for an outcome, or for what is kept of estimates.
-fn open_and_settle<'t, L: Ledger, A: Ledger, R: Wait, G: Gate>(
-    rt: &R,
-    desk: &Desk<'t, L, A>,
-    place: &mut Workplace<'t, L, A>,
-    progress: &mut Progress,
-    id: usize,
-    together: usize,
-    gate: &G,
-) -> Result<Worked, NoMemory>
-    requires at { IsAt desk.now place.old }
-    ensures at { IsAt desk.now place.new }
-    ensures still { IsStill place.old place.new }
-    ensures tickets { progress.new.held ≡ progress.old.held }
-{
-    let all = open_some(desk, place, MOST_OPENED)?;
-    progress.note_opened(all);
-    if !all {
-        return Ok(Worked {
-            any: true,
-            open: true,
-        });
-    }
-    let settled = settle_some(rt, desk, place, progress, id, together, gate)?;
-    tell(desk, place, id, gate)?;
-    Ok(Worked {
-        any: settled > 0,
-        open: settled == together || progress.holds_much(),
-    })
 }
 
 /// What a worker does without the lock: it sends, takes, settles, and tells how it stands where it is asked.
@@ -335,66 +293,27 @@ fn go_on<'t, L: Ledger, A: Ledger, R: Wait, G: Gate>(
 {
     let sent = send_all(desk, place, workers);
     let taken = take_all(desk, place, id)?;
-    let worked = open_and_settle(rt, desk, place, progress, id, together, gate)?;
+    let settled = settle_some(rt, desk, place, progress, id, together, gate)?;
+    tell(desk, place, id, gate)?;
     Ok(Worked {
-        any: sent || taken || worked.any,
-        open: worked.open,
+        any: sent || taken || settled > 0,
+        open: settled == together,
     })
 }
 
-/// Does what [`go_on`] does; where there is no memory for it, the book is halted.
-///
-/// # Errors
-/// How the search ends for the worker: by `NoMemory`.
-fn go_on_or_stop<'t, L: Ledger, A: Ledger, R: Wait, G: Gate>(
-    rt: &R,
-    desk: &Desk<'t, L, A>,
-    place: &mut Workplace<'t, L, A>,
-    progress: &mut Progress,
-    id: usize,
-    workers: usize,
-    together: usize,
-    gate: &G,
-) -> Result<Worked, Option<RunFault>>
-    requires at { IsAt desk.now place.old }
-    requires there { id < workers }
-    requires most { workers ≤ MAX_WORKERS }
-    requires boxes { workers ≤ length desk.now.boxes }
-    ensures seated { IsSeated desk.now place.new }
-    ensures keeps { Keeps place.old place.new }
-    ensures at { OnOk result (IsAt desk.now place.new) }
-    ensures room { OnOk result (place.new.worker.room ≡ place.old.worker.room) }
-    ensures tickets { progress.new.held ≡ progress.old.held }
-    ensures told { IfErr result IsEnd }
-{
-    match go_on(rt, desk, place, progress, id, workers, together, gate) {
-        Ok(worked) => {
-            progress.note(worked.any);
-            Ok(worked)
-        }
-        Err(_) => {
-            stop(rt, desk, place);
-            Err(Some(RunFault::NoMemory))
-        }
-    }
-}
-
-/// Whether a worker puts its next batch off: it has nodes to settle, its outcomes are few enough,
-/// and another thread has the lock.
+/// Whether a worker puts its next batch off, where it has nodes to settle: its outcomes are few enough, and another thread has the lock.
 #[tactic(auto, using(crate::proofs::Begins::begins_same))]
 fn puts_off<'t, L: Ledger, A: Ledger>(
     desk: &Desk<'t, L, A>,
     place: &mut Workplace<'t, L, A>,
     progress: &Progress,
-    open: bool,
 ) -> bool
     requires at { IsAt desk.now place.old }
     ensures at { IsAt desk.now place.new }
     ensures keeps { Keeps place.old place.new }
     ensures room { place.new.worker.room ≡ place.old.worker.room }
 {
-    let may_wait = open && !progress.has_many();
-    may_wait && desk.lock.is_taken(&mut place.pass)
+    !progress.has_many() && desk.lock.is_taken(&mut place.pass)
 }
 
 /// Commits a worker's next batch: whether there was one.
@@ -435,85 +354,13 @@ fn commit_some<'t, L: Ledger, A: Ledger, R: Wait>(
     }
 }
 
-/// Commits a worker's next batch, if it is due and is not put off: whether there was one.
-///
-/// # Errors
-/// How the search ends for the worker.
-fn commit_due<'t, L: Ledger, A: Ledger, R: Wait>(
-    rt: &R,
-    desk: &Desk<'t, L, A>,
-    place: &mut Workplace<'t, L, A>,
-    progress: &mut Progress,
-    open: bool,
-    together: usize,
-    limit: Option<u64>,
-) -> Result<bool, Option<RunFault>>
-    requires at { IsAt desk.now place.old }
-    requires tickets { kids_held progress.old ≤ place.old.worker.room }
-    ensures seated { IsSeated desk.now place.new }
-    ensures keeps { Keeps place.old place.new }
-    ensures at { OnOk result (IsAt desk.now place.new) }
-    ensures room { OnOk result (kids_held progress.new ≤ place.new.worker.room) }
-    ensures told { IfErr result IsEnd }
-{
-    let due = progress.is_due(open, together);
-    if !due {
-        return Ok(false);
-    }
-    let off = puts_off(desk, place, progress, open);
-    if off {
-        return Ok(false);
-    }
-    commit_some(rt, desk, place, progress, limit)
-}
-
-/// Whether one of three things was done.
-fn is_any(one: bool, other: bool, third: bool) -> bool {
-    one || other || third
-}
-
-/// Does what a turn does: whether that was something.
-///
-/// # Errors
-/// How the search ends for the worker.
-fn try_turn<'t, L: Ledger, A: Ledger, R: Wait, G: Gate>(
-    rt: &R,
-    desk: &Desk<'t, L, A>,
-    place: &mut Workplace<'t, L, A>,
-    progress: &mut Progress,
-    id: usize,
-    workers: usize,
-    together: usize,
-    limit: Option<u64>,
-    gate: &G,
-) -> Result<bool, Option<RunFault>>
-    requires at { IsAt desk.now place.old }
-    requires tickets { kids_held progress.old ≤ place.old.worker.room }
-    requires there { id < workers }
-    requires most { workers ≤ MAX_WORKERS }
-    requires boxes { workers ≤ length desk.now.boxes }
-    ensures seated { IsSeated desk.now place.new }
-    ensures keeps { Keeps place.old place.new }
-    ensures at { OnOk result (IsAt desk.now place.new) }
-    ensures room { OnOk result (kids_held progress.new ≤ place.new.worker.room) }
-    ensures told { IfErr result IsEnd }
-{
-    let released = redeem_all(rt, desk, place, progress)?;
-    let worked = go_on_or_stop(rt, desk, place, progress, id, workers, together, gate)?;
-    let committed = commit_due(rt, desk, place, progress, worked.open, together, limit)?;
-    Ok(is_any(released, worked.any, committed))
-}
-
-/// One turn of the worker of this number, of so many: it redeems its tickets from the oldest on
-/// (where it has something else to do, only if the lock is free), sends what is in its outbox,
-/// takes what came to it, estimates that (where it is much, a part of it, and then it settles
-/// nothing), settles its best open nodes, `together` of them, unless it is to wait for its tickets
-/// ([`Progress`]) or its outcomes hold much, tells the gate how it stands, if that asks, and
-/// commits its next batch, if it holds fewer than [`MOST_TICKETS`] tickets and has so many
-/// outcomes, or some that hold much, or some and no node open. While the lock is taken it puts that
-/// off, unless no node is open or its outcomes are many or hold much: it settles further nodes
-/// rather than wait. The book is locked while a ticket is redeemed and while a batch is committed,
-/// and at no other time; no batch is committed once the book has as many entries as the limit says.
+/// One turn of the worker of this number, of so many: it redeems its tickets from the oldest on (where it has something else to do, only if
+/// the lock is free), sends what is in its outbox, takes what
+/// came to it, settles its best open nodes, `together` of them, unless it is to wait for its tickets ([`Progress`]), tells the gate how it
+/// stands, if that asks, and commits its next batch, if it holds fewer than [`MOST_TICKETS`] tickets and has so many outcomes, or some and
+/// no node open. While the lock is taken it puts that off, unless no node is open or its outcomes are many: it settles further nodes rather
+/// than wait. The book is locked while a ticket is redeemed and while a batch is committed, and at
+/// no other time; no batch is committed once the book has as many entries as the limit says.
 pub fn worker_turn<'t, L: Ledger, A: Ledger, R: Wait, G: Gate>(
     rt: &R,
     desk: &Desk<'t, L, A>,
@@ -535,59 +382,26 @@ pub fn worker_turn<'t, L: Ledger, A: Ledger, R: Wait, G: Gate>(
     ensures going { IsGoing desk.now place.new progress.new result }
 {
     let together = together.max(1);
-    match try_turn(
-        rt, desk, place, progress, id, workers, together, limit, gate,
-    ) {
-        Ok(true) => Turn::Busy,
-        Ok(false) => Turn::Idle,
-        Err(fault) => Turn::Ended(fault),
+    let released = match redeem_all(rt, desk, place, progress) {
+        Ok(released) => released,
+        Err(fault) => return Turn::Ended(fault),
+    };
+    let Ok(worked) = go_on(rt, desk, place, progress, id, workers, together, gate) else {
+        stop(rt, desk, place);
+        return Turn::Ended(Some(RunFault::NoMemory));
+    };
+    progress.note(worked.any);
+    let busy = released || worked.any;
+    if !progress.is_due(worked.open, together) {
+        return if busy { Turn::Busy } else { Turn::Idle };
     }
-}
-
-/// Takes a turn, and looks whether the search is over where there was nothing to do, or where not
-/// all that came is estimated.
-fn turn_or_end<'t, L: Ledger, A: Ledger, R: Wait, G: Gate>(
-    rt: &R,
-    desk: &Desk<'t, L, A>,
-    place: &mut Workplace<'t, L, A>,
-    progress: &mut Progress,
-    id: usize,
-    workers: usize,
-    together: usize,
-    limit: Option<u64>,
-    gate: &G,
-) -> Turn
-    requires at { IsAt desk.now place.old }
-    requires tickets { kids_held progress.old ≤ place.old.worker.room }
-    requires there { id < workers }
-    requires most { workers ≤ MAX_WORKERS }
-    requires boxes { workers ≤ length desk.now.boxes }
-    ensures seated { IsSeated desk.now place.new }
-    ensures keeps { Keeps place.old place.new }
-    ensures going { IsGoing desk.now place.new progress.new result }
-{
-    match worker_turn(
-        rt, desk, place, progress, id, workers, together, limit, gate,
-    ) {
-        Turn::Busy => {
-            let opening = progress.is_opening();
-            if !opening {
-                return Turn::Busy;
-            }
-            let over = is_done(rt, desk, place, limit);
-            if over {
-                return Turn::Ended(None);
-            }
-            Turn::Busy
-        }
-        Turn::Idle => {
-            let done = is_done(rt, desk, place, limit);
-            if done {
-                return Turn::Ended(None);
-            }
-            Turn::Idle
-        }
-        Turn::Ended(fault) => Turn::Ended(fault),
+    if worked.open && puts_off(desk, place, progress) {
+        return Turn::Busy;
+    }
+    match commit_some(rt, desk, place, progress, limit) {
+        Ok(committed) if busy || committed => Turn::Busy,
+        Ok(_) => Turn::Idle,
+        Err(fault) => Turn::Ended(fault),
     }
 }
 
@@ -614,11 +428,16 @@ fn turns<'t, L: Ledger, A: Ledger, R: Wait, G: Gate>(
 {
     let mut pause = Pause::new();
     for _turn in rt.forever() {
-        match turn_or_end(
+        match worker_turn(
             rt, desk, place, progress, id, workers, together, limit, gate,
         ) {
             Turn::Busy => pause.reset(),
-            Turn::Idle => pause.wait(rt),
+            Turn::Idle => {
+                if is_done(rt, desk, place, limit) {
+                    return None;
+                }
+                pause.wait(rt);
+            }
             Turn::Ended(fault) => return fault,
         }
     }
