@@ -4,7 +4,7 @@ use crate::{
     CommitRefusal, Counts, Flushed, Group, NotOut, Parcels, Receipt, Redeemed, Refusal, Room,
     Ticket, Verdict,
 };
-use hd_entries::{Entries, HashedRow};
+use hd_entries::{Entries, HashedRow, Listener};
 use hd_node::{Batch, Parcel};
 use hd_task::{Departure, Kid, NoMemory, Plan, Task};
 use std::alloc::Global;
@@ -90,18 +90,20 @@ impl<'t, L: Ledger> Book<'t, L> {
         Ok(Book::open(blank, content))
     }
 
-    /// The book with exactly these entries, with its share as in [`Book::new`]: all entries are acknowledged, no other kid is settled,
-    /// nothing is committed yet. With it come the parcels of all posted kids that are no entries, in posting order.
+    /// The book with exactly these entries, with its share as in [`Book::new`]: all entries are
+    /// acknowledged, no other kid is settled, nothing is committed yet. With it come the parcels of
+    /// all posted kids that are no entries, in posting order. The listener hears how far it is.
     ///
     /// # Errors
     /// `Full` with the number 0 where there are more entries than `most`; else the number of the first entry that can't be the next one
     /// after those before it, with `UnknownParent`, `NotAKid` or `SettledBefore`; or `NoMemory`, never in place of `Full`.
-    pub fn resume(
+    pub fn resume<H: Listener>(
         blank: Blank,
         alloc: Global,
         task: &'t Task,
         most: u64,
         entries: &[Kid],
+        heard: &H,
     ) -> Result<(Book<'t, L>, Share<L>, Vec<Parcel<'t>>), (u64, Refusal)>
         requires name { blank.name ≡ L.name }
         requires parts { blank.parts ≡ L.parts }
@@ -114,7 +116,7 @@ impl<'t, L: Ledger> Book<'t, L> {
         ensures lead { IfOk result (λ r. AllByRecursion (LeadsThere r.0.state) r.2.items) }
         ensures refused { IfErr result (λ e. IsFaultOf task.now most entries.now e.0 e.1) }
     {
-        let (entries, parcels) = Entries::resume(alloc, task, most, entries)?;
+        let (entries, parcels) = Entries::resume(alloc, task, most, entries, heard)?;
         match Box::new(alloc, Content::of(alloc, entries)) {
             Ok(content) => {
                 let (book, share) = Book::open(blank, content);

@@ -1,14 +1,14 @@
--- Why entries are no list that could be certified, and how it is printed. (Our own.)
+-- Why a search can't be made again from entries, and how it is printed.
 use Rattle.std.specs.Prelude.{◌≡◌, ℕ, ◌+◌, ◌<◌, ◌≤◌, List, ◌++◌, map, take, length, codes, decimal, Some, option_map, slice_get}
 use Rattle.hd_task.specs.declared.task.Task.{Task}
 use Rattle.hd_image.specs.declared.entry.Entry.{Entry}
 use Rattle.hd_journal.specs.Journal.{kid_of}
 use Rattle.hd_entries.specs.Resuming.{AreLegal}
-use Rattle.hd_certify.specs.declared.error.CertifyError.{CertifyError}
-use Rattle.hd_certify.specs.declared.error.CertifyError.TheVariants.{Full, Damaged, NoMemory}
+use Rattle.hd_certify.specs.declared.error.RecoverError.{RecoverError}
+use Rattle.hd_certify.specs.declared.error.RecoverError.TheVariants.{Full, Damaged, NoMemory}
 
 -- the printed form: the refusal's number, its name, and the place in decimal; want of memory has no number
-abbrev pub text_of : CertifyError → List ℕ
+abbrev pub text_of : RecoverError → List ℕ
 text_of Full = codes "31 Full"
 text_of (Damaged at) = codes "34 Damaged(" ++ decimal at ++ codes ")"
 text_of NoMemory = codes "NoMemory"
@@ -23,7 +23,7 @@ pub record IsDamagedAt (t : Task) (entries : List Entry) (at : ℕ) : Type 0 whe
 
 -- why entries are refused: there are more than there may be; or there are not, and the first faulty one stands at this place, or there is no
 -- memory
-abbrev pub IsRefusal : Task → ℕ → List Entry → CertifyError → Type 0
+abbrev pub IsRefusal : Task → ℕ → List Entry → RecoverError → Type 0
 IsRefusal t most entries Full = most < length entries
 IsRefusal t most entries (Damaged at) = (length entries ≤ most) × IsDamagedAt t entries at
 IsRefusal t most entries NoMemory = length entries ≤ most

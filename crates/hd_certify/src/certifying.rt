@@ -7,7 +7,7 @@ ghost use Rattle.hd_certify.specs.Error.{IsRefusal};
 
 use crate::covering::are_spared;
 use crate::resuming::resume;
-use crate::{Certified, CertifyError, Entry};
+use crate::{Certified, Entry, RecoverError};
 use hd_base::NoMemory;
 use hd_entries::Entries;
 use hd_task::Task;
@@ -39,7 +39,7 @@ pub fn certify(
     task: &Task,
     most: u64,
     entries: &[Entry],
-) -> Result<Option<Certified>, CertifyError>
+) -> Result<Option<Certified>, RecoverError>
     requires { most < ROOT_PARENT }
     ensures within { OnOk result (length entries.now ≤ most) }
     ensures shows { IfOk result (IsCertificateOf task.now entries.now) }

@@ -12,7 +12,7 @@ ghost use Rattle.hd_entries.specs.declared.verdict.Verdict.TheVariants as Verdic
 ghost use Rattle.hd_entries.specs.Answers.{IsAnswer};
 ghost use Rattle.hd_certify.specs.declared.certified.Certified.{Certified};
 ghost use Rattle.hd_certify.specs.declared.certified.Certified.TheVariants as Certified;
-ghost use Rattle.hd_certify.specs.declared.error.CertifyError.TheVariants.{Damaged};
+ghost use Rattle.hd_certify.specs.declared.error.RecoverError.TheVariants.{Damaged};
 ghost use Rattle.hd_certify.specs.Certificate.{IsCertificateOf};
 ghost use Rattle.hd_certify.specs.Error.{IsRefusal};
 

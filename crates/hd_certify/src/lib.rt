@@ -17,8 +17,9 @@ mod tables;
 
 pub use certified::Certified;
 pub use certifying::certify;
-pub use error::CertifyError;
+pub use error::RecoverError;
 pub use hd_journal::{Entry, Kid};
 pub use naming::legal_kids;
+pub use resuming::{fault_at, kids_of};
 pub use surveyed::{Row, Survey};
 pub use surveying::survey;

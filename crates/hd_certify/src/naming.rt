@@ -7,7 +7,7 @@ ghost use Rattle.hd_entries.specs.Resuming.{AreLegal};
 ghost use Rattle.hd_certify.specs.Error.{IsRefusal};
 
 use crate::resuming::{kids_of, resume};
-use crate::{CertifyError, Entry};
+use crate::{Entry, RecoverError};
 use hd_journal::Kid;
 use hd_task::Task;
 use std::alloc::Global;
@@ -17,7 +17,7 @@ use std::alloc::Global;
 /// # Errors
 /// `Full` where there are more entries than `most`; `Damaged` with the place of the first that makes no legal list with those before it;
 /// `NoMemory`.
-fn check(alloc: Global, task: &Task, most: u64, entries: &[Entry]) -> Result<(), CertifyError>
+fn check(alloc: Global, task: &Task, most: u64, entries: &[Entry]) -> Result<(), RecoverError>
     requires { most < ROOT_PARENT }
     ensures within { OnOk result (length entries.now ≤ most) }
     ensures legal { OnOk result (AreLegal task.now (map kid_of entries.now)) }
@@ -46,7 +46,7 @@ pub fn legal_kids(
     task: &Task,
     most: u64,
     entries: &[Entry],
-) -> Result<Vec<Kid>, CertifyError>
+) -> Result<Vec<Kid>, RecoverError>
     requires { most < ROOT_PARENT }
     ensures within { OnOk result (length entries.now ≤ most) }
     ensures kids { IfOk result (λ kids. kids.items ≡ map kid_of entries.now) }
@@ -58,6 +58,6 @@ pub fn legal_kids(
     check(alloc, task, most, entries)?;
     match kids_of(alloc, entries) {
         Ok(kids) => Ok(kids),
-        Err(_) => Err(CertifyError::NoMemory),
+        Err(_) => Err(RecoverError::NoMemory),
     }
 }

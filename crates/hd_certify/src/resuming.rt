@@ -6,12 +6,12 @@ ghost use Rattle.hd_task.specs.declared.plan.TheConstants.{ROOT_PARENT};
 ghost use Rattle.hd_image.specs.declared.entry.Entry.{Entry as EntryRecord};
 ghost use Rattle.hd_journal.specs.Journal.{kid_of};
 ghost use Rattle.hd_entries.specs.Resuming.{first_fault, open_kids, resumed, IsFaultOf, LeadsThere};
-ghost use Rattle.hd_certify.specs.declared.error.CertifyError.TheVariants.{Damaged};
+ghost use Rattle.hd_certify.specs.declared.error.RecoverError.TheVariants.{Damaged};
 ghost use Rattle.hd_certify.specs.Error.{IsRefusal};
 
-use crate::CertifyError;
+use crate::RecoverError;
 use hd_base::NoMemory;
-use hd_entries::{Entries, Refusal};
+use hd_entries::{Entries, Refusal, Unheard};
 use hd_journal::{Entry, Kid};
 use hd_node::Parcel;
 use hd_task::Task;
@@ -31,7 +31,7 @@ fn kid_of(entry: &Entry) -> Kid
 ///
 /// # Errors
 /// `NoMemory` where there is no room for them.
-pub(crate) fn kids_of(alloc: Global, entries: &[Entry]) -> Result<Vec<Kid>, NoMemory>
+pub fn kids_of(alloc: Global, entries: &[Entry]) -> Result<Vec<Kid>, NoMemory>
     ensures { IfOk result (λ kids. kids.items ≡ map kid_of entries.now) }
 {
     let mut kids = Vec::with_capacity(alloc, entries.len())?;
@@ -42,16 +42,16 @@ pub(crate) fn kids_of(alloc: Global, entries: &[Entry]) -> Result<Vec<Kid>, NoMe
 }
 
 /// The entry of this number is faulty, which is told with its place.
-fn damaged_at(entries: &[Entry], number: u64) -> CertifyError
+fn damaged_at(entries: &[Entry], number: u64) -> RecoverError
     requires { number < length entries.now }
     ensures { (at : ℕ) × (result ≡ Damaged at)
         × (option_map (λ (e : EntryRecord). e.at) (slice_get entries.now number) ≡ Some at) }
 {
-    CertifyError::Damaged(entries[number as usize].at)
+    RecoverError::Damaged(entries[number as usize].at)
 }
 
-/// Why nothing is certified, where that of this number can't be the next entry.
-fn fault_at(entries: &[Entry], number: u64, refusal: Refusal) -> CertifyError
+/// Why no search can be made again from entries, where that of this number can't be the next one.
+pub fn fault_at(entries: &[Entry], number: u64, refusal: Refusal) -> RecoverError
     requires { (t : Task) × (most : ℕ) × (most < ROOT_PARENT)
         × IsFaultOf t most (map kid_of entries.now) number refusal }
     ensures { (t : Task) (most : ℕ) → most < ROOT_PARENT
@@ -59,8 +59,8 @@ fn fault_at(entries: &[Entry], number: u64, refusal: Refusal) -> CertifyError
         → IsRefusal t most entries.now result }
 {
     match refusal {
-        Refusal::Full => CertifyError::Full,
-        Refusal::NoMemory => CertifyError::NoMemory,
+        Refusal::Full => RecoverError::Full,
+        Refusal::NoMemory => RecoverError::NoMemory,
         Refusal::UnknownParent
         | Refusal::NotAKid
         | Refusal::SettledBefore
@@ -79,7 +79,7 @@ pub(crate) fn resume<'t>(
     task: &'t Task,
     most: u64,
     entries: &[Entry],
-) -> Result<(Entries<'t>, Vec<Parcel<'t>>), CertifyError>
+) -> Result<(Entries<'t>, Vec<Parcel<'t>>), RecoverError>
     requires { most < ROOT_PARENT }
     ensures within { OnOk result (length entries.now ≤ most) }
     ensures entries { IfOk result (λ r. r.0 ≡ resumed task.now most (map kid_of entries.now)) }
@@ -90,10 +90,10 @@ pub(crate) fn resume<'t>(
     ensures refused { IfErr result (IsRefusal task.now most entries.now) }
 {
     if entries.len() as u64 > most {
-        return Err(CertifyError::Full);
+        return Err(RecoverError::Full);
     }
     let kids = kids_of(alloc, entries)?;
-    match Entries::resume(alloc, task, most, kids.as_slice()) {
+    match Entries::resume(alloc, task, most, kids.as_slice(), &Unheard) {
         Ok(held) => Ok(held),
         Err((number, refusal)) => Err(fault_at(entries, number, refusal)),
     }

@@ -12,7 +12,7 @@ use crate::covering::{closed_of, is_spared};
 use crate::resuming::resume;
 use crate::surveyed::Survey;
 use crate::tables::table_of;
-use crate::{CertifyError, Entry};
+use crate::{Entry, RecoverError};
 use hd_base::NoMemory;
 use hd_entries::Entries;
 use hd_hmax::Hmax;
@@ -112,7 +112,7 @@ pub fn survey(
     task: &Task,
     most: u64,
     entries: &[Entry],
-) -> Result<Survey, CertifyError>
+) -> Result<Survey, RecoverError>
     requires { most < ROOT_PARENT }
     ensures within { OnOk result (length entries.now ≤ most) }
     ensures tells { IfOk result (IsSurveyOf task.now entries.now) }

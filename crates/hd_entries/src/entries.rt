@@ -1,7 +1,7 @@
 //! The entries of a search.
 use crate::commit::count_entries;
 use crate::content::Content;
-use crate::{HashedRow, Refusal, Verdict};
+use crate::{HashedRow, Listener, Refusal, Verdict};
 use hd_node::{Batch, Parcel};
 use hd_task::{Departure, Kid, NoMemory, Plan, Task};
 use std::alloc::Global;
@@ -54,16 +54,18 @@ impl<'t> Entries<'t> {
         })
     }
 
-    /// Exactly these entries, with no other kid settled; and the parcels of all posted kids that are no entries, in posting order.
+    /// Exactly these entries, with no other kid settled; and the parcels of all posted kids that are
+    /// no entries, in posting order. The listener hears how far it is.
     ///
     /// # Errors
     /// `Full` with the number 0 where there are more entries than `most`; else the number of the first entry that can't be the next one
     /// after those before it, with `UnknownParent`, `NotAKid` or `SettledBefore`; or `NoMemory`, never in place of `Full`.
-    pub fn resume(
+    pub fn resume<H: Listener>(
         alloc: Global,
         task: &'t Task,
         most: u64,
         entries: &[Kid],
+        heard: &H,
     ) -> Result<(Entries<'t>, Vec<Parcel<'t>>), (u64, Refusal)>
         requires { most < ROOT_PARENT }
         ensures entries { IfOk result (λ r. r.0 ≡ resumed task.now most entries.now) }
@@ -74,7 +76,7 @@ impl<'t> Entries<'t> {
         ensures lead { IfOk result (λ r. AllByRecursion (LeadsThere r.0.state) r.1.items) }
         ensures refused { IfErr result (λ e. IsFaultOf task.now most entries.now e.0 e.1) }
     {
-        let (content, parcels) = Content::resume(alloc, task, most, entries)?;
+        let (content, parcels) = Content::resume(alloc, task, most, entries, heard)?;
         Ok((Entries { content }, parcels))
     }
 

@@ -14,6 +14,7 @@ mod entries;
 mod entry;
 mod expanded;
 mod hashed_row;
+mod hearing;
 pub mod laws;
 mod refusal;
 mod releasing;
@@ -24,6 +25,7 @@ mod verdict;
 
 pub use entries::Entries;
 pub use hashed_row::HashedRow;
+pub use hearing::{Listener, Unheard};
 pub use refusal::Refusal;
 pub use releasing::release_kids;
 pub use verdict::Verdict;

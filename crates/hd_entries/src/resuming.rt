@@ -12,6 +12,7 @@ ghost use Rattle.hd_entries.specs.declared.refusal.Refusal.TheVariants as Refusa
 
 use crate::Refusal;
 use crate::content::Content;
+use crate::hearing::{Listener, tell};
 use crate::releasing::release_kids;
 use hd_node::{Batch, Expansion, Outcome, Parcel};
 use hd_successors::Successors;
@@ -183,16 +184,17 @@ impl<'t> Content<'t> {
         Ok(())
     }
 
-    /// Makes these kids the entries again, in order.
+    /// Makes these kids the entries again, in order, and tells the listener how far it is.
     ///
     /// # Errors
     /// The number of the first that can't be the next entry, and why; or `NoMemory`.
-    fn enter_all(
+    fn enter_all<H: Listener>(
         &mut self,
         alloc: Global,
         successors: &mut Successors<'t>,
         waiting: &mut Vec<Option<Parcel<'t>>>,
         entries: &[Kid],
+        heard: &H,
     ) -> Result<(), (u64, Refusal)>
         requires held { IsHeld self.old }
         requires again { IsAgain (state_of self.old) waiting.old.items }
@@ -210,6 +212,7 @@ impl<'t> Content<'t> {
             ⊎ (first_fault self.old.expanded.task.now [] entries.now ≡ Some e)) }
     {
         for number in 0..entries.len() {
+            tell(heard, number, entries.len());
             match self.enter_again(alloc, successors, waiting, entries[number]) {
                 Ok(()) => {}
                 Err(refusal) => return Err((number as u64, refusal)),
@@ -234,11 +237,12 @@ impl<'t> Content<'t> {
     }
 
     /// Makes these kids the entries again, as [`Content::enter_all`], by an index of the task.
-    fn enter_list(
+    fn enter_list<H: Listener>(
         &mut self,
         alloc: Global,
         waiting: &mut Vec<Option<Parcel<'t>>>,
         entries: &[Kid],
+        heard: &H,
     ) -> Result<(), (u64, Refusal)>
         requires held { IsHeld self.old }
         requires again { IsAgain (state_of self.old) waiting.old.items }
@@ -255,7 +259,7 @@ impl<'t> Content<'t> {
             ⊎ (first_fault self.old.expanded.task.now [] entries.now ≡ Some e)) }
     {
         match Successors::new(alloc, self.expanded.task) {
-            Ok(mut successors) => self.enter_all(alloc, &mut successors, waiting, entries),
+            Ok(mut successors) => self.enter_all(alloc, &mut successors, waiting, entries, heard),
             Err(_error) => Err((0, Refusal::NoMemory)),
         }
     }
@@ -279,11 +283,12 @@ impl<'t> Content<'t> {
     }
 
     /// The parts with exactly these entries, and what waits.
-    fn resumed(
+    fn resumed<H: Listener>(
         alloc: Global,
         task: &'t Task,
         most: u64,
         entries: &[Kid],
+        heard: &H,
     ) -> Result<(Content<'t>, Vec<Option<Parcel<'t>>>), (u64, Refusal)>
         requires numbered { most < ROOT_PARENT }
         requires room { length entries.now ≤ most }
@@ -298,7 +303,7 @@ impl<'t> Content<'t> {
     {
         match Content::emptied(alloc, task, most) {
             Ok((mut content, mut waiting)) => {
-                content.enter_list(alloc, &mut waiting, entries)?;
+                content.enter_list(alloc, &mut waiting, entries, heard)?;
                 Ok((content, waiting))
             }
             Err(_error) => Err((0, Refusal::NoMemory)),
@@ -306,11 +311,12 @@ impl<'t> Content<'t> {
     }
 
     /// The parts with exactly these entries, and the parcels that are left, as [`crate::Entries::resume`] says.
-    pub(crate) fn resume(
+    pub(crate) fn resume<H: Listener>(
         alloc: Global,
         task: &'t Task,
         most: u64,
         entries: &[Kid],
+        heard: &H,
     ) -> Result<(Content<'t>, Vec<Parcel<'t>>), (u64, Refusal)>
         requires { most < ROOT_PARENT }
         ensures held { IfOk result (λ r. IsHeld r.0) }
@@ -325,7 +331,7 @@ impl<'t> Content<'t> {
         if entries.len() as u64 > most {
             return Err((0, Refusal::Full));
         }
-        let (content, waiting) = Content::resumed(alloc, task, most, entries)?;
+        let (content, waiting) = Content::resumed(alloc, task, most, entries, heard)?;
         match left_of(alloc, waiting) {
             Ok(parcels) => Ok((content, parcels)),
             Err(_error) => Err((0, Refusal::NoMemory)),

@@ -7,8 +7,8 @@ use Rattle.hd_journal.specs.Journal.{device_of, kids_of}
 use Rattle.hd_journal.specs.Moments.{IsSettled}
 use Rattle.hd_desk.specs.Passes.{IsOutside}
 use Rattle.hd_desk.specs.Views.{BeginsWith}
-use Rattle.hd_search.specs.declared.fault.RunFault.{RunFault}
-use Rattle.hd_search.specs.Searching.{Grows}
+use Rattle.hd_threads.specs.declared.fault.RunFault.{RunFault}
+use Rattle.hd_threads.specs.Growing.{Grows}
 use Rattle.hd_threads.specs.declared.placing.Desk.{Desk}
 use Rattle.hd_threads.specs.Committing.{StopsLater}
 use Rattle.hd_threads.specs.Surviving.{Survives}

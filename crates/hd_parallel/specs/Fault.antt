@@ -7,10 +7,10 @@ use Rattle.hd_image.specs.Image.{most_of}
 use Rattle.hd_journal.specs.declared.journal.Journal.{Journal}
 use Rattle.hd_journal.specs.Journal.{kids_of}
 use Rattle.hd_certify.specs.Error.{IsDamagedAt}
-use Rattle.hd_search.specs.declared.fault.RunFault.{RunFault}
-use Rattle.hd_search.specs.declared.fault.RunFault.TheVariants.{Full, Damaged, Device, Failed, NotOut, NoMemory}
-use Rattle.hd_search.specs.Fault as search
-use Rattle.hd_search.specs.Searching.{Grows}
+use Rattle.hd_threads.specs.declared.fault.RunFault.{RunFault}
+use Rattle.hd_threads.specs.declared.fault.RunFault.TheVariants.{Full, Damaged, Device, Failed, NotOut, NoMemory}
+use Rattle.hd_threads.specs.Faults as search
+use Rattle.hd_threads.specs.Growing.{Grows}
 use Rattle.hd_threads.specs.Faults.{IsOfWorker}
 use Rattle.hd_parallel.specs.declared.fault.ThreadsFault.{ThreadsFault}
 use Rattle.hd_parallel.specs.declared.fault.ThreadsFault.TheVariants.{Run, NoThread}

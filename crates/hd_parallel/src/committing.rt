@@ -4,9 +4,8 @@ ghost use Rattle.hd_parallel.specs.Committing.{CanRun, HasEnded};
 
 use crate::opening::CommitterPlace;
 use hd_journal::Journal;
-use hd_search::RunFault;
 use hd_store::Store;
-use hd_threads::{Desk, Gate, commit_all, halt};
+use hd_threads::{Desk, Gate, RunFault, commit_all, halt};
 use std::alloc::Global;
 use std::sync::Wait;
 use std::sync::ledger::Ledger;

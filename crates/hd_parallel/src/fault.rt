@@ -2,13 +2,13 @@
 ghost use Rattle.std.specs.Prelude.{◌≡◌, ℕ, List, Some};
 ghost use Rattle.hd_task.specs.declared.task.Task.{Task};
 ghost use Rattle.hd_image.specs.declared.entry.Entry.{Entry};
-ghost use Rattle.hd_recovery.specs.Fault.{IsRefusal};
-ghost use Rattle.hd_search.specs.declared.fault.RunFault.TheVariants as faults;
+ghost use Rattle.hd_certify.specs.Error.{IsRefusal};
+ghost use Rattle.hd_threads.specs.declared.fault.RunFault.TheVariants as faults;
 ghost use Rattle.hd_parallel.specs.Fault.{text_of, first_of, IsFaulty};
 ghost use Rattle.hd_parallel.specs.declared.fault.ThreadsFault.TheVariants.{Run};
 
-use hd_recovery::RecoverFault;
-use hd_search::RunFault;
+use hd_recovery::RecoverError;
+use hd_threads::RunFault;
 use std::alloc::AllocError;
 use std::fmt;
 use thiserror::Error;
@@ -42,14 +42,14 @@ impl From<AllocError> for ThreadsFault {
 }
 
 /// What is told of why no search goes on from entries.
-pub(crate) fn of_recovery(fault: RecoverFault) -> RunFault
+pub(crate) fn of_recovery(fault: RecoverError) -> RunFault
     ensures { (t : Task) (most : ℕ) (entries : List Entry) → IsRefusal t most entries fault
         → IsFaulty t most entries result }
 {
     match fault {
-        RecoverFault::Full => RunFault::Full,
-        RecoverFault::Damaged(at) => RunFault::Damaged(at),
-        RecoverFault::NoMemory => RunFault::NoMemory,
+        RecoverError::Full => RunFault::Full,
+        RecoverError::Damaged(at) => RunFault::Damaged(at),
+        RecoverError::NoMemory => RunFault::NoMemory,
     }
 }
 

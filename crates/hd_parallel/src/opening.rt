@@ -15,13 +15,13 @@ use hd_base::NoMemory;
 use hd_book::Book;
 use hd_bound::{BoundSeat, BoundWord};
 use hd_desk::{Hands, Lock, Mailboxes, Pass};
+use hd_entries::Listener;
 use hd_journal::Journal;
 use hd_node::Parcel;
 use hd_recovery::{Recovered, recover};
-use hd_search::RunFault;
 use hd_store::Store;
 use hd_task::{Kid, ROOT_ACTION, ROOT_PARENT, Task};
-use hd_threads::{Desk, Letter, SharedBook, Workplace};
+use hd_threads::{Desk, Gate, Letter, RunFault, SharedBook, Workplace};
 use hd_worker::{Lookup, Worker};
 use hd_zobrist::Words;
 use std::alloc::Global;
@@ -173,12 +173,23 @@ fn places_of<'t, L: Ledger, A: Ledger>(
     Ok(places)
 }
 
-/// The search with the entries of a journal, opened for so many workers.
+/// A gate that hears how far the entries of a journal are made again.
+#[derive(Drop)]
+struct ByGate<'g, G: Gate>(&'g G);
+
+impl<'g, G: Gate> Listener for ByGate<'g, G> {
+    fn hear(&self, done: u64, all: u64) {
+        self.0.hear_rebuilding(done, all);
+    }
+}
+
+/// The search with the entries of a journal, opened for so many workers. The gate hears how many
+/// entries are made again.
 ///
 /// # Errors
 /// `Full` where there are more entries than the journal may have; `Damaged` of the first that
 /// makes no legal list with those before it; `NoMemory`.
-pub(crate) fn open_search<'t, L: Ledger, A: Ledger, S: Store, R: Wait>(
+pub(crate) fn open_search<'t, L: Ledger, A: Ledger, S: Store, G: Gate, R: Wait>(
     rt: &R,
     alloc: Global,
     commits: Blank,
@@ -186,6 +197,7 @@ pub(crate) fn open_search<'t, L: Ledger, A: Ledger, S: Store, R: Wait>(
     task: &'t Task,
     journal: &Journal<S>,
     workers: usize,
+    gate: &G,
 ) -> Result<Opened<'t, L, A>, RunFault>
     requires name { commits.name ≡ L.name }
     requires parts { commits.parts ≡ L.parts }
@@ -203,13 +215,14 @@ pub(crate) fn open_search<'t, L: Ledger, A: Ledger, S: Store, R: Wait>(
     ensures told { IfErr result
         (IsFaulty task.now (most_of journal.now.version) journal.now.entries.items) }
 {
-    let recovered = recover::<L>(
+    let recovered = recover::<L, ByGate<'_, G>>(
         commits,
         alloc,
         task,
         journal.most(),
         journal.entries(),
         workers,
+        &ByGate(gate),
     );
     match recovered {
         Ok(recovered) => Ok(opened_from(rt, alloc, flushes, task, recovered, workers)?),

@@ -6,7 +6,7 @@ ghost use Rattle.hd_desk.specs.Passes.{IsOutside};
 ghost use Rattle.hd_journal.specs.Journal.{device_of, kids_of};
 ghost use Rattle.hd_journal.specs.Moments.{IsSettled};
 ghost use Rattle.hd_desk.specs.Views.{BeginsWith};
-ghost use Rattle.hd_search.specs.Searching.{Grows};
+ghost use Rattle.hd_threads.specs.Growing.{Grows};
 ghost use Rattle.hd_threads.specs.Ending.{IsOutcomeOf, IsTrueOutcome, IsCountedBy};
 ghost use Rattle.hd_threads.specs.Surviving.{Survives};
 ghost use Rattle.hd_parallel.specs.Committing.{CanRun};
@@ -193,7 +193,7 @@ fn run_as<
     ensures settled { IsSettled (device_of journal.old)
         → OnOk result (IsSettled (device_of journal.new)) }
 {
-    match open_search::<L, A, S, R>(rt, alloc, commits, flushes, task, journal, workers) {
+    match open_search::<L, A, S, G, R>(rt, alloc, commits, flushes, task, journal, workers, gate) {
         Ok(search) => run_opened(rt, alloc, task, search, journal, together, limit, gate),
         Err(fault) => Err(ThreadsFault::Run(fault)),
     }

@@ -6,8 +6,7 @@ ghost use Rattle.hd_parallel.specs.Fault.{IsOfThreads};
 ghost use Rattle.hd_parallel.specs.Opening.{IsJob, AreAt};
 
 use crate::ThreadsFault;
-use hd_search::RunFault;
-use hd_threads::{Desk, Gate, Workplace, work};
+use hd_threads::{Desk, Gate, Role, RunFault, Workplace, work};
 use std::alloc::Global;
 use std::sync::Wait;
 use std::sync::ledger::Ledger;
@@ -57,9 +56,14 @@ fn work_by<'s, 't, L: Ledger, A: Ledger, G: Gate, R: Wait>(
         gate,
     } = job;
     let mut place = place;
-    work(
-        rt, alloc, desk, &mut place, id, workers, together, limit, gate,
-    )
+    let role = Role {
+        id,
+        workers,
+        together,
+        limit,
+        gate,
+    };
+    work(rt, alloc, desk, &mut place, &role)
 }
 
 /// Starts the thread of a worker, if the system does.

@@ -85,15 +85,6 @@ impl<'r, R: Eprint + Clock> Watch<'r, R> {
         })
     }
 
-    /// Tells that a search first rebuilds the entries of its journal, if there are any.
-    pub fn tell_rebuilding(&self) {
-        let entries = self.last.entries.load(Ordering::Relaxed);
-        if entries > 0 {
-            // A line that can't be told is no reason to end a search.
-            let _ = eprintln!(self.rt; "rebuilding {entries} entries");
-        }
-    }
-
     /// How many milliseconds ago the search began.
     fn milliseconds(&self) -> u64 {
         match self.began {
@@ -208,6 +199,16 @@ impl<'r, R: Eprint + Clock> Gate for Watch<'r, R> {
             self.tell(now, since);
         } else if since >= ASKED_AFTER {
             self.ask();
+        }
+    }
+
+    fn hear_rebuilding(&self, done: u64, all: u64) {
+        let now = self.milliseconds();
+        let since = now.saturating_sub(self.told_at.load(Ordering::Relaxed));
+        if done == 0 || since >= TOLD_AFTER {
+            // A line that can't be told is no reason to end a search.
+            let _ = eprintln!(self.rt; "rebuilding {done} of {all} entries");
+            self.told_at.store(now, Ordering::Relaxed);
         }
     }
 }

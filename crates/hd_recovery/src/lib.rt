@@ -2,12 +2,11 @@
 //! these entries, and the workers, each with what it owns of what is closed and of what is open.
 #![tactic(auto)]
 
-mod fault;
 mod handing;
 pub mod laws;
 mod recovering;
 mod resuming;
 
-pub use fault::RecoverFault;
+pub use hd_certify::RecoverError;
 pub use hd_journal::Entry;
 pub use recovering::{Recovered, recover};

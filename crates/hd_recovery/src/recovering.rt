@@ -8,13 +8,14 @@ ghost use Rattle.hd_journal.specs.Journal.{kid_of};
 ghost use Rattle.hd_entries.specs.Resuming.{open_kids, AreLegal, LeadsThere};
 ghost use Rattle.hd_book.specs.Steps.{resumed_book};
 ghost use Rattle.hd_recovery.specs.Recovered.{recovered_workers};
-ghost use Rattle.hd_recovery.specs.Fault.{IsRefusal};
+ghost use Rattle.hd_certify.specs.Error.{IsRefusal};
 
 use crate::handing::{close_all, idle_workers, take_all};
 use crate::resuming::resume;
-use crate::{Entry, RecoverFault};
+use crate::{Entry, RecoverError};
 use hd_base::NoMemory;
 use hd_book::Book;
+use hd_entries::Listener;
 use hd_node::Parcel;
 use hd_task::Task;
 use hd_worker::Worker;
@@ -61,19 +62,21 @@ fn workers_of<'t, L: Ledger>(
 /// The search with exactly these entries, of which there may be `most`, shared among so many
 /// workers: all entries are acknowledged, each is closed at the worker that owns its state, and
 /// so each kid that is no entry is open at one worker. With the book comes a share of the ledger
-/// that counts its commits, which is the whole of it.
+/// that counts its commits, which is the whole of it. The listener hears how many entries are made
+/// again.
 ///
 /// # Errors
 /// `Full` where there are more entries than `most`; `Damaged` with the place of the first that
 /// makes no legal list with those before it; `NoMemory`.
-pub fn recover<'t, L: Ledger>(
+pub fn recover<'t, L: Ledger, H: Listener>(
     blank: Blank,
     alloc: Global,
     task: &'t Task,
     most: u64,
     entries: &[Entry],
     workers: usize,
-) -> Result<Recovered<'t, L>, RecoverFault>
+    heard: &H,
+) -> Result<Recovered<'t, L>, RecoverError>
     requires name { blank.name ≡ L.name }
     requires parts { blank.parts ≡ L.parts }
     requires most { most < ROOT_PARENT }
@@ -87,7 +90,7 @@ pub fn recover<'t, L: Ledger>(
         ≡ recovered_workers task.now (map kid_of entries.now) workers) }
     ensures refused { IfErr result (IsRefusal task.now most entries.now) }
 {
-    let (book, share, parcels) = resume(blank, alloc, task, most, entries)?;
+    let (book, share, parcels) = resume(blank, alloc, task, most, entries, heard)?;
     let workers = workers_of(alloc, task, workers, &book, parcels)?;
     Ok(Recovered {
         book,

@@ -3,9 +3,9 @@ use Rattle.std.specs.Prelude.{ℕ, List, codes}
 use Rattle.hd_journal.specs.declared.error.JournalError.{JournalError}
 use Rattle.hd_journal.specs.declared.error.JournalError.TheVariants as journal
 use Rattle.hd_journal.specs.Error as journals
-use Rattle.hd_recovery.specs.declared.fault.RecoverFault.{RecoverFault}
-use Rattle.hd_recovery.specs.declared.fault.RecoverFault.TheVariants as recovery
-use Rattle.hd_recovery.specs.Fault as recoveries
+use Rattle.hd_certify.specs.declared.error.RecoverError.{RecoverError}
+use Rattle.hd_certify.specs.declared.error.RecoverError.TheVariants as recovery
+use Rattle.hd_certify.specs.Error as recoveries
 use Rattle.hd_replay.specs.declared.fault.ReplayFault.{ReplayFault}
 use Rattle.hd_replay.specs.declared.fault.ReplayFault.TheVariants.{Recovery, Journal, Full, NoMemory}
 
@@ -29,7 +29,7 @@ of_journal journal.NotOut = Journal journal.NotOut
 of_journal journal.NoMemory = NoMemory
 
 -- what is told where a search can't go on
-abbrev pub of_recovery : RecoverFault → ReplayFault
+abbrev pub of_recovery : RecoverError → ReplayFault
 of_recovery recovery.Full = Full
 of_recovery (recovery.Damaged at) = Recovery (recovery.Damaged at)
 of_recovery recovery.NoMemory = NoMemory

@@ -4,7 +4,7 @@ ghost use Rattle.hd_replay.specs.Faults.{text_of, of_journal, of_recovery};
 ghost use Rattle.hd_replay.specs.declared.fault.ReplayFault.TheVariants.{NoMemory};
 
 use hd_journal::JournalError;
-use hd_recovery::RecoverFault;
+use hd_recovery::RecoverError;
 use std::alloc::AllocError;
 use std::fmt;
 use thiserror::Error;
@@ -13,7 +13,7 @@ use thiserror::Error;
 #[derive(Clone, Copy, Debug, PartialEq, Eq, Error)]
 pub enum ReplayFault {
     /// A search can't go on from the journal's entries.
-    Recovery(RecoverFault),
+    Recovery(RecoverError),
     /// The journal refuses the disk or a group, or its device failed.
     Journal(JournalError),
     /// The entries would be more than the journal may have.
@@ -54,12 +54,12 @@ pub(crate) fn told_of_journal(error: JournalError) -> ReplayFault
 }
 
 /// What is told where a search can't go on.
-pub(crate) fn told_of_recovery(fault: RecoverFault) -> ReplayFault
+pub(crate) fn told_of_recovery(fault: RecoverError) -> ReplayFault
     ensures { result ≡ of_recovery fault }
 {
     match fault {
-        RecoverFault::NoMemory => ReplayFault::NoMemory,
-        RecoverFault::Full => ReplayFault::Full,
-        RecoverFault::Damaged(at) => ReplayFault::Recovery(RecoverFault::Damaged(at)),
+        RecoverError::NoMemory => ReplayFault::NoMemory,
+        RecoverError::Full => ReplayFault::Full,
+        RecoverError::Damaged(at) => ReplayFault::Recovery(RecoverError::Damaged(at)),
     }
 }

@@ -12,6 +12,7 @@ use crate::run::{Out, Run};
 use crate::seat::Seat;
 use hd_base::NoMemory;
 use hd_book::Rooms;
+use hd_entries::Unheard;
 use hd_journal::Journal;
 use hd_node::Parcel;
 use hd_recovery::{Recovered, recover};
@@ -115,13 +116,14 @@ pub(crate) fn run_of<'t, L: Ledger>(
     ensures { (digest : List ℕ) (f : File) → StandsAs digest f journal.now
         → IfOk result (IsRunOf task.now f workers) }
 {
-    match recover::<L>(
+    match recover::<L, Unheard>(
         blank,
         alloc,
         task,
         journal.most(),
         journal.entries(),
         workers,
+        &Unheard,
     ) {
         Ok(recovered) => Ok(begun(alloc, task, recovered, workers)?),
         Err(fault) => Err(told_of_recovery(fault)),

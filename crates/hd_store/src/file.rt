@@ -25,8 +25,8 @@ const LAST_STREAM: i32 = 2;
 /// failed, no call reaches the file any more: each fails.
 ///
 /// No contract can say what a file holds. That it is the disk that contracts see is a premise,
-/// and so is that nobody else writes it. Each sync first looks whether the file has the length
-/// that it should have, and still has a name: else the premise is broken, and the sync fails.
+/// and so is that nobody else writes it. Each write and sync first looks whether the file has the
+/// length that it should have, and still has a name: else the premise is broken, and it fails.
 #[derive(Drop)]
 pub struct FileStore {
     file: File,
@@ -230,7 +230,7 @@ impl Store for FileStore {
             return Err(StoreError::NoMemory);
         };
         self.image.make_room(end)?;
-        if self.file.write_all_at(bytes, at).is_err() {
+        if !self.is_there() || self.file.write_all_at(bytes, at).is_err() {
             self.image.break_write(first, bytes.len());
             self.break_off();
             return Err(StoreError::Failed);

@@ -9,7 +9,7 @@ use Rattle.hd_entries.specs.declared.verdict.Verdict.TheVariants as verdicts
 use Rattle.hd_entries.specs.Settling.{BookState, IsKept, expansions}
 use Rattle.hd_entries.specs.Answers as entries
 use Rattle.hd_book.specs.declared.counts.Counts.{Counts}
-use Rattle.hd_search.specs.Answer.{IsAnswerOf, IsCounted}
+use Rattle.hd_threads.specs.Answer.{IsAnswerOf, IsCounted}
 use Rattle.hd_threads.specs.Ending.{is_reached, outcome_of, IsStopped, IsOutcomeOf, IsTrueOutcome, IsCountedBy}
 
 -- the answer of a book is that of its entries

@@ -5,10 +5,10 @@ use Rattle.hd_task.specs.declared.plan.Kid.{Kid}
 use Rattle.hd_store.specs.declared.store.Store.{Ghosts}
 use Rattle.hd_journal.specs.declared.journal.Journal.{Journal}
 use Rattle.hd_desk.specs.Views.{BeginsWith}
-use Rattle.hd_search.specs.declared.fault.RunFault.{RunFault}
-use Rattle.hd_search.specs.declared.fault.RunFault.TheVariants.{Full, Damaged, Device, Failed, NotOut, NoMemory}
-use Rattle.hd_search.specs.Searching.{Grows}
-use Rattle.hd_search.proofs.Journals.{grows_through}
+use Rattle.hd_threads.specs.declared.fault.RunFault.{RunFault}
+use Rattle.hd_threads.specs.declared.fault.RunFault.TheVariants.{Full, Damaged, Device, Failed, NotOut, NoMemory}
+use Rattle.hd_threads.specs.Growing.{Grows}
+use Rattle.hd_threads.proofs.Growing.{grows_through}
 use Rattle.hd_threads.specs.Committing.{StopsRound, StopsLater}
 
 -- what the last round tells, of the journal before the first

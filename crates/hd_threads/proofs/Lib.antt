@@ -1,6 +1,7 @@
 pub mod Batches
 pub mod Begins
 pub mod Endings
+pub mod Growing
 pub mod Later
 pub mod Parcels
 pub mod Places

@@ -1,4 +1,5 @@
--- What a read gives is one of the contents that a stop may leave, also behind a call that failed, where each change is made sure of at once.
+-- What a read gives is one of the contents that a stop may leave, also behind a call that failed,
+-- where each change is made sure of at once.
 use Rattle.std.proofs.Common.{◌≡◌, inl, inr, ℕ, ◌+◌, ◌<◌, ◌≤◌, ◌-◌, Bool, true, false, List, [], ◌∷◌, ◌++◌, length, take, drop, get_or, min, Result, Ok, Err, refl, sym, ap, ◌∙◌, subst, append_assoc, arith}
 use Rattle.std.specs.Prelude.{◌&&◌, nat_le, nat_lt}
 use Rattle.std.proofs.lemmas.Bool.{cases_lt, le-leb, lt-ltb}

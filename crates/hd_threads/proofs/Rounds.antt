@@ -12,8 +12,8 @@ use Rattle.hd_journal.specs.declared.error.JournalError.TheVariants as errors
 use Rattle.hd_journal.specs.Answers.{IsNotAppended}
 use Rattle.hd_journal.specs.Group.{GroupView}
 use Rattle.hd_journal.specs.Journal.{IsOf, IsSame, kid_of, kids_of}
-use Rattle.hd_search.specs.Fault.{of_journal}
-use Rattle.hd_search.specs.Searching.{Grows}
+use Rattle.hd_threads.specs.Faults.{of_journal}
+use Rattle.hd_threads.specs.Growing.{Grows}
 use Rattle.hd_threads.specs.Committing.{StopsRound}
 
 module _ {S : Type 0} {G : Ghosts S} where

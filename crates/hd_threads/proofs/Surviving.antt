@@ -35,8 +35,8 @@ use Rattle.hd_entries.specs.Resuming.{AreLegal, first_fault, fault_at}
 use Rattle.hd_entries.specs.Settling.{BookState, IsKept}
 use Rattle.hd_entries.proofs.Again.{nothing_kept}
 use Rattle.hd_entries.proofs.Faultless.{kept_from, legal_from, no_faults}
-use Rattle.hd_search.specs.Searching.{Grows}
-use Rattle.hd_search.proofs.Journals.{begins_through}
+use Rattle.hd_threads.specs.Growing.{Grows}
+use Rattle.hd_threads.proofs.Growing.{begins_through}
 use Rattle.hd_threads.specs.Surviving.{IsLegalLog, kids_of_groups, StillStand, Survives}
 use Rattle.hd_threads.proofs.Reading.{leaves_last, read_is_left, weaker_since}
 

@@ -1,4 +1,5 @@
--- What a search by threads ends with. (HDA*, Kishimoto, Fukunaga and Botea 2013, for the end of the search; the limit is our own.)
+-- What a search by threads ends with. (HDA*, Kishimoto, Fukunaga and Botea 2013, for the end of the
+-- search; the limit is our own.)
 use Rattle.std.specs.Prelude.{◌≡◌, ℕ, ◌≤◌, nat_le, Bool, false, List, length, Option, Some, None}
 use Rattle.hd_task.specs.declared.task.Task.{Task}
 use Rattle.hd_task.specs.declared.plan.Kid.{Kid}
@@ -8,7 +9,7 @@ use Rattle.hd_entries.specs.declared.verdict.Verdict.{Verdict}
 use Rattle.hd_entries.specs.declared.verdict.Verdict.TheVariants as verdicts
 use Rattle.hd_entries.specs.Answers.{IsBoundPlanOf, IsValidPlan, IsTrueAnswer}
 use Rattle.hd_book.specs.declared.counts.Counts.{Counts}
-use Rattle.hd_search.specs.Answer.{IsAnswerOf, IsCounted}
+use Rattle.hd_threads.specs.Answer.{IsAnswerOf, IsCounted}
 use Rattle.hd_threads.specs.declared.ending.Outcome.{Outcome}
 use Rattle.hd_threads.specs.declared.ending.Outcome.TheVariants.{Optimal, NoPlan, RangeLeft, Stopped}
 
@@ -23,8 +24,8 @@ outcome_of (verdicts.Optimal p) = Optimal p
 outcome_of verdicts.NoPlan = NoPlan
 outcome_of (verdicts.RangeLeft d p) = RangeLeft d p
 
--- a search stopped at its limit with a journal's entries: they are as many at least, they name a legal list, and this is the plan of its
--- bound, if there is a bound
+-- a search stopped at its limit with a journal's entries: they are as many at least, they name a
+-- legal list, and this is the plan of its bound, if there is a bound
 pub record IsStopped (t : Task) (limit : Option ℕ) (kids : List Kid) (p : Option (List ℕ)) : Type 0 where
   pub most : ℕ
   pub given : limit ≡ Some most
@@ -34,22 +35,24 @@ pub record IsStopped (t : Task) (limit : Option ℕ) (kids : List Kid) (p : Opti
   pub legal : IsLegal t expanded
   pub plan : IsBoundPlanOf t expanded p
 
--- what a search with a limit answers over a journal: the answer of the journal's entries, or that it stopped
+-- what a search with a limit answers over a journal: the answer of the journal's entries, or that
+-- it stopped
 abbrev pub IsOutcomeOf : Task → Option ℕ → List Kid → Outcome → Type 0
 IsOutcomeOf t limit kids (Optimal p) = IsAnswerOf t kids (verdicts.Optimal p)
 IsOutcomeOf t limit kids NoPlan = IsAnswerOf t kids verdicts.NoPlan
 IsOutcomeOf t limit kids (RangeLeft d p) = IsAnswerOf t kids (verdicts.RangeLeft d p)
 IsOutcomeOf t limit kids (Stopped p) = IsStopped t limit kids p
 
--- what it says is true of all plans of the task; a plan beside a departure, or of a search that stopped, is valid
+-- what it says is true of all plans of the task; a plan beside a departure, or of a search that
+-- stopped, is valid
 abbrev pub IsTrueOutcome : Task → Outcome → Type 0
 IsTrueOutcome t (Optimal p) = IsTrueAnswer t (verdicts.Optimal p)
 IsTrueOutcome t NoPlan = IsTrueAnswer t verdicts.NoPlan
 IsTrueOutcome t (RangeLeft d p) = IsTrueAnswer t (verdicts.RangeLeft d p)
 IsTrueOutcome t (Stopped p) = IsValidPlan t p
 
--- counts are those of the end of a search with these entries: all of them are acknowledged; and each kid that was posted is settled, but
--- where it stopped
+-- counts are those of the end of a search with these entries: all of them are acknowledged; and
+-- each kid that was posted is settled, but where it stopped
 abbrev pub IsCountedBy : List Kid → Outcome → Counts → Type 0
 IsCountedBy kids (Optimal p) c = IsCounted kids c
 IsCountedBy kids NoPlan c = IsCounted kids c

@@ -1,6 +1,8 @@
+pub mod Answer
 pub mod Committing
 pub mod Ending
 pub mod Faults
+pub mod Growing
 pub mod Placing
 pub mod Posting
 pub mod Shared

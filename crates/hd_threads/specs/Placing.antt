@@ -10,7 +10,8 @@ use Rattle.hd_threads.specs.declared.working.Committed.TheVariants.{Taken, Halte
 use Rattle.hd_threads.specs.declared.placing.Desk.{Desk}
 use Rattle.hd_threads.specs.declared.placing.Workplace.{Workplace}
 
--- a worker's place is at a desk: its pass, seat and hands are of that, and all that it has is of the task that its pass has seen
+-- a worker's place is at a desk: its pass, seat and hands are of that, and all that it has is of
+-- the task that its pass has seen
 pub record IsSeated {L A : Type 0} (d : Desk L A) (p : Workplace L A) : Type 0 where
   pub outside : IsOutside d.lock.place p.pass
   pub task : (view p.pass).seen.task ≡ Some p.worker.task
@@ -25,7 +26,8 @@ pub record IsAt {L A : Type 0} (d : Desk L A) (p : Workplace L A) : Type 0 where
   pub seated : IsSeated d p
   pub numbered : p.worker.given ≡ []
 
--- what a worker keeps: its passes, its share and its seat have as many parts as before, its pass has seen no less, and its task is the same
+-- what a worker keeps: its passes, its share and its seat have as many parts as before, its pass
+-- has seen no less, and its task is the same
 pub record Keeps {L A : Type 0} (p p' : Workplace L A) : Type 0 where
   pub parts : (view p'.pass).parts ≡ (view p.pass).parts
   pub share : p'.share.parts ≡ p.share.parts
@@ -34,7 +36,8 @@ pub record Keeps {L A : Type 0} (p p' : Workplace L A) : Type 0 where
   pub grows : BeginsWith (view p'.pass).seen.log (view p.pass).seen.log
   pub task : p'.worker.task ≡ p.worker.task
 
--- what it keeps while it is not in the lock: its pass and its share are as before, and it has as much room for what its tickets release
+-- what it keeps while it is not in the lock: its pass and its share are as before, and it has as
+-- much room for what its tickets release
 pub record IsStill {L A : Type 0} (p p' : Workplace L A) : Type 0 where
   pub pass : p'.pass ≡ p.pass
   pub share : p'.share ≡ p.share
@@ -43,7 +46,8 @@ pub record IsStill {L A : Type 0} (p p' : Workplace L A) : Type 0 where
   pub task : p'.worker.task ≡ p.worker.task
   pub room : p'.worker.room ≡ p.worker.room
 
--- what became of a worker's next batch, where the search goes on: it is at the desk, with so much more room as the batch may release
+-- what became of a worker's next batch, where the search goes on: it is at the desk, with so much
+-- more room as the batch may release
 abbrev pub IsBehind : {L A : Type 0} → Desk L A → Workplace L A → Workplace L A → Committed → Type 0
 IsBehind d p p' (Taken held) = IsAt d p' × (p'.worker.room ≡ p.worker.room + held.kids)
 IsBehind d p p' Halted = Unit {0}

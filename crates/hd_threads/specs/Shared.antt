@@ -24,7 +24,8 @@ IsGivenOf t (Parcels parcels) = parcels.task ≡ t
 IsGivenOf t (NotYet ticket) = Unit {0}
 IsGivenOf t Void = Unit {0}
 
--- what is given where a book redeems a ticket for this: what it releases, the ticket again, or nothing; or it is not out
+-- what is given where a book redeems a ticket for this: what it releases, the ticket again, or
+-- nothing; or it is not out
 abbrev pub given_by : Result (Redeemed ParcelsView) NotOut → Result Given NotOut
 given_by (Ok (redeemed.Released receipt parcels)) = Ok (Parcels parcels)
 given_by (Ok (redeemed.NotYet ticket)) = Ok (NotYet ticket)
@@ -38,7 +39,8 @@ pub record IsGivenBy (task : Option Task) (log : List Kid) (ticket : TicketView)
   pub has : log ≡ book.state.entries
   pub is : Ok given ≡ given_by (redeemed_for book.batches ticket)
 
--- what is given for a ticket, with this log in the lock: a ticket that waits comes back, whether or not the book was asked
+-- what is given for a ticket, with this log in the lock: a ticket that waits comes back, whether or
+-- not the book was asked
 abbrev pub IsGivenIn : Option Task → List Kid → TicketView → Given → Type 0
 IsGivenIn task log ticket (Parcels parcels) = IsGivenBy task log ticket (Parcels parcels)
 IsGivenIn task log ticket (NotYet again) = again ≡ ticket

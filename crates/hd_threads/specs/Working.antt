@@ -1,4 +1,5 @@
--- What a worker does under the lock, and beside it. (The search is HDA*, Kishimoto, Fukunaga and Botea 2013.)
+-- What a worker does under the lock, and beside it. (The search is HDA*, Kishimoto, Fukunaga and
+-- Botea 2013.)
 use Rattle.std.specs.Prelude.{◌≡◌, ℕ, ◌+◌, ◌≤◌, List, [], ◌∷◌, ◌++◌, length, flat_map, unwrap_or, Option, Some, None}
 use Rattle.hd_task.specs.declared.task.Task.{Task}
 use Rattle.hd_task.specs.declared.plan.Kid.{Kid}
@@ -14,8 +15,8 @@ use Rattle.hd_entries.specs.Growing.{kids_in}
 use Rattle.hd_book.specs.View.{ParcelsView}
 use Rattle.hd_turns.specs.Worker.{WorkerView}
 use Rattle.hd_turns.specs.Calls.{batch_of, after_batch, after_numbering, after_releasing}
-use Rattle.hd_search.specs.declared.fault.RunFault.{RunFault}
-use Rattle.hd_search.specs.declared.fault.RunFault.TheVariants.{Full, NotOut, NoMemory}
+use Rattle.hd_threads.specs.declared.fault.RunFault.{RunFault}
+use Rattle.hd_threads.specs.declared.fault.RunFault.TheVariants.{Full, NotOut, NoMemory}
 use Rattle.hd_threads.specs.declared.shared.Given.TheVariants as given
 use Rattle.hd_threads.specs.declared.shared.Given.TheVariants.{Parcels}
 use Rattle.hd_threads.specs.declared.working.Held.{Held}
@@ -25,7 +26,8 @@ use Rattle.hd_threads.specs.declared.working.Redemption.{Redemption}
 use Rattle.hd_threads.specs.declared.working.Redemption.TheVariants.{Opened, Waiting, Void}
 use Rattle.hd_threads.specs.Shared.{IsGivenBy}
 
--- what is told of why the entries refuse a batch: for want of room or of memory, or for what it says
+-- what is told of why the entries refuse a batch: for want of room or of memory, or for what it
+-- says
 abbrev pub fault_of : Refusal → RunFault
 fault_of refusals.Full = Full
 fault_of refusals.NoMemory = NoMemory
@@ -45,8 +47,9 @@ abbrev pub IsBoundBy : Option Task → List Kid → Option ℕ → Type 0
 IsBoundBy None log bound = ⊥
 IsBoundBy (Some t) log bound = bound ≡ bound_by t log
 
--- a batch of these outcomes came into the book of a task: behind a log that began with what was seen before, of so many entries, the log
--- has now its expansions, and nothing else; and this is the bound of all
+-- a batch of these outcomes came into the book of a task: behind a log that began with what was
+-- seen before, of so many entries, the log has now its expansions, and nothing else; and this is
+-- the bound of all
 pub record IsIn (task : Option Task) (before : List Kid) (outcomes : List Outcome) (after : List Kid) (first : ℕ) (bound : Option ℕ) : Type 0 where
   pub earlier : List Kid
   pub begins : BeginsWith earlier before
@@ -59,7 +62,8 @@ abbrev pub with_offer : Option ℕ → List ℕ → List ℕ
 with_offer None offers = offers
 with_offer (Some cost) offers = offers ++ cost ∷ []
 
--- a worker's next batch is in the book: its expansions have the numbers behind those of earlier entries, and the bound is offered
+-- a worker's next batch is in the book: its expansions have the numbers behind those of earlier
+-- entries, and the bound is offered
 pub record IsBatchIn (before : List Kid) (count : ℕ) (seat : SeatView) (w : WorkerView) (after : List Kid) (count' : ℕ) (seat' : SeatView) (w' : WorkerView) : Type 0 where
   pub first : ℕ
   pub bound : Option ℕ
@@ -68,27 +72,30 @@ pub record IsBatchIn (before : List Kid) (count : ℕ) (seat : SeatView) (w : Wo
   pub counted : count' ≡ count + 1
   pub offered : seat'.offers ≡ with_offer bound seat.offers
 
--- what became of it: it is in the book, and there is room for what it releases; the book refused it; or there was none
+-- what became of it: it is in the book, and there is room for what it releases; the book refused
+-- it; or there was none
 abbrev pub HasCommitted : List Kid → ℕ → SeatView → WorkerView → List Kid → ℕ → SeatView → WorkerView → Committed → Type 0
 HasCommitted before count seat w after count' seat' w' (Taken held) = IsBatchIn before count seat w after count' seat' w' × (held.kids ≡ kids_in (batch_of w))
 HasCommitted before count seat w after count' seat' w' Halted = (count' ≡ count) × (seat' ≡ seat)
 HasCommitted before count seat w after count' seat' w' Idle = (w.outcomes ≡ []) × (w' ≡ w) × (after ≡ before) × (count' ≡ count) × (seat' ≡ seat)
 
--- what a ticket releases came to the worker: just the parcels that the book has given for it, with this log, and no more than are held
+-- what a ticket releases came to the worker: just the parcels that the book has given for it, with
+-- this log, and no more than are held
 pub record IsOpened (log : List Kid) (held : Held) (w w' : WorkerView) : Type 0 where
   pub parcels : ParcelsView
   pub given : IsGivenBy (Some w.task) log held.ticket (Parcels parcels)
   pub few : length parcels.kids ≤ held.kids
   pub opens : w' ≡ after_releasing parcels.kids w
 
--- what became of a ticket, with this log in the lock: what it releases came to the worker; it waits, as it was; or the book gives nothing
--- for it
+-- what became of a ticket, with this log in the lock: what it releases came to the worker; it
+-- waits, as it was; or the book gives nothing for it
 abbrev pub HasRedeemed : List Kid → Held → WorkerView → WorkerView → Redemption → Type 0
 HasRedeemed log held w w' Opened = IsOpened log held w w'
 HasRedeemed log held w w' (Waiting again) = (w' ≡ w) × (again ≡ held)
 HasRedeemed log held w w' Void = (w' ≡ w) × IsGivenBy (Some w.task) log held.ticket given.Void
 
--- a ticket that waits does so by what a book of this task with this log gives for it; of the other answers nothing is said here
+-- a ticket that waits does so by what a book of this task with this log gives for it; of the other
+-- answers nothing is said here
 abbrev pub IsAsked : Option Task → List Kid → Held → Redemption → Type 0
 IsAsked task log held Opened = Unit {0}
 IsAsked task log held (Waiting again) = IsGivenBy task log held.ticket (given.NotYet held.ticket)

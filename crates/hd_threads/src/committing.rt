@@ -7,19 +7,19 @@ ghost use Rattle.hd_desk.specs.Views.{BeginsWith};
 ghost use Rattle.hd_image.specs.declared.entry.TheConstants.{MAX_GROUP};
 ghost use Rattle.hd_journal.specs.Journal.{device_of, kids_of};
 ghost use Rattle.hd_journal.specs.Moments.{IsSettled};
-ghost use Rattle.hd_search.specs.Fault.{of_journal};
-ghost use Rattle.hd_search.specs.Searching.{Grows};
+ghost use Rattle.hd_threads.specs.Faults.{of_journal};
+ghost use Rattle.hd_threads.specs.Growing.{Grows};
 ghost use Rattle.hd_threads.specs.Shared.{IsGroupAt};
 ghost use Rattle.hd_threads.specs.Committing.{HasRun, StopsRound};
 ghost use Rattle.hd_threads.specs.Surviving.{IsLegalLog, Survives};
 
 use crate::SharedBook;
+use crate::fault::{RunFault, of_journal};
 use crate::halting::halt;
 use hd_base::NoMemory;
 use hd_book::{Flushed, Group, NotOut, Room, Rooms};
 use hd_desk::{Lock, Pass};
-use hd_journal::{Journal, JournalError};
-use hd_search::RunFault;
+use hd_journal::Journal;
 use hd_store::Store;
 use hd_task::Kid;
 use std::ops::Range;
@@ -33,22 +33,6 @@ pub enum Round {
     Flushed(Range<u64>),
     /// Nothing is appended.
     Idle,
-}
-
-/// What is told of a journal's error.
-fn told_of(error: JournalError) -> RunFault
-    ensures { result ≡ of_journal error }
-{
-    match error {
-        JournalError::Damaged(at) => RunFault::Damaged(at),
-        JournalError::Device => RunFault::Device,
-        JournalError::Failed => RunFault::Failed,
-        JournalError::NoMemory => RunFault::NoMemory,
-        JournalError::NotAJournal
-        | JournalError::OtherTask
-        | JournalError::JournalExists
-        | JournalError::NotOut => RunFault::NotOut,
-    }
 }
 
 /// Room for a group; where there is none, the book is halted, in a turn of its own under the lock.
@@ -104,7 +88,8 @@ fn take_group<'t, L: Ledger, A: Ledger, R: Wait>(
     taken
 }
 
-/// Acknowledges a group that was appended: the list of its pairs. A book that does not have it out is halted.
+/// Acknowledges a group that was appended: the list of its pairs. A book that does not have it out
+/// is halted.
 ///
 /// # Errors
 /// `NotOut` where it is not the group that is out.
@@ -168,8 +153,9 @@ fn are_four_bytes(kids: &[Kid])
     }
 }
 
-/// A group that was not appended, as it is. What its type says of it is known behind: how many pairs it has at most, and that their actions
-/// are numbers of four bytes. So it may stand on the device all the same. Only a search that ends by a fault comes here.
+/// A group that was not appended, as it is. What its type says of it is known behind: how many
+/// pairs it has at most, and that their actions are numbers of four bytes. So it may stand on the
+/// device all the same. Only a search that ends by a fault comes here.
 fn look_through(group: Group) -> Group
     ensures group { result ≡ group }
     ensures most { length group.kids ≤ MAX_GROUP }
@@ -180,7 +166,8 @@ fn look_through(group: Group) -> Group
     Group::of(first, kids)
 }
 
-/// Appends the group that is out, outside the lock, and acknowledges it; where that fails, the group is handed back, or the book is halted.
+/// Appends the group that is out, outside the lock, and acknowledges it; where that fails, the
+/// group is handed back, or the book is halted.
 ///
 /// # Errors
 /// Why it is not appended, or `NotOut` where it is not the group that is out.
@@ -224,21 +211,26 @@ fn append_group<'t, L: Ledger, A: Ledger, S: Store, R: Wait>(
         },
         Err((group, error)) => {
             hand_back(rt, lock, pass, look_through(group));
-            Err(told_of(error))
+            Err(of_journal(error))
         }
     }
 }
 
-/// One round of the committer: takes the next group out of the book under the lock, if one is due, appends it to the journal outside the
-/// lock, and acknowledges it under the lock. What the group is put into is asked for before the lock is taken, also where none is due, and
-/// kept for the next round: so no memory is taken under the lock, and none is given back there but where the group is not appended.
+/// One round of the committer: takes the next group out of the book under the lock, if one is due,
+/// appends it to the journal outside the lock, and acknowledges it under the lock. What the group
+/// is put into is asked for before the lock is taken, also where none is due, and kept for the next
+/// round: so no memory is taken under the lock, and none is given back there but where the group is
+/// not appended.
 ///
-/// The journal's list is a beginning of the log that the pass has seen, and the entries that are acknowledged are just those of the
-/// journal: so it is before a round, and so it is after one, unless that answers `NotOut`. A group that goes out is whole batches.
+/// The journal's list is a beginning of the log that the pass has seen, and the entries that are
+/// acknowledged are just those of the journal: so it is before a round, and so it is after one,
+/// unless that answers `NotOut`. A group that goes out is whole batches.
 ///
 /// # Errors
-/// `NoMemory` where there is no room for a group: none goes out. `Device`, `Failed` or `NoMemory` where the journal does not take it: it is
-/// handed back, nothing is appended. `NotOut` where the journal can't take it, or the book does not have it out any more. After each of them the book is halted.
+/// `NoMemory` where there is no room for a group: none goes out. `Device`, `Failed` or `NoMemory`
+/// where the journal does not take it: it is handed back, nothing is appended. `NotOut` where the
+/// journal can't take it, or the book does not have it out any more. After each of them the book is
+/// halted.
 #[tactic(auto, using(crate::proofs::Begins::begins_along, crate::proofs::Begins::begins_itself, crate::proofs::Surviving::survives_itself))]
 pub fn committer_round<'t, L: Ledger, A: Ledger, S: Store, R: Wait>(
     rt: &R,
@@ -264,8 +256,9 @@ pub fn committer_round<'t, L: Ledger, A: Ledger, S: Store, R: Wait>(
     ensures journal { OnOk result (Grows journal.old journal.new) }
     ensures kids { BeginsWith (kids_of journal.new) (kids_of journal.old) }
     ensures told { IfErr result (StopsRound journal.old journal.new share.new.amount) }
-    // Where the journal has not failed, and nothing is pending on its device: what a stop leaves at any moment of the round has all that was in
-    // the journal before it, so all that was acknowledged then. What a read gives behind it has all that the journal lists.
+    // Where the journal has not failed, and nothing is pending on its device: what a stop leaves at
+    // any moment of the round has all that was in the journal before it, so all that was
+    // acknowledged then. What a read gives behind it has all that the journal lists.
     ensures survives { IfSome (view pass.old).seen.task (λ t. Survives t journal.old journal.new) }
     ensures settled { IsSettled (device_of journal.old)
         → OnOk result (IsSettled (device_of journal.new)) }

@@ -5,7 +5,7 @@ ghost use Rattle.hd_desk.specs.Passes.{IsOutside};
 ghost use Rattle.hd_desk.specs.Views.{BeginsWith};
 ghost use Rattle.hd_journal.specs.Journal.{device_of, kids_of};
 ghost use Rattle.hd_journal.specs.Moments.{IsSettled};
-ghost use Rattle.hd_search.specs.Searching.{Grows};
+ghost use Rattle.hd_threads.specs.Growing.{Grows};
 ghost use Rattle.hd_threads.specs.Committing.{StopsLater};
 ghost use Rattle.hd_threads.specs.Surviving.{Survives};
 ghost use Rattle.hd_threads.specs.Faults.{IsOfAnswer};
@@ -13,12 +13,12 @@ ghost use Rattle.hd_threads.specs.Ending.{is_reached, outcome_of, IsOutcomeOf, I
 
 use crate::SharedBook;
 use crate::committing::{Round, committer_round};
+use crate::fault::RunFault;
 use crate::gate::{Gate, Standing};
 use crate::pausing::Pause;
 use hd_book::{Counts, Rooms, Verdict};
 use hd_desk::{Lock, Pass};
 use hd_journal::Journal;
-use hd_search::RunFault;
 use hd_store::Store;
 use hd_task::{Departure, Plan};
 use std::alloc::Global;
@@ -32,9 +32,11 @@ pub enum Outcome {
     Optimal(Plan),
     /// No plan is valid.
     NoPlan,
-    /// A number left the range at this departure, the first; with the best plan that was found, if there is one.
+    /// A number left the range at this departure, the first; with the best plan that was found, if
+    /// there is one.
     RangeLeft(Departure, Option<Plan>),
-    /// There are as many entries as the limit says; with the best plan that was found, if there is one.
+    /// There are as many entries as the limit says; with the best plan that was found, if there is
+    /// one.
     Stopped(Option<Plan>),
 }
 
@@ -66,8 +68,8 @@ pub(crate) fn is_reached(limit: Option<u64>, count: u64) -> bool
     }
 }
 
-/// Whether a search is over: its book is halted, or each entry is acknowledged, and all is settled, or there are as many entries as the
-/// limit says.
+/// Whether a search is over: its book is halted, or each entry is acknowledged, and all is settled,
+/// or there are as many entries as the limit says.
 pub fn is_over<'t, L: Ledger, A: Ledger, R: Wait>(
     rt: &R,
     lock: &Lock<SharedBook<'t, L, A>>,
@@ -111,9 +113,10 @@ fn tell<'t, L: Ledger, A: Ledger, R: Wait, G: Gate>(
     gate.hear_committer(Standing { counts, bound });
 }
 
-/// Takes rounds of the committer until the search is over and a further round finds nothing to append; it waits longer and longer while
-/// there is nothing. A book that is halted takes no more batches, so then all its entries are appended. Before each round the gate is told
-/// how the search stands, if it asks.
+/// Takes rounds of the committer until the search is over and a further round finds nothing to
+/// append; it waits longer and longer while there is nothing. A book that is halted takes no more
+/// batches, so then all its entries are appended. Before each round the gate is told how the search
+/// stands, if it asks.
 ///
 /// # Errors
 /// Those of a round.
@@ -171,7 +174,8 @@ pub fn commit_all<'t, L: Ledger, A: Ledger, S: Store, R: Wait, G: Gate>(
 /// What a book says that is at its end, where the journal has its entries.
 ///
 /// # Errors
-/// `NotOut` where it is not at its end, or the journal does not have its entries; `NoMemory` where there is no room for a plan.
+/// `NotOut` where it is not at its end, or the journal does not have its entries; `NoMemory` where
+/// there is no room for a plan.
 fn said_by<L: Ledger, A: Ledger, S: Store>(
     book: &SharedBook<'_, L, A>,
     journal: &Journal<S>,
@@ -200,11 +204,12 @@ fn said_by<L: Ledger, A: Ledger, S: Store>(
     Ok(Concluded { outcome, counts })
 }
 
-/// What the book says under the lock, at the end of a search, where the journal has its entries: just those, all of them acknowledged.
+/// What the book says under the lock, at the end of a search, where the journal has its entries:
+/// just those, all of them acknowledged.
 ///
 /// # Errors
-/// `NotOut` where the search is not at its end, or the journal does not have the book's entries; `NoMemory` where there is no room for a
-/// plan.
+/// `NotOut` where the search is not at its end, or the journal does not have the book's entries;
+/// `NoMemory` where there is no room for a plan.
 pub fn answer<'t, L: Ledger, A: Ledger, S: Store, R: Wait>(
     rt: &R,
     lock: &Lock<SharedBook<'t, L, A>>,

@@ -13,8 +13,8 @@ pub struct Standing {
 
 /// What the threads of a search call, outside every lock.
 ///
-/// A search has a gate that does nothing ([`OpenGate`]), or one that tells a user how the search stands; a test has one of its own, which
-/// may wait.
+/// A search has a gate that does nothing ([`OpenGate`]), or one that tells a user how the search
+/// stands; a test has one of its own, which may wait.
 pub trait Gate {
     /// The worker of this number is about to settle its `nth` node, counted from 1.
     fn before<R: Wait>(&self, rt: &R, worker: usize, nth: u64);
@@ -27,16 +27,21 @@ pub trait Gate {
         false
     }
 
-    /// The worker of this number has open nodes of this least cost plus estimate; none where each estimate is infinite, or nothing is open.
+    /// The worker of this number has open nodes of this least cost plus estimate; none where each
+    /// estimate is infinite, or nothing is open.
     fn hear_worker(&self, _worker: usize, _least: Option<u128>) {}
 
-    /// Whether the committer is to tell how the search stands; it is asked before each of its rounds.
+    /// Whether the committer is to tell how the search stands; it is asked before each of its
+    /// rounds.
     fn asks_committer(&self) -> bool {
         false
     }
 
     /// The search stands so.
     fn hear_committer(&self, _standing: Standing) {}
+
+    /// So many of all entries of the journal are made again, before the search goes on.
+    fn hear_rebuilding(&self, _done: u64, _all: u64) {}
 }
 
 /// A gate that does nothing.

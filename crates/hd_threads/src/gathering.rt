@@ -22,8 +22,9 @@ fn merge_all<L: Ledger>(share: Share<L>, shares: Vec<Share<L>>) -> Share<L>
     all
 }
 
-/// The book, from a lock that nobody uses any more, and how many batches it has taken, which is the sum of what all shares count: all passes and
-/// all shares are handed in. It waits for no other thread.
+/// The book, from a lock that nobody uses any more, and how many batches it has taken, which is the
+/// sum of what all shares count: all passes and all shares are handed in. It waits for no other
+/// thread.
 pub fn gather<'t, L: Ledger, A: Ledger, R: Wait>(
     rt: &R,
     lock: Lock<SharedBook<'t, L, A>>,

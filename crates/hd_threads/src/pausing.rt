@@ -9,14 +9,16 @@ const YIELDS: u32 = 32;
 /// How long its first sleep is, in microseconds.
 const FIRST_SLEEP: u64 = 16;
 
-/// How many of its sleeps are of one length, before the next are twice as long. So a sleep is short by the time that was waited before it:
-/// where 64 threads wait for one another in turn, what each sleeps too long does not add up to ever longer sleeps.
+/// How many of its sleeps are of one length, before the next are twice as long. So a sleep is short
+/// by the time that was waited before it: where 64 threads wait for one another in turn, what each
+/// sleeps too long does not add up to ever longer sleeps.
 const OF_ONE_LENGTH: u32 = 32;
 
 /// How often the length is doubled.
 const DOUBLINGS: u32 = 7;
 
-/// The waits of a thread that has nothing to do: they grow, up to about two milliseconds, until it has something to do again.
+/// The waits of a thread that has nothing to do: they grow, up to about two milliseconds, until it
+/// has something to do again.
 #[derive(Clone, Copy, Debug, Drop)]
 pub struct Pause {
     waits: u32,

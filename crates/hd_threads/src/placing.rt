@@ -6,13 +6,13 @@ ghost use Rattle.hd_threads.specs.Working.{HasRedeemed};
 ghost use Rattle.hd_threads.specs.Faults.{IsOfWorker};
 ghost use Rattle.hd_threads.specs.Placing.{IsSeated, IsAt, Keeps, IsStill, IsBehind};
 
+use crate::fault::RunFault;
 use crate::posting::{Sending, send_next, take_next};
 use crate::working::{Committed, Held, Redemption, commit_next, redeem_next, settle_best};
 use crate::{Letter, SharedBook};
 use hd_base::NoMemory;
 use hd_bound::{BoundSeat, BoundWord};
 use hd_desk::{Hands, Lock, Mailboxes, Pass};
-use hd_search::RunFault;
 use hd_task::Task;
 use hd_worker::{Lookup, Worker};
 use std::sync::Wait;
@@ -26,8 +26,8 @@ pub struct Desk<'t, L: Ledger, A: Ledger> {
     pub bound: BoundWord,
 }
 
-/// What a worker's thread has of its own: a pass of the lock, a share of the commits, a seat at the bound, hands at the mailboxes, the
-/// worker, and what it looks up.
+/// What a worker's thread has of its own: a pass of the lock, a share of the commits, a seat at the
+/// bound, hands at the mailboxes, the worker, and what it looks up.
 #[derive(Drop)]
 pub struct Workplace<'t, L: Ledger, A: Ledger> {
     pub pass: Pass<SharedBook<'t, L, A>>,
@@ -98,6 +98,24 @@ pub(crate) fn take<'t, L: Ledger, A: Ledger>(
     ensures still { IsStill place.old place.new }
 {
     take_next(&desk.boxes, &mut place.hands, &mut place.worker, id)
+}
+
+/// Estimates what came to a worker, so many parcels at most, as [`Worker::open_some`] does: whether
+/// all is estimated now.
+///
+/// # Errors
+/// As there.
+pub(crate) fn open_some<'t, L: Ledger, A: Ledger>(
+    desk: &Desk<'t, L, A>,
+    place: &mut Workplace<'t, L, A>,
+    most: usize,
+) -> Result<bool, NoMemory>
+    requires at { IsAt desk.now place.old }
+    ensures at { IsAt desk.now place.new }
+    ensures still { IsStill place.old place.new }
+{
+    let _ = desk;
+    place.worker.open_some(&mut place.lookup, most)
 }
 
 /// Whether a worker has an open node.

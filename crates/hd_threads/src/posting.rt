@@ -22,7 +22,8 @@ pub enum Sending {
     Empty,
 }
 
-/// Sends the first parcel of a worker's outbox, if there is one, to the worker that owns its state. It takes no memory, and no lock.
+/// Sends the first parcel of a worker's outbox, if there is one, to the worker that owns its state.
+/// It takes no memory, and no lock.
 pub fn send_next<'t>(
     boxes: &Mailboxes<Task, Letter<'t>>,
     hands: &mut Hands<'t, Task, Letter<'t>>,
@@ -52,7 +53,8 @@ pub fn send_next<'t>(
     }
 }
 
-/// Takes the oldest parcel out of a worker's mailbox, if there is one: it is the last open node. It takes no lock.
+/// Takes the oldest parcel out of a worker's mailbox, if there is one: it is the last open node. It
+/// takes no lock.
 ///
 /// # Errors
 /// `NoMemory` where there is no room for it: the parcel is lost.

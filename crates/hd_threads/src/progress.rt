@@ -2,7 +2,7 @@
 ghost use Rattle.std.specs.Prelude.{◌≡◌, ◌<◌, ◌≤◌, true, false, [], ◌∷◌, ◌++◌, IfOk, IfSome, IfNone};
 ghost use Rattle.std.specs.VecDeque.{deque_len, deque_capacity};
 ghost use Rattle.crossbeam_queue.specs.Passes.{view};
-ghost use Rattle.hd_threads.specs.declared.progress.TheConstants.{MOST_TICKETS, MOST_UNCOMMITTED};
+ghost use Rattle.hd_threads.specs.declared.progress.TheConstants.{MOST_TICKETS, MOST_UNCOMMITTED, MOST_BYTES};
 ghost use Rattle.hd_desk.specs.Passes.{IsOutside};
 ghost use Rattle.hd_desk.specs.Views.{BeginsWith};
 
@@ -20,12 +20,17 @@ use std::sync::ledger::Ledger;
 /// How many tickets a worker holds at most.
 pub const MOST_TICKETS: usize = 4;
 
-/// How many outcomes of a worker are left uncommitted before it waits for the lock, or settles no further node where it holds as many
-/// tickets as it may: two batches.
+/// How many outcomes of a worker are left uncommitted before it waits for the lock, or settles no
+/// further node where it holds as many tickets as it may: two batches.
 const MOST_UNCOMMITTED: usize = 2 * MAX_OUTCOMES;
 
-/// What a worker's thread holds from turn to turn: its tickets, the oldest first, how many of its outcomes are not committed, how many
-/// nodes it has settled, and whether it had something to do.
+/// How many bytes the states of what uncommitted outcomes lead to take, before the worker settles
+/// no further node and commits: 16 MB.
+const MOST_BYTES: usize = 16 * 1024 * 1024;
+
+/// What a worker's thread holds from turn to turn: its tickets, the oldest first, how many of its
+/// outcomes are not committed and how much they hold, how many nodes it has settled, whether it had
+/// something to do, and whether what came to it is estimated.
 ///
 /// It must be ended: it can't be let go.
 #[must_use]
@@ -33,9 +38,13 @@ const MOST_UNCOMMITTED: usize = 2 * MAX_OUTCOMES;
 pub struct Progress {
     held: VecDeque<Held>,
     uncommitted: usize,
+    /// About how many bytes the states take that those outcomes lead to.
+    bytes: usize,
     settled: u64,
     /// The last turn found nothing to do.
     idle: bool,
+    /// The last turn did not estimate all that came to the worker.
+    opening: bool,
     ghost few: { deque_len held ≤ MOST_TICKETS },
     ghost room: { MOST_TICKETS ≤ deque_capacity held },
 }
@@ -52,16 +61,21 @@ impl Progress {
         Ok(Progress {
             held,
             uncommitted: 0,
+            bytes: 0,
             settled: 0,
             idle: false,
+            opening: false,
         })
     }
 
-    /// Whether the oldest ticket is worth a wait for the lock: the worker settles no node before it is redeemed, or had nothing else to do.
+    /// Whether the oldest ticket is worth a wait for the lock: the worker settles no node before it
+    /// is redeemed, or had nothing else to do.
     pub(crate) fn waits(&self) -> bool
         ensures idle { self.now.idle ≡ true → result ≡ true }
         ensures full { deque_len self.now.held ≡ MOST_TICKETS
             → MOST_UNCOMMITTED ≤ self.now.uncommitted → result ≡ true }
+        ensures much { deque_len self.now.held ≡ MOST_TICKETS
+            → MOST_BYTES < self.now.bytes → result ≡ true }
     {
         self.idle || self.is_full()
     }
@@ -73,31 +87,77 @@ impl Progress {
         self.idle = !any;
     }
 
-    /// Whether a batch is to be committed: there is room for its ticket, and there are so many outcomes, or some and no node is open.
+    /// What came to the worker is all estimated, or not yet.
+    pub(crate) fn note_opened(&mut self, all: bool)
+        ensures { self.new.held ≡ self.old.held }
+    {
+        self.opening = !all;
+    }
+
+    /// Whether the worker is to look now whether the search is over: its last turn did nothing, or
+    /// not all that came to it is estimated.
+    pub(crate) fn looks(&self, busy: bool) -> bool {
+        !busy || self.opening
+    }
+
+    /// Whether the worker did something beside its tickets in its last turn.
+    pub(crate) fn worked(&self) -> bool
+        ensures { self.now.idle ≡ false → result ≡ true }
+    {
+        !self.idle
+    }
+
+    /// Whether a batch is to be committed: there is room for its ticket, and there are so many
+    /// outcomes, or some that hold much, or some and no node is open.
     pub(crate) fn is_due(&self, open: bool, together: usize) -> bool
         ensures { result ≡ true → deque_len self.now.held < MOST_TICKETS }
     {
-        let enough = self.uncommitted >= together || !open;
+        let enough = self.uncommitted >= together || !open || self.holds_much();
         self.held.len() < MOST_TICKETS && self.uncommitted > 0 && enough
     }
 
-    /// Whether the worker is to wait for its tickets before it settles a further node: it holds as many as it may, and outcomes enough are
-    /// uncommitted.
+    /// Whether the worker is to wait for its tickets before it settles a further node: it holds as
+    /// many as it may, and outcomes enough are uncommitted, or they hold much.
     pub(crate) fn is_full(&self) -> bool
         ensures tickets { result ≡ true → deque_len self.now.held ≡ MOST_TICKETS }
-        ensures many { result ≡ true → MOST_UNCOMMITTED ≤ self.now.uncommitted }
+        ensures many { result ≡ true → self.now.bytes ≤ MOST_BYTES
+            → MOST_UNCOMMITTED ≤ self.now.uncommitted }
         ensures full { deque_len self.now.held ≡ MOST_TICKETS
             → MOST_UNCOMMITTED ≤ self.now.uncommitted → result ≡ true }
+        ensures much { deque_len self.now.held ≡ MOST_TICKETS
+            → MOST_BYTES < self.now.bytes → result ≡ true }
     {
         self.held.len() == MOST_TICKETS && self.has_many()
     }
 
-    /// Whether so many outcomes are uncommitted that a batch is worth a wait for the lock.
+    /// Whether so many outcomes are uncommitted, or hold so much, that a batch is worth a wait for
+    /// the lock.
     pub(crate) fn has_many(&self) -> bool
-        ensures many { result ≡ true → MOST_UNCOMMITTED ≤ self.now.uncommitted }
+        ensures many { result ≡ true → self.now.bytes ≤ MOST_BYTES
+            → MOST_UNCOMMITTED ≤ self.now.uncommitted }
         ensures few { result ≡ false → self.now.uncommitted < MOST_UNCOMMITTED }
+        ensures little { result ≡ false → self.now.bytes ≤ MOST_BYTES }
     {
-        self.uncommitted >= MOST_UNCOMMITTED
+        self.uncommitted >= MOST_UNCOMMITTED || self.holds_much()
+    }
+
+    /// Whether uncommitted outcomes hold so much that they are to be committed before a further
+    /// node is settled.
+    pub(crate) fn holds_much(&self) -> bool
+        ensures much { result ≡ true → MOST_BYTES < self.now.bytes }
+        ensures little { result ≡ false → self.now.bytes ≤ MOST_BYTES }
+    {
+        self.bytes > MOST_BYTES
+    }
+
+    /// Whether the worker settles no further node now: it is first to wait for its tickets, or to
+    /// commit what it has.
+    pub(crate) fn rests(&self) -> bool
+        ensures full { deque_len self.now.held ≡ MOST_TICKETS
+            → MOST_UNCOMMITTED ≤ self.now.uncommitted → result ≡ true }
+        ensures much { MOST_BYTES < self.now.bytes → result ≡ true }
+    {
+        self.is_full() || self.holds_much()
     }
 
     /// A node more is an outcome: the number of this node, from 1.
@@ -109,11 +169,20 @@ impl Progress {
         self.settled
     }
 
-    /// The next batch was made of the outcomes.
+    /// The last outcome leads to states of so many bytes.
+    pub(crate) fn hold_bytes(&mut self, bytes: usize)
+        ensures { self.new.held ≡ self.old.held }
+    {
+        self.bytes = self.bytes.saturating_add(bytes);
+    }
+
+    /// The next batch was made of the outcomes. Where some are left behind it, what they hold is
+    /// not counted any more.
     pub(crate) fn batched(&mut self)
         ensures { self.new.held ≡ self.old.held }
     {
         self.uncommitted = self.uncommitted.saturating_sub(MAX_OUTCOMES);
+        self.bytes = 0;
     }
 
     /// A ticket is the youngest.
@@ -158,8 +227,10 @@ pub(crate) fn end<'t, L: Ledger, A: Ledger, R: Wait>(
     let Progress {
         mut held,
         uncommitted: _,
+        bytes: _,
         settled: _,
         idle: _,
+        opening: _,
     } = progress;
     while let Some(oldest) = held.pop_front() {
         let Held { ticket, kids: _ } = oldest;

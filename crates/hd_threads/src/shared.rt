@@ -34,8 +34,9 @@ pub enum Given<'t> {
     Void,
 }
 
-/// The book of a search, as it lies in the lock. `A` counts the entries that are acknowledged: who has all shares of it, as the committer
-/// does, knows how many these are, and no one else can acknowledge any.
+/// The book of a search, as it lies in the lock. `A` counts the entries that are acknowledged: who
+/// has all shares of it, as the committer does, knows how many these are, and no one else can
+/// acknowledge any.
 ///
 /// It is one pointer wide.
 #[derive(Drop)]
@@ -71,7 +72,8 @@ impl<'t, L: Ledger, A: Ledger> Locked for SharedBook<'t, L, A> {
 }
 
 impl<'t, L: Ledger, A: Ledger> SharedBook<'t, L, A> {
-    /// A book that is to be shared, with the share that is the whole of the ledger of what is acknowledged.
+    /// A book that is to be shared, with the share that is the whole of the ledger of what is
+    /// acknowledged.
     pub fn of(blank: Blank, book: Book<'t, L>) -> (SharedBook<'t, L, A>, Share<A>)
         requires name { blank.name ≡ A.name }
         requires parts { blank.parts ≡ A.parts }
@@ -85,7 +87,8 @@ impl<'t, L: Ledger, A: Ledger> SharedBook<'t, L, A> {
         (SharedBook { book, appended }, share)
     }
 
-    /// The next group goes out, as from [`Book::take_pending`]. It begins where the share says that the acknowledged entries end.
+    /// The next group goes out, as from [`Book::take_pending`]. It begins where the share says that
+    /// the acknowledged entries end.
     ///
     /// # Errors
     /// The room again, where nothing waits, or a group is out: nothing has changed.
@@ -104,10 +107,12 @@ impl<'t, L: Ledger, A: Ledger> SharedBook<'t, L, A> {
         book.take_pending(room)
     }
 
-    /// Acknowledges the entries of the group that is out, as [`Book::acknowledge`] does: the list of its pairs. The share counts them.
+    /// Acknowledges the entries of the group that is out, as [`Book::acknowledge`] does: the list
+    /// of its pairs. The share counts them.
     ///
     /// # Errors
-    /// `NotOut` where this group is not the one that is out: what said that it was appended is spent, and the book is halted.
+    /// `NotOut` where this group is not the one that is out: what said that it was appended is
+    /// spent, and the book is halted.
     #[tactic(auto, using(crate::proofs::Begins::begins_same))]
     pub fn acknowledge(
         &mut self,
@@ -140,8 +145,8 @@ impl<'t, L: Ledger, A: Ledger> SharedBook<'t, L, A> {
         }
     }
 
-    /// Hands back the group that is out, as [`Book::hand_back`] does, with which the book is halted; another group is spent, and the book
-    /// is halted too.
+    /// Hands back the group that is out, as [`Book::hand_back`] does, with which the book is
+    /// halted; another group is spent, and the book is halted too.
     #[tactic(auto, using(crate::proofs::Begins::begins_same))]
     pub fn hand_back(&mut self, group: Group)
         ensures task { self.new.state.task ≡ self.old.state.task }
@@ -312,17 +317,5 @@ impl<'t, L: Ledger, A: Ledger> SharedBook<'t, L, A> {
         ensures valid { IfOk result (IsValidPlan self.now.state.task) }
     {
         self.book.extract()
-    }
-
-    /// The book, once it is no more shared. Of all shares of the ledger of what is acknowledged it is known that they count just that.
-    pub fn into_book(self, share: Share<A>) -> Book<'t, L>
-        requires whole { share.parts ≡ A.parts }
-        ensures book { result ≡ self.entry }
-        ensures amount { share.amount ≡ self.entry.batches.queue.acknowledged }
-    {
-        let SharedBook { book, appended } = self;
-        let (mut appended, mut share) = (appended, share);
-        appended.audit(&mut share);
-        book
     }
 }

@@ -5,33 +5,44 @@ ghost use Rattle.hd_zobrist.specs.declared.owners.TheConstants.{MAX_WORKERS};
 ghost use Rattle.hd_threads.specs.declared.progress.TheConstants.{MOST_TICKETS};
 ghost use Rattle.hd_threads.specs.Faults.{IsOfWorker};
 ghost use Rattle.hd_threads.specs.Placing.{IsSeated, IsAt, Keeps, IsStill};
-ghost use Rattle.hd_threads.specs.Turning.{kids_held, IsEnd, IsGoing};
+ghost use Rattle.hd_threads.specs.Turning.{kids_held, IsEnd};
 
 use crate::ending::is_over;
+use crate::fault::RunFault;
 use crate::gate::Gate;
 use crate::halting::halt;
 use crate::pausing::Pause;
-use crate::placing::{Desk, Workplace, commit, has_open, least, redeem, send, settle, take};
+use crate::placing::{
+    Desk, Workplace, commit, has_open, least, open_some, redeem, send, settle, take,
+};
 use crate::posting::Sending;
 use crate::progress::{MOST_TICKETS, Progress, end};
 use crate::working::{Committed, Redemption};
 use hd_base::NoMemory;
 use hd_desk::MAILBOX_PLACES;
-use hd_search::RunFault;
 use std::alloc::Global;
 use std::sync::Wait;
 use std::sync::ledger::Ledger;
 
-/// How a turn ended.
-#[must_use]
-#[derive(Clone, Copy, Debug, PartialEq, Eq)]
-pub enum Turn {
-    /// The search goes on, and something was done.
-    Busy,
-    /// The search goes on, and there was nothing to do.
-    Idle,
-    /// The search ends for this worker: by this fault, with which the book is halted; or since the book takes no batch any more.
-    Ended(Option<RunFault>),
+/// How many parcels that came a worker estimates in a turn, at most. Between these turns it looks
+/// whether the search is over.
+const MOST_OPENED: usize = 4096;
+
+/// What a worker is to do, turn after turn.
+#[derive(Drop)]
+pub struct Role<'g, G: Gate> {
+    /// The worker's number, from 0.
+    pub id: usize,
+    /// How many workers there are.
+    pub workers: usize,
+    /// How many nodes it settles before it commits them; 0 stands for 1.
+    pub together: usize,
+    /// No batch is committed once the book has so many entries.
+    pub limit: Option<u64>,
+    /// What it calls around each node, and tells how it stands.
+    pub gate: &'g G,
+    ghost there: { id < workers },
+    ghost most: { workers ≤ MAX_WORKERS },
 }
 
 /// Halts the book for a worker that has no memory.
@@ -76,8 +87,9 @@ fn finish<'t, L: Ledger, A: Ledger, R: Wait>(
     end(rt, &desk.lock, &mut place.pass, progress);
 }
 
-/// Redeems a worker's oldest ticket, if it has one: whether its batch has released what it leads to. It waits for the lock only where the
-/// worker settles nothing before its tickets are redeemed, or had nothing else to do.
+/// Redeems a worker's oldest ticket, if it has one: whether its batch has released what it leads
+/// to. It waits for the lock only where the worker settles nothing before its tickets are redeemed,
+/// or had nothing else to do.
 ///
 /// # Errors
 /// How the search ends for the worker.
@@ -183,8 +195,52 @@ fn take_all<'t, L: Ledger, A: Ledger>(
     Ok(taken)
 }
 
-/// Settles a worker's best open node, if one is open, between the calls of the gate: whether it did. Where the worker is to wait for its
-/// tickets, what came to it is opened, and nothing is settled.
+/// Sends what is in a worker's outbox, and takes what came to it: whether there was something.
+///
+/// # Errors
+/// `NoMemory` where there is no room for a parcel that came.
+fn exchange<'t, L: Ledger, A: Ledger, G: Gate>(
+    desk: &Desk<'t, L, A>,
+    place: &mut Workplace<'t, L, A>,
+    role: &Role<'_, G>,
+) -> Result<bool, NoMemory>
+    requires at { IsAt desk.now place.old }
+    requires boxes { role.now.workers ≤ length desk.now.boxes }
+    ensures at { IsAt desk.now place.new }
+    ensures still { IsStill place.old place.new }
+{
+    let sent = send_all(desk, place, role.workers);
+    let taken = take_all(desk, place, role.id)?;
+    Ok(is_either(sent, taken))
+}
+
+/// Settles a worker's best open node between the calls of the gate.
+///
+/// # Errors
+/// `NoMemory` where there is no room for an outcome, or for what is kept of estimates.
+fn settle_next<'t, L: Ledger, A: Ledger, R: Wait, G: Gate>(
+    rt: &R,
+    desk: &Desk<'t, L, A>,
+    place: &mut Workplace<'t, L, A>,
+    progress: &mut Progress,
+    role: &Role<'_, G>,
+) -> Result<(), NoMemory>
+    requires at { IsAt desk.now place.old }
+    ensures at { IsAt desk.now place.new }
+    ensures still { IsStill place.old place.new }
+    ensures tickets { progress.new.held ≡ progress.old.held }
+{
+    let nth = progress.count();
+    role.gate.before(rt, role.id, nth);
+    let settled = settle(desk, place);
+    role.gate.after(rt, role.id, nth);
+    settled?;
+    progress.hold_bytes(place.worker.last_bytes());
+    Ok(())
+}
+
+/// Settles a worker's best open node, if one is open: whether it did. Where the worker is first to
+/// commit, or to wait for its tickets, nothing is settled.
 ///
 /// # Errors
 /// `NoMemory` where there is no room for an outcome, or for what is kept of estimates.
@@ -193,27 +249,27 @@ fn settle_one<'t, L: Ledger, A: Ledger, R: Wait, G: Gate>(
     desk: &Desk<'t, L, A>,
     place: &mut Workplace<'t, L, A>,
     progress: &mut Progress,
-    id: usize,
-    gate: &G,
+    role: &Role<'_, G>,
 ) -> Result<bool, NoMemory>
     requires at { IsAt desk.now place.old }
     ensures at { IsAt desk.now place.new }
     ensures still { IsStill place.old place.new }
     ensures tickets { progress.new.held ≡ progress.old.held }
 {
-    if !has_open(desk, place)? || progress.is_full() {
+    let rests = progress.rests();
+    if rests {
         return Ok(false);
     }
-    let nth = progress.count();
-    gate.before(rt, id, nth);
-    let settled = settle(desk, place);
-    gate.after(rt, id, nth);
-    settled?;
+    let open = has_open(desk, place)?;
+    if !open {
+        return Ok(false);
+    }
+    settle_next(rt, desk, place, progress, role)?;
     Ok(true)
 }
 
-/// Settles a worker's best open nodes, so many of them, or as many as are open before the worker is to wait for its tickets: how many
-/// these are.
+/// Settles a worker's best open nodes, so many of them, or as many as [`settle_one`] settles: how
+/// many these are.
 ///
 /// # Errors
 /// Those of settling one.
@@ -222,17 +278,17 @@ fn settle_some<'t, L: Ledger, A: Ledger, R: Wait, G: Gate>(
     desk: &Desk<'t, L, A>,
     place: &mut Workplace<'t, L, A>,
     progress: &mut Progress,
-    id: usize,
-    together: usize,
-    gate: &G,
+    role: &Role<'_, G>,
 ) -> Result<usize, NoMemory>
     requires at { IsAt desk.now place.old }
     ensures at { IsAt desk.now place.new }
     ensures still { IsStill place.old place.new }
     ensures tickets { progress.new.held ≡ progress.old.held }
 {
+    let together = role.together.max(1);
     for settled in 0..together {
-        if !settle_one(rt, desk, place, progress, id, gate)? {
+        let another = settle_one(rt, desk, place, progress, role)?;
+        if !another {
             return Ok(settled);
         }
     }
@@ -246,17 +302,18 @@ fn settle_some<'t, L: Ledger, A: Ledger, R: Wait, G: Gate>(
 fn tell<'t, L: Ledger, A: Ledger, G: Gate>(
     desk: &Desk<'t, L, A>,
     place: &mut Workplace<'t, L, A>,
-    id: usize,
-    gate: &G,
+    role: &Role<'_, G>,
 ) -> Result<(), NoMemory>
     requires at { IsAt desk.now place.old }
     ensures at { IsAt desk.now place.new }
     ensures still { IsStill place.old place.new }
 {
-    if !gate.asks_worker(id) {
+    let asked = role.gate.asks_worker(role.id);
+    if !asked {
         return Ok(());
     }
-    gate.hear_worker(id, least(desk, place)?);
+    let least = least(desk, place)?;
+    role.gate.hear_worker(role.id, least);
     Ok(())
 }
 
@@ -265,11 +322,56 @@ fn tell<'t, L: Ledger, A: Ledger, G: Gate>(
 struct Worked {
     /// Something.
     any: bool,
-    /// It settled as many nodes as it may, and further ones may be open.
+    /// It settled as many nodes as it may, and further ones may be open, or are not estimated yet.
     open: bool,
 }
 
-/// What a worker does without the lock: it sends, takes, settles, and tells how it stands where it is asked.
+/// Whether one of two things was done.
+fn is_either(one: bool, other: bool) -> bool {
+    one || other
+}
+
+/// What was done where all is estimated, and so many nodes were settled.
+fn worked_of<G: Gate>(settled: usize, progress: &Progress, role: &Role<'_, G>) -> Worked {
+    let enough = settled == role.together.max(1);
+    Worked {
+        any: settled > 0,
+        open: enough || progress.holds_much(),
+    }
+}
+
+/// Settles a worker's best open nodes, and tells how it stands where it is asked, once all that
+/// came to it is estimated. Before that only a part of that is estimated, which is something done.
+///
+/// # Errors
+/// `NoMemory` where there is no room for an outcome, or for what is kept of estimates.
+fn open_and_settle<'t, L: Ledger, A: Ledger, R: Wait, G: Gate>(
+    rt: &R,
+    desk: &Desk<'t, L, A>,
+    place: &mut Workplace<'t, L, A>,
+    progress: &mut Progress,
+    role: &Role<'_, G>,
+) -> Result<Worked, NoMemory>
+    requires at { IsAt desk.now place.old }
+    ensures at { IsAt desk.now place.new }
+    ensures still { IsStill place.old place.new }
+    ensures tickets { progress.new.held ≡ progress.old.held }
+{
+    let all = open_some(desk, place, MOST_OPENED)?;
+    progress.note_opened(all);
+    if !all {
+        return Ok(Worked {
+            any: true,
+            open: true,
+        });
+    }
+    let settled = settle_some(rt, desk, place, progress, role)?;
+    tell(desk, place, role)?;
+    Ok(worked_of(settled, progress, role))
+}
+
+/// What a worker does without the lock: it sends, takes, settles, and tells how it stands where it
+/// is asked. Whether nodes are left that it may settle.
 ///
 /// # Errors
 /// `NoMemory` where there is no room for a parcel that came, or an outcome.
@@ -278,42 +380,65 @@ fn go_on<'t, L: Ledger, A: Ledger, R: Wait, G: Gate>(
     desk: &Desk<'t, L, A>,
     place: &mut Workplace<'t, L, A>,
     progress: &mut Progress,
-    id: usize,
-    workers: usize,
-    together: usize,
-    gate: &G,
-) -> Result<Worked, NoMemory>
+    role: &Role<'_, G>,
+) -> Result<bool, NoMemory>
     requires at { IsAt desk.now place.old }
-    requires there { id < workers }
-    requires most { workers ≤ MAX_WORKERS }
-    requires boxes { workers ≤ length desk.now.boxes }
+    requires boxes { role.now.workers ≤ length desk.now.boxes }
     ensures at { IsAt desk.now place.new }
     ensures still { IsStill place.old place.new }
     ensures tickets { progress.new.held ≡ progress.old.held }
 {
-    let sent = send_all(desk, place, workers);
-    let taken = take_all(desk, place, id)?;
-    let settled = settle_some(rt, desk, place, progress, id, together, gate)?;
-    tell(desk, place, id, gate)?;
-    Ok(Worked {
-        any: sent || taken || settled > 0,
-        open: settled == together,
-    })
+    let exchanged = exchange(desk, place, role)?;
+    let worked = open_and_settle(rt, desk, place, progress, role)?;
+    progress.note(is_either(exchanged, worked.any));
+    Ok(worked.open)
 }
 
-/// Whether a worker puts its next batch off, where it has nodes to settle: its outcomes are few enough, and another thread has the lock.
+/// Does what [`go_on`] does; where there is no memory for it, the book is halted.
+///
+/// # Errors
+/// How the search ends for the worker: by `NoMemory`.
+fn go_on_or_stop<'t, L: Ledger, A: Ledger, R: Wait, G: Gate>(
+    rt: &R,
+    desk: &Desk<'t, L, A>,
+    place: &mut Workplace<'t, L, A>,
+    progress: &mut Progress,
+    role: &Role<'_, G>,
+) -> Result<bool, Option<RunFault>>
+    requires at { IsAt desk.now place.old }
+    requires boxes { role.now.workers ≤ length desk.now.boxes }
+    ensures seated { IsSeated desk.now place.new }
+    ensures keeps { Keeps place.old place.new }
+    ensures at { OnOk result (IsAt desk.now place.new) }
+    ensures room { OnOk result (place.new.worker.room ≡ place.old.worker.room) }
+    ensures tickets { progress.new.held ≡ progress.old.held }
+    ensures told { IfErr result IsEnd }
+{
+    match go_on(rt, desk, place, progress, role) {
+        Ok(open) => Ok(open),
+        Err(_) => {
+            stop(rt, desk, place);
+            Err(Some(RunFault::NoMemory))
+        }
+    }
+}
+
+/// Whether a worker puts its next batch off: it has nodes to settle, its outcomes are few enough,
+/// and another thread has the lock.
 #[tactic(auto, using(crate::proofs::Begins::begins_same))]
 fn puts_off<'t, L: Ledger, A: Ledger>(
     desk: &Desk<'t, L, A>,
     place: &mut Workplace<'t, L, A>,
     progress: &Progress,
+    open: bool,
 ) -> bool
     requires at { IsAt desk.now place.old }
     ensures at { IsAt desk.now place.new }
     ensures keeps { Keeps place.old place.new }
     ensures room { place.new.worker.room ≡ place.old.worker.room }
 {
-    !progress.has_many() && desk.lock.is_taken(&mut place.pass)
+    let may_wait = open && !progress.has_many();
+    may_wait && desk.lock.is_taken(&mut place.pass)
 }
 
 /// Commits a worker's next batch: whether there was one.
@@ -354,55 +479,110 @@ fn commit_some<'t, L: Ledger, A: Ledger, R: Wait>(
     }
 }
 
-/// One turn of the worker of this number, of so many: it redeems its tickets from the oldest on (where it has something else to do, only if
-/// the lock is free), sends what is in its outbox, takes what
-/// came to it, settles its best open nodes, `together` of them, unless it is to wait for its tickets ([`Progress`]), tells the gate how it
-/// stands, if that asks, and commits its next batch, if it holds fewer than [`MOST_TICKETS`] tickets and has so many outcomes, or some and
-/// no node open. While the lock is taken it puts that off, unless no node is open or its outcomes are many: it settles further nodes rather
-/// than wait. The book is locked while a ticket is redeemed and while a batch is committed, and at
-/// no other time; no batch is committed once the book has as many entries as the limit says.
-pub fn worker_turn<'t, L: Ledger, A: Ledger, R: Wait, G: Gate>(
+/// Commits a worker's next batch, if it is due and is not put off: whether there was one.
+///
+/// # Errors
+/// How the search ends for the worker.
+fn commit_due<'t, L: Ledger, A: Ledger, R: Wait, G: Gate>(
     rt: &R,
     desk: &Desk<'t, L, A>,
     place: &mut Workplace<'t, L, A>,
     progress: &mut Progress,
-    id: usize,
-    workers: usize,
-    together: usize,
-    limit: Option<u64>,
-    gate: &G,
-) -> Turn
+    role: &Role<'_, G>,
+    open: bool,
+) -> Result<bool, Option<RunFault>>
     requires at { IsAt desk.now place.old }
     requires tickets { kids_held progress.old ≤ place.old.worker.room }
-    requires there { id < workers }
-    requires most { workers ≤ MAX_WORKERS }
-    requires boxes { workers ≤ length desk.now.boxes }
     ensures seated { IsSeated desk.now place.new }
     ensures keeps { Keeps place.old place.new }
-    ensures going { IsGoing desk.now place.new progress.new result }
+    ensures at { OnOk result (IsAt desk.now place.new) }
+    ensures room { OnOk result (kids_held progress.new ≤ place.new.worker.room) }
+    ensures told { IfErr result IsEnd }
 {
-    let together = together.max(1);
-    let released = match redeem_all(rt, desk, place, progress) {
-        Ok(released) => released,
-        Err(fault) => return Turn::Ended(fault),
-    };
-    let Ok(worked) = go_on(rt, desk, place, progress, id, workers, together, gate) else {
-        stop(rt, desk, place);
-        return Turn::Ended(Some(RunFault::NoMemory));
-    };
-    progress.note(worked.any);
-    let busy = released || worked.any;
-    if !progress.is_due(worked.open, together) {
-        return if busy { Turn::Busy } else { Turn::Idle };
+    let due = progress.is_due(open, role.together.max(1));
+    if !due {
+        return Ok(false);
     }
-    if worked.open && puts_off(desk, place, progress) {
-        return Turn::Busy;
+    let off = puts_off(desk, place, progress, open);
+    if off {
+        return Ok(false);
     }
-    match commit_some(rt, desk, place, progress, limit) {
-        Ok(committed) if busy || committed => Turn::Busy,
-        Ok(_) => Turn::Idle,
-        Err(fault) => Turn::Ended(fault),
+    commit_some(rt, desk, place, progress, role.limit)
+}
+
+/// Takes one turn of a worker: whether something was done. In this order:
+///
+/// - It redeems its tickets from the oldest on. Where it has something else to do, it does so only
+///   if the lock is free.
+/// - It sends what is in its outbox, and takes and estimates what came to it. Where that is much,
+///   it estimates a part of it, and settles nothing.
+/// - It settles its best open nodes, as many as its role says, unless it is first to wait for its
+///   tickets ([`Progress`]) or its outcomes hold much. It tells the gate how it stands, if that
+///   asks.
+/// - It commits its next batch, if it holds fewer than [`MOST_TICKETS`] tickets and has outcomes
+///   enough, or some that hold much, or some and no node open. While the lock is taken it puts that
+///   off, unless no node is open or its outcomes are many: it settles further nodes rather than
+///   wait. No batch is committed once the book has as many entries as the limit says.
+///
+/// The book is locked while a ticket is redeemed and while a batch is committed, and at no other
+/// time.
+///
+/// # Errors
+/// How the search ends for the worker.
+fn take_turn<'t, L: Ledger, A: Ledger, R: Wait, G: Gate>(
+    rt: &R,
+    desk: &Desk<'t, L, A>,
+    place: &mut Workplace<'t, L, A>,
+    progress: &mut Progress,
+    role: &Role<'_, G>,
+) -> Result<bool, Option<RunFault>>
+    requires at { IsAt desk.now place.old }
+    requires tickets { kids_held progress.old ≤ place.old.worker.room }
+    requires boxes { role.now.workers ≤ length desk.now.boxes }
+    ensures seated { IsSeated desk.now place.new }
+    ensures keeps { Keeps place.old place.new }
+    ensures at { OnOk result (IsAt desk.now place.new) }
+    ensures room { OnOk result (kids_held progress.new ≤ place.new.worker.room) }
+    ensures told { IfErr result IsEnd }
+{
+    let released = redeem_all(rt, desk, place, progress)?;
+    let open = go_on_or_stop(rt, desk, place, progress, role)?;
+    let worked = is_either(released, progress.worked());
+    let committed = commit_due(rt, desk, place, progress, role, open)?;
+    Ok(is_either(worked, committed))
+}
+
+/// Takes a turn. Where there was nothing to do, or not all that came is estimated, looks whether
+/// the search is over.
+///
+/// # Errors
+/// How the search ends for the worker.
+fn turn_or_end<'t, L: Ledger, A: Ledger, R: Wait, G: Gate>(
+    rt: &R,
+    desk: &Desk<'t, L, A>,
+    place: &mut Workplace<'t, L, A>,
+    progress: &mut Progress,
+    role: &Role<'_, G>,
+) -> Result<bool, Option<RunFault>>
+    requires at { IsAt desk.now place.old }
+    requires tickets { kids_held progress.old ≤ place.old.worker.room }
+    requires boxes { role.now.workers ≤ length desk.now.boxes }
+    ensures seated { IsSeated desk.now place.new }
+    ensures keeps { Keeps place.old place.new }
+    ensures at { OnOk result (IsAt desk.now place.new) }
+    ensures room { OnOk result (kids_held progress.new ≤ place.new.worker.room) }
+    ensures told { IfErr result IsEnd }
+{
+    let busy = take_turn(rt, desk, place, progress, role)?;
+    let looks = progress.looks(busy);
+    if !looks {
+        return Ok(busy);
     }
+    let over = is_done(rt, desk, place, role.limit);
+    if over {
+        return Err(None);
+    }
+    Ok(busy)
 }
 
 /// Takes turns until the search is over.
@@ -411,56 +591,38 @@ fn turns<'t, L: Ledger, A: Ledger, R: Wait, G: Gate>(
     desk: &Desk<'t, L, A>,
     place: &mut Workplace<'t, L, A>,
     progress: &mut Progress,
-    id: usize,
-    workers: usize,
-    together: usize,
-    limit: Option<u64>,
-    gate: &G,
+    role: &Role<'_, G>,
 ) -> Option<RunFault>
     requires at { IsAt desk.now place.old }
     requires tickets { kids_held progress.old ≤ place.old.worker.room }
-    requires there { id < workers }
-    requires most { workers ≤ MAX_WORKERS }
-    requires boxes { workers ≤ length desk.now.boxes }
+    requires boxes { role.now.workers ≤ length desk.now.boxes }
     ensures seated { IsSeated desk.now place.new }
     ensures keeps { Keeps place.old place.new }
     ensures told { IfSome result IsOfWorker }
 {
     let mut pause = Pause::new();
     for _turn in rt.forever() {
-        match worker_turn(
-            rt, desk, place, progress, id, workers, together, limit, gate,
-        ) {
-            Turn::Busy => pause.reset(),
-            Turn::Idle => {
-                if is_done(rt, desk, place, limit) {
-                    return None;
-                }
-                pause.wait(rt);
-            }
-            Turn::Ended(fault) => return fault,
+        match turn_or_end(rt, desk, place, progress, role) {
+            Ok(true) => pause.reset(),
+            Ok(false) => pause.wait(rt),
+            Err(fault) => return fault,
         }
     }
     unreachable!()
 }
 
-/// What the thread of a worker does: turn after turn, until the search is over; it waits longer and longer while there is nothing to do. In
-/// the end its tickets are given up. Its fault, if it ends by one: `NoMemory`, `Full` or `NotOut`.
+/// What the thread of a worker does: turn after turn, until the search is over; it waits longer and
+/// longer while there is nothing to do. In the end its tickets are given up. Its fault, if it ends
+/// by one: `NoMemory`, `Full` or `NotOut`.
 pub fn work<'t, L: Ledger, A: Ledger, R: Wait, G: Gate>(
     rt: &R,
     alloc: Global,
     desk: &Desk<'t, L, A>,
     place: &mut Workplace<'t, L, A>,
-    id: usize,
-    workers: usize,
-    together: usize,
-    limit: Option<u64>,
-    gate: &G,
+    role: &Role<'_, G>,
 ) -> Option<RunFault>
     requires at { IsAt desk.now place.old }
-    requires there { id < workers }
-    requires most { workers ≤ MAX_WORKERS }
-    requires boxes { workers ≤ length desk.now.boxes }
+    requires boxes { role.now.workers ≤ length desk.now.boxes }
     ensures seated { IsSeated desk.now place.new }
     ensures keeps { Keeps place.old place.new }
     ensures told { IfSome result IsOfWorker }
@@ -470,17 +632,7 @@ pub fn work<'t, L: Ledger, A: Ledger, R: Wait, G: Gate>(
         return Some(RunFault::NoMemory);
     };
     let mut progress = progress;
-    let fault = turns(
-        rt,
-        desk,
-        place,
-        &mut progress,
-        id,
-        workers,
-        together,
-        limit,
-        gate,
-    );
+    let fault = turns(rt, desk, place, &mut progress, role);
     finish(rt, desk, place, progress);
     fault
 }

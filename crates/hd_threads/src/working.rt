@@ -14,6 +14,7 @@ ghost use Rattle.hd_threads.specs.Faults.{IsOfWorker};
 ghost use Rattle.hd_threads.specs.Shared.{IsGivenOf, IsGivenBy, IsGivenIn};
 
 use crate::ending::is_reached;
+use crate::fault::RunFault;
 use crate::halting::halt;
 use crate::shared::{Given, SharedBook};
 use hd_base::NoMemory;
@@ -21,7 +22,6 @@ use hd_book::{CommitRefusal, NotOut, Refusal, Ticket};
 use hd_bound::{BoundSeat, BoundWord};
 use hd_desk::{Lock, Pass};
 use hd_node::{Batch, Outcome};
-use hd_search::RunFault;
 use hd_worker::{Lookup, Worker};
 use std::sync::Wait;
 use std::sync::ledger::{Ledger, Share};
@@ -42,7 +42,8 @@ pub struct Held {
 pub enum Committed {
     /// The book has it.
     Taken(Held),
-    /// The book takes no batch any more, since it is halted, or has as many entries as the limit says; the batch is dropped.
+    /// The book takes no batch any more, since it is halted, or has as many entries as the limit
+    /// says; the batch is dropped.
     Halted,
     /// There was none.
     Idle,
@@ -138,7 +139,8 @@ fn offer(word: &BoundWord, seat: &mut BoundSeat, bound: Option<u64>)
     }
 }
 
-/// Commits a batch under the lock, where there are fewer entries than the limit says. A book that refuses it is halted.
+/// Commits a batch under the lock, where there are fewer entries than the limit says. A book that
+/// refuses it is halted.
 ///
 /// # Errors
 /// Why it is refused: as by a book that is halted, where the limit is reached.
@@ -188,11 +190,13 @@ fn commit_batch<'t, L: Ledger, A: Ledger, R: Wait>(
     }
 }
 
-/// Commits a worker's next batch, if there is one and the book has fewer entries than the limit says, and then, outside the lock, offers the bound that the book has behind it.
+/// Commits a worker's next batch, if there is one and the book has fewer entries than the limit
+/// says, and then, outside the lock, offers the bound that the book has behind it.
 ///
 /// # Errors
-/// `NoMemory` where there is no room for the batch's numbers, or in the book; `Full` where there would be more entries than there may be;
-/// `NotOut` where the book refuses the batch for what it says. The book is halted, but in the first case.
+/// `NoMemory` where there is no room for the batch's numbers, or in the book; `Full` where there
+/// would be more entries than there may be; `NotOut` where the book refuses the batch for what it
+/// says. The book is halted, but in the first case.
 #[tactic(auto, using(crate::proofs::Begins::begins_itself))]
 pub fn commit_next<'t, L: Ledger, A: Ledger, R: Wait>(
     rt: &R,
@@ -268,7 +272,8 @@ fn enter<'t, L: Ledger, A: Ledger, R: Wait>(
     }
 }
 
-/// Redeems a ticket under the lock; where it does not wait for the lock, and that is not free, the ticket comes back.
+/// Redeems a ticket under the lock; where it does not wait for the lock, and that is not free, the
+/// ticket comes back.
 ///
 /// # Errors
 /// `NotOut` where no such ticket is out; the book is halted.
@@ -298,11 +303,12 @@ fn redeem_inside<'t, L: Ledger, A: Ledger, R: Wait>(
     given
 }
 
-/// Redeems a worker's ticket: what its batch releases is open, or in the outbox, once the batch is acknowledged. Where it does not wait for
-/// the lock, and that is not free, the ticket waits.
+/// Redeems a worker's ticket: what its batch releases is open, or in the outbox, once the batch is
+/// acknowledged. Where it does not wait for the lock, and that is not free, the ticket waits.
 ///
 /// # Errors
-/// `NotOut` where no such ticket is out, or it releases more than its batch has; the book is halted.
+/// `NotOut` where no such ticket is out, or it releases more than its batch has; the book is
+/// halted.
 #[tactic(auto, using(crate::proofs::Begins::begins_along))]
 pub fn redeem_next<'t, L: Ledger, A: Ledger, R: Wait>(
     rt: &R,

@@ -16,7 +16,7 @@ use Rattle.hd_image.specs.Reading.{IsFound}
 use Rattle.hd_journal.specs.Journal.{found_in, version_in}
 use Rattle.hd_certify.specs.declared.certified.Certified.{Certified}
 use Rattle.hd_certify.specs.declared.certified.Certified.TheVariants.{Optimal, NoPlan}
-use Rattle.hd_certify.specs.declared.error.CertifyError.{CertifyError}
+use Rattle.hd_certify.specs.declared.error.RecoverError.{RecoverError}
 use Rattle.hd_certify.specs.Error.{IsRefusal}
 use Rattle.hd_certify.specs.Certificate.{IsCertificateOf, IsTrueOf}
 use Rattle.hd_texts.specs.Digest.{digest_of}
@@ -99,7 +99,7 @@ file_untold domain problem t task digest file (Err f) is s =
     λ bytes noted. OfFile (untouched bytes noted) t f task (subst (λ (d : List ℕ). FailsOnFile t d file f) is s)
 
 -- the entries of what was found are refused
-pub entries_refused : (t : Task) (digest content : List ℕ) (found : Found) (entries lent : List Entry) (most : ℕ) (error : CertifyError)
+pub entries_refused : (t : Task) (digest content : List ℕ) (found : Found) (entries lent : List Entry) (most : ℕ) (error : RecoverError)
     → IsFound digest content found → lent ≡ entries → entries ≡ found_in found → most ≡ most_of (version_in found)
     → IsRefusal t most lent error → ShowsNothing t digest content (certify_in error)
 entries_refused t digest content found entries lent most error is same those limit refused =

@@ -25,13 +25,13 @@ use Rattle.hd_journal.specs.Answers.{IsOpened, IsNotMade, IsNotOpened, IsSeen, L
 use Rattle.hd_journal.specs.Calls.{Ran}
 use Rattle.hd_journal.specs.Journal.{IsOf, device_of, kid_of, kids_of, found_in, create_calls, open_calls}
 use Rattle.hd_migrate.specs.Copy.{kids_in}
-use Rattle.hd_search.specs.declared.fault.RunFault.{RunFault}
-use Rattle.hd_search.specs.declared.fault.RunFault.TheVariants as searching
+use Rattle.hd_threads.specs.declared.fault.RunFault.{RunFault}
+use Rattle.hd_threads.specs.declared.fault.RunFault.TheVariants as searching
 use Rattle.hd_certify.specs.Error.{IsDamagedAt}
 use Rattle.hd_parallel.specs.declared.fault.ThreadsFault.{ThreadsFault}
 use Rattle.hd_parallel.specs.declared.fault.ThreadsFault.TheVariants as threads
 use Rattle.hd_parallel.specs.Fault.{IsFaulty, StopsRunning, Tells}
-use Rattle.hd_search.specs.Searching.{Grows}
+use Rattle.hd_threads.specs.Growing.{Grows}
 use Rattle.hd_entries.specs.Resuming.{AreLegal}
 use Rattle.hd_threads.specs.Surviving.{StillStand, Survives}
 use Rattle.hd_journal.proofs.Staying.{mending_grows_not}

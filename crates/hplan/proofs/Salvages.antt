@@ -10,7 +10,7 @@ use Rattle.hd_image.specs.declared.contents.Found.{Found}
 use Rattle.hd_image.specs.Image.{most_of}
 use Rattle.hd_journal.specs.Journal.{found_in, kid_of, version_in}
 use Rattle.hd_entries.specs.Resuming.{AreLegal}
-use Rattle.hd_certify.specs.declared.error.CertifyError.{CertifyError}
+use Rattle.hd_certify.specs.declared.error.RecoverError.{RecoverError}
 use Rattle.hd_certify.specs.Error.{IsRefusal}
 use Rattle.hd_migrate.specs.Salvage.{IsFoundUpTo}
 use Rattle.hd_texts.specs.Digest.{digest_of}
@@ -41,7 +41,7 @@ salvaged_by t digest content dropped found entries lent kids is same those are l
 
 -- the entries of what was found are refused
 pub kept_refused : (t : Task) (digest content : List ℕ) (dropped : Option ℕ) (found : Found) (entries lent : List Entry) (most : ℕ)
-    (error : CertifyError) → IsFoundUpTo digest content dropped found → lent ≡ entries → entries ≡ found_in found
+    (error : RecoverError) → IsFoundUpTo digest content dropped found → lent ≡ entries → entries ≡ found_in found
     → most ≡ most_of (version_in found) → IsRefusal t most lent error → KeepsNothing t digest content (certify_in error)
 kept_refused t digest content dropped found entries lent most error is same those limit refused =
     OfEntries dropped found error is

@@ -16,7 +16,7 @@ use Rattle.hd_journal.specs.Journal.{found_in, version_in}
 use Rattle.hd_journal.specs.Error.{of_image}
 use Rattle.hd_certify.specs.declared.certified.Certified.{Certified}
 use Rattle.hd_certify.specs.declared.certified.Certified.TheVariants.{Optimal, NoPlan}
-use Rattle.hd_certify.specs.declared.error.CertifyError.{CertifyError}
+use Rattle.hd_certify.specs.declared.error.RecoverError.{RecoverError}
 use Rattle.hd_certify.specs.Certificate.{IsCertificateOf, IsTrueOf}
 use Rattle.hd_certify.specs.Error.{IsRefusal}
 use Rattle.hd_texts.specs.Digest.{digest_of}
@@ -109,7 +109,7 @@ CanBeTold t NoPlan = Unit {0}
 pub data ShowsNothing (t : Task) (digest content : List ℕ) : Fault → Type 0 where
   OfMemory : ShowsNothing t digest content NoMemory
   OfContent : (error : ImageError) → IsRefused digest content error → ShowsNothing t digest content (journal_in (of_image error))
-  OfEntries : (found : Found) (error : CertifyError) → IsFound digest content found
+  OfEntries : (found : Found) (error : RecoverError) → IsFound digest content found
       → IsRefusal t (most_of (version_in found)) (found_in found) error → ShowsNothing t digest content (certify_in error)
 
 -- a file was not read, and this is told of its error

@@ -7,17 +7,17 @@ use Rattle.hd_store.specs.declared.error.StoreError.TheVariants as store
 use Rattle.hd_journal.specs.declared.error.JournalError.{JournalError}
 use Rattle.hd_journal.specs.declared.error.JournalError.TheVariants as journaling
 use Rattle.hd_journal.specs.Error as journal
-use Rattle.hd_search.specs.declared.fault.RunFault.{RunFault}
-use Rattle.hd_search.specs.declared.fault.RunFault.TheVariants as searching
-use Rattle.hd_search.specs.Fault as search
+use Rattle.hd_threads.specs.declared.fault.RunFault.{RunFault}
+use Rattle.hd_threads.specs.declared.fault.RunFault.TheVariants as searching
+use Rattle.hd_threads.specs.Faults as search
 use Rattle.hd_parallel.specs.declared.fault.ThreadsFault.{ThreadsFault}
 use Rattle.hd_parallel.specs.declared.fault.ThreadsFault.TheVariants.{Run}
 use Rattle.hd_parallel.specs.declared.fault.ThreadsFault.TheVariants as threads
 use Rattle.hd_replay.specs.declared.fault.ReplayFault.{ReplayFault}
 use Rattle.hd_replay.specs.declared.fault.ReplayFault.TheVariants as replaying
 use Rattle.hd_replay.specs.Faults as replay
-use Rattle.hd_certify.specs.declared.error.CertifyError.{CertifyError}
-use Rattle.hd_certify.specs.declared.error.CertifyError.TheVariants as certifying
+use Rattle.hd_certify.specs.declared.error.RecoverError.{RecoverError}
+use Rattle.hd_certify.specs.declared.error.RecoverError.TheVariants as certifying
 use Rattle.hd_plan.specs.declared.error.PlanTextError.{PlanTextError}
 use Rattle.hd_plan.specs.declared.error.PlanTextError.TheVariants as plan_text
 use Rattle.hd_plan.specs.Error as plan_reader
@@ -114,7 +114,7 @@ search_in (Run fault) = run_in fault
 search_in threads.NoThread = NoThread
 
 -- why the entries of a journal show nothing; want of memory is no fault of theirs
-abbrev pub certify_in : CertifyError → Fault
+abbrev pub certify_in : RecoverError → Fault
 certify_in certifying.Full = Search searching.Full
 certify_in (certifying.Damaged at) = Search (searching.Damaged at)
 certify_in certifying.NoMemory = NoMemory

@@ -21,12 +21,12 @@ use Rattle.hd_journal.specs.Journal.{IsOf, device_of, kid_of, found_in, version_
 use Rattle.hd_journal.specs.Moments.{IsSettled}
 use Rattle.hd_entries.specs.Resuming.{AreLegal}
 use Rattle.hd_migrate.specs.Copy.{kids_in}
-use Rattle.hd_search.specs.declared.fault.RunFault.{RunFault}
-use Rattle.hd_search.specs.declared.fault.RunFault.TheVariants as searching
+use Rattle.hd_threads.specs.declared.fault.RunFault.{RunFault}
+use Rattle.hd_threads.specs.declared.fault.RunFault.TheVariants as searching
 use Rattle.hd_certify.specs.Error.{IsDamagedAt}
 use Rattle.hd_threads.specs.Surviving.{StillStand}
 use Rattle.hd_parallel.specs.declared.fault.ThreadsFault.{ThreadsFault}
-use Rattle.hd_search.specs.Searching.{Grows}
+use Rattle.hd_threads.specs.Growing.{Grows}
 use Rattle.hd_parallel.specs.Fault.{Tells}
 use Rattle.hplan.specs.declared.fault.Fault.{Fault}
 use Rattle.hplan.specs.declared.fault.Fault.TheVariants.{Journal, Search, NoThread, NoMemory}

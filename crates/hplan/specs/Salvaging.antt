@@ -11,7 +11,7 @@ use Rattle.hd_journal.specs.declared.error.JournalError.TheVariants as journal
 use Rattle.hd_journal.specs.Journal.{found_in, kid_of, version_in}
 use Rattle.hd_journal.specs.Error.{of_image}
 use Rattle.hd_entries.specs.Resuming.{AreLegal}
-use Rattle.hd_certify.specs.declared.error.CertifyError.{CertifyError}
+use Rattle.hd_certify.specs.declared.error.RecoverError.{RecoverError}
 use Rattle.hd_certify.specs.Error.{IsRefusal}
 use Rattle.hd_migrate.specs.Salvage.{IsFoundUpTo, IsLost}
 use Rattle.hd_texts.specs.Digest.{digest_of}
@@ -47,7 +47,7 @@ pub record AreSalvaged (domain problem : List ℕ) (file : Option (List ℕ)) (d
 -- to its damage, or all of them, are refused
 pub data KeepsNothing (t : Task) (digest content : List ℕ) : Fault → Type 0 where
   OfContent : (error : ImageError) → IsLost digest content error → KeepsNothing t digest content (journal_in (of_image error))
-  OfEntries : (dropped : Option ℕ) (found : Found) (error : CertifyError) → IsFoundUpTo digest content dropped found
+  OfEntries : (dropped : Option ℕ) (found : Found) (error : RecoverError) → IsFoundUpTo digest content dropped found
       → IsRefusal t (most_of (version_in found)) (found_in found) error → KeepsNothing t digest content (certify_in error)
 
 -- why nothing is kept of a file: it was not read; or nothing is kept of its bytes

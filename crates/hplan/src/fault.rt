@@ -4,15 +4,15 @@ ghost use Rattle.std.specs.Prelude.{◌≡◌, Some};
 ghost use Rattle.hplan.specs.Fault.{text_of, task_in, plan_read_in, schedule_in, judged_in, journal_in, run_in, search_in, certify_in, replay_in, store_in, TellsKind, TellsUnwritten};
 ghost use Rattle.hplan.specs.declared.fault.Fault.TheVariants as faults;
 
-use hd_certify::CertifyError;
+use hd_certify::RecoverError;
 use hd_journal::JournalError;
 use hd_parallel::ThreadsFault;
 use hd_plan::{PlanTextError, WriteError};
 use hd_replay::ReplayFault;
 use hd_schedule::ScheduleError;
-use hd_search::RunFault;
 use hd_store::StoreError;
 use hd_texts::TaskFault;
+use hd_threads::RunFault;
 use hd_validate::PlanError;
 use std::alloc::{AllocError, AllocFailed};
 use std::{fmt, io};
@@ -167,13 +167,13 @@ pub fn search_in(fault: ThreadsFault) -> Fault
 }
 
 /// Why the entries of a journal show nothing.
-pub fn certify_in(error: CertifyError) -> Fault
+pub fn certify_in(error: RecoverError) -> Fault
     ensures { result ≡ certify_in error }
 {
     match error {
-        CertifyError::NoMemory => Fault::NoMemory,
-        CertifyError::Full => Fault::Search(RunFault::Full),
-        CertifyError::Damaged(at) => Fault::Search(RunFault::Damaged(at)),
+        RecoverError::NoMemory => Fault::NoMemory,
+        RecoverError::Full => Fault::Search(RunFault::Full),
+        RecoverError::Damaged(at) => Fault::Search(RunFault::Damaged(at)),
     }
 }
 

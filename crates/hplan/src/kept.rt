@@ -3,7 +3,7 @@ ghost use Rattle.std.specs.Prelude.{◌≡◌, ◌≢◌, ℕ, true, is_some, Li
 ghost use Rattle.hd_task.specs.declared.plan.Kid.{Kid};
 ghost use Rattle.hd_store.specs.Device.{content_of};
 ghost use Rattle.hd_journal.specs.Journal.{kids_of};
-ghost use Rattle.hd_search.specs.Searching.{Grows};
+ghost use Rattle.hd_threads.specs.Growing.{Grows};
 ghost use Rattle.hd_threads.specs.Ending.{IsOutcomeOf, IsTrueOutcome};
 ghost use Rattle.hd_threads.specs.Surviving.{Survives};
 ghost use Rattle.hd_parallel.specs.Fault.{Tells};
@@ -19,9 +19,9 @@ use crate::told::{Told, told_of};
 use hd_journal::{DIGEST_LEN, Journal, JournalError};
 use hd_parallel::{Concluded, OpenGate, ThreadsFault, run};
 use hd_progress::Watch;
-use hd_search::RunFault;
 use hd_store::{MemoryDisk, Store};
 use hd_task::Task;
+use hd_threads::RunFault;
 use hd_words::Search;
 use std::alloc::Global;
 use std::io::Eprint;
@@ -82,7 +82,6 @@ fn concluded_of<S: Store, R: Threads + Wait + Sync + Eprint + Clock>(
     let Ok(watch) = Watch::begin(rt, alloc, workers, found) else {
         return Err(ThreadsFault::Run(RunFault::NoMemory));
     };
-    watch.tell_rebuilding();
     let ended = run(
         rt, alloc, task, journal, workers, together, how.limit, &watch,
     );

@@ -12,6 +12,7 @@ use crate::tally::Tally;
 use crate::texts::{add, kid_text, kids_of};
 use crate::tokens::beginnings;
 use hd_book::Book;
+use hd_entries::Unheard;
 use hd_node::Parcel;
 use hd_task::{Kid, ROOT_PARENT, Task};
 use std::alloc::{AllocError, Global};
@@ -45,7 +46,7 @@ fn resumed<L: Ledger>(
     requires parts { blank.parts ≡ L.parts }
     requires most { most < ROOT_PARENT }
 {
-    match Book::<L>::resume(blank, alloc, task, most, kids) {
+    match Book::<L>::resume(blank, alloc, task, most, kids, &Unheard) {
         Ok((book, share, parcels)) => {
             let text = left_text(alloc, book.counts().posted, &parcels);
             drop(share);

@@ -28,7 +28,7 @@ returns-in-Err-acknowledge-clause-begins g c =
 
 pub returns-in-Err-clause-told : goal.returns-in-Err-clause-told
 returns-in-Err-clause-told g c =
-    subst (StopsRound c.args.journal.now c.append.new.self c.args.share.now.amount) (sym c.told_of.ensures)
+    subst (StopsRound c.args.journal.now c.append.new.self c.args.share.now.amount) (sym c.of_journal.ensures)
     (not_appended_stops _ _ _ c.in-Err.error _ c.in-Err.ensures.refused c.in-Err.ensures.same_kids c.requires.counted)
 
 pub returns-in-Ok-acknowledge-clause-survives : goal.returns-in-Ok-acknowledge-clause-survives

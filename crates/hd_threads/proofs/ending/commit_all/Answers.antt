@@ -1,6 +1,6 @@
 use Rattle.std.proofs.Common.{refl, ◌∙◌}
 use Rattle.std.proofs.lemmas.Result.{err_from_is_err_and}
-use Rattle.hd_search.proofs.Journals.{grows_itself, grows_through}
+use Rattle.hd_threads.proofs.Growing.{grows_itself, grows_through}
 use Rattle.hd_threads.proofs.Begins.{begins_along, begins_itself}
 use Rattle.hd_threads.proofs.Later.{stops_later}
 use Rattle.hd_threads.proofs.Surviving.{survives_itself, survives_through}

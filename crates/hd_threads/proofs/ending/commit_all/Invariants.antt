@@ -4,7 +4,7 @@ use Rattle.hd_desk.specs.Passes.{IsOutside}
 use Rattle.hd_desk.specs.Views.{BeginsWith}
 use Rattle.hd_journal.specs.Journal.{device_of, kids_of}
 use Rattle.hd_journal.specs.Moments.{IsSettled}
-use Rattle.hd_search.specs.Searching.{Grows}
+use Rattle.hd_threads.specs.Growing.{Grows}
 use Rattle.hd_threads.specs.Surviving.{Survives}
 use Rattle.hd_threads.proofs.ending.commit_all.Given as goal
 

@@ -6,7 +6,7 @@ use Rattle.hd_entries.proofs.content.Content.enter_all.Given as goal
 
 -- so many kids are entries again
 abbrev pub invariant-loop-number : goal.invariant-loop-number
-invariant-loop-number l = record {
+invariant-loop-number g l = record {
   held : IsHeld l.self;
   task : l.self.expanded.task.now ≡ l.fn.self.expanded.task.now;
   most : l.self.most ≡ l.fn.self.most;

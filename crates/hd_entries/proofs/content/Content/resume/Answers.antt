@@ -9,7 +9,7 @@ use Rattle.hd_entries.proofs.Slots.{left_kids, left_lead}
 use Rattle.hd_entries.proofs.content.Content.resume.Goals as goal
 
 pub returns-in-Ok-clause-parcels : goal.returns-in-Ok-clause-parcels
-returns-in-Ok-clause-parcels c =
+returns-in-Ok-clause-parcels g c =
     let b = state_of c.in_ok-content.content in
     let P = posted_by b.task (expansions b) in
     let e = c.in_ok-content.ensures in
@@ -17,7 +17,7 @@ returns-in-Ok-clause-parcels c =
     ∙ (left_kids b P c.in_ok-content.waiting.items e.again.waits ∙ ap₂ open_kids e.task e.entered)
 
 pub returns-in-Ok-clause-lead : goal.returns-in-Ok-clause-lead
-returns-in-Ok-clause-lead c =
+returns-in-Ok-clause-lead g c =
     let b = state_of c.in_ok-content.content in
     let P = posted_by b.task (expansions b) in
     subst (AllByRecursion (LeadsThere b)) (sym c.in-Ok.ensures) (left_lead b P c.in_ok-content.waiting.items c.in_ok-content.ensures.again.waits)

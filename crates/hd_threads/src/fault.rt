@@ -1,7 +1,7 @@
 //! Why a search ends without an answer.
 ghost use Rattle.std.specs.Prelude.{◌≡◌, Some};
-ghost use Rattle.hd_search.specs.Fault.{text_of, of_journal};
-ghost use Rattle.hd_search.specs.declared.fault.RunFault.TheVariants.{NoMemory};
+ghost use Rattle.hd_threads.specs.Faults.{text_of, of_journal};
+ghost use Rattle.hd_threads.specs.declared.fault.RunFault.TheVariants.{NoMemory};
 
 use hd_journal::JournalError;
 use std::alloc::AllocError;
@@ -13,14 +13,15 @@ use thiserror::Error;
 pub enum RunFault {
     /// The entries would be more than the journal may have.
     Full,
-    /// The journal's entry at this place of the file is not the root in first place, and no kid of an earlier entry, or an entry before it
-    /// is the same.
+    /// The journal's entry at this place of the file is not the root in first place, and no kid of
+    /// an earlier entry, or an entry before it is the same.
     Damaged(u64),
     /// The device failed, and counted the failure.
     Device,
     /// The device failed in an earlier call; the file is to be opened again.
     Failed,
-    /// What is written down does not fit together: a batch is refused for what it says, or kids are left that nothing settles.
+    /// What is written down does not fit together: a batch is refused for what it says, or kids are
+    /// left that nothing settles.
     NotOut,
     /// Memory ran out.
     NoMemory,

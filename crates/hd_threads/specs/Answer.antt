@@ -10,7 +10,8 @@ use Rattle.hd_entries.specs.declared.verdict.Verdict.{Verdict}
 use Rattle.hd_entries.specs.Answers as entries
 use Rattle.hd_book.specs.declared.counts.Counts.{Counts}
 
--- a verdict is what these expansions answer: they are a legal list, it is covered, and this is its answer
+-- a verdict is what these expansions answer: they are a legal list, it is covered, and this is its
+-- answer
 pub record IsAnswerBy (t : Task) (expanded : List (List ℕ)) (v : Verdict) : Type 0 where
   pub legal : IsLegal t expanded
   pub covered : IsCovered t (hmax t) expanded
@@ -26,7 +27,8 @@ pub record IsAnswerOf (t : Task) (kids : List Kid) (v : Verdict) : Type 0 where
 abbrev pub IsAnswer : Task → Verdict → Type 0
 IsAnswer t v = (expanded : List (List ℕ)) × IsAnswerBy t expanded v
 
--- counts are those of the end of a search with these entries: all of them are acknowledged, and each kid that was posted is settled
+-- counts are those of the end of a search with these entries: all of them are acknowledged, and
+-- each kid that was posted is settled
 pub record IsCounted (kids : List Kid) (c : Counts) : Type 0 where
   pub entries : c.entries ≡ length kids
   pub acknowledged : c.acknowledged ≡ length kids

@@ -1,9 +1,0 @@
-pub mod Anew
-pub mod Beginning
-pub mod Committing
-pub mod Counts
-pub mod Groups
-pub mod Journals
-pub mod Open
-pub mod Redeeming
-pub mod Turns

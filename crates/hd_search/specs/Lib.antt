@@ -1,4 +1,0 @@
-pub mod Answer
-pub mod Fault
-pub mod Open
-pub mod Searching
