@@ -1,0 +1,7 @@
+(define (problem 3-blocks)
+(:requirements :strips)
+(:domain BLOCKS)
+(:objects C B A)
+(:init (clear C) (on C A) (ontable A) (clear B) (ontable B) (handempty))
+(:goal (on A B) (on B C) (done))
+))
