@@ -26,7 +26,7 @@ use std::sync::ledger::Ledger;
 
 /// How many parcels that came a worker estimates in a turn, at most. Between these turns it looks
 /// whether the search is over.
-const MOST_OPENED: usize = 4096;
+const MOST_OPENED: usize = 256;
 
 /// What a worker is to do, turn after turn.
 #[derive(Drop)]
