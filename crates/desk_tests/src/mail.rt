@@ -81,7 +81,8 @@ fn a_full_mailbox_hands_the_letter_back(rt: HostRuntime) -> Result<(), Fail> {
 /// How many letters each of two workers sends to the other.
 const SENT: u64 = 3_000;
 
-/// Sends letters to one mailbox, and takes as many out of another; answers the sum of their numbers.
+/// Sends letters to one mailbox, and takes as many out of another; answers the sum of their
+/// numbers.
 fn exchange<'t, R: Wait>(
     rt: &R,
     boxes: &Mailboxes<u64, Letter>,

@@ -1,4 +1,5 @@
--- Tests of the elements of a list: whether some passes, which does first and where it stands, how many do.
+-- Tests of the elements of a list: whether some passes, which does first and where it stands, how
+-- many do.
 use Rattle.std.proofs.Common.{◌≡◌, ℕ, suc, ◌+◌, ◌*◌, ◌<◌, nat_lt, not, ◌||◌, Bool, true, false, cond, List, [], ◌∷◌, ◌++◌, map, set, replicate, length, get_or, Contains, Some, None, inl, inr, refl, sym, ap, ◌∙◌, subst, arith}
 use Rattle.std.specs.List.{list_any, list_all, prefix_len, position, position_or_len, take_while, count_by, find}
 use Rattle.std.proofs.lemmas.Bool.{and_from, lt-ltb, ltb-true, ne_eqb, cond-false}

@@ -1,5 +1,5 @@
--- The words by which contracts say what a call answers that may fail, over any error. What an error says is a relation of the
--- crate that has the error; want of memory says nothing.
+-- The words by which contracts say what a call answers that may fail, over any error. What an error
+-- says is a relation of the crate that has the error; want of memory says nothing.
 use Rattle.std.specs.Prelude.{◌≡◌, Bool, true, false, Option, Some, None, Result, Ok, Err, MatchOption}
 
 -- ---- an answer that is there for some arguments only

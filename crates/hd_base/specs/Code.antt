@@ -1,4 +1,5 @@
--- How expressions are told apart: each is known by its first leaf and what stands behind it, operands first.
+-- How expressions are told apart: each is known by its first leaf and what stands behind it,
+-- operands first.
 use Rattle.std.specs.Prelude.{◌≡◌, ◌⊎◌, List, [], ◌∷◌, ◌++◌, refl}
 use Rattle.std.specs.Coded.{Coded, code_by, coded×, coded⊎, coded_list}
 use Rattle.std.proofs.Common.{inl, inr, ap, ◌∙◌, append_assoc}

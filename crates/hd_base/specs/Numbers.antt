@@ -1,5 +1,5 @@
--- What is done with numbers and how they compare, in exact integers; the range that a planner's numbers have to stay in. (The
--- range is our own: PDDL 2.1 has none.)
+-- What is done with numbers and how they compare, in exact integers; the range that a planner's
+-- numbers have to stay in. (The range is our own: PDDL 2.1 has none.)
 use Rattle.std.specs.Prelude.{ℕ, Bool, true, ◌&&◌, Option, Some, None, ℤ, ◌+ℤ◌, ◌-ℤ◌, ◌*ℤ◌, nat_abs, nat_le, int_lt, int_le}
 use Rattle.hd_base.specs.declared.operation.Operation.{Operation}
 use Rattle.hd_base.specs.declared.operation.Operation.TheVariants.{Add, Subtract, Multiply}

@@ -1,4 +1,5 @@
--- What follows a value that may be missing, and the first of two values: std's words, written between their operands.
+-- What follows a value that may be missing, and the first of two values: std's words, written
+-- between their operands.
 use Rattle.std.specs.Prelude.{Option, option_and_then}
 use Rattle.std.specs.Option.{option_or}
 

@@ -1,4 +1,5 @@
--- The value of a numeric expression (PDDL 2.1), by the values of its leaves, and whether it stays in the range.
+-- The value of a numeric expression (PDDL 2.1), by the values of its leaves, and whether it stays
+-- in the range.
 use Rattle.std.specs.Prelude.{Bool, ◌&&◌, Option, Some, None, ℤ, neg_ℤ, option_map}
 use Rattle.hd_base.specs.Expression.{Expression, leaf, negate, binary}
 use Rattle.hd_base.specs.Numbers.{result_of, in_range, fits}
@@ -31,7 +32,8 @@ value_if v (leaf l) = v l
 value_if v (negate x) = option_map neg_ℤ (value_if v x)
 value_if v (binary o x y) = of_both (result_of o) (value_if v x) (value_if v y)
 
--- the expression's value is in the range, and so is that of each of its subexpressions, of those that have one
+-- the expression's value is in the range, and so is that of each of its subexpressions, of those
+-- that have one
 abbrev pub stays_if : {L : Type 0} → (L → Option ℤ) → Expression L → Bool
 stays_if v (leaf l) = fits (v l)
 stays_if v (negate x) = stays_if v x && fits (option_map neg_ℤ (value_if v x))

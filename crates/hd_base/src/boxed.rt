@@ -4,7 +4,8 @@ ghost use Rattle.std.specs.Prelude.{◌≡◌, IfOk};
 use std::alloc::{AllocError, Global};
 use std::marker::Model;
 
-/// A value in memory of its own, which contracts see as the value itself: what holds it takes the room of an address alone.
+/// A value in memory of its own, which contracts see as the value itself: what holds it takes the
+/// room of an address alone.
 #[derive(Debug, Drop)]
 pub struct Boxed<T> {
     inside: Box<T>,

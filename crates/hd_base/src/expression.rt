@@ -7,7 +7,8 @@ use crate::operation::Operation;
 use std::alloc::{AllocError, Global};
 use std::marker::Model;
 
-/// A number, or the value of a fluent: what an expression of a lifted task, or of one to search, has at its leaves.
+/// A number, or the value of a fluent: what an expression of a lifted task, or of one to search,
+/// has at its leaves.
 #[derive(Clone, Copy, Debug, PartialEq, Eq, Drop)]
 pub enum Operand<F> {
     Number(i64),
@@ -15,8 +16,8 @@ pub enum Operand<F> {
     Fluent(F),
 }
 
-/// A numeric expression (PDDL 2.1) over leaves of any type, which contracts see as a plain tree, without the addresses of its
-/// boxes.
+/// A numeric expression (PDDL 2.1) over leaves of any type, which contracts see as a plain tree,
+/// without the addresses of its boxes.
 ///
 /// It is made by the functions below and read by `parts`.
 #[cycle(expression)]

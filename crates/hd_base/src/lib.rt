@@ -1,8 +1,9 @@
-//! What all crates of hplan stand on: small list types, names, want of memory, the range of numbers with what is done with
-//! them, and numeric expressions over any leaves. Contracts see each as plain data.
+//! What all crates of hplan stand on: small list types, names, want of memory, the range of numbers
+//! with what is done with them, and numeric expressions over any leaves. Contracts see each as
+//! plain data.
 //!
-//! `specs/` also has the words by which contracts of calls that may fail say what these answer; `proofs/` has lemmas that
-//! speak of lists, options, truth values and numbers alone.
+//! `specs/` also has the words by which contracts of calls that may fail say what these answer;
+//! `proofs/` has lemmas that speak of lists, options, truth values and numbers alone.
 #![tactic(auto)]
 
 mod boxed;

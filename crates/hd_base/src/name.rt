@@ -10,7 +10,8 @@ use std::alloc::{AllocError, Global};
 use std::fmt;
 use std::marker::Model;
 
-/// The most bytes of a name that lie in the name itself, so that a short name takes no memory beside it, and a name is 16 bytes.
+/// The most bytes of a name that lie in the name itself, so that a short name takes no memory
+/// beside it, and a name is 16 bytes.
 const MOST_INSIDE: usize = 14;
 
 /// Where the bytes of a name lie.

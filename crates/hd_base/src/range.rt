@@ -5,7 +5,8 @@ ghost use Rattle.std.specs.Option.{SomeIff};
 ghost use Rattle.hd_base.specs.Numbers.{in_range, cost_in_range};
 ghost use Rattle.hd_base.specs.Answers.{Judges};
 
-/// The greatest number of the range, whose least is its negative: that of every fluent, subexpression and plan's cost.
+/// The greatest number of the range, whose least is its negative: that of every fluent,
+/// subexpression and plan's cost.
 pub const RANGE_END: u64 = 1_000_000_000_000_000;
 
 /// Whether a number is in the range.
@@ -15,7 +16,8 @@ pub fn in_range(value: i64) -> bool
     value.unsigned_abs() <= RANGE_END
 }
 
-/// The exact value that these 64 bits hold, if it is in the range. `None` stands for one that they can't hold.
+/// The exact value that these 64 bits hold, if it is in the range. `None` stands for one that they
+/// can't hold.
 pub fn if_in_range(value: Option<i64>) -> Option<i64>
     ensures { (z : ℤ) → SomeIff value (FitsSigned w64 z) z → Judges result (in_range z) z }
 {

@@ -6,7 +6,8 @@ use std::hash::{BuildHasher, DefaultHasher, Hasher};
 
 /// What tables hash by: SipHash, begun with a digest of the texts that the keys come from.
 ///
-/// So whoever writes the texts can't write keys that collide, and the same texts hash alike in each run.
+/// So whoever writes the texts can't write keys that collide, and the same texts hash alike in each
+/// run.
 #[derive(Clone, Copy)]
 pub struct Seed {
     begun: DefaultHasher,

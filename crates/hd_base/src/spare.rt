@@ -17,8 +17,9 @@ fn moved<T: Drop>(alloc: Global, items: Vec<T>) -> Result<Vec<T>, AllocError>
     Ok(exact)
 }
 
-/// The same items in a `Vec` that has no room for more. Few items are moved, so that the room that they leave is whole and can be
-/// taken again: what is cut off of it would be too small for most lists.
+/// The same items in a `Vec` that has no room for more. Few items are moved, so that the room that
+/// they leave is whole and can be taken again: what is cut off of it would be too small for most
+/// lists.
 ///
 /// # Errors
 /// Want of memory.

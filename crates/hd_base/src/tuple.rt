@@ -9,7 +9,8 @@ use std::cmp::Ordering;
 use std::hash::{Hash, Hasher};
 use std::marker::Model;
 
-/// A short list, which contracts see as the list of its items, without its capacity and its address.
+/// A short list, which contracts see as the list of its items, without its capacity and its
+/// address.
 ///
 /// Up to four items take no memory of their own.
 #[derive(Debug, Drop)]

@@ -15,7 +15,8 @@ entries_between entries first end = take (end - first) (drop first entries)
 abbrev pub group_of : List Kid → Range ℕ → GroupView
 group_of entries g = record { first = g.start; kids = entries_between entries g.start g.end }
 
--- the group that goes out next: whole batches from the oldest on, as many as fit together; none where nothing waits or a group is out
+-- the group that goes out next: whole batches from the oldest on, as many as fit together; none
+-- where nothing waits or a group is out
 abbrev pub next_group : BookView → Option GroupView
 next_group b = option_map (group_of b.state.entries) (group_next b.batches.queue)
 
@@ -30,6 +31,7 @@ begins_with [] entries = true
 begins_with (k ∷ kids) [] = false
 begins_with (k ∷ kids) (e ∷ entries) = same_kid k e && begins_with kids entries
 
--- a group is the one that is out: its pairs are those of the entries with its numbers, and these are the ones that are out
+-- a group is the one that is out: its pairs are those of the entries with its numbers, and these
+-- are the ones that are out
 abbrev pub is_group_out : BookView → GroupView → Bool
 is_group_out b g = begins_with g.kids (drop g.first b.state.entries) && is_out b.batches.queue g.first (g.first + length g.kids)

@@ -11,7 +11,8 @@ pub record ParcelsView : Type 0 where
   pub task : Task
   pub kids : List Released
 
--- a book: what it holds of the search, how many entries it may hold, and what is known of the batches that it accepted
+-- a book: what it holds of the search, how many entries it may hold, and what is known of the
+-- batches that it accepted
 pub record BookView : Type 0 where
   pub state : BookState
   pub most : ℕ

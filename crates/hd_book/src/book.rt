@@ -12,8 +12,8 @@ use std::marker::Model;
 use std::ops::Range;
 use std::sync::ledger::{self, Blank, Ledger, Share};
 
-/// The book of a search: it accepts no batch that is not justified, gives tickets for those that it accepts, and hands their entries out
-/// in groups. `L` counts its commits.
+/// The book of a search: it accepts no batch that is not justified, gives tickets for those that it
+/// accepts, and hands their entries out in groups. `L` counts its commits.
 ///
 /// It is one pointer wide.
 #[derive(Drop)]
@@ -68,8 +68,8 @@ impl<'t, L: Ledger> Book<'t, L> {
         (Book { content, made }, share)
     }
 
-    /// The book of a search that has not begun, which may hold `most` entries: the root is posted. With it comes a share of the ledger
-    /// that counts its commits, which is the whole of it.
+    /// The book of a search that has not begun, which may hold `most` entries: the root is posted.
+    /// With it comes a share of the ledger that counts its commits, which is the whole of it.
     ///
     /// # Errors
     /// `NoMemory` where there is no room for it.
@@ -95,8 +95,9 @@ impl<'t, L: Ledger> Book<'t, L> {
     /// all posted kids that are no entries, in posting order. The listener hears how far it is.
     ///
     /// # Errors
-    /// `Full` with the number 0 where there are more entries than `most`; else the number of the first entry that can't be the next one
-    /// after those before it, with `UnknownParent`, `NotAKid` or `SettledBefore`; or `NoMemory`, never in place of `Full`.
+    /// `Full` with the number 0 where there are more entries than `most`; else the number of the
+    /// first entry that can't be the next one after those before it, with `UnknownParent`,
+    /// `NotAKid` or `SettledBefore`; or `NoMemory`, never in place of `Full`.
     pub fn resume<H: Listener>(
         blank: Blank,
         alloc: Global,
@@ -126,13 +127,15 @@ impl<'t, L: Ledger> Book<'t, L> {
         }
     }
 
-    /// Takes a batch: its expansions become entries, its kids are settled, and the ticket is redeemed for the kids of its
-    /// expansions. The share counts one commit more. A batch without expansions is acknowledged at once.
+    /// Takes a batch: its expansions become entries, its kids are settled, and the ticket is
+    /// redeemed for the kids of its expansions. The share counts one commit more. A batch without
+    /// expansions is acknowledged at once.
     ///
     /// # Errors
-    /// The batch, and why it is refused: it is as it was, and so are the book and the share. In this order: `Halted`, `Full`, then for
-    /// each outcome in order `UnknownParent`, `NotAKid`, `SettledBefore`, `StateDiffers`, `NotDominated`, `BelowBound`. `NoMemory`
-    /// may come in place of each but the first two, and of the ticket.
+    /// The batch, and why it is refused: it is as it was, and so are the book and the share. In
+    /// this order: `Halted`, `Full`, then for each outcome in order `UnknownParent`, `NotAKid`,
+    /// `SettledBefore`, `StateDiffers`, `NotDominated`, `BelowBound`. `NoMemory` may come in place
+    /// of each but the first two, and of the ticket.
     pub fn commit(
         &mut self,
         share: &mut Share<L>,
@@ -161,8 +164,9 @@ impl<'t, L: Ledger> Book<'t, L> {
         }
     }
 
-    /// The next group goes out, to be appended to a journal: whole batches in the order of their commits, from the oldest on, as many as
-    /// fit into a group. Its pairs are put into the room that is handed in. It takes no memory.
+    /// The next group goes out, to be appended to a journal: whole batches in the order of their
+    /// commits, from the oldest on, as many as fit into a group. Its pairs are put into the room
+    /// that is handed in. It takes no memory.
     ///
     /// # Errors
     /// The room again, where nothing waits, or a group is out: nothing has changed.
@@ -177,11 +181,13 @@ impl<'t, L: Ledger> Book<'t, L> {
         self.content.take_pending(room)
     }
 
-    /// Acknowledges the entries of the group that is out: they are appended. The list of its pairs comes back, to be
-    /// used again ([`crate::Rooms`]), or let go where the book is not locked any more. It takes no memory.
+    /// Acknowledges the entries of the group that is out: they are appended. The list of its pairs
+    /// comes back, to be used again ([`crate::Rooms`]), or let go where the book is not locked any
+    /// more. It takes no memory.
     ///
     /// # Errors
-    /// `NotOut` where this group is not the one that is out: what said that it was appended is spent, and nothing has changed.
+    /// `NotOut` where this group is not the one that is out: what said that it was appended is
+    /// spent, and nothing has changed.
     pub fn acknowledge(&mut self, flushed: Flushed) -> Result<Vec<Kid>, NotOut>
         ensures task { self.new.state.task ≡ self.old.state.task }
         ensures begins { BeginsWith self.new.state.entries self.old.state.entries }
@@ -193,7 +199,8 @@ impl<'t, L: Ledger> Book<'t, L> {
         self.content.acknowledge(flushed)
     }
 
-    /// Hands back the group that is out: its batches wait again, before the others, and the book is halted. It takes no memory.
+    /// Hands back the group that is out: its batches wait again, before the others, and the book is
+    /// halted. It takes no memory.
     ///
     /// # Errors
     /// `NotOut` where this group is not the one that is out: it is spent, and nothing has changed.
@@ -207,8 +214,9 @@ impl<'t, L: Ledger> Book<'t, L> {
         self.content.hand_back(group)
     }
 
-    /// Redeems a ticket: for the kids of its batch's expansions, with a receipt, where the batch is acknowledged; else for nothing, where
-    /// the book is halted; else the ticket comes back. It takes no memory.
+    /// Redeems a ticket: for the kids of its batch's expansions, with a receipt, where the batch is
+    /// acknowledged; else for nothing, where the book is halted; else the ticket comes back. It
+    /// takes no memory.
     ///
     /// # Errors
     /// `NotOut` where no such ticket is out: the ticket is spent, and nothing has changed.
@@ -285,7 +293,8 @@ impl<'t, L: Ledger> Book<'t, L> {
         self.content.entries.entry(number)
     }
 
-    /// Where the plan of the entry with this number leads, and what it costs, if there is such an entry.
+    /// Where the plan of the entry with this number leads, and what it costs, if there is such an
+    /// entry.
     pub fn node(&self, number: u64) -> Option<(HashedRow<'_>, u64)>
         ensures { option_map (λ r. node r.0 r.1) result
             ≡ entry_node self.now.state number }
@@ -308,7 +317,8 @@ impl<'t, L: Ledger> Book<'t, L> {
         self.content.entries.departure()
     }
 
-    /// The plan of the bound, if there is a bound: that of the least-numbered entry at which the goal holds at this cost. It is valid.
+    /// The plan of the bound, if there is a bound: that of the least-numbered entry at which the
+    /// goal holds at this cost. It is valid.
     ///
     /// # Errors
     /// `NoMemory` where there is no room for the plan.
@@ -333,8 +343,8 @@ impl<'t, L: Ledger> Book<'t, L> {
         self.content.verdict()
     }
 
-    /// Changes nothing. What all shares of the ledger count in sum is the number of the batches that were accepted: no share counts more,
-    /// and the one that has all parts counts just that.
+    /// Changes nothing. What all shares of the ledger count in sum is the number of the batches
+    /// that were accepted: no share counts more, and the one that has all parts counts just that.
     pub fn audit(&mut self, share: &mut Share<L>)
         ensures same { self.new ≡ self.old }
         ensures share { (share.new.parts ≡ share.old.parts)

@@ -11,9 +11,11 @@ use hd_node::{Batch, Outcome, Parcel};
 use hd_task::Task;
 use std::marker::Model;
 
-/// What a ticket releases: the kids of its batch's expansions, in order, each as a parcel of the task.
+/// What a ticket releases: the kids of its batch's expansions, in order, each as a parcel of the
+/// task.
 ///
-/// Until they are taken they stay in the batch's outcomes: so a commit moves nothing, and gives no memory back while the book is locked.
+/// Until they are taken they stay in the batch's outcomes: so a commit moves nothing, and gives no
+/// memory back while the book is locked.
 #[derive(Debug, Drop)]
 pub struct Parcels<'t> {
     task: &'t Task,

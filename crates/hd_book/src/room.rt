@@ -6,7 +6,8 @@ use hd_task::{Kid, NoMemory};
 use hd_tickets::MAX_GROUP;
 use std::alloc::Global;
 
-/// An empty list with room for the pairs of any group. The book fills it where a group goes out, so that it takes no memory then.
+/// An empty list with room for the pairs of any group. The book fills it where a group goes out, so
+/// that it takes no memory then.
 #[derive(Debug, Drop)]
 pub struct Room {
     kids: Vec<Kid>,
@@ -24,7 +25,8 @@ impl Room {
         Ok(Room { kids })
     }
 
-    /// A list whose pairs are of no use any more, if it has room for any group; else it is given up.
+    /// A list whose pairs are of no use any more, if it has room for any group; else it is given
+    /// up.
     fn of(kids: Vec<Kid>) -> Option<Room>
         ensures { is_some result ≡ nat_le MAX_GROUP (vec_capacity kids) }
     {
@@ -46,7 +48,8 @@ impl Room {
     }
 }
 
-/// Where room for groups is taken from: who hands groups on keeps it, so that the list of a group that is over serves the next one.
+/// Where room for groups is taken from: who hands groups on keeps it, so that the list of a group
+/// that is over serves the next one.
 #[derive(Debug, Drop)]
 pub struct Rooms {
     alloc: Global,

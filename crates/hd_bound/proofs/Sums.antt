@@ -1,4 +1,5 @@
--- Sums over lists of which one element is changed, where elements are read as the rules of tables and queues read them.
+-- Sums over lists of which one element is changed, where elements are read as the rules of tables
+-- and queues read them.
 use Rattle.std.proofs.Common.{◌≡◌, ℕ, zero, suc, ◌+◌, ◌<◌, List, [], ◌∷◌, length, get_or, set, refl, sym, ap, ◌∙◌, subst, arith}
 use Rattle.std.specs.List.{sum_by}
 use Rattle.std.proofs.lemmas.List.Sums.{sum_by-set, sum_by-cons}

@@ -1,5 +1,5 @@
--- A bound that threads share, as contracts see it. (The shared bound of parallel branch and bound; that the word is exactly the least
--- of all offers is our own.)
+-- A bound that threads share, as contracts see it. (The shared bound of parallel branch and bound;
+-- that the word is exactly the least of all offers is our own.)
 use Rattle.std.specs.Prelude.{◌≡◌, ℕ, ◌-◌, ◌==◌, List, [], ◌∷◌, Option, Some, None, cond, min}
 use Rattle.atomic_table.specs.Seated.{TableId}
 use Rattle.hd_bound.specs.declared.rule.TheConstants.{NO_BOUND}
@@ -9,7 +9,8 @@ pub record BoundView : Type 0 where
   pub of : TableId
   pub start : ℕ
 
--- a seat at a bound word: the name of that; the seat's parts; the least number that it has seen or offered; what it has offered, in order
+-- a seat at a bound word: the name of that; the seat's parts; the least number that it has seen or
+-- offered; what it has offered, in order
 pub record SeatView : Type 0 where
   pub of : TableId
   pub parts : ℕ

@@ -29,7 +29,8 @@ abbrev pub least_offered : ℕ → List Offers → ℕ
 least_offered start [] = start
 least_offered start (v ∷ views) = least (least_offered start views) v.offers
 
--- a seat's knowledge fits a word: with a part, it has seen nothing less than the word; without one, it has offered nothing
+-- a seat's knowledge fits a word: with a part, it has seen nothing less than the word; without one,
+-- it has offered nothing
 pub record IsSeatAt (word : ℕ) (v : Offers) : Type 0 where
   pub seen : 0 < v.parts → word ≤ v.seen
   pub idle : v.parts ≡ 0 → v.offers ≡ []

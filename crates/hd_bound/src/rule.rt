@@ -8,11 +8,12 @@ use std::collections::LinkedList;
 /// What the word is while there is no bound. A cost as great as this bounds nothing.
 pub const NO_BOUND: u64 = u64::MAX;
 
-/// In how many parts the right to know all offers may be cut. A seat that has all of them knows each offer.
+/// In how many parts the right to know all offers may be cut. A seat that has all of them knows
+/// each offer.
 pub const ALL_PARTS: u64 = 1024;
 
-/// What a seat at the bound word knows: its parts of the right to know all offers, the least number that it has seen or offered, and
-/// what it has offered, in order. No value of it is made.
+/// What a seat at the bound word knows: its parts of the right to know all offers, the least number
+/// that it has seen or offered, and what it has offered, in order. No value of it is made.
 pub struct Offers {
     pub parts: u64,
     pub seen: u64,

@@ -133,7 +133,8 @@ impl BoundWord {
         self.table.shared.join_seat::<Part>(&mut seat.seat, other);
     }
 
-    /// The bound in the end, of which one seat has all parts: the least of what it started with and of all that was offered.
+    /// The bound in the end, of which one seat has all parts: the least of what it started with and
+    /// of all that was offered.
     pub fn settle(self, seat: BoundSeat) -> Option<u64>
         requires of { seat.of ≡ self.of }
         requires parts { seat.parts ≡ ALL_PARTS }

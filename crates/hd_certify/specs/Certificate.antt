@@ -1,5 +1,5 @@
--- What entries show of their task by themselves. (That a journal is a certificate is our own; when a search has looked at enough is said by
--- HDA*, Kishimoto, Fukunaga and Botea 2013.)
+-- What entries show of their task by themselves. (That a journal is a certificate is our own; when
+-- a search has looked at enough is said by HDA*, Kishimoto, Fukunaga and Botea 2013.)
 use Rattle.std.specs.Prelude.{◌≡◌, ℕ, List, [], map, Option, Some, None}
 use Rattle.hd_task.specs.declared.task.Task.{Task}
 use Rattle.hd_task.specs.Entries.{plans_of}
@@ -13,13 +13,14 @@ use Rattle.hd_entries.specs.Answers.{IsBoundPlan}
 use Rattle.hd_certify.specs.declared.certified.Certified.{Certified}
 use Rattle.hd_certify.specs.declared.certified.Certified.TheVariants.{Optimal, NoPlan}
 
--- expansions decide their task: each plan that they generate is expanded or need not be, by h-max, and nothing departs at any of them
+-- expansions decide their task: each plan that they generate is expanded or need not be, by h-max,
+-- and nothing departs at any of them
 pub record IsDecisive (t : Task) (expanded : List (List ℕ)) : Type 0 where
   pub covered : IsCovered t (hmax t) expanded
   pub in_range : departures_of t expanded ≡ []
 
--- what expansions show: where they decide the task, that the plan of their bound is optimal, or, where they have no bound, that there is no
--- plan; else nothing
+-- what expansions show: where they decide the task, that the plan of their bound is optimal, or,
+-- where they have no bound, that there is no plan; else nothing
 abbrev pub IsShown : Task → List (List ℕ) → Option Certified → Type 0
 IsShown t expanded None = IsDecisive t expanded → ⊥
 IsShown t expanded (Some (Optimal p)) = IsDecisive t expanded × IsBoundPlan t expanded p

@@ -1,5 +1,5 @@
--- Which kids of entries need not be expanded, and the expansions of entries in a closed list. (Closed lists are those of A*: Hart, Nilsson and
--- Raphael 1968.)
+-- Which kids of entries need not be expanded, and the expansions of entries in a closed list.
+-- (Closed lists are those of A*: Hart, Nilsson and Raphael 1968.)
 use Rattle.std.specs.Prelude.{◌≡◌, ◌⊎◌, ℕ, List, Option, Some, map, take}
 use Rattle.hd_task.specs.Plans.{Node, node, exec}
 use Rattle.hd_task.specs.Expansions.{bound_of}
@@ -9,7 +9,8 @@ use Rattle.hd_node.specs.Parcel.{ParcelView}
 use Rattle.hd_closed.specs.Closed.{Closed}
 use Rattle.hd_entries.specs.Settling.{BookState, expansions}
 
--- the plan of a parcel need not be expanded: one that is has its state at no greater cost, or it reaches the bound, or no way leads on from it
+-- the plan of a parcel need not be expanded: one that is has its state at no greater cost, or it
+-- reaches the bound, or no way leads on from it
 abbrev pub IsSpared : BookState → ParcelView → Type 0
 IsSpared b p = IsDominated b.task (expansions b) (node p.state p.cost) ⊎ IsBounded (bound_of b.task (expansions b)) p.cost (hmax b.task p.state)
 

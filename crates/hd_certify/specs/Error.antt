@@ -7,13 +7,15 @@ use Rattle.hd_entries.specs.Resuming.{AreLegal}
 use Rattle.hd_certify.specs.declared.error.RecoverError.{RecoverError}
 use Rattle.hd_certify.specs.declared.error.RecoverError.TheVariants.{Full, Damaged, NoMemory}
 
--- the printed form: the refusal's number, its name, and the place in decimal; want of memory has no number
+-- the printed form: the refusal's number, its name, and the place in decimal; want of memory has no
+-- number
 abbrev pub text_of : RecoverError → List ℕ
 text_of Full = codes "31 Full"
 text_of (Damaged at) = codes "34 Damaged(" ++ decimal at ++ codes ")"
 text_of NoMemory = codes "NoMemory"
 
--- the first faulty entry stands at this place: those before it name a legal list, and no entries do that begin with it and them
+-- the first faulty entry stands at this place: those before it name a legal list, and no entries do
+-- that begin with it and them
 pub record IsDamagedAt (t : Task) (entries : List Entry) (at : ℕ) : Type 0 where
   pub number : ℕ
   pub place : option_map (λ (e : Entry). e.at) (slice_get entries number) ≡ Some at
@@ -21,8 +23,8 @@ pub record IsDamagedAt (t : Task) (entries : List Entry) (at : ℕ) : Type 0 whe
   pub faulty : AreLegal t (map kid_of (take (number + 1) entries)) → ⊥
   pub illegal : AreLegal t (map kid_of entries) → ⊥
 
--- why entries are refused: there are more than there may be; or there are not, and the first faulty one stands at this place, or there is no
--- memory
+-- why entries are refused: there are more than there may be; or there are not, and the first faulty
+-- one stands at this place, or there is no memory
 abbrev pub IsRefusal : Task → ℕ → List Entry → RecoverError → Type 0
 IsRefusal t most entries Full = most < length entries
 IsRefusal t most entries (Damaged at) = (length entries ≤ most) × IsDamagedAt t entries at

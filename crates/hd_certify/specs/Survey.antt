@@ -1,5 +1,5 @@
--- What entries tell of a search that goes on, or has ended. (Our own; when a plan need not be expanded is said by HDA*, Kishimoto, Fukunaga and
--- Botea 2013.)
+-- What entries tell of a search that goes on, or has ended. (Our own; when a plan need not be
+-- expanded is said by HDA*, Kishimoto, Fukunaga and Botea 2013.)
 use Rattle.std.specs.Prelude.{◌≡◌, ◌≢◌, ◌⊎◌, ℕ, ◌+◌, ◌<◌, ◌≤◌, List, [], ◌∷◌, ◌++◌, map, length, replicate, flat_map, slice_get, Option, Some, None}
 use Rattle.std.specs.List.{AllByRecursion}
 use Rattle.std.specs.List.Sorted.{IsPermutation}
@@ -24,7 +24,8 @@ abbrev pub Tallies : {X : Type 0} → (X → Type 0) → List X → ℕ → ℕ 
 Tallies P [] from to = to ≡ from
 Tallies P (x ∷ xs) from to = (P x × Tallies P xs (from + 1) to) ⊎ ((P x → ⊥) × Tallies P xs from to)
 
--- so many of the posted kids need not be expanded any more: they are entries, or the entries spare them
+-- so many of the posted kids need not be expanded any more: they are entries, or the entries spare
+-- them
 pub record IsSettledBy (b : BookState) (n : ℕ) : Type 0 where
   pub parcels : List ParcelView
   pub kids : map (λ (p : ParcelView). p.kid) parcels ≡ open_kids b.task b.entries
@@ -42,7 +43,8 @@ abbrev pub AreAscending : List Row → Type 0
 AreAscending [] = Unit {0}
 AreAscending (r ∷ rows) = AllByRecursion (λ (q : Row). r.value < q.value) rows × AreAscending rows
 
--- rows count values: each that there is, as often as it is there, and no other; the least comes first
+-- rows count values: each that there is, as often as it is there, and no other; the least comes
+-- first
 pub record IsTableOf (values : List ℕ) (rows : List Row) : Type 0 where
   pub counted : IsPermutation values (spread rows)
   pub ascending : AreAscending rows
@@ -52,8 +54,9 @@ pub record IsTableOf (values : List ℕ) (rows : List Row) : Type 0 where
 abbrev pub row : ℕ → ℕ → Row
 row value count = record { value = value; count = count }
 
--- one value more is counted behind rows, of which the last is still being counted: it has this value, and counts one more; or it has another
--- one, and stands with the rows, and this value's row is being counted
+-- one value more is counted behind rows, of which the last is still being counted: it has this
+-- value, and counts one more; or it has another one, and stands with the rows, and this value's row
+-- is being counted
 abbrev pub CountsOn : List Row → Row → ℕ → List Row → Row → Type 0
 CountsOn rows last value after next =
     ((value ≡ last.value) × (after ≡ rows) × (next ≡ row last.value (last.count + 1)))
@@ -70,8 +73,9 @@ costs_of t expanded = map (λ (p : List ℕ). cost_in (exec t p)) expanded
 
 -- ---- all of it
 
--- this is told of entries, which name a legal list of their task: the bound, its plan, how many plans are generated, and how many of them need
--- not be expanded any more, the first departure, and how many of the expanded plans have each length, and each cost
+-- this is told of entries, which name a legal list of their task: the bound, its plan, how many
+-- plans are generated, and how many of them need not be expanded any more, the first departure, and
+-- how many of the expanded plans have each length, and each cost
 pub record IsSurveyOf (t : Task) (entries : List Entry) (s : Survey) : Type 0 where
   pub expanded : List (List ℕ)
   pub named : plans_of (map kid_of entries) ≡ Some expanded

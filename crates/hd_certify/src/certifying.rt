@@ -28,12 +28,12 @@ fn shown_by(entries: &Entries<'_>) -> Result<Certified, NoMemory>
     }
 }
 
-/// What these entries, of which there may be `most`, show of a task: that a plan is optimal, or that there is none; or nothing. What they
-/// show is true, whoever made them.
+/// What these entries, of which there may be `most`, show of a task: that a plan is optimal, or
+/// that there is none; or nothing. What they show is true, whoever made them.
 ///
 /// # Errors
-/// `Full` where there are more entries than `most`; `Damaged` with the place of the first that makes no legal list with those before it;
-/// `NoMemory`.
+/// `Full` where there are more entries than `most`; `Damaged` with the place of the first that
+/// makes no legal list with those before it; `NoMemory`.
 pub fn certify(
     alloc: Global,
     task: &Task,

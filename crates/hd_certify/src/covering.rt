@@ -28,8 +28,8 @@ fn is_bounded(bound: Option<u64>, cost: u64, value: EstimateValue) -> bool
     }
 }
 
-/// Whether a kid need not be expanded: an entry has its state at no greater cost, or its cost and its estimate reach the bound, or the
-/// estimate is infinite.
+/// Whether a kid need not be expanded: an entry has its state at no greater cost, or its cost and
+/// its estimate reach the bound, or the estimate is infinite.
 ///
 /// # Errors
 /// `NoMemory` where there is no room for its state.

@@ -22,8 +22,9 @@ pub fn entries_show_one_thing()
         → IsCertificateOf t entries c → IsCertificateOf t entries d → c ≡ d }
 {}
 
-/// The journal of a search that has ended without a departure is certified: where its entries name a legal list that is covered, and a
-/// verdict is this list's answer, they show just this verdict, and are not refused as damaged.
+/// The journal of a search that has ended without a departure is certified: where its entries name
+/// a legal list that is covered, and a verdict is this list's answer, they show just this verdict,
+/// and are not refused as damaged.
 pub fn ended_searches_are_certified()
     ensures optimal { (t : Task) (entries : List Entry) (expanded : List (List ℕ)) (p : List ℕ)
         → plans_of (map kid_of entries) ≡ Some expanded → IsLegal t expanded

@@ -1,7 +1,9 @@
-//! What a journal's entries show by themselves: that a plan is optimal, that there is none, or nothing.
+//! What a journal's entries show by themselves: that a plan is optimal, that there is none, or
+//! nothing.
 //!
-//! `specs/Certificate.antt` says what entries show. No worker and no book takes part, and nobody has to be trusted who made the entries: they
-//! are made again, and each kid that is no entry is looked at once.
+//! `specs/Certificate.antt` says what entries show. No worker and no book takes part, and nobody
+//! has to be trusted who made the entries: they are made again, and each kid that is no entry is
+//! looked at once.
 #![tactic(auto)]
 
 mod certified;

@@ -12,11 +12,12 @@ use hd_journal::Kid;
 use hd_task::Task;
 use std::alloc::Global;
 
-/// Whether the entries of a journal, of which there may be `most`, name a legal list of a task: they are made again, and let go.
+/// Whether the entries of a journal, of which there may be `most`, name a legal list of a task:
+/// they are made again, and let go.
 ///
 /// # Errors
-/// `Full` where there are more entries than `most`; `Damaged` with the place of the first that makes no legal list with those before it;
-/// `NoMemory`.
+/// `Full` where there are more entries than `most`; `Damaged` with the place of the first that
+/// makes no legal list with those before it; `NoMemory`.
 fn check(alloc: Global, task: &Task, most: u64, entries: &[Entry]) -> Result<(), RecoverError>
     requires { most < ROOT_PARENT }
     ensures within { OnOk result (length entries.now ≤ most) }
@@ -35,12 +36,12 @@ fn check(alloc: Global, task: &Task, most: u64, entries: &[Entry]) -> Result<(),
     }
 }
 
-/// The pairs of the entries of a journal, of which there may be `most`, where they name a legal list of a task. Each parent is the root's
-/// or a number below `most`.
+/// The pairs of the entries of a journal, of which there may be `most`, where they name a legal
+/// list of a task. Each parent is the root's or a number below `most`.
 ///
 /// # Errors
-/// `Full` where there are more entries than `most`; `Damaged` with the place of the first that makes no legal list with those before it;
-/// `NoMemory`.
+/// `Full` where there are more entries than `most`; `Damaged` with the place of the first that
+/// makes no legal list with those before it; `NoMemory`.
 pub fn legal_kids(
     alloc: Global,
     task: &Task,

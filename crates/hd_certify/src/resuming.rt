@@ -73,7 +73,8 @@ pub fn fault_at(entries: &[Entry], number: u64, refusal: Refusal) -> RecoverErro
 /// The entries made again, and the parcels of all posted kids that are no entries.
 ///
 /// # Errors
-/// `Full` where there are more entries than `most`; `Damaged` of the first that makes no legal list with those before it; `NoMemory`.
+/// `Full` where there are more entries than `most`; `Damaged` of the first that makes no legal list
+/// with those before it; `NoMemory`.
 pub(crate) fn resume<'t>(
     alloc: Global,
     task: &'t Task,

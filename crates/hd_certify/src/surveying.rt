@@ -28,7 +28,8 @@ fn counted_on(count: u64, is_so: bool) -> u64
     if is_so { count + 1 } else { count }
 }
 
-/// How many posted kids need not be expanded any more: they are entries, or one of these parcels that is spared.
+/// How many posted kids need not be expanded any more: they are entries, or one of these parcels
+/// that is spared.
 ///
 /// # Errors
 /// `NoMemory`.
@@ -102,11 +103,12 @@ fn costs_of(alloc: Global, entries: &Entries<'_>) -> Result<Vec<u64>, NoMemory>
     Ok(costs)
 }
 
-/// What these entries, of which there may be `most`, tell of a search of a task: how far it is, and what it has found.
+/// What these entries, of which there may be `most`, tell of a search of a task: how far it is, and
+/// what it has found.
 ///
 /// # Errors
-/// `Full` where there are more entries than `most`; `Damaged` with the place of the first that makes no legal list with those before it;
-/// `NoMemory`.
+/// `Full` where there are more entries than `most`; `Damaged` with the place of the first that
+/// makes no legal list with those before it; `NoMemory`.
 pub fn survey(
     alloc: Global,
     task: &Task,

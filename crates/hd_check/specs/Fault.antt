@@ -1,4 +1,5 @@
--- Faults of a domain's and a problem's text, how they are printed, and where a part of a check stops. (Our own.)
+-- Faults of a domain's and a problem's text, how they are printed, and where a part of a check
+-- stops. (Our own.)
 use Rattle.std.specs.Prelude.{◌≡◌, ℕ, List, ◌++◌, Option, Some, codes, decimal}
 use Rattle.std.specs.Option.{option_map}
 use Rattle.hd_metric.specs.Fault as metric
@@ -16,7 +17,8 @@ use Rattle.hd_check.specs.declared.fault.Source.TheVariants.{Domain, Problem}
 use Rattle.hd_check.specs.declared.fault.CheckError.{CheckError}
 use Rattle.hd_check.specs.declared.fault.CheckError.TheVariants as errors
 
--- the printed form of a fault: its number and its name, and in parentheses the name at fault, if there is one, and the place
+-- the printed form of a fault: its number and its name, and in parentheses the name at fault, if
+-- there is one, and the place
 abbrev pub text_of : Fault → List ℕ
 text_of (OfName fault) = names.text_of fault
 text_of (WrongArity name at) = codes "10 WrongArity(" ++ name ++ codes ", " ++ decimal at ++ codes ")"

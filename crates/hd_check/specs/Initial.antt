@@ -1,4 +1,5 @@
--- What holds at first, and its first faults. (The initial state is that of PDDL 2.1; the range is our own.)
+-- What holds at first, and its first faults. (The initial state is that of PDDL 2.1; the range is
+-- our own.)
 use Rattle.std.specs.Prelude.{ℕ, if◌then◌else◌, List, [], ◌∷◌, ◌++◌, map, Option, Some, None, Result}
 use Rattle.hd_base.specs.Names.{is_named}
 use Rattle.hd_base.specs.Numbers.{in_range}
@@ -63,7 +64,8 @@ fluent_of s v = ground_of s.functions s v.fluent
 abbrev pub with_value : Scope → List (List ℕ) → trees.InitialValue → List (List ℕ)
 with_value s given v = given ++ key_of (fluent_of s v) ∷ []
 
--- the first fault of a value: of its fluent, then that the fluent has a value already, then the range
+-- the first fault of a value: of its fluent, then that the fluent has a value already, then the
+-- range
 abbrev pub value_fault : Scope → List (List ℕ) → trees.InitialValue → Option Fault
 value_fault s given v =
     applied_fault s.functions s no_parameters v.fluent or second_value given (key_of (fluent_of s v)) v.fluent or range_fault v

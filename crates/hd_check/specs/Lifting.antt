@@ -1,4 +1,5 @@
--- What calls answer that lift a part of a text: what the part stands for where it has no fault, else a stop at its first fault.
+-- What calls answer that lift a part of a text: what the part stands for where it has no fault,
+-- else a stop at its first fault.
 use Rattle.std.specs.Prelude.{ℕ, Option, Result}
 use Rattle.hd_base.specs.Answers.{Checks}
 use Rattle.hd_check.specs.declared.context.Context.{Context}

@@ -1,4 +1,5 @@
--- What terms, atoms and expressions stand for, and their first faults. (The rules of types are those of PDDL 2.1.)
+-- What terms, atoms and expressions stand for, and their first faults. (The rules of types are
+-- those of PDDL 2.1.)
 use Rattle.std.specs.Prelude.{ℕ, ◌==◌, if◌then◌else◌, List, [], ◌∷◌, map, length, slice_index_or, Option, Some, None, Result}
 use Rattle.hd_forms.specs.declared.names.NameAt.{NameAt}
 use Rattle.hd_terms.specs.declared.typed.ItemKind.TheVariants as kinds

@@ -65,7 +65,8 @@ domain_in s d = record { scope = s; schemas = map (lifted_schema s) d.actions }
 unfoldable pub lifted_domain : List (List ℕ) → List ℕ → DomainAst → Option NameAt → DomainPart
 lifted_domain types parents d metric = domain_in (scope_of types parents d metric) d
 
--- what a problem's goal, its initial state and its goal, and its part stand for in this scope, which has its objects
+-- what a problem's goal, its initial state and its goal, and its part stand for in this scope,
+-- which has its objects
 abbrev pub goal_in : Scope → ProblemAst → Condition
 goal_in s p = lifted_condition s no_parameters p.goal
 
@@ -148,7 +149,8 @@ listed_fault ts = name_fault (types_fault (codes "object" ∷ []) ts)
 unfoldable pub fault_before_cycles : DomainAst → ProblemAst → Option CheckError
 fault_before_cycles d p = in_text Problem (mismatch d p) or in_text Domain (listed_fault d.types)
 
--- the first fault of a problem's goal and of its metric's name in this scope, which has the problem's objects
+-- the first fault of a problem's goal and of its metric's name in this scope, which has the
+-- problem's objects
 abbrev pub goal_fault : Scope → ProblemAst → Option Fault
 goal_fault s p = condition_fault s no_parameters p.goal or metric_name_fault s.functions p.metric
 
@@ -167,8 +169,8 @@ metric_fault d p =
     in_text Domain (metric_use_fault (misused_in_domain p.metric d))
     or in_text Problem (metric_use_fault (misused_in_problem p.metric p))
 
--- the first fault that comes behind the cycles of types, which have these names and parents: of the domain's names, of its actions,
--- of the problem, and of the metric
+-- the first fault that comes behind the cycles of types, which have these names and parents: of the
+-- domain's names, of its actions, of the problem, and of the metric
 unfoldable pub fault_below : List (List ℕ) → List ℕ → DomainAst → ProblemAst → Option CheckError
 fault_below types parents d p =
     in_text Domain (name_fault (scope_fault types d))
@@ -180,7 +182,8 @@ fault_below types parents d p =
 abbrev pub fault_behind_cycles : DomainAst → ProblemAst → Option CheckError
 fault_behind_cycles d p = fault_below (type_names d.types) (parents_of d.types) d p
 
--- a fault stands in the texts, at the place that is told: it is the first, but for the cycles of types, of which any may be told
+-- a fault stands in the texts, at the place that is told: it is the first, but for the cycles of
+-- types, of which any may be told
 pub data Stands (d : DomainAst) (p : ProblemAst) : CheckError → Type 0 where
   before_cycles : (e : CheckError) → fault_before_cycles d p ≡ Some e → Stands d p e
   on_cycle : (f : NameFault) → fault_before_cycles d p ≡ None → TellsCycle d.types f → Stands d p (In Domain (OfName f))
@@ -232,7 +235,8 @@ pub record AreTypes (types : TypesPart) (ts : List Typed) : Type 0 where
   pub hierarchy : types.hierarchy ≡ parents_of ts
   pub acyclic : IsAcyclic (parents_of ts)
 
--- an error tells the first fault of the types' names, or where there is none a type on a cycle; want of memory says nothing
+-- an error tells the first fault of the types' names, or where there is none a type on a cycle;
+-- want of memory says nothing
 pub data TellsTypes (ts : List Typed) : CheckError → Type 0 where
   by_name : (e : CheckError) → TellsOf e (in_text Domain (listed_fault ts)) → TellsTypes ts e
   by_cycle : (e : CheckError) → in_text Domain (listed_fault ts) ≡ None → TellsCycleIn ts e → TellsTypes ts e

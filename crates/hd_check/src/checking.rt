@@ -48,7 +48,8 @@ pub struct Ends {
     pub goal: Condition,
 }
 
-/// What a problem's objects, initial state and goal stand for. The scope is the domain's, with the objects.
+/// What a problem's objects, initial state and goal stand for. The scope is the domain's, with the
+/// objects.
 #[derive(Debug, Drop)]
 pub struct ProblemPart {
     pub scope: Scope,
@@ -394,8 +395,8 @@ fn task_by_uses(
     }
 }
 
-/// The lifted task of a domain and a problem without a fault. Its six parts are asked in the order of the faults, and each but the
-/// first takes over what the one before it found.
+/// The lifted task of a domain and a problem without a fault. Its six parts are asked in the order
+/// of the faults, and each but the first takes over what the one before it found.
 fn lifted_task(
     alloc: Global,
     seed: Seed,
@@ -412,14 +413,15 @@ fn lifted_task(
     task_by_uses(alloc, parts, domain, problem)
 }
 
-/// Checks a domain and a problem: their names, types and metric. Its tables hash by the seed, which changes no answer.
+/// Checks a domain and a problem: their names, types and metric. Its tables hash by the seed, which
+/// changes no answer.
 ///
 /// # Errors
 ///
-/// The first fault, in the order of the texts: that the problem names another domain, then the types, constants,
-/// predicates, functions and actions of the domain, then the objects, initial state, goal and metric of the problem.
-/// Of types on cycles any may be told by the contract; that it is the first listed is tested. `NoMemory` where memory runs
-/// out.
+/// The first fault, in the order of the texts: that the problem names another domain, then the
+/// types, constants, predicates, functions and actions of the domain, then the objects, initial
+/// state, goal and metric of the problem. Of types on cycles any may be told by the contract; that
+/// it is the first listed is tested. `NoMemory` where memory runs out.
 pub fn check(
     alloc: Global,
     seed: Seed,

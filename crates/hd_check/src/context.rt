@@ -2,7 +2,8 @@
 
 use hd_names::{Scope, Table};
 
-/// The scope of a text, and the parameters of the action that stands there: outside of actions there are none.
+/// The scope of a text, and the parameters of the action that stands there: outside of actions
+/// there are none.
 #[derive(Clone, Copy)]
 pub struct Context<'a> {
     pub scope: &'a Scope,

@@ -27,7 +27,8 @@ pub enum Fault {
     OfName(NameFault),
     /// A predicate or a function with more or fewer arguments than it has parameters.
     WrongArity(Name, usize),
-    /// An argument whose type is not the parameter's and no subtype of it. A variable's name has its `?`.
+    /// An argument whose type is not the parameter's and no subtype of it. A variable's name has
+    /// its `?`.
     WrongType(Name, usize),
     /// A wrong use of the metric's function.
     OfMetric(BadMetric),

@@ -1,4 +1,5 @@
-//! Laws over the definitions. Each function does nothing: its contract is the law, for every domain and every problem.
+//! Laws over the definitions. Each function does nothing: its contract is the law, for every domain
+//! and every problem.
 ghost use Rattle.hd_pddl.specs.declared.tree.DomainAst.{DomainAst};
 ghost use Rattle.hd_pddl.specs.declared.tree.ProblemAst.{ProblemAst};
 ghost use Rattle.hd_lifted.specs.declared.task.LiftedTask.{LiftedTask};
@@ -16,8 +17,8 @@ pub fn faultless_texts_are_well_formed()
     ensures { HoldsOfFaultless IsWellFormed }
 {}
 
-/// In the task of a domain and a problem without a fault no two objects have one name, and so of predicates, functions and
-/// schemas.
+/// In the task of a domain and a problem without a fault no two objects have one name, and so of
+/// predicates, functions and schemas.
 pub fn names_are_distinct()
     ensures { HoldsOfFaultless HasDistinctNames }
 {}
@@ -27,7 +28,8 @@ pub fn fluents_have_one_first_value()
     ensures { HoldsOfFaultless (λ (t : LiftedTask). AreOfDifferentFluents t.values) }
 {}
 
-/// The metric of the task of a domain and a problem without a fault is a function without parameters that is used as a cost alone.
+/// The metric of the task of a domain and a problem without a fault is a function without
+/// parameters that is used as a cost alone.
 pub fn metric_is_a_cost()
     ensures { HoldsOfFaultless HasCostMetric }
 {}
@@ -37,8 +39,8 @@ pub fn without_a_metric_nothing_costs()
     ensures { (d : DomainAst) (p : ProblemAst) → HasCostsByMetric (lifted_task d p) }
 {}
 
-/// The task of some texts without a fault is well formed, its names are distinct, its first values are of different fluents, and
-/// its metric is a cost; without one there are no costs.
+/// The task of some texts without a fault is well formed, its names are distinct, its first values
+/// are of different fluents, and its metric is a cost; without one there are no costs.
 pub fn checked_tasks_are_well_formed()
     ensures { (t : LiftedTask) → IsOfTexts t → IsChecked t }
 {}

@@ -1,6 +1,7 @@
 //! Names, types and the metric of a domain and a problem that were read.
 //!
-//! `check` answers the lifted task that they stand for, with each name by its number, or the first fault.
+//! `check` answers the lifted task that they stand for, with each name by its number, or the first
+//! fault.
 #![tactic(auto)]
 
 mod checking;

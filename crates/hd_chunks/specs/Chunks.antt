@@ -11,7 +11,8 @@ pub record ChunksView (T : Type 0) : Type 0 where
 abbrev pub items_in : {T Z : Type 0} → List (Vec T Z) → List T
 items_in {T} {Z} chunks = flat_map (λ (c : Vec T Z). c.items) chunks
 
--- pieces, each of some items, hold n of them: each is full while items are left, and is large enough
+-- pieces, each of some items, hold n of them: each is full while items are left, and is large
+-- enough
 abbrev pub ArePieces : {C T : Type 0} → (C → List T) → (C → Type 0) → ℕ → List C → Type 0
 ArePieces of large n [] = n ≡ 0
 ArePieces of large n (c ∷ cs) = (length (of c) ≡ min n CHUNK) × large c × ArePieces of large (n - CHUNK) cs

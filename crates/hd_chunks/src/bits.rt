@@ -10,7 +10,8 @@ use std::marker::Model;
 
 /// A list of bits, 64 in a word, that grows in chunks: no growth copies the bits that are there.
 ///
-/// Contracts see its items, and its room: the number of bits that can be pushed without asking for memory.
+/// Contracts see its items, and its room: the number of bits that can be pushed without asking for
+/// memory.
 #[derive(Debug, Drop)]
 pub struct Bits {
     len: usize,

@@ -15,7 +15,8 @@ pub const MOST_ITEMS: usize = 1 << 56;
 
 /// A list that grows in chunks: no growth copies the items that are there.
 ///
-/// Contracts see its items, and its room: the number of items that can be pushed without asking for memory.
+/// Contracts see its items, and its room: the number of items that can be pushed without asking for
+/// memory.
 #[derive(Debug, Drop)]
 pub struct Chunks<T> {
     alloc: Global,

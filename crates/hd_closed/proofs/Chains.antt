@@ -356,7 +356,8 @@ abbrev pub IsUpTo : ℕ → Option ℕ → Type 0
 IsUpTo k None = ⊥
 IsUpTo k (Some q) = k ≤ q
 
--- a search that goes on at a place: the state is not behind it, and a state of the same bucket stands there
+-- a search that goes on at a place: the state is not behind it, and a state of the same bucket
+-- stands there
 pub record IsSearch (states : List State) (buckets : ℕ) (s : State) (next : Option ℕ) : Type 0 where
   pub up_to : (k : ℕ) → slice_get states k ≡ Some s → IsUpTo k next
   pub there : (q : ℕ) → next ≡ Some q → IsIn states buckets (bucket_at (state_hash s) buckets) q

@@ -1,4 +1,5 @@
--- The closed list, as contracts see it. (Closed lists are those of A*: Hart, Nilsson and Raphael 1968.)
+-- The closed list, as contracts see it. (Closed lists are those of A*: Hart, Nilsson and Raphael
+-- 1968.)
 use Rattle.std.specs.Prelude.{◌≡◌, ℕ, ◌≤◌, ◌++◌, Bool, [], List, Contains, slice_index_or}
 use Rattle.hd_task.specs.declared.state.State.{State}
 use Rattle.hd_task.specs.declared.task.Task.{Task}
@@ -10,7 +11,8 @@ pub record Closed : Type 0 where
   pub state : State
   pub cost : ℕ
 
--- the task, the states that were met, the expansions, in order, and whether there is room for one more
+-- the task, the states that were met, the expansions, in order, and whether there is room for one
+-- more
 pub record ClosedView : Type 0 where
   pub task : Task
   pub states : List State

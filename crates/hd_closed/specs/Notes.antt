@@ -1,5 +1,5 @@
--- How the note of a state is found: notes whose states are in the same bucket are chained, the last one first. (Hash tables with chains:
--- Knuth 1973.)
+-- How the note of a state is found: notes whose states are in the same bucket are chained, the last
+-- one first. (Hash tables with chains: Knuth 1973.)
 use Rattle.std.specs.Prelude.{◌≡◌, ℕ, ◌^◌, ◌/◌, ◌%◌, ◌<◌, ◌≤◌, List, Option, Some, None, length, slice_get, slice_index_or}
 use Rattle.hd_task.specs.declared.state.State.{State}
 use Rattle.hd_zobrist.specs.Hash.{state_hash}
@@ -20,8 +20,8 @@ pub record AreAlike (notes notes' : List Note) : Type 0 where
   pub as_many : length notes' ≡ length notes
   pub each : (k : ℕ) (n' : Note) → slice_get notes' k ≡ Some n' → (n : Note) × (slice_get notes k ≡ Some n) × IsAlike n n'
 
--- the bucket of a hash, of so many: by the upper half of its bits, since the lowest ones tell the owner of a state where the number of workers
--- is a power of two
+-- the bucket of a hash, of so many: by the upper half of its bits, since the lowest ones tell the
+-- owner of a state where the number of workers is a power of two
 abbrev pub bucket_at : ℕ → ℕ → ℕ
 bucket_at hash buckets = (hash / 2 ^ 32) % buckets
 
@@ -44,7 +44,8 @@ pub record AreNotesOf (states : List State) (notes : List Note) : Type 0 where
   pub as_many : length notes ≡ length states
   pub hashes : (k : ℕ) (n : Note) (s : State) → slice_get notes k ≡ Some n → slice_get states k ≡ Some s → n.hash ≡ state_hash s
 
--- each of the first notes has the place of the one before it, and each bucket that of the last one of them
+-- each of the first notes has the place of the one before it, and each bucket that of the last one
+-- of them
 pub record AreChained (states : List State) (notes : List Note) (heads : List (Option ℕ)) (count : ℕ) : Type 0 where
   pub before : (k : ℕ) (n : Note) → k < count → slice_get notes k ≡ Some n → IsLast states (length heads) (bucket_at n.hash (length heads)) k n.before
   pub last : (b : ℕ) → b < length heads → IsLast states (length heads) b count (head_at heads b)

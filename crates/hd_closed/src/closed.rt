@@ -72,8 +72,8 @@ impl<'t> Model for ClosedList<'t> {
         × (c.ready ≡ true → vec_len c.shuts < MAX_PLACES) };
 }
 
-/// Names the expansions from a place on anew, once the batch that was given last is numbered from `first` on. Those before it are entries,
-/// which keep their names.
+/// Names the expansions from a place on anew, once the batch that was given last is numbered from
+/// `first` on. Those before it are entries, which keep their names.
 fn number_from(shuts: &mut [Shut], from: usize, first: u64, given: &[u64])
     requires fits { (k : ℕ) → first + slice_index given.now k < 2 ^ 64 }
     requires entered { HasNumbered shuts.old from }
@@ -288,9 +288,9 @@ impl<'t> ClosedList<'t> {
         }
     }
 
-    /// Names all expansions anew, once the batch that was given last is numbered from `first` on: of each outcome of that batch,
-    /// `given` has how many expansions stand before it. It takes no memory, and looks only at expansions from the first one on that
-    /// had no number before.
+    /// Names all expansions anew, once the batch that was given last is numbered from `first` on:
+    /// of each outcome of that batch, `given` has how many expansions stand before it. It takes no
+    /// memory, and looks only at expansions from the first one on that had no number before.
     pub fn number(&mut self, first: u64, given: &[u64])
         requires { (k : ℕ) → first + slice_index given.now k < 2 ^ 64 }
         ensures task { self.new.task ≡ self.old.task }

@@ -24,8 +24,9 @@ pub(crate) struct Note {
     before: Place,
 }
 
-/// The bucket of a hash, of so many, by the upper half of its bits. The lowest ones tell which worker owns the state where the number of
-/// workers is a power of two: since that of the buckets is one too, the states of one of four workers, say, would all be in a quarter of them.
+/// The bucket of a hash, of so many, by the upper half of its bits. The lowest ones tell which
+/// worker owns the state where the number of workers is a power of two: since that of the buckets
+/// is one too, the states of one of four workers, say, would all be in a quarter of them.
 fn bucket_of(hash: u64, buckets: usize) -> usize
     requires { 0 < buckets }
     ensures value { result ≡ bucket_at hash buckets }

@@ -9,7 +9,8 @@ use Rattle.crossbeam_queue.specs.Passes.{Pass, view}
 use Rattle.hd_desk.specs.declared.rule.Post.{Post}
 use Rattle.hd_desk.specs.declared.rule.TheConstants.{ALL_PARTS}
 
--- a pass of a mailbox: the name of that, which tells it from others; its parts; what it has put and taken, in order
+-- a pass of a mailbox: the name of that, which tells it from others; its parts; what it has put and
+-- taken, in order
 pub record PostView (A : Type 0) : Type 0 where
   pub mailbox : TableId
   pub parts : ℕ
@@ -46,7 +47,8 @@ module _ {K A : Type 0} where
   abbrev pub HasAll : ℕ → HandsView K A → Type 0
   HasAll box hands = slice_get (parts_of hands) box ≡ Some ALL_PARTS
 
--- what a pass has put is what it has taken and some items more, each as often, however items are weighed
+-- what a pass has put is what it has taken and some items more, each as often, however items are
+-- weighed
 abbrev pub IsTallied : {A : Type 0} → PostView A → Type 0
 IsTallied {A} p = (left : List A) × ((h : A → ℕ) → sum_by h p.put ≡ sum_by h p.taken + sum_by h left)
 
@@ -132,7 +134,8 @@ module _ {K A : Type 0} where
   abbrev pub post_of : Pass A (Post K A) → PostView A
   post_of p = record { mailbox = p.table_id; parts = (view p).parts; put = (view p).put; taken = (view p).taken }
 
--- what is kept of each pass: no slot is out with it, it has a part, and it knows what the items are of
+-- what is kept of each pass: no slot is out with it, it has a part, and it knows what the items are
+-- of
 pub record IsHand {K A : Type 0} (of : K) (p : Pass A (Post K A)) : Type 0 where
   pub home : p.me.1 ≡ []
   pub part : 0 < (view p).parts

@@ -15,7 +15,8 @@ module _ {T I : Type 0} where
   abbrev pub holders_of : View T I → ℕ
   holders_of v = cond v.inside 1 0
 
-  -- what a pass knows is so, where the value is of this task and has this log; a pass that is inside has seen the whole log
+  -- what a pass knows is so, where the value is of this task and has this log; a pass that is
+  -- inside has seen the whole log
   pub record Fits (task : Option T) (log : List I) (v : View T I) : Type 0 where
     pub idle : v.parts ≡ 0 → v.inside ≡ false
     pub seen : 0 < v.parts → GoesOnFrom task log v.seen
@@ -27,7 +28,8 @@ module _ {B T I : Type 0} (task : B → T) (log : B → List I) where
   abbrev pub Lies : Option T → List I → B → Type 0
   Lies of entries b = (Some (task b) ≡ of) × (log b ≡ entries)
 
-  -- the passes have all parts, the value is in one place, in the queue or with one pass, and what each pass knows is so
+  -- the passes have all parts, the value is in one place, in the queue or with one pass, and what
+  -- each pass knows is so
   pub record Kept (items : List B) (views : List (View T I)) : Type 0 where
     pub of : Option T
     pub entries : List I

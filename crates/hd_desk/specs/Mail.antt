@@ -1,5 +1,6 @@
--- What goes through a mailbox: each item comes out as often as it went in, and what was not taken is left. (The messages of
--- HDA*, Kishimoto, Fukunaga and Botea 2013; that the count is exact is our own.)
+-- What goes through a mailbox: each item comes out as often as it went in, and what was not taken
+-- is left. (The messages of HDA*, Kishimoto, Fukunaga and Botea 2013; that the count is exact is
+-- our own.)
 use Rattle.std.specs.Prelude.{◌≡◌, ℕ, ◌+◌, ◌<◌, ◌++◌, List, [], ◌∷◌, Option, Some, None}
 use Rattle.std.specs.List.{sum_by, AllByRecursion}
 use mathlib.Core.Option.{some}
@@ -37,8 +38,9 @@ pub record IsPassFor {K A : Type 0} (of : Option K) (v : Post K A) : Type 0 wher
   pub idle_taken : v.parts ≡ 0 → v.taken ≡ []
   pub knows : 0 < v.parts → v.of ≡ of
 
--- However items are weighed, what the passes have put weighs as much as what they have taken and what the mailbox holds: each item comes
--- out as often as it went in, none twice and none invented. All are of the same, which each pass with a part knows.
+-- However items are weighed, what the passes have put weighs as much as what they have taken and
+-- what the mailbox holds: each item comes out as often as it went in, none twice and none invented.
+-- All are of the same, which each pass with a part knows.
 pub record IsFair {K A : Type 0} (of : A → K) (items : List A) (views : List (Post K A)) : Type 0 where
   pub same : Option K
   pub whole : parts_in views ≡ ALL_PARTS

@@ -19,9 +19,10 @@ const TRIES: u32 = 64;
 /// How often the processor is told between two tries that it only waits: some two microseconds.
 const HINTS: u32 = 32;
 
-/// Waits between two tries of a lock, by how often it was tried before. A lock is held for some tens of microseconds, and who lets other
-/// threads run may wait for milliseconds before it runs again; so that is done only where the lock stays taken, maybe by a thread that
-/// waits for a processor itself.
+/// Waits between two tries of a lock, by how often it was tried before. A lock is held for some
+/// tens of microseconds, and who lets other threads run may wait for milliseconds before it runs
+/// again; so that is done only where the lock stays taken, maybe by a thread that waits for a
+/// processor itself.
 fn wait_a_little(tried: u32) {
     if tried < TRIES {
         for _hint in 0..HINTS {
@@ -43,7 +44,8 @@ pub struct Lock<B: Locked> {
 }
 
 impl<B: Locked> Lock<B> {
-    /// A lock that is free and holds the value, with a pass that has every part and has seen the value.
+    /// A lock that is free and holds the value, with a pass that has every part and has seen the
+    /// value.
     ///
     /// # Errors
     /// Want of memory.
@@ -74,8 +76,9 @@ impl<B: Locked> Lock<B> {
         self.place.pop_as::<Enters, R>(rt, pass)
     }
 
-    /// Whether the lock was taken at a moment of the call. Another thread may take it, or give the value back, before this one acts on the
-    /// answer: it tells whether a try is worth while. A lock that no other pass can take is not taken.
+    /// Whether the lock was taken at a moment of the call. Another thread may take it, or give the
+    /// value back, before this one acts on the answer: it tells whether a try is worth while. A
+    /// lock that no other pass can take is not taken.
     pub fn is_taken(&self, pass: &mut Pass<B>) -> bool
         requires { IsOutside self.now.place pass.old }
         ensures outside { IsOutside self.now.place pass.new }
@@ -118,7 +121,8 @@ impl<B: Locked> Lock<B> {
         }
     }
 
-    /// A further pass for a further user, with one of this pass's parts. It has seen what this one has.
+    /// A further pass for a further user, with one of this pass's parts. It has seen what this one
+    /// has.
     pub fn another(&self, pass: &mut Pass<B>) -> Pass<B>
         requires pass { IsOutside self.now.place pass.old }
         requires parts { 1 < (view pass.old).parts }
@@ -130,7 +134,8 @@ impl<B: Locked> Lock<B> {
         self.place.another::<Parts>(pass)
     }
 
-    /// The value, from a lock that nobody uses any more: all its passes are handed in. It waits for no other thread.
+    /// The value, from a lock that nobody uses any more: all its passes are handed in. It waits for
+    /// no other thread.
     pub fn gather<R: Wait>(self, rt: &R, pass: Pass<B>, passes: Vec<Pass<B>>) -> B
         requires pass { IsOutside self.place pass }
         requires passes { All (IsOutside self.place) passes.items }

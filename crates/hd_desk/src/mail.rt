@@ -57,7 +57,8 @@ impl<'t, K, T: Sent<K>> Model for Hands<'t, K, T> {
     ghost invariant = { λ h. AllByRecursion (IsHand h.of.now) h.passes.items };
 }
 
-/// A mailbox that is empty, and the pass that has all parts of it. An item goes through it, so that it is known what the items are of.
+/// A mailbox that is empty, and the pass that has all parts of it. An item goes through it, so that
+/// it is known what the items are of.
 fn opened<K, T: Sent<K>, R: Wait>(
     rt: &R,
     alloc: Global,
@@ -120,7 +121,8 @@ fn join<K, T: Sent<K>>(
     boxes[number].absorb::<Part>(pass, other);
 }
 
-/// Empty mailboxes, so many, and the passes that have all parts of them. An item tells what all items are of.
+/// Empty mailboxes, so many, and the passes that have all parts of them. An item tells what all
+/// items are of.
 fn open_all<K, T: Sent<K>, R: Wait>(
     rt: &R,
     alloc: Global,
@@ -206,7 +208,8 @@ impl<K, T: Sent<K>> Mailboxes<K, T> {
         self.boxes[to].try_push_as::<Put>(pass, item)
     }
 
-    /// Takes the oldest item out of a mailbox; none where it is empty, or another thread is in the way.
+    /// Takes the oldest item out of a mailbox; none where it is empty, or another thread is in the
+    /// way.
     pub fn pop(&self, hands: &mut Hands<K, T>, from: usize) -> Option<T>
         requires of { IsFor self.now hands.old }
         requires there { from < length self.now }
@@ -221,7 +224,8 @@ impl<K, T: Sent<K>> Mailboxes<K, T> {
         self.boxes[from].try_pop_as::<Taken>(pass)
     }
 
-    /// Empty mailboxes, so many, and the passes that have all parts of them. An item tells what all items are of; it is not put into any.
+    /// Empty mailboxes, so many, and the passes that have all parts of them. An item tells what all
+    /// items are of; it is not put into any.
     ///
     /// # Errors
     /// `NoMemory` where there is no room for them.
@@ -281,8 +285,8 @@ impl<K, T: Sent<K>> Mailboxes<K, T> {
         join_all(&self.boxes, &mut hands.passes, passes);
     }
 
-    /// Takes the oldest item out of a mailbox of which these hands have all parts. Where there is none, all that was put in was taken
-    /// out, each item as often.
+    /// Takes the oldest item out of a mailbox of which these hands have all parts. Where there is
+    /// none, all that was put in was taken out, each item as often.
     pub fn pop_last<R: Wait>(&self, rt: &R, hands: &mut Hands<K, T>, from: usize) -> Option<T>
         requires of { IsFor self.now hands.old }
         requires there { from < length self.now }
@@ -299,7 +303,8 @@ impl<K, T: Sent<K>> Mailboxes<K, T> {
         self.boxes[from].pop_as::<Taken, R>(rt, pass)
     }
 
-    /// Of a mailbox of which these hands have all parts: what was put in is what was taken out and what is left, each item as often.
+    /// Of a mailbox of which these hands have all parts: what was put in is what was taken out and
+    /// what is left, each item as often.
     pub fn tally(&self, hands: &mut Hands<K, T>, from: usize)
         requires of { IsFor self.now hands.old }
         requires there { from < length self.now }

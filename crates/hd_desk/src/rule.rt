@@ -7,18 +7,20 @@ use crossbeam_queue::protocol::{Join, Lesson, Outcome, Protocol, Split};
 use std::alloc::Global;
 use std::collections::LinkedList;
 
-/// In how many parts the right to know the whole of a mailbox, or to have the lock alone, may be cut: so many passes can there be at most. A pass
-/// with all of them knows what was put and taken, or that nobody else is inside.
+/// In how many parts the right to know the whole of a mailbox, or to have the lock alone, may be
+/// cut: so many passes can there be at most. A pass with all of them knows what was put and taken,
+/// or that nobody else is inside.
 pub const ALL_PARTS: u64 = 1024;
 
-/// An item that is sent. All items of a mailbox are of the same, as the parcels of a search are of one task.
+/// An item that is sent. All items of a mailbox are of the same, as the parcels of a search are of
+/// one task.
 pub trait Sent<K>: Drop {
     // What it is of.
     ghost of: { Self → K };
 }
 
-/// What a pass of a mailbox knows: its parts, what the items are of, once that is known, and what the pass has put and taken, in
-/// order. No value of it is made.
+/// What a pass of a mailbox knows: its parts, what the items are of, once that is known, and what
+/// the pass has put and taken, in order. No value of it is made.
 pub struct Post<K, T> {
     pub parts: u64,
     pub of: Option<K>,
@@ -53,7 +55,8 @@ impl<K, T: Sent<K>> Lesson<T, Post<K, T>> for Named {
     ghost fact = { IsEven };
 }
 
-/// The first item is taken out again, before there was any other: nothing is in the mailbox, and nothing counts as put or taken.
+/// The first item is taken out again, before there was any other: nothing is in the mailbox, and
+/// nothing counts as put or taken.
 pub(crate) struct Cleared;
 
 impl<K, T: Sent<K>> Outcome<T, Post<K, T>> for Cleared {

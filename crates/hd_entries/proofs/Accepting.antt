@@ -243,8 +243,9 @@ module _ (t : Task) (entries0 : List Kid) (marks0 : List Bool) (kept0 : IsKept (
       in
       apart t old i j kept0.marked.legal ne hi hj (same_Some _ _ (sym (at i hi) ∙ (ap (plan_of old) e ∙ at j hj)))
 
-  -- the book after some outcomes: it is kept, goes on from the old plans, has left the marks of other kids, and has the nodes
-  -- of the outcomes that are expansions; its further plans lead where those do, and the kids that they post are not marked
+  -- the book after some outcomes: it is kept, goes on from the old plans, has left the marks of
+  -- other kids, and has the nodes of the outcomes that are expansions; its further plans lead where
+  -- those do, and the kids that they post are not marked
   pub record Follows (earlier : List Outcome) (entries : List Kid) (marks : List Bool) : Type 0 where
     pub kept : IsKept (record { task = t; entries = entries; marks = marks })
     pub more : List (List ℕ)

@@ -1,4 +1,5 @@
--- The parts of a book after a batch that is not refused: they show what the batch makes of the book, and keep what they kept.
+-- The parts of a book after a batch that is not refused: they show what the batch makes of the
+-- book, and keep what they kept.
 use Rattle.std.proofs.Common.{◌≡◌, ℕ, ◌+◌, ◌-◌, ◌*◌, ◌^◌, ◌<◌, ◌≤◌, Bool, true, false, cond, not, Option, Some, None, List, [], ◌∷◌, ◌++◌, map, replicate, length, get_or, slice_get, inl, inr, refl, sym, ap, ap₂, ◌∙◌, subst, arith, length-append, true≢false}
 use Rattle.std.specs.Prelude.{flat_map}
 use Rattle.std.specs.List.{AllByRecursion}

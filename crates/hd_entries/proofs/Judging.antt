@@ -1,4 +1,5 @@
--- Outcomes that are judged one after the other, each with the kids of those before it marked, are refused as the definition says.
+-- Outcomes that are judged one after the other, each with the kids of those before it marked, are
+-- refused as the definition says.
 use Rattle.std.proofs.Common.{◌≡◌, ◌≢◌, ℕ, ◌+◌, ◌<◌, ◌||◌, nat_lt, Bool, true, false, cond, not, Option, Some, None, List, [], ◌∷◌, ◌++◌, set, take, drop, length, get_or, inl, inr, refl, sym, ap, ◌∙◌, subst, arith, length-set, get_or-set_same, get_or-set_other, true≢false}
 use Rattle.std.specs.List.{position, position_or_len, AllByRecursion}
 use Rattle.std.specs.Option.{option_or}

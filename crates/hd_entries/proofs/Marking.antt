@@ -30,8 +30,9 @@ apart t expanded i j legal ne hi hj e =
       | inr le ↦ generated_once t expanded legal j i [] (omega arith) hi (sym e)
     ]
 
--- what a place becomes when the plan at place k, this one, is expanded, by its mark and its plan before and after: it stays as it was; it
--- is k itself, and marked; or it is that of a plan which comes
+-- what a place becomes when the plan at place k, this one, is expanded, by its mark and its plan
+-- before and after: it stays as it was; it is k itself, and marked; or it is that of a plan which
+-- comes
 data Becomes (k j before : ℕ) (p : List ℕ) (mark mark' : Bool) (plan plan' : List ℕ) : Type 0 where
   Stays : j < before → j ≢ k → mark' ≡ mark → plan' ≡ plan → Becomes k j before p mark mark' plan plan'
   Expands : mark' ≡ true → plan' ≡ p → Becomes k j before p mark mark' plan plan'

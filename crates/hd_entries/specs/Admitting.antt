@@ -1,4 +1,5 @@
--- How a batch is judged: outcome by outcome, and each kid is marked before the next outcome is judged. (Our own.)
+-- How a batch is judged: outcome by outcome, and each kid is marked before the next outcome is
+-- judged. (Our own.)
 use Rattle.std.specs.Prelude.{◌≡◌, ℕ, ◌≤◌, Bool, not, if◌then◌else◌, List, [], ◌∷◌, ◌++◌, length, flat_map, Option, Some, None, ◌⊎◌}
 use Rattle.std.specs.Option.{option_or}
 use Rattle.hd_kids.specs.Kids.{KidsView}

@@ -1,5 +1,5 @@
--- What a book answers when all is settled. (HDA*, Kishimoto, Fukunaga and Botea 2013, for the end of the search;
--- departures are our own.)
+-- What a book answers when all is settled. (HDA*, Kishimoto, Fukunaga and Botea 2013, for the end
+-- of the search; departures are our own.)
 use Rattle.std.specs.Prelude.{◌≡◌, ◌≢◌, ℕ, ◌<◌, Bool, ◌==◌, List, [], length, slice_get, slice_index_or, Option, Some, None}
 use Rattle.hd_task.specs.declared.task.Task.{Task}
 use Rattle.hd_task.specs.Plans.{exec, IsValidAt}
@@ -12,7 +12,8 @@ use Rattle.hd_entries.specs.declared.verdict.Verdict.TheVariants.{Optimal, NoPla
 use Rattle.hd_entries.specs.Settling.{BookState, expansions}
 use Rattle.hd_entries.specs.Holding.{posted_count, settled_count}
 
--- the plan of the bound: that of the least-numbered entry at which the goal holds, and does not depart, at the bound's cost
+-- the plan of the bound: that of the least-numbered entry at which the goal holds, and does not
+-- depart, at the bound's cost
 pub record IsBoundPlan (t : Task) (expanded : List (List ℕ)) (p : List ℕ) : Type 0 where
   pub cost : ℕ
   pub bound : bound_of t expanded ≡ Some cost
@@ -27,8 +28,8 @@ abbrev pub IsBoundPlanOf : Task → List (List ℕ) → Option (List ℕ) → Ty
 IsBoundPlanOf t expanded None = bound_of t expanded ≡ None
 IsBoundPlanOf t expanded (Some p) = IsBoundPlan t expanded p
 
--- the answer of a list of expansions: the first departure, if there is one, with the plan of the bound; else that plan, or that
--- there is none
+-- the answer of a list of expansions: the first departure, if there is one, with the plan of the
+-- bound; else that plan, or that there is none
 abbrev pub IsAnswer : Task → List (List ℕ) → Verdict → Type 0
 IsAnswer t expanded (Optimal p) = (departures_of t expanded ≡ []) × IsBoundPlan t expanded p
 IsAnswer t expanded NoPlan = (departures_of t expanded ≡ []) × (bound_of t expanded ≡ None)

@@ -26,7 +26,8 @@ entered_by outcomes = flat_map entered outcomes
 abbrev pub best_at : ℕ → ℕ → Best
 best_at n c = record { cost = c; entry = n }
 
--- the better one of what is best so far and a later entry that meets the goal at some cost, if it does
+-- the better one of what is best so far and a later entry that meets the goal at some cost, if it
+-- does
 abbrev pub better : Option Best → ℕ → Option ℕ → Option Best
 better best n None = best
 better None n (Some c) = Some (best_at n c)

@@ -126,8 +126,8 @@ IsBestOf t expanded (Some b) = IsAt t expanded b
 abbrev pub IsParcelOf : Task → ParcelView → Type 0
 IsParcelOf t p = p.task ≡ t
 
--- what the expanded plans keep: the entries name plans, which lead to their nodes; and the best of them and the first departure
--- are as they are said to be
+-- what the expanded plans keep: the entries name plans, which lead to their nodes; and the best of
+-- them and the first departure are as they are said to be
 pub record AreExpanded (t : Task) (entries : List Entry) (best : Option Best) (departure : Option Departure) : Type 0 where
   pub named : plans_of (map kid_at entries) ≡ Some (plans_at (map kid_at entries))
   pub short : length entries < ROOT_PARENT

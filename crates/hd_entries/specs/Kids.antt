@@ -15,7 +15,7 @@ abbrev pub kids_from : Task → ℕ → List (List ℕ) → List Kid
 kids_from t n [] = []
 kids_from t n (p ∷ expanded) = kids_of n (applicable_at t (exec t p)) ++ kids_from t (n + 1) expanded
 
--- what a list of expansions posts: the root, and each entry with each action that is applicable there; in the order of the
--- plans that they name
+-- what a list of expansions posts: the root, and each entry with each action that is applicable
+-- there; in the order of the plans that they name
 abbrev pub posted_by : Task → List (List ℕ) → List Kid
 posted_by t expanded = root ∷ kids_from t 0 expanded

@@ -1,4 +1,5 @@
--- Which generated plans are settled. (HDA*, Kishimoto, Fukunaga and Botea 2013: closed and pruned nodes.)
+-- Which generated plans are settled. (HDA*, Kishimoto, Fukunaga and Botea 2013: closed and pruned
+-- nodes.)
 use Rattle.std.specs.Prelude.{◌≡◌, ℕ, ◌<◌, Bool, true, false, List, [], Contains, length, slice_index_or, ◌⊎◌}
 use Rattle.hd_task.specs.declared.task.Task.{Task}
 use Rattle.hd_task.specs.Expansions.{generated, IsLegal}
@@ -8,8 +9,8 @@ use Rattle.hd_task.specs.Covers.{Estimate, IsJustified}
 abbrev pub IsSettled : Task → Estimate → List (List ℕ) → List ℕ → Type 0
 IsSettled t h expanded p = Contains expanded p ⊎ IsJustified t h expanded p
 
--- a legal list of expansions with a mark for each plan that it generates: a marked one is settled, one that is not marked
--- is not expanded
+-- a legal list of expansions with a mark for each plan that it generates: a marked one is settled,
+-- one that is not marked is not expanded
 pub record IsMarked (t : Task) (h : Estimate) (expanded : List (List ℕ)) (marks : List Bool) : Type 0 where
   pub legal : IsLegal t expanded
   pub one_each : length marks ≡ length (generated t expanded)

@@ -27,7 +27,8 @@ fault_at t before k =
     else if has before k then Some SettledBefore
     else None
 
--- the first fault of entries that come after others: the number of the entry, and why it can't stand there
+-- the first fault of entries that come after others: the number of the entry, and why it can't
+-- stand there
 abbrev pub first_fault : Task → List Kid → List Kid → Option (ℕ × Refusal)
 first_fault t before [] = None
 first_fault t before (k ∷ later) =
@@ -54,7 +55,8 @@ pub record LeadsThere (b : BookState) (p : ParcelView) : Type 0 where
   pub task : p.task ≡ b.task
   pub leads : node_of b p.kid ≡ Some (node p.state p.cost)
 
--- why a search is not made again from entries: there are more than there may be, or one of them is faulty; or there is no memory
+-- why a search is not made again from entries: there are more than there may be, or one of them is
+-- faulty; or there is no memory
 abbrev pub IsFaultOf : Task → ℕ → List Kid → ℕ → Refusal → Type 0
 IsFaultOf t most entries n r =
     ((n ≡ 0) × (r ≡ Full) × (most < length entries))

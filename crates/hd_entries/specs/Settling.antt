@@ -1,5 +1,6 @@
--- What a batch of outcomes does to a book, and why it may be refused. (Our own; the three ways to settle a kid are those of
--- HDA*, Kishimoto, Fukunaga and Botea 2013: expansion, duplicate detection and pruning.)
+-- What a batch of outcomes does to a book, and why it may be refused. (Our own; the three ways to
+-- settle a kid are those of HDA*, Kishimoto, Fukunaga and Botea 2013: expansion, duplicate
+-- detection and pruning.)
 use Rattle.std.specs.Prelude.{◌≡◌, ℕ, ◌+◌, ◌<◌, Bool, true, false, not, ◌&&◌, ◌||◌, ◌==◌, nat_lt, nat_le, if◌then◌else◌, List, [], ◌∷◌, ◌++◌, length, slice_get, slice_index_or, slice_set, replicate, Option, Some, None, option_and_then, unwrap_or}
 use Rattle.std.specs.List.{list_any, position_or_len, fold}
 use Rattle.std.specs.Option.{option_or}
@@ -99,7 +100,8 @@ expanded_node (Some (Expanded e)) = Some (node e.state e.cost)
 expanded_node (Some (Duplicate k by)) = None
 expanded_node (Some (Bounded k h)) = None
 
--- the node that a duplicate names: an entry from before the batch, or an earlier outcome of it that is an expansion
+-- the node that a duplicate names: an entry from before the batch, or an earlier outcome of it that
+-- is an expansion
 abbrev pub node_by : BookState → List Outcome → By → Option Node
 node_by b earlier (Entry n) = entry_node b n
 node_by b earlier (Here i) = expanded_node (slice_get earlier i)

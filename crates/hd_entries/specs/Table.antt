@@ -7,7 +7,8 @@ use Rattle.hd_rows.specs.Widths.{Widths}
 use Rattle.hd_entries.specs.declared.entry.Entry.{Entry}
 use Rattle.hd_entries.specs.declared.entry.Label.{Label}
 
--- how many atoms and fluents the state of each entry has, the entries, and how many can be pushed without asking for memory
+-- how many atoms and fluents the state of each entry has, the entries, and how many can be pushed
+-- without asking for memory
 pub record TableView : Type 0 where
   pub widths : Widths
   pub items : List Entry

@@ -9,7 +9,8 @@ use Rattle.hd_entries.specs.Settling.{BookState, expansions, settled, refusal_of
 use Rattle.hd_entries.specs.Holding.{Released, released_from}
 use Rattle.hd_entries.specs.Resuming.{has, resumed_state, LeadsThere}
 
--- what waits in the slot of a kid: nothing where the kid is an entry; else its parcel, which says where it leads
+-- what waits in the slot of a kid: nothing where the kid is an entry; else its parcel, which says
+-- where it leads
 abbrev pub IsSlot : BookState → Bool → Kid → Option ParcelView → Type 0
 IsSlot b true k None = Unit {0}
 IsSlot b true k (Some p) = ⊥

@@ -45,10 +45,12 @@ impl<'t> ExpandedPlans<'t> {
             || (kid.parent as usize) < self.entries.len()
     }
 
-    /// The place becomes where a posted kid leads, by the book's own application. It is posted, so its action is applicable.
+    /// The place becomes where a posted kid leads, by the book's own application. It is posted, so
+    /// its action is applicable.
     ///
     /// # Errors
-    /// `NoMemory` where there is no room for the state: only for the root, or where the place was of no such state before.
+    /// `NoMemory` where there is no room for the state: only for the root, or where the place was
+    /// of no such state before.
     fn reach(&self, kid: Kid, reached: &mut Place) -> Result<(), NoMemory>
         requires held { IsExpanded self.now }
         requires known { knows_parent (unmarked self.now) kid ≡ true }
@@ -151,8 +153,8 @@ impl<'t> ExpandedPlans<'t> {
         }
     }
 
-    /// The place of an outcome's kid, where the outcome is right. The kids of the outcomes before it in its batch are settled already. Where its kid
-    /// leads is written to a place.
+    /// The place of an outcome's kid, where the outcome is right. The kids of the outcomes before
+    /// it in its batch are settled already. Where its kid leads is written to a place.
     ///
     /// # Errors
     /// Why it is refused, or `NoMemory`.
@@ -187,7 +189,8 @@ impl<'t> ExpandedPlans<'t> {
         }
     }
 
-    /// Settles the kids of the outcomes from a number on, each before the next outcome is judged; or none of them, where one is refused.
+    /// Settles the kids of the outcomes from a number on, each before the next outcome is judged;
+    /// or none of them, where one is refused.
     ///
     /// # Errors
     /// Why the first that is not right is refused, or `NoMemory`; the table is as it was.

@@ -1,4 +1,5 @@
-//! A commit in two steps: one that may refuse and makes the room, and one that changes the book and can't fail.
+//! A commit in two steps: one that may refuse and makes the room, and one that changes the book and
+//! can't fail.
 ghost use Rattle.std.specs.Prelude.{◌≡◌, ℕ, ◌+◌, ◌<◌, ◌≤◌, ◌^◌, ◌++◌, [], ◌∷◌, List, Some, None, vec_len, vec_capacity, length, map, flat_map, nat_le, option_map, IfOk, IfErr, OnOk, OnErr};
 ghost use Rattle.std.specs.List.{AllByRecursion};
 ghost use Rattle.hd_task.specs.declared.plan.TheConstants.{ROOT_PARENT};
@@ -33,7 +34,8 @@ pub(crate) fn count_entries(outcomes: &[Outcome]) -> usize
     count
 }
 
-/// Makes room for so many entries and for the kids that outcomes add, and a `Vec` for the parcels of these kids.
+/// Makes room for so many entries and for the kids that outcomes add, and a `Vec` for the parcels
+/// of these kids.
 fn make_room<'t>(
     alloc: Global,
     entries: &mut EntryTable,
@@ -67,7 +69,8 @@ impl<'t> Content<'t> {
         entries.saturating_add(more as u64) <= self.most
     }
 
-    /// Makes room for a batch of these outcomes, and a `Vec` for the parcels of their kids, and settles their kids; or refuses it.
+    /// Makes room for a batch of these outcomes, and a `Vec` for the parcels of their kids, and
+    /// settles their kids; or refuses it.
     pub(crate) fn admit(&mut self, outcomes: &[Outcome<'t>]) -> Result<Vec<Parcel<'t>>, Refusal>
         requires held { IsHeld self.old }
         requires fits { kids_in outcomes.now < 2 ^ 64 }

@@ -7,7 +7,8 @@ use hd_task::{Departure, Kid, NoMemory, Plan, Task};
 use std::alloc::Global;
 use std::marker::Model;
 
-/// The entries of a search, with the kids that they post and what of those is settled: no batch is accepted that is not justified.
+/// The entries of a search, with the kids that they post and what of those is settled: no batch is
+/// accepted that is not justified.
 #[derive(Debug, Drop)]
 pub struct Entries<'t> {
     content: Content<'t>,
@@ -54,12 +55,13 @@ impl<'t> Entries<'t> {
         })
     }
 
-    /// Exactly these entries, with no other kid settled; and the parcels of all posted kids that are
-    /// no entries, in posting order. The listener hears how far it is.
+    /// Exactly these entries, with no other kid settled; and the parcels of all posted kids that
+    /// are no entries, in posting order. The listener hears how far it is.
     ///
     /// # Errors
-    /// `Full` with the number 0 where there are more entries than `most`; else the number of the first entry that can't be the next one
-    /// after those before it, with `UnknownParent`, `NotAKid` or `SettledBefore`; or `NoMemory`, never in place of `Full`.
+    /// `Full` with the number 0 where there are more entries than `most`; else the number of the
+    /// first entry that can't be the next one after those before it, with `UnknownParent`,
+    /// `NotAKid` or `SettledBefore`; or `NoMemory`, never in place of `Full`.
     pub fn resume<H: Listener>(
         alloc: Global,
         task: &'t Task,
@@ -88,12 +90,15 @@ impl<'t> Entries<'t> {
             .has_room(count_entries(batch.outcomes.as_slice()))
     }
 
-    /// Takes a batch: its expansions become entries, and its kids are settled. Gives an empty `Vec` with room for the parcels of its
-    /// expansions' kids, which [`crate::release_kids`] makes of the batch once it is taken.
+    /// Takes a batch: its expansions become entries, and its kids are settled. Gives an empty `Vec`
+    /// with room for the parcels of its expansions' kids, which [`crate::release_kids`] makes of
+    /// the batch once it is taken.
     ///
     /// # Errors
-    /// Why it is refused: the entries are as they were. In this order: `Full`, then for each outcome in order `UnknownParent`, `NotAKid`,
-    /// `SettledBefore`, `StateDiffers`, `NotDominated`, `BelowBound`. `NoMemory` may come in place of each but the first, and of the room.
+    /// Why it is refused: the entries are as they were. In this order: `Full`, then for each
+    /// outcome in order `UnknownParent`, `NotAKid`, `SettledBefore`, `StateDiffers`,
+    /// `NotDominated`, `BelowBound`. `NoMemory` may come in place of each but the first, and of the
+    /// room.
     pub fn commit(&mut self, batch: &Batch<'t>) -> Result<Vec<Parcel<'t>>, Refusal>
         requires of_task { AllByRecursion (IsOf self.old.state.task) batch.now.outcomes }
         ensures task { self.new.state.task ≡ self.old.state.task }
@@ -131,7 +136,8 @@ impl<'t> Entries<'t> {
         self.content.expanded.entries.len() as u64
     }
 
-    /// How many kids are posted: plans that are generated, the root's among them. It takes no memory.
+    /// How many kids are posted: plans that are generated, the root's among them. It takes no
+    /// memory.
     pub fn posted(&self) -> u64
         ensures posted { result ≡ posted_count self.now.state }
         ensures few { result < 2 ^ 61 }
@@ -157,7 +163,8 @@ impl<'t> Entries<'t> {
         }
     }
 
-    /// Where the plan of the entry with this number leads, and what it costs, if there is such an entry.
+    /// Where the plan of the entry with this number leads, and what it costs, if there is such an
+    /// entry.
     pub fn node(&self, number: u64) -> Option<(HashedRow<'_>, u64)>
         ensures { option_map (λ r. node r.0 r.1) result
             ≡ entry_node self.now.state number }
@@ -183,7 +190,8 @@ impl<'t> Entries<'t> {
         self.content.expanded.departure
     }
 
-    /// The plan of the bound, if there is a bound: that of the least-numbered entry at which the goal holds at this cost. It is valid.
+    /// The plan of the bound, if there is a bound: that of the least-numbered entry at which the
+    /// goal holds at this cost. It is valid.
     ///
     /// # Errors
     /// `NoMemory` where there is no room for the plan.

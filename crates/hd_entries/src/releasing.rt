@@ -1,4 +1,5 @@
-//! What an accepted batch releases. It asks for no memory and does not need the entries, so it is done where they are not locked.
+//! What an accepted batch releases. It asks for no memory and does not need the entries, so it is
+//! done where they are not locked.
 ghost use Rattle.std.specs.Prelude.{◌≡◌, ◌+◌, ◌<◌, ◌≤◌, ◌^◌, ◌++◌, [], vec_len, vec_capacity, length, map};
 ghost use Rattle.std.specs.List.{AllByRecursion};
 ghost use Rattle.hd_task.specs.Plans.{IsStateOf};
@@ -46,8 +47,8 @@ fn release_expansion<'t>(
     release(parcels, task, entry, parts.children);
 }
 
-/// Pushes the kids of an outcome as parcels, if it is an expansion, which is the entry of this number then. Gives the number of the next
-/// entry.
+/// Pushes the kids of an outcome as parcels, if it is an expansion, which is the entry of this
+/// number then. Gives the number of the next entry.
 fn release_outcome<'t>(
     parcels: &mut Vec<Parcel<'t>>,
     task: &'t Task,
@@ -76,9 +77,10 @@ fn release_outcome<'t>(
     }
 }
 
-/// What outcomes of a task release: the kids of the expansions among them, in order, as parcels. They are pushed to a `Vec` that is empty
-/// and has room for them, so it takes no memory. The first of the expansions is the entry of this number: the number of entries that there
-/// were before the outcomes were committed.
+/// What outcomes of a task release: the kids of the expansions among them, in order, as parcels.
+/// They are pushed to a `Vec` that is empty and has room for them, so it takes no memory. The first
+/// of the expansions is the entry of this number: the number of entries that there were before the
+/// outcomes were committed.
 pub fn release_kids<'t>(
     task: &'t Task,
     first: u64,

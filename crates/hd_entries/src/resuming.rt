@@ -102,7 +102,8 @@ impl<'t> Content<'t> {
         Ok(place)
     }
 
-    /// Expands the parcel of a kid that is posted and not settled, and gives the parcels of its kids.
+    /// Expands the parcel of a kid that is posted and not settled, and gives the parcels of its
+    /// kids.
     ///
     /// # Errors
     /// `NoMemory`.
@@ -310,7 +311,8 @@ impl<'t> Content<'t> {
         }
     }
 
-    /// The parts with exactly these entries, and the parcels that are left, as [`crate::Entries::resume`] says.
+    /// The parts with exactly these entries, and the parcels that are left, as
+    /// [`crate::Entries::resume`] says.
     pub(crate) fn resume<H: Listener>(
         alloc: Global,
         task: &'t Task,

@@ -1,4 +1,5 @@
-//! What an accepted batch does to the parts of a book. Nothing here asks for memory: the room was made before.
+//! What an accepted batch does to the parts of a book. Nothing here asks for memory: the room was
+//! made before.
 ghost use Rattle.std.specs.Prelude.{◌≡◌, ℕ, ◌+◌, ◌<◌, ◌≤◌, ◌^◌, ◌++◌, [], ◌∷◌, List, Some, vec_len, vec_capacity, length, map, flat_map, slice_get, option_map};
 ghost use Rattle.std.specs.List.{AllByRecursion, AllPairs};
 ghost use Rattle.std.specs.Option.{option_or};
@@ -71,7 +72,8 @@ fn first_departure(expansion: &Expansion, entry: u64) -> Option<Departure>
     }
 }
 
-/// The first departure so far; or, if there is none, that of an expansion that is the entry of this number.
+/// The first departure so far; or, if there is none, that of an expansion that is the entry of this
+/// number.
 fn departure_with(
     departure: Option<Departure>,
     entry: u64,

@@ -15,8 +15,8 @@ use std::marker::Model;
 
 /// Entries in order: no growth copies those that are there, and no state has memory of its own.
 ///
-/// Contracts see how many atoms and fluents their states have, the entries, and the room: the number of entries that can be pushed
-/// without asking for memory.
+/// Contracts see how many atoms and fluents their states have, the entries, and the room: the
+/// number of entries that can be pushed without asking for memory.
 #[derive(Debug, Drop)]
 pub(crate) struct EntryTable {
     labels: Chunks<Label>,

@@ -8,6 +8,7 @@ pub enum Verdict {
     Optimal(Plan),
     /// No plan is valid.
     NoPlan,
-    /// A number left the range at this departure, the first; with the best plan that was found, if there is one.
+    /// A number left the range at this departure, the first; with the best plan that was found, if
+    /// there is one.
     RangeLeft(Departure, Option<Plan>),
 }

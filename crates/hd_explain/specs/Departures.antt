@@ -21,8 +21,9 @@ pub record LeavesRange (v : Values) (objects : List ℕ) (e : Expression (Operan
   pub value_is : value_of v objects e ≡ Some value
   pub out : in_range value ≡ false
 
--- this is the first subexpression of an expression that is out of the range, with its value: the expression itself, where what stands in
--- it stays; or that of what it is made of, the left before the right
+-- this is the first subexpression of an expression that is out of the range, with its value: the
+-- expression itself, where what stands in it stays; or that of what it is made of, the left before
+-- the right
 abbrev pub IsDeparture : Values → List ℕ → Expression (Operand Applied) → Expression (Operand Applied) → ℤ → Type 0
 IsDeparture v objects (leaf l) p value = (p ≡ leaf l) × LeavesRange v objects (leaf l) value
 IsDeparture v objects (negate x) p value = ((p ≡ negate x) × LeavesRange v objects (negate x) value) ⊎ IsDeparture v objects x p value

@@ -1,4 +1,5 @@
--- Why a step departs from the range, where its condition holds and stays in it. (Our own: PDDL 2.1 has no range.)
+-- Why a step departs from the range, where its condition holds and stays in it. (Our own: PDDL 2.1
+-- has no range.)
 use Rattle.std.specs.Prelude.{◌≡◌, ℕ, Bool, true, false, not, ◌||◌, List, Option, Some, MatchOption, find, ℤ, pos, ◌+ℤ◌}
 use Rattle.std.specs.List.{list_all}
 use Rattle.hd_base.specs.Numbers.{in_range, fits}
@@ -35,14 +36,16 @@ pub record IsStepCost (t : LiftedTask) (r : Reached) (a : Schema) (objects : Lis
   pub value : step_cost t r.state.values a objects ≡ Some cost.value
   pub before : r.cost ≡ Some (pos cost.before)
 
--- a step's effects, its cost and the plan's with it stay in the range, and the step's cost is not negative
+-- a step's effects, its cost and the plan's with it stay in the range, and the step's cost is not
+-- negative
 pub record StaysWithin (t : LiftedTask) (r : Reached) (a : Schema) (objects : List ℕ) : Type 0 where
   pub effects : effects_stay r.state.values a objects ≡ true
   pub cost : is_negative (step_cost t r.state.values a objects) ≡ false
   pub total : fits (cost_after t r a objects) ≡ true
 
--- this is why they don't: the first departure of the first amount that departs; or, where none does, the first new value that is out of the
--- range; or, where there is none, the step's cost, which is negative; or else the plan's cost
+-- this is why they don't: the first departure of the first amount that departs; or, where none
+-- does, the first new value that is out of the range; or, where there is none, the step's cost,
+-- which is negative; or else the plan's cost
 abbrev pub IsReasonOfEffects : LiftedTask → Reached → Schema → List ℕ → Reason → Type 0
 IsReasonOfEffects t r a objects (reasons.Literal l) = ⊥
 IsReasonOfEffects t r a objects (reasons.Equality e) = ⊥

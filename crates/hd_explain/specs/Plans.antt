@@ -18,7 +18,8 @@ use Rattle.hd_explain.specs.declared.plan.Halt.TheVariants as halts
 use Rattle.hd_explain.specs.Steps.{IsReasonOfStep, IsReasonOfGoal}
 use Rattle.hd_explain.specs.Texts.{text_of}
 
--- the fault that a reason is one of: a part of a condition that does not hold is of the one, what leaves the range of the other
+-- the fault that a reason is one of: a part of a condition that does not hold is of the one, what
+-- leaves the range of the other
 abbrev pub fault_of : Fault → Fault → Reason → Fault
 fault_of unmet departs (reasons.Literal l) = unmet
 fault_of unmet departs (reasons.Equality e) = unmet
@@ -46,16 +47,17 @@ pub record IsReasonOfNamed (t : LiftedTask) (r : Reached) (n : ℕ) (s : Step) (
   pub is_reason : IsReasonOfStep t r instance reason
   pub is_fault : fault ≡ fault_of (NotApplicable n) (Departs n) reason
 
--- of a list of steps, the first of which is the n-th, and then of the goal, the first that does not pass has the fault for this reason: it
--- is a step of this instance, or the goal, which is of none, and those before it lead here
+-- of a list of steps, the first of which is the n-th, and then of the goal, the first that does not
+-- pass has the fault for this reason: it is a step of this instance, or the goal, which is of none,
+-- and those before it lead here
 abbrev pub ExplainsFrom : LiftedTask → Reached → ℕ → List Step → Fault → Reached → Option Instance → Reason → Type 0
 ExplainsFrom t r n [] fault here of reason =
     (r ≡ here) × (of ≡ None) × IsReasonOfGoal t r reason × (fault ≡ fault_of GoalUnmet (Departs n) reason)
 ExplainsFrom t r n (s ∷ steps) fault here of reason =
     IsReasonOfNamed t r n s fault here of reason ⊎ ((to : Reached) × PassesBy t r n s to × ExplainsFrom t to (n + 1) steps fault here of reason)
 
--- this is why a plan of steps is not valid: it is the reason of the plan's first fault, a step's of this instance or the goal's, where the
--- steps before lead
+-- this is why a plan of steps is not valid: it is the reason of the plan's first fault, a step's of
+-- this instance or the goal's, where the steps before lead
 pub record IsReasonOfPlan (t : LiftedTask) (steps : List Step) (here : Reached) (of : Option Instance) (reason : Reason) : Type 0 where
   pub fault : Fault
   pub is_first : IsFirstFaultBy t steps fault
@@ -82,7 +84,8 @@ NeedsNoReason t steps =
 
 -- ---- what the code answers
 
--- no question about these steps and the goal tells a fault, or one that says all that there is to say
+-- no question about these steps and the goal tells a fault, or one that says all that there is to
+-- say
 abbrev pub NeedsNoReasonFrom : LiftedTask → Reached → ℕ → List Step → Type 0
 NeedsNoReasonFrom t r n steps =
     ((end : Reached) × ClearsFromBy t r n steps end × IsOnWay t end)
@@ -92,7 +95,8 @@ NeedsNoReasonFrom t r n steps =
 abbrev pub HasReasonFrom : LiftedTask → Reached → ℕ → List Step → Reached → PlanReason → Type 0
 HasReasonFrom t r n steps here p = (fault : Fault) × ExplainsFrom t r n steps fault here p.instance p.reason
 
--- the way ends at the n-th step: it has a fault that says all that there is to say, or one with a reason
+-- the way ends at the n-th step: it has a fault that says all that there is to say, or one with a
+-- reason
 abbrev pub HaltsAt : LiftedTask → Reached → ℕ → Step → Reached → Halt → Type 0
 HaltsAt t r n s here halts.Untold = (fault : Fault) × TellsStepBy t r n s fault × (is_explained fault ≡ false)
 HaltsAt t r n s here (halts.Told p) = (fault : Fault) × IsReasonOfNamed t r n s fault here p.instance p.reason
@@ -102,7 +106,8 @@ abbrev pub HaltsFrom : LiftedTask → Reached → ℕ → List Step → Reached 
 HaltsFrom t r n steps here halts.Untold = NeedsNoReasonFrom t r n steps
 HaltsFrom t r n steps here (halts.Told p) = HasReasonFrom t r n steps here p
 
--- what becomes of the n-th step, where it has no reason: it passes and leads here, or has a fault that says all that there is to say
+-- what becomes of the n-th step, where it has no reason: it passes and leads here, or has a fault
+-- that says all that there is to say
 abbrev pub MeansTaken : LiftedTask → Reached → ℕ → Instance → Reached → Bool → Type 0
 MeansTaken t r n i here true = Passes t r n i here × IsOnWay t here
 MeansTaken t r n i here false = (fault : Fault) × TellsStep t r n i fault × (is_explained fault ≡ false)

@@ -22,8 +22,8 @@ paid_fluents objects es = flat_map (λ e. if is_cost e.change then fluents_in ob
 abbrev pub changing_fluents : List ℕ → Ground → List NumericEffect → List Ground
 changing_fluents objects g es = flat_map (λ e. if changes_fluent objects g e then fluents_in objects e.amount else []) es
 
--- the fluents that a comparison or a subexpression reads, from the left; the one whose new value is told, and then those that the amounts
--- of all effects on it read; or those of a cost
+-- the fluents that a comparison or a subexpression reads, from the left; the one whose new value is
+-- told, and then those that the amounts of all effects on it read; or those of a cost
 abbrev pub fluents_of : List ℕ → Reason → List Ground
 fluents_of objects (reasons.Literal l) = []
 fluents_of objects (reasons.Equality e) = []

@@ -1,4 +1,5 @@
--- Why a condition on atoms and objects does not hold, and why comparisons don't, or depart from the range. (The order is our own.)
+-- Why a condition on atoms and objects does not hold, and why comparisons don't, or depart from the
+-- range. (The order is our own.)
 use Rattle.std.specs.Prelude.{◌≡◌, ℕ, Bool, true, false, not, ◌⊎◌, List, Option, Some, MatchOption, find}
 use Rattle.std.specs.List.{list_all}
 use Rattle.hd_lifted.specs.declared.schema.Ground.{Ground}
@@ -43,8 +44,8 @@ abbrev pub MeansCompared : Values → List ℕ → Comparison → Compared → T
 MeansCompared v objects c (compared.Holds b) = (comparison_stays v objects c ≡ true) × (comparison_holds v objects c ≡ b)
 MeansCompared v objects c (compared.Departs d) = (comparison_stays v objects c ≡ false) × IsDepartureOfComparison v objects c d
 
--- this is why comparisons do not hold, or depart: the first departure of the first one that departs; or, where none does, the first
--- that does not hold
+-- this is why comparisons do not hold, or depart: the first departure of the first one that
+-- departs; or, where none does, the first that does not hold
 abbrev pub IsReasonOfComparisons : Values → List ℕ → List Comparison → Reason → Type 0
 IsReasonOfComparisons v objects cs (reasons.Literal l) = ⊥
 IsReasonOfComparisons v objects cs (reasons.Equality e) = ⊥
@@ -65,8 +66,8 @@ abbrev pub ExplainsComparisons : Values → List ℕ → List Comparison → Opt
 ExplainsComparisons v objects cs answer =
     MatchOption answer (HoldWithin v objects cs) (IsReasonOfComparisons v objects cs)
 
--- this is why a condition on atoms and objects does not hold: the first literal that does not hold; or, where all do, the first equality
--- that does not
+-- this is why a condition on atoms and objects does not hold: the first literal that does not hold;
+-- or, where all do, the first equality that does not
 abbrev pub IsReasonOfLiterals : State → List ℕ → Condition → Reason → Type 0
 IsReasonOfLiterals s objects c (reasons.Literal l) = failing_literal s.atoms objects c.literals ≡ Some l.now
 IsReasonOfLiterals s objects c (reasons.Equality e) =

@@ -28,7 +28,8 @@ LeadsTo t r n (i ∷ p) end = (to : Reached) × Passes t r n i to × LeadsTo t t
 abbrev pub IsFirstFaultOf : LiftedTask → List Instance → Fault → Type 0
 IsFirstFaultOf t steps fault = (after : List Instance) → IsFirstFault t (steps ++ after) fault
 
--- this is why comparisons of a schema do not hold, or depart; or, where they hold and stay in the range, why its effects depart
+-- this is why comparisons of a schema do not hold, or depart; or, where they hold and stay in the
+-- range, why its effects depart
 abbrev pub IsReasonOfNumbers : LiftedTask → Reached → Schema → List ℕ → Reason → Type 0
 IsReasonOfNumbers t r a objects reason =
     IsReasonOfComparisons r.state.values objects a.condition.comparisons reason
@@ -38,9 +39,10 @@ IsReasonOfNumbers t r a objects reason =
 abbrev pub StayNumbers : LiftedTask → Reached → Schema → List ℕ → Type 0
 StayNumbers t r a objects = HoldWithin r.state.values objects a.condition.comparisons × StaysWithin t r a objects
 
--- this is why a step of an instance is refused: the first literal or equality that does not hold; or, where these hold, all that the
--- step meets has first values, and its cost is not the same in each state and negative, why its comparisons do not hold, or depart; or,
--- where they hold and stay in the range, why its effects depart
+-- this is why a step of an instance is refused: the first literal or equality that does not hold;
+-- or, where these hold, all that the step meets has first values, and its cost is not the same in
+-- each state and negative, why its comparisons do not hold, or depart; or, where they hold and stay
+-- in the range, why its effects depart
 abbrev pub IsReasonOfStep : LiftedTask → Reached → Instance → Reason → Type 0
 IsReasonOfStep t r i reason =
     IsInstance t i × (a : Schema) × (slice_get t.schemas i.schema ≡ Some a)
@@ -48,8 +50,9 @@ IsReasonOfStep t r i reason =
     ⊎ ((literals_hold r.state i.objects a.condition ≡ true) × (first_undefined t (met_by i.objects a) ≡ None)
     × (costs_negative t a i.objects ≡ false) × IsReasonOfNumbers t r a i.objects reason))
 
--- if the step is one of an instance, its literals and equalities hold; and if all that it meets has first values, and its cost is not the
--- same in each state and negative, its comparisons hold, and nothing departs
+-- if the step is one of an instance, its literals and equalities hold; and if all that it meets has
+-- first values, and its cost is not the same in each state and negative, its comparisons hold, and
+-- nothing departs
 abbrev pub GoesThrough : LiftedTask → Reached → Instance → Type 0
 GoesThrough t r i =
     (is : IsInstance t i) → (literals_hold r.state i.objects is.schema.condition ≡ true)
@@ -64,15 +67,17 @@ is_undefined (NegativeCost i) = false
 is_undefined (Departs n) = false
 is_undefined GoalUnmet = false
 
--- this is why the goal is not met: the first literal or equality that does not hold; or, where these hold and all that the goal meets has
--- first values, why its comparisons do not hold, or depart
+-- this is why the goal is not met: the first literal or equality that does not hold; or, where
+-- these hold and all that the goal meets has first values, why its comparisons do not hold, or
+-- depart
 abbrev pub IsReasonOfGoal : LiftedTask → Reached → Reason → Type 0
 IsReasonOfGoal t r reason =
     IsReasonOfLiterals r.state [] t.goal reason
     ⊎ ((literals_hold r.state [] t.goal ≡ true) × (first_undefined t (met_by_goal t) ≡ None)
     × IsReasonOfComparisons r.state.values [] t.goal.comparisons reason)
 
--- the goal's literals and equalities hold; and if all that it meets has first values, its comparisons hold and stay in the range
+-- the goal's literals and equalities hold; and if all that it meets has first values, its
+-- comparisons hold and stay in the range
 abbrev pub GoalIsMet : LiftedTask → Reached → Type 0
 GoalIsMet t r =
     (literals_hold r.state [] t.goal ≡ true)

@@ -1,4 +1,5 @@
--- How reasons are printed: in the words of PDDL 2.1, with the names of objects in the place of parameters. (The sentences are our own.)
+-- How reasons are printed: in the words of PDDL 2.1, with the names of objects in the place of
+-- parameters. (The sentences are our own.)
 use Rattle.std.specs.Prelude.{ℕ, List, [], ◌∷◌, ◌++◌, codes, flat_map, map, slice_get, if◌then◌else◌, Option, Some, None, ℤ}
 use Rattle.std.specs.Fmt.{decimal, signed_decimal}
 use Rattle.hd_base.specs.declared.expression.Operand.{Operand}

@@ -30,7 +30,8 @@ fn relation_holds(relation: Relation, left: Option<i64>, right: Option<i64>) -> 
     }
 }
 
-/// Whether a comparison holds at a place, or else the first of its subexpressions that is out of the range.
+/// Whether a comparison holds at a place, or else the first of its subexpressions that is out of
+/// the range.
 
 fn compare<'a>(
     alloc: Global,

@@ -65,8 +65,9 @@ fn failing_equality(objects: &[usize], said: &[Equality]) -> Option<Equality>
     None
 }
 
-/// Why a condition on atoms and objects does not hold at a place, where the parameters stand for the objects: the first literal that
-/// does not hold, or else the first equality. `None` says that all of them hold; comparisons are not asked.
+/// Why a condition on atoms and objects does not hold at a place, where the parameters stand for
+/// the objects: the first literal that does not hold, or else the first equality. `None` says that
+/// all of them hold; comparisons are not asked.
 ///
 /// # Errors
 /// Want of memory.

@@ -145,9 +145,10 @@ fn explain_changes<'a>(
     Ok(explain_cost(place.cost(), step, effects))
 }
 
-/// Why a step's effects depart at a place, where the objects stand for the schema's parameters: the first subexpression of an amount
-/// that is out of the range, or else the first effect whose fluent's new value is, or else the step's cost, which is negative, or
-/// else the plan's cost with it. `None` says that nothing departs.
+/// Why a step's effects depart at a place, where the objects stand for the schema's parameters: the
+/// first subexpression of an amount that is out of the range, or else the first effect whose
+/// fluent's new value is, or else the step's cost, which is negative, or else the plan's cost with
+/// it. `None` says that nothing departs.
 ///
 /// # Errors
 /// Want of memory.

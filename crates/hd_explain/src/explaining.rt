@@ -52,7 +52,8 @@ fn take_all(
 /// Where these steps of a plan lead, from its beginning on, in tables that hash by the seed.
 ///
 /// # Errors
-/// The first fault of the steps, which is that of each plan that begins with them; or want of memory.
+/// The first fault of the steps, which is that of each plan that begins with them; or want of
+/// memory.
 pub fn place_after(
     alloc: Global,
     seed: Seed,
@@ -75,8 +76,8 @@ pub fn place_after(
     }
 }
 
-/// Why a schema with objects is refused at a place, where its literals and equalities hold and what it meets has first values: its
-/// comparisons, or else its effects.
+/// Why a schema with objects is refused at a place, where its literals and equalities hold and what
+/// it meets has first values: its comparisons, or else its effects.
 fn explain_numbers<'a>(
     alloc: Global,
     lookups: &Lookups<'_>,
@@ -99,12 +100,14 @@ fn explain_numbers<'a>(
     }
 }
 
-/// Why a step is refused at a place: the first literal or equality of its condition that does not hold; or else, where all that it meets
-/// has first values and its cost is not negative in each state, its first comparison that departs, or else the first that does not hold, or
-/// else what of its effects departs.
+/// Why a step is refused at a place: the first literal or equality of its condition that does not
+/// hold; or else, where all that it meets has first values and its cost is not negative in each
+/// state, its first comparison that departs, or else the first that does not hold, or else what of
+/// its effects departs.
 ///
-/// `None` says that it is not refused for such a reason: it is one of no instance, or its literals and equalities hold, and a fluent that
-/// it meets has no first value, or it costs the same in each state and less than 0, or its comparisons hold and nothing departs.
+/// `None` says that it is not refused for such a reason: it is one of no instance, or its literals
+/// and equalities hold, and a fluent that it meets has no first value, or it costs the same in each
+/// state and less than 0, or its comparisons hold and nothing departs.
 ///
 /// # Errors
 /// Want of memory.

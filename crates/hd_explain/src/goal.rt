@@ -46,11 +46,12 @@ fn goal_undefined(alloc: Global, lookups: &Lookups<'_>, place: &Place) -> Result
     }
 }
 
-/// Why the goal is not met at a place: its first literal or equality that does not hold; or else, where all that it meets has first
-/// values, its first comparison that departs, or else the first that does not hold.
+/// Why the goal is not met at a place: its first literal or equality that does not hold; or else,
+/// where all that it meets has first values, its first comparison that departs, or else the first
+/// that does not hold.
 ///
-/// `None` says that its literals and equalities hold, and a fluent that it meets has no first value, or its comparisons hold and stay in
-/// the range.
+/// `None` says that its literals and equalities hold, and a fluent that it meets has no first
+/// value, or its comparisons hold and stay in the range.
 ///
 /// # Errors
 /// Want of memory.

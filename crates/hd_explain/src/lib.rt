@@ -1,7 +1,8 @@
-//! Why a plan is refused: the first condition of a step or of the goal that does not hold, or the subexpression, the new value or the
-//! cost that is out of the range.
+//! Why a plan is refused: the first condition of a step or of the goal that does not hold, or the
+//! subexpression, the new value or the cost that is out of the range.
 //!
-//! A reason is exact: what it names is a part of the step's, fails at that place of the plan, and is the first that does.
+//! A reason is exact: what it names is a part of the step's, fails at that place of the plan, and
+//! is the first that does.
 #![tactic(auto)]
 
 mod comparison;

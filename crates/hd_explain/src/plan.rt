@@ -37,7 +37,8 @@ pub(crate) enum Halt<'a> {
     Told(PlanReason<'a>),
 }
 
-/// Takes a step for whose refusal there is no reason, and says whether it passes. Else, and on an error, the place is of no use.
+/// Takes a step for whose refusal there is no reason, and says whether it passes. Else, and on an
+/// error, the place is of no use.
 fn take(
     alloc: Global,
     lookups: &Lookups<'_>,
@@ -60,8 +61,8 @@ fn take(
     }
 }
 
-/// Explains the n-th step where it is refused, and else takes it: `None` says that it passes. Where it is refused without a reason, and on
-/// an error, the place is of no use.
+/// Explains the n-th step where it is refused, and else takes it: `None` says that it passes. Where
+/// it is refused without a reason, and on an error, the place is of no use.
 #[tactic(auto, using(crate::proofs::Named::step_unnamed, crate::proofs::Named::step_told, crate::proofs::Named::step_passes, crate::proofs::Named::step_untold))]
 fn explain_next<'a>(
     alloc: Global,
@@ -128,8 +129,8 @@ fn explain_end<'a>(
     }
 }
 
-/// Explains the first of the steps that is refused, or else the goal: the place is then the one where the steps before lead. Where there
-/// is no reason, and on an error, the place is of no use.
+/// Explains the first of the steps that is refused, or else the goal: the place is then the one
+/// where the steps before lead. Where there is no reason, and on an error, the place is of no use.
 #[tactic(auto, using(crate::proofs::Named::halts_whole, crate::proofs::Named::halts_behind))]
 fn explain_all<'a>(
     alloc: Global,
@@ -210,11 +211,12 @@ fn explain_from(
     }
 }
 
-/// Why a plan of a checked task is not valid, in one line without a line's end: the reason of its first fault, as `text_of` tells it.
-/// The tables hash by the seed.
+/// Why a plan of a checked task is not valid, in one line without a line's end: the reason of its
+/// first fault, as `text_of` tells it. The tables hash by the seed.
 ///
-/// `None` says that the plan is valid, or that its fault says all that there is to say: a step is one of no instance, a fluent has no
-/// first value, or a step costs the same in each state and less than 0.
+/// `None` says that the plan is valid, or that its fault says all that there is to say: a step is
+/// one of no instance, a fluent has no first value, or a step costs the same in each state and less
+/// than 0.
 ///
 /// # Errors
 /// Want of memory.

@@ -91,7 +91,8 @@ pub(crate) fn is_cost(change: Change) -> bool
     }
 }
 
-/// Puts the fluents that an effect's amount reads, with their values, behind others, if the effect is on this fluent.
+/// Puts the fluents that an effect's amount reads, with their values, behind others, if the effect
+/// is on this fluent.
 fn push_change(
     alloc: Global,
     readings: &mut Vec<Reading>,
@@ -111,7 +112,8 @@ fn push_change(
     push_expression(alloc, readings, place, objects, &said.amount)
 }
 
-/// Puts the fluents that the amounts of the effects on a fluent read, with their values, behind others.
+/// Puts the fluents that the amounts of the effects on a fluent read, with their values, behind
+/// others.
 fn push_changes(
     alloc: Global,
     readings: &mut Vec<Reading>,
@@ -132,7 +134,8 @@ fn push_changes(
     Ok(())
 }
 
-/// Puts a fluent whose new value is told, and those that its new value is made of, with their values, behind others.
+/// Puts a fluent whose new value is told, and those that its new value is made of, with their
+/// values, behind others.
 fn push_new_value(
     alloc: Global,
     readings: &mut Vec<Reading>,
@@ -200,7 +203,8 @@ fn push_readings(
     }
 }
 
-/// The fluents that a reason speaks of, from the left, with their values at the place. One that is read twice stands twice.
+/// The fluents that a reason speaks of, from the left, with their values at the place. One that is
+/// read twice stands twice.
 ///
 /// # Errors
 /// Want of memory.

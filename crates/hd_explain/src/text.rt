@@ -432,8 +432,9 @@ fn push_readings(text: &mut String, task: &LiftedTask, readings: &[Reading]) -> 
     push_more(text, task, more)
 }
 
-/// One line that tells a reason, without a line's end, such as `(at b) does not hold` or
-/// `(>= (fuel) 9) does not hold: (fuel) = 8`. The objects stand for the parameters of the step's action; for the goal there are none.
+/// One line that tells a reason, without a line's end, such as `(at b) does not hold` or `(>=
+/// (fuel) 9) does not hold: (fuel) = 8`. The objects stand for the parameters of the step's action;
+/// for the goal there are none.
 ///
 /// # Errors
 /// Want of memory.

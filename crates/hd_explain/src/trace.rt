@@ -89,8 +89,8 @@ fn combined<'a>(
     }
 }
 
-/// The value of an expression at a place, or else the first of its subexpressions that is out of the range: what it is made of
-/// before itself, and the left before the right.
+/// The value of an expression at a place, or else the first of its subexpressions that is out of
+/// the range: what it is made of before itself, and the left before the right.
 pub(crate) fn outcome_of<'a>(
     alloc: Global,
     place: &Place,

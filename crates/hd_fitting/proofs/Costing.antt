@@ -1,4 +1,5 @@
--- The costs of what is counted fit: few amounts, none without a metric, and no constant cost below 0.
+-- The costs of what is counted fit: few amounts, none without a metric, and no constant cost below
+-- 0.
 use Rattle.std.proofs.Common.{◌≡◌, ℕ, Bool, true, false, List, [], ◌∷◌, map, filter, length, Contains, Some, None, slice_get, refl, sym, ap, ◌∙◌, arith, true≢false}
 use Rattle.std.specs.Prelude.{◌&&◌, ◌||◌, ◌==◌, not, is_some, nat_le, int_le, unwrap_or, if◌then◌else◌, ℤ, pos, negsuc}
 use Rattle.std.specs.List.{list_all, AllByRecursion}

@@ -1,4 +1,5 @@
--- What is numbered has names: its predicate or function, or its schema, and its objects are the task's.
+-- What is numbered has names: its predicate or function, or its schema, and its objects are the
+-- task's.
 use Rattle.std.proofs.Common.{◌≡◌, ℕ, zero, suc, Bool, true, false, List, [], ◌∷◌, map, length, Contains, Some, slice_get, inl, inr, refl, sym, ◌∙◌, subst}
 use Rattle.std.specs.Prelude.{nat_lt, flat_map, if◌then◌else◌}
 use Rattle.std.specs.List.{list_all, AllZip, AllByRecursion}

@@ -1,4 +1,5 @@
--- The state at first of what is counted: each fluent has a first value, which is in the range, and it agrees with the domain's.
+-- The state at first of what is counted: each fluent has a first value, which is in the range, and
+-- it agrees with the domain's.
 use Rattle.std.proofs.Common.{◌≡◌, true, false, List, map, Contains, Option, Some, None, refl, sym, ap, ◌∙◌, subst}
 use Rattle.std.specs.Prelude.{is_some, find, flat_map, option_map, unwrap_or, ℤ, pos}
 use Rattle.std.specs.List.{list_all}

@@ -15,7 +15,8 @@ HaveFewAmounts t instances =
     (i : Instance) (a : Schema) → Contains instances i → slice_get t.schemas i.schema ≡ Some a
     → length (filter is_paid a.effects) ≤ MAX_AMOUNTS
 
--- the lists number the kept instances, the atoms and the fluents, and neither they nor the amounts are too many
+-- the lists number the kept instances, the atoms and the fluents, and neither they nor the amounts
+-- are too many
 pub record AreCounted (t : LiftedTask) (instances : List Instance) (atoms fluents : List Ground) : Type 0 where
   pub numbers_instances : NumbersInstances t instances
   pub numbers_atoms : NumbersAtoms t atoms

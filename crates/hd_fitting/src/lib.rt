@@ -1,4 +1,5 @@
-//! What is grounded fits together, where it is not too large and has no fault: definitions and laws, and no code.
+//! What is grounded fits together, where it is not too large and has no fault: definitions and
+//! laws, and no code.
 #![tactic(auto)]
 
 pub mod laws;

@@ -10,8 +10,8 @@ record Begun : Type 0 where
   from : ℕ
   before : Forms
 
--- the forms that marks put together, where these are begun, the innermost first, and these stand in the innermost; none where the
--- parentheses do not fit
+-- the forms that marks put together, where these are begun, the innermost first, and these stand in
+-- the innermost; none where the parentheses do not fit
 abbrev together : List Mark → List Begun → Forms → Option Forms
 together [] [] done = Some done
 together [] (begun ∷ around) done = None

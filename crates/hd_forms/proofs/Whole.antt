@@ -1,4 +1,5 @@
--- From whole texts to trees. The rule of the grammar and its reading are parameters, since domains and problems share all of it.
+-- From whole texts to trees. The rule of the grammar and its reading are parameters, since domains
+-- and problems share all of it.
 use Rattle.std.proofs.Common.{◌≡◌, ◌⊎◌, inl, inr, ℕ, List, length, Option, Some, None, Result, Ok, Err, refl, sym, ap, ◌∙◌}
 use Rattle.std.specs.Prelude.{IfOk, IfErr, MatchResult}
 use Rattle.hd_base.specs.Answers.{Gives}

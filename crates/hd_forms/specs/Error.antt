@@ -6,7 +6,8 @@ use Rattle.hd_lex.specs.declared.error.LexError.TheVariants as faults
 use Rattle.hd_forms.specs.declared.error.ReadError.{ReadError}
 use Rattle.hd_forms.specs.declared.error.ReadError.TheVariants.{Lex, Unbalanced, Unexpected, Unsupported, TooDeep, NoMemory}
 
--- the printed form: the refusal's number, its name, and in parentheses its word, if it has one, and its place in decimal (own)
+-- the printed form: the refusal's number, its name, and in parentheses its word, if it has one, and
+-- its place in decimal (own)
 abbrev pub text_of : ReadError → List ℕ
 text_of (Lex fault) = lexer.text_of fault
 text_of (Unbalanced at) = codes "4 Unbalanced(" ++ decimal at ++ codes ")"

@@ -36,8 +36,8 @@ mark_of token = mark_at token.from token.word
 abbrev pub marks_from : List Token → List Mark
 marks_from ts = map mark_of ts
 
--- forms, one after the other: a word at its place and what follows it; or a form in parentheses, which stand at two places,
--- with the forms in it and what follows it (own)
+-- forms, one after the other: a word at its place and what follows it; or a form in parentheses,
+-- which stand at two places, with the forms in it and what follows it (own)
 pub data Forms : Type 0 where
   none : Forms
   word : ℕ → Word → Forms → Forms
@@ -61,8 +61,9 @@ size none = 0
 size (word at w rest) = 1 + size rest
 size (list from inside to rest) = 1 + size inside + size rest
 
--- the first fault of the parentheses in these marks, where so many forms are open before them and the text ends at this place:
--- the end while a form is open, a '(' that would be one open form too many, or a ')' where none is open (own)
+-- the first fault of the parentheses in these marks, where so many forms are open before them and
+-- the text ends at this place: the end while a form is open, a '(' that would be one open form too
+-- many, or a ')' where none is open (own)
 abbrev pub fault_from : ℕ → ℕ → List Mark → Option ReadError
 fault_from end zero [] = None
 fault_from end (suc depth) [] = Some (errors.Unbalanced end)
@@ -72,7 +73,8 @@ fault_from end depth (opening at ∷ marks) =
 fault_from end zero (closing at ∷ marks) = Some (errors.Unbalanced at)
 fault_from end (suc depth) (closing at ∷ marks) = fault_from end depth marks
 
--- the first fault of the parentheses of a text that ends at this place, where nothing is open at first (own)
+-- the first fault of the parentheses of a text that ends at this place, where nothing is open at
+-- first (own)
 abbrev pub parenthesis_fault : ℕ → List Mark → Option ReadError
 parenthesis_fault end marks = fault_from end 0 marks
 

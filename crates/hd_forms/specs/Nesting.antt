@@ -13,7 +13,8 @@ use Rattle.hd_forms.specs.View.{forms_view}
 abbrev pub open_marks : OpenForm → List Mark
 open_marks form = marks_of (forms_view form.before.items) ++ opening form.from ∷ []
 
--- the marks that were read, where these forms are open, the innermost last, and these stand in the innermost (own)
+-- the marks that were read, where these forms are open, the innermost last, and these stand in the
+-- innermost (own)
 abbrev pub marks_written : List OpenForm → List Form → List Mark
 marks_written around forms = flat_map open_marks around ++ marks_of (forms_view forms)
 
@@ -22,8 +23,8 @@ pub record HasTokens (at : ℕ) (text : List ℕ) : Type 0 where
   pub tokens : List Token
   pub says : Says at text (Ok tokens)
 
--- what was read of a text up to where this rest begins: its tokens, which are written as these forms, some of them open, and in which
--- no fault of the parentheses stands (own)
+-- what was read of a text up to where this rest begins: its tokens, which are written as these
+-- forms, some of them open, and in which no fault of the parentheses stands (own)
 pub record IsNested (text : List ℕ) (around : Vec OpenForm Global) (forms : List Form) (at : ℕ) (rest : List ℕ) : Type 0 where
   pub tokens : List Token
   pub read : IsReadTo 0 text tokens at rest

@@ -35,8 +35,9 @@ pub record IsOutside {Tree : Type 0} (Says : Forms → Tree → Type 0) (text : 
   pub written : IsFormsText text forms
   pub outside : (tree : Tree) → ¬ IsTextOf Says text tree
 
--- what each refusal tells of a text that is to say something by the rule: its first bad word, the first fault of its parentheses,
--- or that it is outside of the grammar; want of memory tells nothing (own)
+-- what each refusal tells of a text that is to say something by the rule: its first bad word, the
+-- first fault of its parentheses, or that it is outside of the grammar; want of memory tells
+-- nothing (own)
 abbrev pub Explains : {Tree : Type 0} → (Forms → Tree → Type 0) → List ℕ → ReadError → Type 0
 Explains Says text errors.NoMemory = Unit {0}
 Explains Says text (errors.Lex fault) = IsFault text fault

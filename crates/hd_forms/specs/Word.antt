@@ -6,7 +6,8 @@ use Rattle.hd_forms.specs.declared.word.Change.TheVariants as changes
 use Rattle.hd_forms.specs.declared.word.Word.{Word}
 use Rattle.hd_forms.specs.declared.word.Word.TheVariants as words
 
--- the words of parts of PDDL that are not read, as far as they are spelled as names (BNF; which parts are read is own)
+-- the words of parts of PDDL that are not read, as far as they are spelled as names (BNF; which
+-- parts are read is own)
 abbrev pub is_unsupported_name : List ℕ → Bool
 is_unsupported_name word =
     bytes_eq word (codes "or") || bytes_eq word (codes "imply") || bytes_eq word (codes "forall")
@@ -14,8 +15,8 @@ is_unsupported_name word =
     || bytes_eq word (codes "preference") || bytes_eq word (codes "scale-down") || bytes_eq word (codes "maximize")
     || bytes_eq word (codes "total-time")
 
--- what a word spelled as a name says: 'and', 'not', a change, a part that is not read, or a name (BNF; that no other word of
--- these is a name, own)
+-- what a word spelled as a name says: 'and', 'not', a change, a part that is not read, or a name
+-- (BNF; that no other word of these is a name, own)
 abbrev pub name_word : List ℕ → Word
 name_word name =
     if bytes_eq name (codes "and") then words.And

@@ -16,9 +16,11 @@ use thiserror::Error;
 pub enum ReadError {
     /// A bad word.
     Lex(LexError),
-    /// A `)` at this place where no form is open, or the end of the text, at its length, where one is.
+    /// A `)` at this place where no form is open, or the end of the text, at its length, where one
+    /// is.
     Unbalanced(usize),
-    /// What stands at this place is not allowed there. The text's length, where a word is missing at the end.
+    /// What stands at this place is not allowed there. The text's length, where a word is missing
+    /// at the end.
     Unexpected(usize),
     /// This word, in lower case, at this place, belongs to a part of PDDL that is not read.
     Unsupported(String, usize),

@@ -16,8 +16,9 @@ use std::mem;
 /// The most forms that may be open at once.
 const MOST_OPEN: usize = 64;
 
-/// How many forms an open form has room for at first. Most have no more, and what they leave when they are closed is just as large
-/// as what the next ones ask for: so it is taken again, and not cut into pieces.
+/// How many forms an open form has room for at first. Most have no more, and what they leave when
+/// they are closed is just as large as what the next ones ask for: so it is taken again, and not
+/// cut into pieces.
 const ROOM: usize = 3;
 
 /// A word, or a form in parentheses, with the places of its word or of its parentheses.
@@ -28,14 +29,16 @@ pub enum Form {
         word: Word,
     },
     List {
-        /// It stands first, beside the byte that tells a word from a list, so that a form is no larger than 40 bytes.
+        /// It stands first, beside the byte that tells a word from a list, so that a form is no
+        /// larger than 40 bytes.
         to: Place,
         from: usize,
         inside: Vec<Form>,
     },
 }
 
-/// A form that is open: the place of its parenthesis, and what stands before it in the form around it.
+/// A form that is open: the place of its parenthesis, and what stands before it in the form around
+/// it.
 #[derive(Drop)]
 pub struct OpenForm {
     from: usize,

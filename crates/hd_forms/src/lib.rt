@@ -1,8 +1,9 @@
 //! Nested forms: a text's words, nested by its parentheses, which are then read from the left.
 //!
-//! A text is cut into words (hd_lex) and the words are nested here. What forms say is a matter of grammars, which stand
-//! above: here is what such a grammar asks of the next form, and how it refuses. Places are counted in bytes from 0. Each
-//! call that reads is `NoMemory` where memory runs out.
+//! A text is cut into words (hd_lex) and the words are nested here. What forms say is a matter of
+//! grammars, which stand above: here is what such a grammar asks of the next form, and how it
+//! refuses. Places are counted in bytes from 0. Each call that reads is `NoMemory` where memory
+//! runs out.
 #![tactic(auto)]
 
 mod error;

@@ -4,8 +4,8 @@ ghost use Rattle.std.specs.Prelude.{◌≡◌, IfOk};
 use std::alloc::AllocError;
 use std::marker::Model;
 
-/// A place in a text, counted from 0, in six bytes: so it takes no more room beside the kind of a form, or of a leaf, than the
-/// kind alone would.
+/// A place in a text, counted from 0, in six bytes: so it takes no more room beside the kind of a
+/// form, or of a leaf, than the kind alone would.
 #[derive(Debug, Drop)]
 pub struct Place {
     low: u16,
@@ -22,7 +22,8 @@ impl Model for Place {
 }
 
 impl Place {
-    /// This place. No memory holds a text that has a place of 2^48 or more, so that is want of memory.
+    /// This place. No memory holds a text that has a place of 2^48 or more, so that is want of
+    /// memory.
     pub fn of(at: usize) -> Result<Place, AllocError>
         ensures { IfOk result (λ p. p ≡ at) }
     {

@@ -23,8 +23,8 @@ fn unsupported_text(alloc: Global, word: &Word) -> Result<Option<String>, AllocE
     Ok(None)
 }
 
-/// Refuses a token at the place `from`. Where this word, which stands at `at`, belongs to a part that is not read, it is
-/// to blame.
+/// Refuses a token at the place `from`. Where this word, which stands at `at`, belongs to a part
+/// that is not read, it is to blame.
 fn refusal_by(alloc: Global, word: &Word, at: usize, from: usize) -> ReadError
     ensures { IsOfGrammar result }
 {
@@ -48,7 +48,8 @@ pub fn form_refusal(alloc: Global, form: &Form) -> ReadError
     }
 }
 
-/// Refuses the first token of these forms, or what stands behind them, at the place `end`, where there are none.
+/// Refuses the first token of these forms, or what stands behind them, at the place `end`, where
+/// there are none.
 pub fn first_refusal(alloc: Global, forms: &[Form], end: usize) -> ReadError
     ensures { IsOfGrammar result }
 {

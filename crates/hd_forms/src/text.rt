@@ -11,8 +11,8 @@ use crate::forms::{Form, OpenForm, take};
 use hd_lex::{Front, LexError, front_of};
 use std::alloc::Global;
 
-/// Asks that the rest of a text, whose first byte stands at this place, has no bad word. A bad word is told before any
-/// parenthesis, also one that stands before it.
+/// Asks that the rest of a text, whose first byte stands at this place, has no bad word. A bad word
+/// is told before any parenthesis, also one that stands before it.
 fn check_words(alloc: Global, text: &[u8], at: usize) -> Result<(), LexError>
     requires { at + length text.now < 2 ^ 64 }
     ensures good { IfOk result (λ _. HasTokens at text.now) }

@@ -22,7 +22,8 @@ pub enum Word {
     Not,
     /// The word that begins an effect on a number.
     Change(Change),
-    /// A word spelled as a name that belongs to a part of PDDL that is not read, so that nothing can be named by it.
+    /// A word spelled as a name that belongs to a part of PDDL that is not read, so that nothing
+    /// can be named by it.
     Unsupported(Name),
     Name(Name),
     /// A name behind `:`, without it.

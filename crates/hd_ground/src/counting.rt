@@ -86,7 +86,8 @@ fn atoms_of(
     Ok(Numbers::of(forms)?)
 }
 
-/// The task's fluents by number, where they are not too many, and the first one that is met and has no first value.
+/// The task's fluents by number, where they are not too many, and the first one that is met and has
+/// no first value.
 #[tactic(auto, using(crate::proofs::Limits::too_many_fluents, crate::proofs::Limits::numbers_fluents, crate::proofs::Limits::first_undefined))]
 fn fluents_of(
     alloc: Global,
@@ -150,7 +151,8 @@ pub fn counted_of(alloc: Global, seed: Seed, lookups: &Lookups<'_>) -> Result<Co
     }
 }
 
-/// Looks for a fluent that is met and has no first value, and then for an instance of a negative cost.
+/// Looks for a fluent that is met and has no first value, and then for an instance of a negative
+/// cost.
 #[tactic(auto, using(crate::proofs::Limits::names_undefined, crate::proofs::Limits::names_negative))]
 pub fn look_for_faults(
     alloc: Global,

@@ -12,7 +12,8 @@ use thiserror::Error;
 pub enum GroundError {
     /// There are more kept instances, atoms, fluents or amounts than a task may have.
     TooMany,
-    /// A fluent, in its ground form, that an action or the goal reads or changes, and that has no first value.
+    /// A fluent, in its ground form, that an action or the goal reads or changes, and that has no
+    /// first value.
     Undefined(String),
     /// An action, in its ground form, that costs the same in each state, and less than 0.
     NegativeCost(String),

@@ -44,19 +44,24 @@ fn ground_with(alloc: Global, seed: Seed, lookups: &Lookups<'_>) -> Result<Task,
     task
 }
 
-/// The task to search of a checked task: its actions are the kept instances (no plan can use another), in the order of
-/// their schemas and then of their objects, the first parameter's slowest; its atoms are those that are true at first, that an
-/// action adds or that the goal names, its fluents those that an action or the goal reads or changes, the metric's function aside, in
-/// the order of their symbols and then of their objects. The tables used on the way hash by the seed, which changes no answer.
+/// The task to search of a checked task: its actions are the kept instances (no plan can use
+/// another), in the order of their schemas and then of their objects, the first parameter's
+/// slowest; its atoms are those that are true at first, that an action adds or that the goal names,
+/// its fluents those that an action or the goal reads or changes, the metric's function aside, in
+/// the order of their symbols and then of their objects. The tables used on the way hash by the
+/// seed, which changes no answer.
 ///
-/// A task has one grounding at most (`hd_grounding::laws::groundings_are_one`), and none where one of the errors but `NoMemory` is
-/// told (`faults_leave_no_grounding`): so each comes exactly where it should.
+/// A task has one grounding at most (`hd_grounding::laws::groundings_are_one`), and none where one
+/// of the errors but `NoMemory` is told (`faults_leave_no_grounding`): so each comes exactly where
+/// it should.
 ///
 /// # Errors
-/// `TooMany` where there would be more actions, atoms or fluents than a task may have, or an action with more amounts: no instance and
-/// no reachable atom beyond a limit is stored; of the goal's atoms and of the fluents that the instance beyond the limit and the goal meet,
-/// some may be. Else `Undefined` with the first fluent, by the actions' numbers and then the goal, that has no first value. Else
-/// `NegativeCost` with the first action whose amounts are constant and add up to less than 0. `NoMemory` where memory runs out.
+/// `TooMany` where there would be more actions, atoms or fluents than a task may have, or an action
+/// with more amounts: no instance and no reachable atom beyond a limit is stored; of the goal's
+/// atoms and of the fluents that the instance beyond the limit and the goal meet, some may be. Else
+/// `Undefined` with the first fluent, by the actions' numbers and then the goal, that has no first
+/// value. Else `NegativeCost` with the first action whose amounts are constant and add up to less
+/// than 0. `NoMemory` where memory runs out.
 pub fn ground(alloc: Global, seed: Seed, checked: &Checked) -> Result<Task, GroundError>
     ensures task { IfOk result (IsGrounding checked.now) }
     ensures refusal { IfErr result (Tells checked.now) }

@@ -14,8 +14,8 @@ use Rattle.hd_kept.specs.Amounts.{is_changed}
 use Rattle.hd_kept.specs.Met.{met_by_comparison, met_by_effect}
 use Rattle.hd_grounding.specs.Images.{numbers_of}
 
--- the states agree: each atom with a number is true in both or in neither, each without one is false, and each fluent with a number
--- has the same value in both
+-- the states agree: each atom with a number is true in both or in neither, each without one is
+-- false, and each fluent with a number has the same value in both
 pub record Agree (atoms fluents : List Ground) (s : domain.State) (n : State) : Type 0 where
   pub same_atoms : (k : ℕ) (g : Ground) → slice_get atoms k ≡ Some g → s.atoms g ≡ has_atom n k
   pub others : (g : Ground) → (Contains atoms g → ⊥) → s.atoms g ≡ false
@@ -26,7 +26,8 @@ pub record HasAtomsOf (atoms : List Ground) (objects : List ℕ) (a : Schema) (b
   pub adds : b.adds ≡ numbers_of atoms objects a.adds
   pub deletes : b.deletes ≡ numbers_of atoms objects a.deletes
 
--- what a condition asks for has numbers: the atoms that it wants to be true, and the fluents that it reads
+-- what a condition asks for has numbers: the atoms that it wants to be true, and the fluents that
+-- it reads
 pub record IsNumbered (atoms fluents : List Ground) (objects : List ℕ) (c : Condition) : Type 0 where
   pub wanted : (l : Literal) → Contains c.literals l → l.positive ≡ true → Contains atoms (domain.ground_form_of objects l.atom)
   pub read : (g : Ground) → Contains (flat_map (met_by_comparison objects) c.comparisons) g → Contains fluents g

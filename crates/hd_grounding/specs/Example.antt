@@ -1,4 +1,5 @@
--- A small lifted task and the task that it is grounded to, and small tasks with a fault, or with what looks like one.
+-- A small lifted task and the task that it is grounded to, and small tasks with a fault, or with
+-- what looks like one.
 use Rattle.std.specs.Prelude.{ℕ, Bool, true, false, List, [], ◌∷◌, map, codes, refl, Some, ℤ, pos, negsuc, replicate}
 use Rattle.hd_base.specs.declared.expression.Operand.{Operand}
 use Rattle.hd_base.specs.declared.expression.Operand.TheVariants.{Number, Fluent}
@@ -23,7 +24,8 @@ use Rattle.hd_task.specs.declared.action.Action.{Action}
 use Rattle.hd_task.specs.declared.task.Task.{Task}
 use Rattle.hd_grounding.specs.Grounding.{names_in}
 
--- ---- a lantern: `light` takes 2 of the oil, of which there is 5 at first, and costs 1 and as much as there is; it asks for 2
+-- ---- a lantern: `light` takes 2 of the oil, of which there is 5 at first, and costs 1 and as much
+-- as there is; it asks for 2
 
 abbrev burning : Applied
 burning = record { symbol = 0; arguments = [] }
@@ -111,8 +113,9 @@ lantern_task = record {
   constant_costs_fit = refl;
 }
 
--- ---- tasks with a fault: an oven has one action, `heat`, which has no parameters and adds nothing. There are an atom, that heating
--- is permitted, which is false at first, the fuel, the draught, and the metric's function, the price
+-- ---- tasks with a fault: an oven has one action, `heat`, which has no parameters and adds
+-- nothing. There are an atom, that heating is permitted, which is false at first, the fuel, the
+-- draught, and the metric's function, the price
 
 -- the schema, by what it asks for and its effects
 abbrev pub heat : Condition → List NumericEffect → Schema

@@ -60,8 +60,9 @@ undefined_in t instances = find (is_undefined t) (met_by_all t instances)
 abbrev pub has_constant_costs : LiftedTask → Schema → Bool
 has_constant_costs t a = list_all (λ (e : NumericEffect). is_constant t e.amount) (filter is_paid a.effects)
 
--- a schema with objects costs the same in each state, and less than 0. The metric need not be looked at: without one no effect of a
--- checked task is a cost, so that there are no amounts, and their sum is 0
+-- a schema with objects costs the same in each state, and less than 0. The metric need not be
+-- looked at: without one no effect of a checked task is a cost, so that there are no amounts, and
+-- their sum is 0
 abbrev pub costs_negative : LiftedTask → Option Schema → List ℕ → Bool
 costs_negative t None objects = false
 costs_negative t (Some a) objects = has_constant_costs t a && is_negative (sum_of_costs (first_value t.values) a objects)
@@ -82,7 +83,8 @@ pub record IsUndefined (t : LiftedTask) (g : Ground) : Type 0 where
   pub numbers_instances : NumbersInstances t instances
   pub is_first : undefined_in t instances ≡ Some g
 
--- an instance is the first of a negative cost, where nothing is too large and each fluent that is met has a first value
+-- an instance is the first of a negative cost, where nothing is too large and each fluent that is
+-- met has a first value
 pub record IsNegative (t : LiftedTask) (i : Instance) : Type 0 where
   pub fits : IsTooLarge t → ⊥
   pub instances : List Instance

@@ -73,8 +73,9 @@ pub record IsActionOf (t : LiftedTask) (atoms fluents : List Ground) (i : Instan
 
 -- ---- the whole
 
--- a task has an action for each kept instance, and no others, and the atoms and fluents of the lifted task (`IsTaskAtom`,
--- `IsTaskFluent`), each numbered in its order; each fluent has a first value, and the goal is the lifted task's
+-- a task has an action for each kept instance, and no others, and the atoms and fluents of the
+-- lifted task (`IsTaskAtom`, `IsTaskFluent`), each numbered in its order; each fluent has a first
+-- value, and the goal is the lifted task's
 pub record IsGrounding (t : LiftedTask) (u : Task) : Type 0 where
   pub instances : List Instance
   pub atoms : List Ground

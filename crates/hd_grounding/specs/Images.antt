@@ -1,4 +1,5 @@
--- What stands for the parts of a lifted task in a task of numbers, where the parameters stand for a list of objects. (Our own.)
+-- What stands for the parts of a lifted task in a task of numbers, where the parameters stand for a
+-- list of objects. (Our own.)
 use Rattle.std.specs.Prelude.{ℕ, Bool, not, if◌then◌else◌, ◌&&◌, List, [], ◌∷◌, map, filter, flat_map, Option, Some, None, option_map, unwrap_or, ℤ, pos}
 use Rattle.std.specs.List.{list_all, position}
 use Rattle.hd_base.specs.declared.expression.Operand.{Operand}
@@ -37,8 +38,9 @@ abbrev pub if_any : {A : Type 0} → Option A → List A
 if_any None = []
 if_any (Some x) = x ∷ []
 
--- the numbers of atoms that an action adds or deletes: one without a number is left out. A kept instance adds none of these, and to
--- delete one changes nothing, since it is false wherever a plan leads
+-- the numbers of atoms that an action adds or deletes: one without a number is left out. A kept
+-- instance adds none of these, and to delete one changes nothing, since it is false wherever a plan
+-- leads
 abbrev pub numbers_of : List Ground → List ℕ → List Applied → List ℕ
 numbers_of atoms objects xs = flat_map (λ a. if_any (number_of atoms (ground_form_of objects a))) xs
 
@@ -47,9 +49,10 @@ numbers_of atoms objects xs = flat_map (λ a. if_any (number_of atoms (ground_fo
 abbrev pub literal_at : Bool → ℕ → Literal
 literal_at positive i = record { atom = i; positive = positive }
 
--- a literal by its atom's number. Where the atom has none the literal is left out: of a negative one that is right, since such an
--- atom is false wherever a plan leads. The atom of a positive literal always has a number where this is used, in kept instances and the
--- goal: `IsNumbered` asks it
+-- a literal by its atom's number. Where the atom has none the literal is left out: of a negative
+-- one that is right, since such an atom is false wherever a plan leads. The atom of a positive
+-- literal always has a number where this is used, in kept instances and the goal: `IsNumbered` asks
+-- it
 abbrev pub literal_of : List Ground → List ℕ → lifted_literal.Literal → List Literal
 literal_of atoms objects l = if_any (option_map (literal_at l.positive) (number_of atoms (ground_form_of objects l.atom)))
 
@@ -71,8 +74,9 @@ comparison_of fluents objects c = record {
   right = expression_of fluents objects c.right;
 }
 
--- a condition: each atom that it wants to be true has a number (`IsNumbered`), and negative literals of atoms without one are left
--- out. Where one of its equalities fails, it can't hold in any state
+-- a condition: each atom that it wants to be true has a number (`IsNumbered`), and negative
+-- literals of atoms without one are left out. Where one of its equalities fails, it can't hold in
+-- any state
 abbrev pub condition_of : List Ground → List Ground → List ℕ → lifted_condition.Condition → Condition
 condition_of atoms fluents objects c = record {
   literals = flat_map (literal_of atoms objects) c.literals;

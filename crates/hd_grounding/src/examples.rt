@@ -22,7 +22,8 @@ pub fn faults_compute()
     ensures negative { IsNegative paying_back the_instance }
     ensures negative_fluent { IsNegative paying_by_fuel the_instance }
 
-    // An amount that is more than a number or a fluent is none of the constant ones, though it is -5 here: a search has to see it.
+    // An amount that is more than a number or a fluent is none of the constant ones, though it is
+    // -5 here: a search has to see it.
     ensures dependent { (i : Instance) → IsNegative cheap_at_first i → ⊥ }
 
     // An instance that is not kept is no fault, whatever it costs.
@@ -34,7 +35,8 @@ pub fn faults_compute()
     ensures within { (n : ℕ) → n ≤ MAX_AMOUNTS → IsTooLarge (paying_often n) → ⊥ }
 {}
 
-/// What the goal names is an atom of the task, also where it is to be false and no action could make it true.
+/// What the goal names is an atom of the task, also where it is to be false and no action could
+/// make it true.
 pub fn goal_atoms_compute()
     ensures named { IsTaskAtom forbidding the_permission }
     ensures not_reachable { IsReachable forbidding the_permission → ⊥ }
@@ -42,7 +44,8 @@ pub fn goal_atoms_compute()
 
 /// What of two is told, and what of two amounts is no fault.
 pub fn orders_compute()
-    // It is the sum that is looked at, -1 and 3, and all amounts have to be constant: the fuel less 10 is not.
+    // It is the sum that is looked at, -1 and 3, and all amounts have to be constant: the fuel less
+    // 10 is not.
     ensures costs_enough { (i : Instance) → IsNegative paying_in_all i → ⊥ }
     ensures depends_in_part { (i : Instance) → IsNegative paying_back_by_fuel i → ⊥ }
 
@@ -50,7 +53,8 @@ pub fn orders_compute()
     ensures fuel_first { IsUndefined paying_back_without_fuel the_fuel }
     ensures cost_untold { (i : Instance) → IsNegative paying_back_without_fuel i → ⊥ }
 
-    // Of two fluents without values the first in the text is told, also where its number is the greater one.
+    // Of two fluents without values the first in the text is told, also where its number is the
+    // greater one.
     ensures draught_first { IsUndefined without_both the_draught }
     ensures fuel_untold { IsUndefined without_both the_fuel → ⊥ }
 

@@ -1,7 +1,8 @@
 -- The estimate is never above what a way to the goal costs.
 --
--- Along the way each literal that is true costs, in the last table, at most what the way has cost so far: at the start true
--- literals cost nothing, and a step brings about only what its action affords.
+-- Along the way each literal that is true costs, in the last table, at most what the way has cost
+-- so far: at the start true literals cost nothing, and a step brings about only what its action
+-- affords.
 use Rattle.std.proofs.Common.{◌≡◌, ℕ, ◌+◌, ◌*◌, ◌-◌, ◌<◌, ◌≤◌, Bool, true, false, cond, not, ◌&&◌, List, [], ◌∷◌, length, slice_get, Option, Some, None, Contains, inl, inr, refl, sym, ap, ◌∙◌, subst, arith}
 use Rattle.std.specs.List.{list_all}
 use Rattle.std.proofs.lemmas.Bool.{cases_lt, le-leb, and_parts, and_from, and_cases, or_cases, or_parts, not-true, not-false, not_from_false, cond-true, both_ways}

@@ -1,5 +1,5 @@
--- The cheapest rule that waits is taken: what it brings about costs as much as it does, and where it is the goal, or nothing
--- waits, the estimate is known.
+-- The cheapest rule that waits is taken: what it brings about costs as much as it does, and where
+-- it is the goal, or nothing waits, the estimate is known.
 use Rattle.std.proofs.Common.{◌≡◌, ℕ, zero, suc, ◌+◌, ◌*◌, ◌-◌, ◌<◌, ◌≤◌, ◌^◌, nat_le, Bool, true, false, cond, not, List, [], ◌∷◌, map, length, get_or, slice_get, Option, Some, None, Contains, inl, inr, refl, sym, ap, ◌∙◌, subst, arith}
 use Rattle.std.specs.List.{list_all}
 use Rattle.std.proofs.lemmas.Bool.{true≢false, cases_lt, cases_Bool, le-leb, leb-true, and_parts, and_from, both_ways}
@@ -27,7 +27,8 @@ use Rattle.hd_hmax.proofs.Places.{near_own, near_foreign, value_at-place, rule_c
 use Rattle.hd_hmax.proofs.Sizes.{small_after, small_dearest}
 use Rattle.hd_hmax.proofs.Counting.{times-nil, all_closed}
 
--- what an action brings about is among its places, if a rule needs it; and they are of what it brings about
+-- what an action brings about is among its places, if a rule needs it; and they are of what it
+-- brings about
 pub record BringRight (t : Task) (brings : List (List ℕ)) : Type 0 where
   pub all : (q : ℕ) (a : Action) (l : Literal) → slice_get t.actions q ≡ Some a → l.atom < length t.atoms → brings_about a l ≡ true
       → (r : ℕ) → r ≤ length t.actions → Contains (needs t r) (place (length t.atoms) l) → Contains (row brings q) (place (length t.atoms) l)

@@ -1,7 +1,8 @@
 -- The rounds come to rest: after as many rounds as there are literals no cost falls any more.
 --
--- A literal whose cost comes to c or below in a round only gets there by one whose cost came there in the round before. That one
--- then counts among those that cost at most c: so each round has one of them more, and there are no more than all.
+-- A literal whose cost comes to c or below in a round only gets there by one whose cost came there
+-- in the round before. That one then counts among those that cost at most c: so each round has one
+-- of them more, and there are no more than all.
 use Rattle.std.proofs.Common.{◌≡◌, ℕ, zero, suc, ◌*◌, ◌-◌, ◌<◌, ◌≤◌, true, false, List, ◌++◌, map, filter, length, Contains, arith, length-append}
 use Rattle.std.specs.List.{list_all}
 use Rattle.std.proofs.lemmas.Bool.{both_ways, false_from_ne_true, true_from_ne_false}
@@ -104,6 +105,7 @@ module _ (t : Task) (s : State) where
       let less = length-filter-some_fail (affords t s k c) all l (Contains-all_literals (length t.atoms) l (own_if_new t s k c l now before)) before in
       omega (arith, few, less, length-all_literals (length t.atoms)))
 
-  -- so an action that costs at most c in the end leaves nothing that it brings about at a greater cost
+  -- so an action that costs at most c in the end leaves nothing that it brings about at a greater
+  -- cost
   pub closed : (c : ℕ) (l : Literal) → l.atom < length t.atoms → IsBroughtAbout t s (2 * length t.atoms) c l → affords t s (2 * length t.atoms) c l ≡ true
   closed c l own by = at_rest c l (affords-by t s (2 * length t.atoms) c l own by)

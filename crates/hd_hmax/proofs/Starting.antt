@@ -1,4 +1,5 @@
--- Where the computation begins: all places are open; then what is true in a state is closed at no cost.
+-- Where the computation begins: all places are open; then what is true in a state is closed at no
+-- cost.
 use Rattle.std.proofs.Common.{◌≡◌, ℕ, ◌+◌, ◌*◌, ◌<◌, ◌≤◌, ◌^◌, Bool, true, false, cond, not, List, [], ◌∷◌, ◌++◌, map, length, take, replicate, get_or, slice_get, Some, None, Contains, inl, inr, sym, ap, ◌∙◌, subst, arith, length-append}
 use Rattle.std.specs.List.{All}
 use Rattle.std.proofs.lemmas.Bool.{true≢false, cases_lt, le-leb, not-true}

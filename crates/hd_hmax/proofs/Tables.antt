@@ -1,4 +1,5 @@
--- What the tables say of literals, from round to round: what a literal or an action costs falls, where it changes.
+-- What the tables say of literals, from round to round: what a literal or an action costs falls,
+-- where it changes.
 use Rattle.std.proofs.Common.{◌≡◌, ℕ, zero, suc, ◌-◌, ◌<◌, ◌≤◌, nat_le, Bool, true, false, cond, ◌&&◌, ◌||◌, List, map, length, get_or, Option, Some, None, Contains, inl, inr, sym, ap, ◌∙◌, arith}
 use Rattle.std.specs.List.{list_all, list_any}
 use Rattle.std.proofs.lemmas.Bool.{le-leb, leb-true, cases_lt, and_parts, and_from, or_left, or_right, or_cases, both_ways}

@@ -1,5 +1,5 @@
--- A task's actions as rules over the places of literals. A rule is an action, by its number, or behind the last action the goal.
--- (Our own.)
+-- A task's actions as rules over the places of literals. A rule is an action, by its number, or
+-- behind the last action the goal. (Our own.)
 use Rattle.std.specs.Prelude.{◌≡◌, ℕ, ◌+◌, ◌*◌, ◌-◌, ◌<◌, ◌≤◌, ◌==◌, ◌^◌, nat_le, nat_lt, Bool, true, false, not, ◌&&◌, if◌then◌else◌, List, [], ◌∷◌, ◌++◌, map, filter, length, Option, Some, None, slice_get, slice_index_or}
 use Rattle.std.specs.List.{All}
 use Rattle.hd_task.specs.declared.condition.Literal.{Literal}
@@ -39,7 +39,8 @@ abbrev pub asked_by : Task → Option Action → List Literal
 asked_by t None = t.goal.literals
 asked_by t (Some a) = a.condition.literals
 
--- a condition of no literals asks for what is always so: the negation of an atom that the task lacks
+-- a condition of no literals asks for what is always so: the negation of an atom that the task
+-- lacks
 abbrev pub asked_of : ℕ → List Literal → List Literal
 asked_of n [] = literal false n ∷ []
 asked_of n (l ∷ ls) = l ∷ ls

@@ -1,5 +1,5 @@
--- How the estimate is computed: places are closed one after the other, the cheapest first (as shortest paths: Dijkstra 1959).
--- (Our own.)
+-- How the estimate is computed: places are closed one after the other, the cheapest first (as
+-- shortest paths: Dijkstra 1959). (Our own.)
 use Rattle.std.specs.Prelude.{◌≡◌, ℕ, ◌+◌, ◌*◌, ◌-◌, ◌<◌, ◌≤◌, nat_lt, Bool, true, false, List, length, filter, Option, Some, None, slice_get, slice_index_or, slice_set, Contains, ◌⊎◌, vec_len, vec_capacity}
 use Rattle.std.specs.List.{fold}
 use Rattle.std.specs.BinaryHeap.{heap_items, heap_len, heap_capacity}
@@ -46,8 +46,8 @@ open_in pending ps = length (filter (is_open pending) ps)
 unfoldable pub unfinished : List ℕ → ℕ
 unfinished left = length (filter (nat_lt 0) left)
 
--- `left` counts what of its needs is open for each rule; `rest` are the rules that are to be told of the place closed last, each as
--- often as it needs it
+-- `left` counts what of its needs is open for each rule; `rest` are the rules that are to be told
+-- of the place closed last, each as often as it needs it
 pub record IsCounted (t : Task) (pending : List Bool) (left rest : List ℕ) : Type 0 where
   pub width : length pending ≡ places (length t.atoms)
   pub rules : length left ≡ length t.actions + 1
@@ -62,7 +62,8 @@ pub record IsEntry (t : Task) (s : State) (level : ℕ) (x : Ready) : Type 0 whe
   pub cost : rule_cost t s x.0.1 ≡ Some x.0.0
   pub above : level ≤ x.0.0
 
--- closed places cost at most the level; what waits costs what it says; the rules that are to be told need a place at the level
+-- closed places cost at most the level; what waits costs what it says; the rules that are to be
+-- told need a place at the level
 pub record IsFair (t : Task) (s : State) (pending : List Bool) (waits : Ready → Type 0) (level : ℕ) (rest : List ℕ) : Type 0 where
   pub closed : (p : ℕ) → p < places (length t.atoms) → is_open pending p ≡ false → (v : ℕ) × (value_at t s p ≡ Some v) × (v ≤ level)
   pub queued : (x : Ready) → waits x → IsEntry t s level x
@@ -77,7 +78,8 @@ pub record IsTaken (t : Task) (brings : List (List ℕ)) (pending : List Bool) (
 pub record AreReady (t : Task) (brings : List (List ℕ)) (pending : List Bool) (left : List ℕ) (waits : Ready → Type 0) (busy : ℕ) : Type 0 where
   pub ready : (q : ℕ) → q ≤ length t.actions → slice_index_or left q 0 ≡ 0 → ((c : ℕ) × waits (ready c q)) ⊎ ((q ≡ busy) ⊎ IsTaken t brings pending q)
 
--- a rule was told that one of the places which it needs was closed: where that was the last, it waits
+-- a rule was told that one of the places which it needs was closed: where that was the last, it
+-- waits
 pub record IsTold (left : List ℕ) (waits : Ready → Type 0) (rule cost : ℕ) (after : List ℕ) (now : Ready → Type 0) : Type 0 where
   pub less : after ≡ slice_set left rule (slice_index_or left rule 0 - 1)
   pub kept : (y : Ready) → waits y → now y

@@ -14,7 +14,8 @@ use hd_task::{Reads, State, Task};
 use std::alloc::Global;
 use std::marker::Model;
 
-/// What computes the estimates of a task's states: its rules, made once, and what is written anew for each state.
+/// What computes the estimates of a task's states: its rules, made once, and what is written anew
+/// for each state.
 #[derive(Debug, Drop)]
 pub struct Hmax<'t> {
     rules: Rules<'t>,
@@ -49,8 +50,8 @@ impl<'t> Hmax<'t> {
     /// What computes the estimates of a task's states.
     ///
     /// # Errors
-    /// `NoMemory` where there is no room for six numbers an action, six an atom, and one for each literal of a condition, of the
-    /// goal and of what an action brings about.
+    /// `NoMemory` where there is no room for six numbers an action, six an atom, and one for each
+    /// literal of a condition, of the goal and of what an action brings about.
     pub fn new(alloc: Global, task: &'t Task) -> Result<Hmax<'t>, NoMemory>
         ensures task { IfOk result (λ h. h.task ≡ task.now) }
     {

@@ -37,7 +37,8 @@ fn sum_of_constants(amounts: &[Expr]) -> Option<i128>
     Some(sum)
 }
 
-/// The sum of an action's amounts, if all of them are constant, and 0 where one depends on the state.
+/// The sum of an action's amounts, if all of them are constant, and 0 where one depends on the
+/// state.
 fn constant_price(action: &Action) -> u128
     requires few { length action.now.costs ≤ MAX_AMOUNTS }
     ensures price { result ≡ constant_price action.now }

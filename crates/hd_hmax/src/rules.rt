@@ -1,7 +1,8 @@
 //! A task's actions as rules over places, made once.
 //!
-//! A rule is an action, by its number, or behind the last action the goal. A place is that of a literal: first those of the atoms,
-//! then those of their negations; the last of each half stands for all atoms that the task lacks.
+//! A rule is an action, by its number, or behind the last action the goal. A place is that of a
+//! literal: first those of the atoms, then those of their negations; the last of each half stands
+//! for all atoms that the task lacks.
 ghost use Rattle.std.specs.Prelude.{◌≡◌, ℕ, ◌+◌, ◌*◌, ◌<◌, ◌≤◌, ◌++◌, ◌∷◌, [], ◌==◌, Some, None, IfOk, OnOk, length, map, replicate, slice_get, slice_index_or, slice_set, nat_lt, if◌then◌else◌};
 ghost use Rattle.hd_task.specs.declared.task.TheConstants.{MAX_ATOMS};
 ghost use Rattle.hd_task.specs.Effects.{names_atom};
@@ -122,8 +123,8 @@ fn add_each(
     Ok(())
 }
 
-/// Puts a rule into the lists of the places that it needs, and counts these. A rule of no literals needs what is always so: the
-/// negation of an atom that the task lacks.
+/// Puts a rule into the lists of the places that it needs, and counts these. A rule of no literals
+/// needs what is always so: the negation of an atom that the task lacks.
 fn add_rule(
     alloc: Global,
     lists: &mut Vec<Sequence<u32>>,
@@ -202,7 +203,8 @@ fn push_added(row: &mut Vec<u32>, atoms: usize, askers: &Rows, adds: &[u32]) -> 
     Ok(())
 }
 
-/// Puts the places of the negations of deleted atoms behind others, if a rule needs them, but for what is added.
+/// Puts the places of the negations of deleted atoms behind others, if a rule needs them, but for
+/// what is added.
 fn push_deleted(
     row: &mut Vec<u32>,
     atoms: usize,
@@ -275,8 +277,8 @@ impl<'t> Rules<'t> {
     /// The rules of a task.
     ///
     /// # Errors
-    /// `NoMemory` where there is no room for two numbers a rule, two a place, and one for each literal of a condition, of the
-    /// goal and of what an action brings about.
+    /// `NoMemory` where there is no room for two numbers a rule, two a place, and one for each
+    /// literal of a condition, of the goal and of what an action brings about.
     pub(crate) fn of(alloc: Global, task: &'t Task) -> Result<Rules<'t>, NoMemory>
         ensures { IfOk result (λ r. r.task.now ≡ task.now) }
     {

@@ -38,7 +38,8 @@ fn copy_all(left: &mut Vec<usize>, counts: &[usize])
 }
 
 impl Work {
-    /// Tells a rule that a place which it needs costs as much as the level. Where that was the last, it can be taken.
+    /// Tells a rule that a place which it needs costs as much as the level. Where that was the
+    /// last, it can be taken.
     #[inline(always)]
     fn tell(&mut self, rules: &Rules<'_>, rule: u32, level: u128)
         requires known { rule ≤ length rules.now.task.now.actions }
@@ -61,7 +62,8 @@ impl Work {
         }
     }
 
-    /// Closes a place that costs as much as the level, if it is open, and tells the rules that need it.
+    /// Closes a place that costs as much as the level, if it is open, and tells the rules that need
+    /// it.
     #[inline(always)]
     fn settle(&mut self, rules: &Rules<'_>, place: usize, level: u128)
         requires own { place < places (length rules.now.task.now.atoms) }

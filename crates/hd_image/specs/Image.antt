@@ -1,5 +1,6 @@
--- The bytes of a journal: a header, then groups of entries, with a gate, one byte, before the header, before each group, and at the end.
--- Numbers stand with their lowest byte first. (Our own format.)
+-- The bytes of a journal: a header, then groups of entries, with a gate, one byte, before the
+-- header, before each group, and at the end. Numbers stand with their lowest byte first. (Our own
+-- format.)
 use Rattle.std.specs.Prelude.{◌≡◌, ◌⊎◌, ℕ, ◌+◌, ◌-◌, ◌^◌, ◌<◌, ◌≤◌, ◌==◌, ◌||◌, Bool, nat_lt, if◌then◌else◌, List, [], ◌∷◌, ◌++◌, length, codes}
 use Rattle.std.specs.List.{flat_map, AllByRecursion}
 use Rattle.byteorder.specs.Endian.{little_bytes}
@@ -101,8 +102,8 @@ abbrev pub entries_of : Version → ℕ → List Kid → List Entry
 entries_of v at [] = []
 entries_of v at (kid ∷ kids) = entry_at kid at ∷ entries_of v (at + entry_width v) kids
 
--- the entries of groups, of which the first has its gate at this place. A gate and a count take five bytes; the next gate stands behind
--- the group
+-- the entries of groups, of which the first has its gate at this place. A gate and a count take
+-- five bytes; the next gate stands behind the group
 abbrev pub entries_in : Version → ℕ → List (List Kid) → List Entry
 entries_in v gate [] = []
 entries_in v gate (kids ∷ groups) = entries_of v (gate + 5) kids ++ entries_in v (gate + length (opened v kids)) groups

@@ -20,8 +20,8 @@ pub record IsHalfMade (content : List ℕ) : Type 0 where
   pub some : 1 ≤ length rest
   pub short : length rest ≤ FIRST_GATE
 
--- a header may have this gate where so many bytes stand behind it: the gate is open, or it was being opened, and then the first group's
--- gate alone stands behind the header
+-- a header may have this gate where so many bytes stand behind it: the gate is open, or it was
+-- being opened, and then the first group's gate alone stands behind the header
 abbrev pub IsHead : ℕ → ℕ → Type 0
 IsHead head behind = ((head ≡ 1) × (1 ≤ behind)) ⊎ ((head ≢ 0) × (head ≢ 1) × (behind ≡ 1))
 
@@ -56,7 +56,8 @@ pub record HasGroup (v : Version) (behind : List ℕ) : Type 0 where
   pub gate : 0 < length next
   pub whole : behind ≡ counted v kids ++ next
 
--- the header of this task stands at the front, then whole groups, and then, here, an open gate without a whole group behind it
+-- the header of this task stands at the front, then whole groups, and then, here, an open gate
+-- without a whole group behind it
 pub record IsDamaged (digest content : List ℕ) (at : ℕ) : Type 0 where
   pub head : ℕ
   pub v : Version
@@ -67,7 +68,8 @@ pub record IsDamaged (digest content : List ℕ) (at : ℕ) : Type 0 where
   pub torn : ¬ HasGroup v behind
   pub place : at ≡ FIRST_GATE + length (flat_map (opened v) groups)
 
--- what is told of a journal by its version, its header's gate, its groups, its last gate, and what stands behind that
+-- what is told of a journal by its version, its header's gate, its groups, its last gate, and what
+-- stands behind that
 abbrev pub contents_of : Version → ℕ → List (List Kid) → ℕ → List ℕ → Contents
 contents_of v head groups gate behind =
     record {
@@ -79,7 +81,8 @@ contents_of v head groups gate behind =
       behind = length behind;
     }
 
--- the header of this task stands at the front, then groups, then a gate that is not open, and anything; and just this is told
+-- the header of this task stands at the front, then groups, then a gate that is not open, and
+-- anything; and just this is told
 pub record IsJournal (digest content : List ℕ) (found : Contents) : Type 0 where
   pub head : ℕ
   pub v : Version

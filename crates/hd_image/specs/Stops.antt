@@ -1,4 +1,5 @@
--- What a stop may leave in a file, where what a device was asked for last may have had any part of its effect. (Our own.)
+-- What a stop may leave in a file, where what a device was asked for last may have had any part of
+-- its effect. (Our own.)
 use Rattle.std.specs.Prelude.{◌≡◌, ◌⊎◌, ℕ, ◌≤◌, List, [], ◌∷◌, ◌++◌, length, take, drop}
 use Rattle.std.specs.List.{AllByRecursion}
 use Rattle.hd_task.specs.declared.plan.Kid.{Kid}
@@ -11,13 +12,14 @@ use Rattle.hd_image.specs.Reading.{IsHalfMade, IsFound, contents_of}
 
 -- ---- while a group is appended, or a file is mended
 
--- the last gate is closed, and anything may stand behind it. So it is while a group is written there, and while it is cut off again
+-- the last gate is closed, and anything may stand behind it. So it is while a group is written
+-- there, and while it is cut off again
 pub record IsClosed (v : Version) (digest : List ℕ) (groups : List (List Kid)) (content : List ℕ) : Type 0 where
   pub behind : List ℕ
   pub whole : content ≡ front v digest groups ++ 0 ∷ behind
 
--- the last gate may read anything, and the next group stands behind it, whole, with the next gate closed. So it is while the gate is
--- opened, and while it is closed again
+-- the last gate may read anything, and the next group stands behind it, whole, with the next gate
+-- closed. So it is while the gate is opened, and while it is closed again
 pub record IsOpening (v : Version) (digest : List ℕ) (groups : List (List Kid)) (next : List Kid) (content : List ℕ) : Type 0 where
   pub gate : ℕ
   pub whole : content ≡ front v digest groups ++ gate ∷ (counted v next ++ 0 ∷ [])
@@ -28,13 +30,15 @@ IsBeforeOrAfter v digest groups next content = IsClosed v digest groups content 
 
 -- ---- while a header is made
 
--- the header's gate may read anything, and the header stands behind it, whole, with the first group's gate closed
+-- the header's gate may read anything, and the header stands behind it, whole, with the first
+-- group's gate closed
 pub record IsOpeningHeader (v : Version) (digest content : List ℕ) : Type 0 where
   pub gate : ℕ
   pub whole : content ≡ gate ∷ header v digest ++ 0 ∷ []
 
--- what a stop may leave while a header is made: a byte at most, a closed gate with anything behind it that is no longer than a header and
--- the first group's gate, or a whole header whose gate is being opened
+-- what a stop may leave while a header is made: a byte at most, a closed gate with anything behind
+-- it that is no longer than a header and the first group's gate, or a whole header whose gate is
+-- being opened
 abbrev pub IsMaking : Version → List ℕ → List ℕ → Type 0
 IsMaking v digest content = (length content ≤ 1) ⊎ (IsHalfMade content ⊎ IsOpeningHeader v digest content)
 
@@ -58,8 +62,8 @@ ReadsAsNone digest content v = IsFound digest content Unmade ⊎ (IsFound digest
 
 -- ---- mending
 
--- with its header's gate opened, its last gate closed and what stands behind that cut off, a content is the journal of groups, whose
--- entries are those that were found
+-- with its header's gate opened, its last gate closed and what stands behind that cut off, a
+-- content is the journal of groups, whose entries are those that were found
 pub record IsMended (digest content : List ℕ) (found : Contents) : Type 0 where
   pub groups : List (List Kid)
   pub sound : AllByRecursion (IsGroup found.version) groups

@@ -17,7 +17,8 @@ pub record AreWhole (v : Version) (bytes : List ℕ) : Type 0 where
   pub count : ℕ
   pub is : length bytes ≡ entry_width v * count
 
--- so many bytes behind an open gate are a count and as many entries, and the next gate stands behind them
+-- so many bytes behind an open gate are a count and as many entries, and the next gate stands
+-- behind them
 pub record IsGroupLen (v : Version) (behind : List ℕ) (len : ℕ) : Type 0 where
   pub some : 1 ≤ little_number 4 behind
   pub most : little_number 4 behind ≤ MAX_GROUP

@@ -24,8 +24,8 @@ fn all_fit(version: Version, kids: &[Kid]) -> bool
     kids.iter().all(|kid| fits_one(version, kid.parent))
 }
 
-/// Whether each parent may be written in a journal of this version: it is the root's, or the number of an entry that the journal may
-/// have. Parents that may be written can be told by their bytes.
+/// Whether each parent may be written in a journal of this version: it is the root's, or the number
+/// of an entry that the journal may have. Parents that may be written can be told by their bytes.
 pub fn fits(version: Version, kids: &[Kid]) -> bool
     ensures all { result ≡ list_all (λ kid. fits_parent version kid.parent) kids.now }
     ensures told { IsTrue result
@@ -86,7 +86,8 @@ fn push_entries(bytes: &mut Vec<u8>, version: Version, kids: &[Kid]) -> Result<(
     Ok(())
 }
 
-/// What is written behind the last gate to append a group: its count, its entries, and the next gate, closed.
+/// What is written behind the last gate to append a group: its count, its entries, and the next
+/// gate, closed.
 ///
 /// # Errors
 /// `NoMemory` where there is no room for the bytes.

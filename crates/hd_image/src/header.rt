@@ -9,20 +9,22 @@ use crate::Version;
 /// An open gate: a whole group, or a whole header, stands behind it.
 pub const OPEN: u8 = 1;
 
-/// What is written for a closed gate. Whatever is not open is no longer, or not yet, part of the journal.
+/// What is written for a closed gate. Whatever is not open is no longer, or not yet, part of the
+/// journal.
 pub const CLOSED: u8 = 0;
 
 /// How many bytes a digest has.
 pub const DIGEST_LEN: usize = 32;
 
-/// The place of the first group's gate, behind the header. So many bytes also stand behind the header's gate in a new journal: its
-/// header, and this gate.
+/// The place of the first group's gate, behind the header. So many bytes also stand behind the
+/// header's gate in a new journal: its header, and this gate.
 pub const FIRST_GATE: usize = 38;
 
 /// The letters with which a header begins.
 const LETTERS: [u8; 4] = *b"HDPJ";
 
-/// What stands behind the header's gate in a new journal: the header, and the first group's gate, closed.
+/// What stands behind the header's gate in a new journal: the header, and the first group's gate,
+/// closed.
 pub fn header_bytes(version: Version, digest: &[u8; DIGEST_LEN]) -> [u8; FIRST_GATE]
     ensures { result ≡ header version digest.now ++ 0 ∷ [] }
 {

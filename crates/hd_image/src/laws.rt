@@ -33,7 +33,8 @@ pub fn images_are_read_as_their_groups()
         → IsFound digest (image v digest groups) (Journal (contents_of v 1 groups 0 [])) }
 {}
 
-/// What a stop leaves while a group is appended is read as the groups before, or is the journal of these and the new one.
+/// What a stop leaves while a group is appended is read as the groups before, or is the journal of
+/// these and the new one.
 pub fn stops_leave_the_groups_before_or_after()
     ensures { (v : Version) (digest : List ℕ) (groups : List (List Kid)) (next : List Kid)
         (content : List ℕ) → length digest ≡ DIGEST_LEN
@@ -42,20 +43,23 @@ pub fn stops_leave_the_groups_before_or_after()
         → ReadsAs digest content v groups ⊎ IsAfter digest content v groups next }
 {}
 
-/// What a stop leaves while a header is made is read as a header that is still to be made, or as a journal of no groups.
+/// What a stop leaves while a header is made is read as a header that is still to be made, or as a
+/// journal of no groups.
 pub fn stops_leave_a_header_to_make_or_no_groups()
     ensures { (v : Version) (digest content : List ℕ) → length digest ≡ DIGEST_LEN
         → IsMaking v digest content → ReadsAsNone digest content v }
 {}
 
-/// A journal that is found becomes, once it is mended, the image of groups whose entries were found.
+/// A journal that is found becomes, once it is mended, the image of groups whose entries were
+/// found.
 pub fn what_is_mended_is_an_image()
     ensures { (digest content : List ℕ) (found : Contents)
         → IsFound digest content (Journal found) → IsMended digest content found }
 {}
 
-/// What is written is the image of groups: a header that was made has none, and a group that was opened is the last of them. Its
-/// entries stand behind the others, five bytes behind what was the last gate.
+/// What is written is the image of groups: a header that was made has none, and a group that was
+/// opened is the last of them. Its entries stand behind the others, five bytes behind what was the
+/// last gate.
 pub fn what_is_written_is_an_image()
     ensures made { (v : Version) (digest : List ℕ)
         → 1 ∷ header v digest ++ 0 ∷ [] ≡ image v digest [] }

@@ -3,7 +3,8 @@ ghost use Rattle.std.specs.Prelude.{◌≡◌, ◌≢◌, IfSome, IfNone};
 ghost use Rattle.hd_image.specs.declared.version.Version.{Version};
 ghost use Rattle.hd_image.specs.Image.{version_byte, parent_width, entry_width, root_number, most_of};
 
-/// A version of the format. New journals are of version two; one of version one is read, and goes on as such.
+/// A version of the format. New journals are of version two; one of version one is read, and goes
+/// on as such.
 #[derive(Clone, Copy, Debug, PartialEq, Eq)]
 pub enum Version {
     /// A parent takes four bytes.

@@ -71,7 +71,8 @@ fn entries_len(version: Version, count: usize) -> usize
     }
 }
 
-/// How many bytes the count and the entries of a group have, where it stands behind an open gate with the byte of the next one.
+/// How many bytes the count and the entries of a group have, where it stands behind an open gate
+/// with the byte of the next one.
 fn group_len(version: Version, behind: &[u8]) -> Option<usize>
     ensures some { IfSome result (λ len. IsGroupLen version behind.now len) }
     ensures none { IfNone result (¬ HasGroup version behind.now) }

@@ -20,7 +20,8 @@ either None true v old = refl
 either None false v old = refl
 either (Some x) found v old = refl
 
--- the first value in the front of a list, or else in a table, where the front's last one goes into the table
+-- the first value in the front of a list, or else in a table, where the front's last one goes into
+-- the table
 pub first_value-put : (listed : List InitialValue) (left : ℕ) (v : InitialValue) (g : Ground) (key : List ℕ) (old new : Option ℤ)
     → left < length listed → v ≡ get_or listed left v → key ≡ form_key v.fluent
     → new ≡ cond (pointwise nat_eq key (form_key g)) (Some v.value) old

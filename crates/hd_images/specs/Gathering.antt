@@ -10,7 +10,8 @@ use Rattle.hd_task.specs.declared.effect.Change.TheVariants.{Assign, ScaleUp, Su
 use Rattle.hd_task.specs.declared.effect.Effect.{Effect}
 use Rattle.hd_grounding.specs.Images.{expression_of, is_on, term_by, change_by, change_of}
 
--- a change with one effect more: an assignment or a scaling stays as it is, and a sum gets one more term
+-- a change with one effect more: an assignment or a scaling stays as it is, and a sum gets one more
+-- term
 abbrev pub change_with : Option Change → lifted_change.Change → Expression (Operand ℕ) → Change
 change_with None c x = change_by c x (term_by c x ∷ [])
 change_with (Some (Assign y)) c x = Assign y

@@ -90,7 +90,8 @@ fn comparisons_of(
     Ok(Sequence::from_vec(comparisons))
 }
 
-/// A condition, its atoms and fluents by number. Where one of its equalities fails, it can't hold in any state.
+/// A condition, its atoms and fluents by number. Where one of its equalities fails, it can't hold
+/// in any state.
 ///
 /// # Errors
 /// Want of memory.

@@ -61,7 +61,8 @@ pub fn count_costs(effects: &[NumericEffect]) -> usize
     count
 }
 
-/// The amounts that a schema with objects adds to the cost, in the text's order: those that are the same in each state as numbers.
+/// The amounts that a schema with objects adds to the cost, in the text's order: those that are the
+/// same in each state as numbers.
 ///
 /// # Errors
 /// Want of memory.

@@ -37,7 +37,8 @@ fn with_term(terms: Sequence<Term>, term: Term) -> Result<Sequence<Term>, NoMemo
     Ok(Sequence::from_vec(terms))
 }
 
-/// The change of a fluent by one effect more: an assignment or a scaling stands alone, and increases and decreases add up.
+/// The change of a fluent by one effect more: an assignment or a scaling stands alone, and
+/// increases and decreases add up.
 fn change_with(
     alloc: Global,
     before: Option<Change>,

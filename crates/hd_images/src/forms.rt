@@ -12,7 +12,8 @@ use indexmap::IndexSet;
 use std::alloc::Global;
 use std::marker::Model;
 
-/// Ground atoms, or ground fluents, each once, in the order in which they were added first. Contracts see the list of them.
+/// Ground atoms, or ground fluents, each once, in the order in which they were added first.
+/// Contracts see the list of them.
 #[derive(Drop)]
 pub struct Forms {
     pub(crate) keys: IndexSet<Key, Seed>,

@@ -8,7 +8,8 @@ use hd_lifted::{Applied, Ground, object_of};
 use smallvec::SmallVec;
 use std::alloc::Global;
 
-/// The symbol of a ground form, and then its objects: up to four objects take no memory of their own.
+/// The symbol of a ground form, and then its objects: up to four objects take no memory of their
+/// own.
 pub(crate) type Key = SmallVec<usize, 5>;
 
 /// The key of a ground form.

@@ -10,7 +10,8 @@ ghost use Rattle.hd_kept.specs.Numbering.{form_key, HasExactly, NumbersInstances
 ghost use Rattle.hd_grounding.specs.Faults.{met_by_all, is_undefined, undefined_in, IsTooLarge};
 ghost use Rattle.hd_images.specs.Meeting.{IsMet, with_forms, goal_atoms};
 
-/// Where the kept instances and the goal meet no more fluents than a task may have, those that they meet are the task's, in its order.
+/// Where the kept instances and the goal meet no more fluents than a task may have, those that they
+/// meet are the task's, in its order.
 pub fn met_fluents_are_numbered()
     ensures { (t : LiftedTask) (instances : List Instance) (met numbers : List Ground)
         → NumbersInstances t instances → IsMet MAX_FLUENTS (met_by_all t instances) met
@@ -25,14 +26,16 @@ pub fn many_fluents_are_too_many()
         → AllPairs (λ g h. g ≢ h) met → MAX_FLUENTS < length met → IsTooLarge t }
 {}
 
-/// Where they do not, the first fluent without a first value is the first of those that are met, each once.
+/// Where they do not, the first fluent without a first value is the first of those that are met,
+/// each once.
 pub fn first_undefined_is_found()
     ensures { (t : LiftedTask) (instances : List Instance) (met : List Ground)
         → IsMet MAX_FLUENTS (met_by_all t instances) met → length met ≤ MAX_FLUENTS
         → find (is_undefined t) met ≡ undefined_in t instances }
 {}
 
-/// The atoms that are reached and those that the goal names, each once, are the task's, in its order.
+/// The atoms that are reached and those that the goal names, each once, are the task's, in its
+/// order.
 pub fn gathered_atoms_are_numbered()
     ensures { (t : LiftedTask) (atoms numbers : List Ground)
         → ((g : Ground) → IsReachable t g ↔ Contains atoms g)

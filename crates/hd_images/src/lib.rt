@@ -1,9 +1,10 @@
-//! What stands for the parts of a lifted task in a task of numbers: atoms and fluents by number, and the images of conditions, effects
-//! and costs.
+//! What stands for the parts of a lifted task in a task of numbers: atoms and fluents by number,
+//! and the images of conditions, effects and costs.
 //!
-//! [`Forms`] gathers ground forms, each once, and [`Numbers`] numbers them. Each function that has the name of a definition of
-//! hd_grounding's `specs/` computes it; [`met_by_all`], [`first_undefined`] and [`first_negative`] find what the faults there speak of.
-//! Ground forms are found by hash, as keys: their symbol and then their objects.
+//! [`Forms`] gathers ground forms, each once, and [`Numbers`] numbers them. Each function that has
+//! the name of a definition of hd_grounding's `specs/` computes it; [`met_by_all`],
+//! [`first_undefined`] and [`first_negative`] find what the faults there speak of. Ground forms are
+//! found by hash, as keys: their symbol and then their objects.
 #![tactic(auto)]
 
 mod actions;

@@ -216,8 +216,8 @@ fn met_by_instances(
     Ok(forms)
 }
 
-/// The fluents that the instances meet and then those that the goal meets, in the order in which they are met first: all of them, or
-/// more than a task may have.
+/// The fluents that the instances meet and then those that the goal meets, in the order in which
+/// they are met first: all of them, or more than a task may have.
 ///
 /// # Errors
 /// Want of memory.

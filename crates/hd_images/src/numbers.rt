@@ -14,8 +14,8 @@ use indexmap::IndexSet;
 use std::alloc::Global;
 use std::marker::Model;
 
-/// Ground atoms, or ground fluents, which are numbered from 0 in the order of their symbols and then of their objects. Contracts see the
-/// list of them.
+/// Ground atoms, or ground fluents, which are numbered from 0 in the order of their symbols and
+/// then of their objects. Contracts see the list of them.
 #[derive(Drop)]
 pub struct Numbers {
     keys: IndexSet<Key, Seed>,

@@ -8,8 +8,8 @@ use Rattle.hd_inspect.specs.declared.inspected.Summary.{Summary}
 use Rattle.hd_inspect.specs.declared.inspected.Inspected.{Inspected}
 use Rattle.hd_inspect.specs.declared.inspected.Inspected.TheVariants.{Unmade, HalfMade, Journal}
 
--- the bytes are a journal of some digest, and just this is told of it: its version, the digest, how many entries and groups it has, and how
--- many bytes stand behind its last gate
+-- the bytes are a journal of some digest, and just this is told of it: its version, the digest, how
+-- many entries and groups it has, and how many bytes stand behind its last gate
 pub record IsSummary (content : List ℕ) (s : Summary) : Type 0 where
   pub digest : List ℕ
   pub found : Contents

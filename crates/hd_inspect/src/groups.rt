@@ -4,7 +4,8 @@ ghost use Rattle.hd_inspect.specs.Groups.{follows, groups_by};
 
 use hd_image::Entry;
 
-/// Whether an entry stands at once behind the one before it, if there is one: between two groups are a gate and a count.
+/// Whether an entry stands at once behind the one before it, if there is one: between two groups
+/// are a gate and a count.
 fn follows(width: u64, last: Option<u64>, at: u64) -> bool
     ensures { result ≡ follows width last at }
 {

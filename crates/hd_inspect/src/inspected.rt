@@ -12,8 +12,8 @@ pub struct Summary {
     pub entries: u64,
     /// How many groups it has.
     pub groups: u64,
-    /// How many bytes stand behind the last gate: a group that is not whole, or that was not sure to be when it was written. They are no part
-    /// of the journal.
+    /// How many bytes stand behind the last gate: a group that is not whole, or that was not sure
+    /// to be when it was written. They are no part of the journal.
     pub behind: u64,
 }
 

@@ -45,8 +45,9 @@ fn summary_of(digest: [u8; DIGEST_LEN], found: &Contents) -> Summary
 /// What the bytes of a file tell of the journal in them, whatever its task.
 ///
 /// # Errors
-/// `NotAJournal` where no header stands at the front, and none was being made; `Damaged` with the place of the first open gate that has no
-/// whole group and next gate behind it; `NoMemory`. `OtherTask` is never told.
+/// `NotAJournal` where no header stands at the front, and none was being made; `Damaged` with the
+/// place of the first open gate that has no whole group and next gate behind it; `NoMemory`.
+/// `OtherTask` is never told.
 pub fn inspect(alloc: Global, content: &[u8]) -> Result<Inspected, ImageError>
     ensures inspected { IfOk result (IsInspected content.now) }
     ensures refused { IfErr result (IsRefused content.now) }

@@ -1,4 +1,5 @@
-//! What a file's bytes tell of the journal in them, whatever its task: nobody needs the texts, and nothing is changed.
+//! What a file's bytes tell of the journal in them, whatever its task: nobody needs the texts, and
+//! nothing is changed.
 #![tactic(auto)]
 
 mod groups;

@@ -1,4 +1,5 @@
--- What a stop leaves at each moment while a change is made sure of, and while one follows the other.
+-- What a stop leaves at each moment while a change is made sure of, and while one follows the
+-- other.
 use Rattle.std.proofs.Common.{◌≡◌, inl, inr, ℕ, List, [], ◌∷◌, ◌++◌, length, Result, Ok, Err, refl, sym, ap, ◌∙◌, subst, append_assoc}
 use Rattle.hd_store.specs.declared.change.Change.{Change}
 use Rattle.hd_store.specs.declared.change.Change.TheVariants.{Write, Cut, Sync, FailedSync}

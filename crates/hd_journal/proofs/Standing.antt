@@ -1,4 +1,5 @@
--- What a stop leaves is the journal of groups, or a header that is to be made, and nothing is said against it.
+-- What a stop leaves is the journal of groups, or a header that is to be made, and nothing is said
+-- against it.
 use Rattle.std.proofs.Common.{◌≡◌, ◌≢◌, ◌⊎◌, inl, inr, ℕ, ◌==◌, Bool, true, false, List, [], ◌∷◌, ◌++◌, length, Result, Ok, Err, refl, ap, ◌∙◌, arith}
 use Rattle.std.specs.List.{AllByRecursion}
 use Rattle.std.proofs.lemmas.Bool.{eqb-true, eqb-false}

@@ -9,7 +9,8 @@ use Rattle.hd_store.specs.Bytes.{written_over, IsPartOfWrite, IsPartOfCut}
 use Rattle.hd_store.specs.Calls.{BreaksOff}
 use Rattle.hd_store.specs.Device.{Device, content_of, done}
 
--- a call that changes a device: bytes are written from a place on, all is cut to a length, or what a read gives is made sure
+-- a call that changes a device: bytes are written from a place on, all is cut to a length, or what
+-- a read gives is made sure
 pub data Call : Type 0 where
   Writing : ℕ → List ℕ → Call
   Cutting : ℕ → Call
@@ -40,7 +41,8 @@ after_calls device (call ∷ calls) = after_calls (after_call device call) calls
 abbrev pub MayEnd : Device → Result (Unit {0}) StoreError → Type 0
 MayEnd device result = GoesAsForetold result device.failures (foretold_by device.changes)
 
--- a call failed: it was begun and any part of it may have been done; on a device that is closed nothing was begun
+-- a call failed: it was begun and any part of it may have been done; on a device that is closed
+-- nothing was begun
 abbrev pub Breaks : Device → Call → Device → Type 0
 Breaks old (Writing at bytes) new = BreaksOff old (Write at (length bytes)) (IsPartOfWrite (content_of old) at (length bytes)) new
 Breaks old (Cutting len) new = BreaksOff old (Cut len) (IsPartOfCut (content_of old) len) new
@@ -52,7 +54,8 @@ TakesMemory old (Writing at bytes) = length (content_of old) < at + length bytes
 TakesMemory old (Cutting len) = ⊥
 TakesMemory old Syncing = ⊥
 
--- how a call that is not done ends: it fails, as it may, or it wants memory, and then nothing was begun
+-- how a call that is not done ends: it fails, as it may, or it wants memory, and then nothing was
+-- begun
 abbrev pub Ends : Device → Call → Result (Unit {0}) StoreError → Device → Type 0
 Ends old call (Ok done) new = ⊥
 Ends old call (Err Failed) new = MayEnd old (Err Failed) × Breaks old call new

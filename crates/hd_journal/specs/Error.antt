@@ -7,7 +7,8 @@ use Rattle.hd_image.specs.declared.error.ImageError.TheVariants as image
 use Rattle.hd_store.specs.declared.error.StoreError.{StoreError}
 use Rattle.hd_store.specs.declared.error.StoreError.TheVariants as store
 
--- the printed form: the refusal's number, its name, and the place in decimal (a rule of this project)
+-- the printed form: the refusal's number, its name, and the place in decimal (a rule of this
+-- project)
 abbrev pub text_of : JournalError → List ℕ
 text_of NotAJournal = codes "32 NotAJournal"
 text_of OtherTask = codes "33 OtherTask"

@@ -30,8 +30,8 @@ kid_of entry = record { parent = entry.parent; action = entry.action }
 abbrev pub kids_of : {S : Type 0} {G : Ghosts S} → of.Journal S G → List Kid
 kids_of journal = map kid_of journal.entries.items
 
--- it is the journal of these groups, for the task of this digest: a read gives just their image, it has their entries with their places, and
--- can be appended to
+-- it is the journal of these groups, for the task of this digest: a read gives just their image, it
+-- has their entries with their places, and can be appended to
 pub record IsOf {S : Type 0} {G : Ghosts S} (digest : List ℕ) (groups : List (List Kid)) (journal : of.Journal S G) : Type 0 where
   pub digest_len : length digest ≡ DIGEST_LEN
   pub sound : AllByRecursion (IsGroup journal.version) groups
@@ -50,12 +50,13 @@ pub record IsSame {S : Type 0} {G : Ghosts S} (old new : of.Journal S G) : Type 
 
 -- ---- the calls, each list in order
 
--- a group is appended behind the last gate: its count, its entries and the next gate are written, closed, and made sure of; then its gate is
--- opened
+-- a group is appended behind the last gate: its count, its entries and the next gate are written,
+-- closed, and made sure of; then its gate is opened
 abbrev pub append_calls : Version → ℕ → List Kid → List Call
 append_calls v gate kids = surely (Writing (gate + 1) (counted v kids ++ 0 ∷ [])) ++ surely (Writing gate (1 ∷ []))
 
--- a header is made behind its closed gate: it is written with the first group's gate, closed, and made sure of; then its gate is opened
+-- a header is made behind its closed gate: it is written with the first group's gate, closed, and
+-- made sure of; then its gate is opened
 abbrev pub fill_calls : List ℕ → List Call
 fill_calls digest = surely (Writing 1 (header Two digest ++ 0 ∷ [])) ++ surely (Writing 0 (1 ∷ []))
 
@@ -77,7 +78,8 @@ gate_calls false gate = surely (Writing gate (0 ∷ []))
 abbrev pub cut_calls : ℕ → ℕ → List Call
 cut_calls behind gate = if behind == 0 then [] else surely (Cutting (gate + 1))
 
--- what is found is mended: the gates first, so that what is cut off is no part of the journal before it goes
+-- what is found is mended: the gates first, so that what is cut off is no part of the journal
+-- before it goes
 abbrev pub mend_calls : Contents → List Call
 mend_calls found = head_calls found.header_open ++ (gate_calls found.gate_closed found.last_gate ++ cut_calls found.behind found.last_gate)
 

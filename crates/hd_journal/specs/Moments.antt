@@ -13,14 +13,16 @@ abbrev pub LeavesAlong : (List ℕ → Type 0) → List ℕ → List Step → Li
 LeavesAlong P start [] before = Leaves P start before
 LeavesAlong P start (s ∷ since) before = Leaves P start (s ∷ (since ++ before)) × LeavesAlong P start since before
 
--- Whatever a stop leaves at any moment, from when the device was the old one until it is the new one, is so. A stop within a write or a cut
--- leaves what one right behind it may leave, and a stop within a sync what one right before it may leave.
+-- Whatever a stop leaves at any moment, from when the device was the old one until it is the new
+-- one, is so. A stop within a write or a cut leaves what one right behind it may leave, and a stop
+-- within a sync what one right before it may leave.
 pub record LeavesSince (P : List ℕ → Type 0) (old new : Device) : Type 0 where
   pub since : List Step
   pub start : new.start ≡ old.start
   pub steps : new.steps ≡ since ++ old.steps
   pub each : LeavesAlong P old.start since old.steps
 
--- nothing is pending: no write, cut or failed sync was begun since the last sync that succeeded, or since the start
+-- nothing is pending: no write, cut or failed sync was begun since the last sync that succeeded, or
+-- since the start
 abbrev pub IsSettled : Device → Type 0
 IsSettled device = IsSynced device.steps

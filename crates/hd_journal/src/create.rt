@@ -57,8 +57,9 @@ impl<S: Store> Journal<S> {
     /// Makes a journal without entries on an empty store, for the task of this digest.
     ///
     /// # Errors
-    /// The store, and why: `JournalExists` where it is not empty, and then it is as it was; `Device` where the device failed; `NoMemory`
-    /// where the store could not grow. After these two the header may be half made: a later `open` makes it again.
+    /// The store, and why: `JournalExists` where it is not empty, and then it is as it was;
+    /// `Device` where the device failed; `NoMemory` where the store could not grow. After these two
+    /// the header may be half made: a later `open` makes it again.
     pub fn create(
         alloc: Global,
         store: S,
@@ -69,7 +70,8 @@ impl<S: Store> Journal<S> {
             IsNotMade digest.now (S.device store) e.1 (S.device e.0)) }
         ensures whole { IfOk result (IsOf digest.now []) }
         ensures version { IfOk result (λ journal. journal.version ≡ Two) }
-        // What a stop leaves at any moment is a header that is still to be made, or a journal without entries.
+        // What a stop leaves at any moment is a header that is still to be made, or a journal
+        // without entries.
         ensures moments { IsSettled (S.device store) → content_of (S.device store) ≡ []
             → LeavesSince (IsMaking Two digest.now) (S.device store) (device_left result) }
         ensures settled { IfOk result (λ journal. IsSettled (device_of journal)) }

@@ -24,7 +24,8 @@ pub enum JournalError {
     Failed,
     /// There is a file already, and it is not empty.
     JournalExists,
-    /// The group does not begin where the journal's entries end, or names a parent that cannot be written.
+    /// The group does not begin where the journal's entries end, or names a parent that cannot be
+    /// written.
     NotOut,
     /// Memory ran out.
     NoMemory,

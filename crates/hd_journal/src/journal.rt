@@ -37,8 +37,8 @@ impl<S: Store> Journal<S> {
         }
     }
 
-    /// All entries, in order, with their places. They are kept once: what was read when the journal was opened, and what was appended
-    /// since then.
+    /// All entries, in order, with their places. They are kept once: what was read when the journal
+    /// was opened, and what was appended since then.
     pub fn entries(&self) -> &[Entry]
         ensures { result.now ≡ self.now.entries.items }
     {

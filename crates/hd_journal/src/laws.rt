@@ -29,7 +29,8 @@ pub fn a_call_that_fails_is_counted()
         → Ran old calls (Err store.Failed) new → new.failures ≡ one_more old.failures }
 {}
 
-/// What a stop leaves while a group is appended holds the groups before, or these and the whole new one.
+/// What a stop leaves while a group is appended holds the groups before, or these and the whole new
+/// one.
 pub fn what_a_stop_leaves_holds_groups()
     ensures { (v : Version) (digest : List ℕ) (groups : List (List Kid)) (next : List Kid)
         (content : List ℕ) → AllByRecursion (IsGroup v) groups → IsGroup v next
@@ -37,7 +38,8 @@ pub fn what_a_stop_leaves_holds_groups()
         → StandsIn v digest groups content ⊎ StandsIn v digest (groups ++ next ∷ []) content }
 {}
 
-/// Nothing is said against a content in which groups stand, nor against what a stop leaves while a header is made.
+/// Nothing is said against a content in which groups stand, nor against what a stop leaves while a
+/// header is made.
 pub fn what_a_stop_leaves_is_not_refused()
     ensures groups { (v : Version) (digest : List ℕ) (groups : List (List Kid))
         (content : List ℕ) (error : ImageError) → length digest ≡ DIGEST_LEN

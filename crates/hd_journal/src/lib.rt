@@ -1,8 +1,9 @@
 //! Journals on a store: made, opened, and lengthened by whole groups.
 //!
-//! A group is written behind a closed gate, made sure of, and only then its gate is opened. So what a stop leaves at any moment holds
-//! the groups before, or these and the whole new one, and [`Journal::open`] gives just those. Contracts say which calls on the device
-//! were made, in order, how each ended, and what a stop may leave at each moment.
+//! A group is written behind a closed gate, made sure of, and only then its gate is opened. So what
+//! a stop leaves at any moment holds the groups before, or these and the whole new one, and
+//! [`Journal::open`] gives just those. Contracts say which calls on the device were made, in order,
+//! how each ended, and what a stop may leave at each moment.
 #![tactic(auto)]
 
 mod append;

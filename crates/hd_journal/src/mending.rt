@@ -47,7 +47,8 @@ fn cut_behind<S: Store>(store: &mut S, behind: u64, gate: u64) -> Result<(), Sto
     cut_surely(store, gate + 1)
 }
 
-/// Opens the header's gate, closes the last gate, and cuts off what stands behind it, each where it is wanted.
+/// Opens the header's gate, closes the last gate, and cuts off what stands behind it, each where it
+/// is wanted.
 pub(crate) fn mend<S: Store>(store: &mut S, found: &Contents) -> Result<(), StoreError>
     requires { found.now.last_gate + found.now.behind + 1
         ≡ length (content_of (S.device store.old)) }

@@ -115,12 +115,14 @@ impl<S: Store> Journal<S> {
         }
     }
 
-    /// Opens the journal of the task of this digest, and mends what a stop left: of a group that was being appended nothing stays, or
-    /// the whole. A header that is not there yet, or was being made, is made.
+    /// Opens the journal of the task of this digest, and mends what a stop left: of a group that
+    /// was being appended nothing stays, or the whole. A header that is not there yet, or was being
+    /// made, is made.
     ///
     /// # Errors
-    /// The store, and why: `NotAJournal`, `OtherTask` and `Damaged` of its bytes, and then it is as it was; `Device` where the device
-    /// failed; `NoMemory`. After these two a header may be half made, or a journal half mended: it is to be opened again.
+    /// The store, and why: `NotAJournal`, `OtherTask` and `Damaged` of its bytes, and then it is as
+    /// it was; `Device` where the device failed; `NoMemory`. After these two a header may be half
+    /// made, or a journal half mended: it is to be opened again.
     pub fn open(
         alloc: Global,
         store: S,
@@ -129,7 +131,8 @@ impl<S: Store> Journal<S> {
         ensures opened { IfOk result (IsOpened digest.now (S.device store)) }
         ensures refused { IfErr result (λ e.
             IsNotOpened digest.now (S.device store) e.1 (S.device e.0)) }
-        // It is the journal of some groups; of those that stand there; and of none where a header was being made.
+        // It is the journal of some groups; of those that stand there; and of none where a header
+        // was being made.
         ensures whole { IfOk result (λ journal.
             (groups : List (List Kid)) × IsOf digest.now groups journal) }
         ensures groups { (v : Version) (groups : List (List Kid))

@@ -1,4 +1,5 @@
--- A plan has no first fault and is without one, or the other way round: never both, and never neither. A first fault is one.
+-- A plan has no first fault and is without one, or the other way round: never both, and never
+-- neither. A first fault is one.
 use Rattle.std.proofs.Common.{◌≡◌, ℕ, ◌+◌, List, [], ◌∷◌, Some, None, inl, inr, refl, sym, ◌∙◌, subst}
 use Rattle.std.proofs.lemmas.Option.{none-some, same_Some}
 use Rattle.hd_lifted.specs.declared.task.LiftedTask.{LiftedTask}

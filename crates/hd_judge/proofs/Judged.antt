@@ -1,4 +1,5 @@
--- One step of a validation, as the code comes to it: first the questions before it, and then the step.
+-- One step of a validation, as the code comes to it: first the questions before it, and then the
+-- step.
 use Rattle.std.proofs.Common.{◌≡◌, ℕ, true, false, ◌&&◌, Option, Some, None, slice_get, refl, sym, ap, ap₂, ◌∙◌}
 use Rattle.std.specs.Option.{option_or}
 use Rattle.std.proofs.lemmas.Bool.{and_parts}

@@ -18,7 +18,8 @@ either None true v old = refl
 either None false v old = refl
 either (Some x) found v old = refl
 
--- the first value in the front of a list, or else in a table, where the front's last one goes into the table
+-- the first value in the front of a list, or else in a table, where the front's last one goes into
+-- the table
 pub first_value_put : (listed : List InitialValue) (left : ℕ) (v : InitialValue) (g : Ground) (old new : Option ℤ)
     → left < length listed → v ≡ get_or listed left v → new ≡ cond (same v.fluent g) (Some v.value) old
     → option_or (first_value (take left listed) g) new ≡ option_or (first_value (take (left + 1) listed) g) old

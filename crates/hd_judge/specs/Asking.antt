@@ -1,4 +1,5 @@
--- What is asked of a plan's steps and of its end, in this order: the first question that fails tells a fault. (The order is our own.)
+-- What is asked of a plan's steps and of its end, in this order: the first question that fails
+-- tells a fault. (The order is our own.)
 use Rattle.std.specs.Prelude.{ℕ, not, ◌&&◌, List, [], Option, Some, None, slice_get, option_map}
 use Rattle.hd_base.specs.Options.{◌or◌}
 use Rattle.hd_lifted.specs.declared.schema.Ground.{Ground}
@@ -29,7 +30,8 @@ asked_of_comparisons s objects c departs fails =
 
 -- ---- a step
 
--- may the step be taken? Its conditions on atoms and objects, its fluents, its cost where that is the same in each state, and its comparisons
+-- may the step be taken? Its conditions on atoms and objects, its fluents, its cost where that is
+-- the same in each state, and its comparisons
 unfoldable pub asked_before : LiftedTask → Reached → ℕ → Instance → Schema → Option Fault
 asked_before t r n i a =
     unless (literals_hold r.state i.objects a.condition) (NotApplicable n)
@@ -37,7 +39,8 @@ asked_before t r n i a =
     or unless (not (costs_negative t a i.objects)) (NegativeCost i)
     or asked_of_comparisons r.state i.objects a.condition (Departs n) (NotApplicable n)
 
--- does the step stay in the range: its effects, its new values and the plan's cost? A step of a negative cost doesn't
+-- does the step stay in the range: its effects, its new values and the plan's cost? A step of a
+-- negative cost doesn't
 unfoldable pub asked_after : LiftedTask → Reached → ℕ → Instance → Schema → Option Fault
 asked_after t r n i a = unless (effects_stay r.state.values a i.objects && cost_stays (step t r a i.objects)) (Departs n)
 

@@ -1,4 +1,5 @@
--- What the code keeps while it takes a step: new values beside the old ones, and the sum of the costs so far. (Our own.)
+-- What the code keeps while it takes a step: new values beside the old ones, and the sum of the
+-- costs so far. (Our own.)
 use Rattle.std.specs.Prelude.{◌≡◌, ℕ, Bool, true, false, not, ◌&&◌, ◌||◌, if◌then◌else◌, List, Contains, Option, Some, None, is_some, MatchOption, IfSome, ℤ, pos, ◌+ℤ◌, ◌≤ℤ◌}
 use Rattle.std.specs.List.{list_any, list_all, fold}
 use Rattle.std.specs.Map.{lookup}

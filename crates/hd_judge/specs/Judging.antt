@@ -1,5 +1,5 @@
--- The answers of what computes within the range: an answer, or nothing where a number leaves the range. A value in it may be missing.
--- (Our own.)
+-- The answers of what computes within the range: an answer, or nothing where a number leaves the
+-- range. A value in it may be missing. (Our own.)
 use Rattle.std.specs.Prelude.{◌≡◌, ℕ, Bool, true, ◌&&◌, List, Option, map, MatchOption, ℤ, neg_ℤ, option_map, IfSome}
 use Rattle.std.specs.List.{list_all}
 use Rattle.hd_base.specs.declared.expression.Operand.{Operand}

@@ -1,5 +1,5 @@
--- What is asked of a step and of a plan's end besides what PDDL 2.1 asks: first values, and costs that are the same in each state.
--- (Our own.)
+-- What is asked of a step and of a plan's end besides what PDDL 2.1 asks: first values, and costs
+-- that are the same in each state. (Our own.)
 use Rattle.std.specs.Prelude.{ℕ, Bool, not, ◌&&◌, List, filter, Option, is_some, find}
 use Rattle.std.specs.List.{list_all}
 use Rattle.hd_lifted.specs.declared.schema.Ground.{Ground}
@@ -26,7 +26,8 @@ is_paid e = is_cost e.change
 abbrev pub has_constant_costs : LiftedTask → Schema → Bool
 has_constant_costs t a = list_all (λ (e : NumericEffect). is_constant t e.amount) (filter is_paid a.effects)
 
--- a schema with objects costs the same in each state, and less than 0. The metric need not be looked at: without one no effect of a
--- checked task is a cost, so that there are no amounts, and their sum is 0
+-- a schema with objects costs the same in each state, and less than 0. The metric need not be
+-- looked at: without one no effect of a checked task is a cost, so that there are no amounts, and
+-- their sum is 0
 abbrev pub costs_negative : LiftedTask → Schema → List ℕ → Bool
 costs_negative t a objects = has_constant_costs t a && is_negative (sum_of_costs (first_value t.values) a objects)

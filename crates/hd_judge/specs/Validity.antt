@@ -36,7 +36,8 @@ GoalIsDefined t = (g : Ground) → Contains (met_by_goal t) g → is_defined t g
 abbrev pub NoStepIsNegative : LiftedTask → List Instance → Type 0
 NoStepIsNegative t p = (i : Instance) (is : IsInstance t i) → Contains p i → costs_negative t is.schema i.objects ≡ false
 
--- a plan is validated at a cost if it is valid at this cost, nothing of it departs, and what it meets is defined
+-- a plan is validated at a cost if it is valid at this cost, nothing of it departs, and what it
+-- meets is defined
 pub record IsValidated (t : LiftedTask) (p : List Instance) (cost : ℕ) : Type 0 where
   pub valid : IsValidAt t p (pos cost)
   pub steps_stay : NoStepDeparts t p
@@ -53,12 +54,14 @@ pub record Passes (t : LiftedTask) (r : Reached) (n : ℕ) (i : Instance) (to : 
   pub unasked : asked_of_step t r n i ≡ None
   pub leads : step_by t r i ≡ Some to
 
--- the n-th step is one of no instance, or else it is the fault that the first failing question about it tells
+-- the n-th step is one of no instance, or else it is the fault that the first failing question
+-- about it tells
 pub data TellsStep (t : LiftedTask) (r : Reached) (n : ℕ) (i : Instance) (fault : Fault) : Type 0 where
   no_instance : (IsInstance t i → ⊥) → fault ≡ NoSuchAction n → TellsStep t r n i fault
   fails : IsInstance t i → asked_of_step t r n i ≡ Some fault → TellsStep t r n i fault
 
--- of a list of steps, the first of which is the n-th, and then of the goal, the first failing question tells this fault
+-- of a list of steps, the first of which is the n-th, and then of the goal, the first failing
+-- question tells this fault
 abbrev pub TellsFrom : LiftedTask → Reached → ℕ → List Instance → Fault → Type 0
 TellsFrom t r n [] fault = asked_of_goal t r n ≡ Some fault
 TellsFrom t r n (i ∷ p) fault = TellsStep t r n i fault ⊎ ((to : Reached) × Passes t r n i to × TellsFrom t to (n + 1) p fault)

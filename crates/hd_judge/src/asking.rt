@@ -79,7 +79,8 @@ fn ask_cost(
     Ok(())
 }
 
-/// Do the comparisons stay in the range, and then, do they hold? If not, the one or the other fault is told.
+/// Do the comparisons stay in the range, and then, do they hold? If not, the one or the other fault
+/// is told.
 fn ask_comparisons(
     alloc: Global,
     place: &Place,

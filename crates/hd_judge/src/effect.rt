@@ -72,7 +72,8 @@ fn times(value: i64, amount: i64) -> i128
     i128::from(value) * i128::from(amount)
 }
 
-/// The value that a change makes of the one so far, where a scaling has changed nothing so far. The value is not judged.
+/// The value that a change makes of the one so far, where a scaling has changed nothing so far. The
+/// value is not judged.
 #[tactic(auto, using(crate::proofs::Changing::near_more))]
 fn value_by_change(change: Change, old: i64, so_far: i128, amount: i64) -> i128
     requires near { IsNear (2 ^ 126) (pos 0) so_far }
@@ -168,7 +169,8 @@ fn add_effect(
 
 // ---- all effects
 
-/// What effects change, each by the values before the step, unless a subexpression of an amount leaves the range.
+/// What effects change, each by the values before the step, unless a subexpression of an amount
+/// leaves the range.
 pub(crate) fn changes_of(
     alloc: Global,
     numbers: &Numbers,
@@ -230,7 +232,8 @@ fn put_value(
     Ok(true)
 }
 
-/// Puts in the new values of the effects' fluents, if they are in the range: on `false` only some of them.
+/// Puts in the new values of the effects' fluents, if they are in the range: on `false` only some
+/// of them.
 fn put_values(
     alloc: Global,
     numbers: &mut Numbers,
@@ -251,8 +254,8 @@ fn put_values(
     Ok(true)
 }
 
-/// The values after effects and the sum of their costs, if each subexpression of an amount and each new value is in the range. Else, and
-/// on an error, the values may be anything.
+/// The values after effects and the sum of their costs, if each subexpression of an amount and each
+/// new value is in the range. Else, and on an error, the values may be anything.
 pub(crate) fn change_values(
     alloc: Global,
     numbers: &mut Numbers,

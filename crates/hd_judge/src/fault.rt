@@ -8,8 +8,8 @@ use std::alloc::{AllocError, AllocFailed};
 /// Why a plan is not valid, or can't be judged. Steps are numbered from 1.
 #[derive(Debug, PartialEq, Eq, Drop)]
 pub enum Fault {
-    /// The step is one of no instance of the task: there is no such schema, its objects are not as many or not of the types that it
-    /// asks for, or two of its effects clash.
+    /// The step is one of no instance of the task: there is no such schema, its objects are not as
+    /// many or not of the types that it asks for, or two of its effects clash.
     NoSuchAction(u64),
     /// A condition of the step does not hold.
     NotApplicable(u64),
@@ -17,7 +17,8 @@ pub enum Fault {
     Undefined(Ground),
     /// A step of this instance costs the same in each state, and less than 0.
     NegativeCost(Instance),
-    /// A number leaves the range at the step, or at the goal, whose number is one more than the number of steps.
+    /// A number leaves the range at the step, or at the goal, whose number is one more than the
+    /// number of steps.
     Departs(u64),
     /// The goal does not hold at the end.
     GoalUnmet,

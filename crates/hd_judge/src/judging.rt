@@ -39,9 +39,11 @@ pub fn begin(alloc: Global, seed: Seed, task: &LiftedTask) -> Result<Place, NoMe
     }
 }
 
-/// Judges the step of a plan that has this number, counted from 1, and takes it: the place is then the one after it.
+/// Judges the step of a plan that has this number, counted from 1, and takes it: the place is then
+/// the one after it.
 ///
-/// It stops at the first fault of the step, or for want of memory. After an error the place is of no use.
+/// It stops at the first fault of the step, or for want of memory. After an error the place is of
+/// no use.
 #[tactic(auto, using(crate::proofs::Judged::holds_before, crate::proofs::Judged::defined_before, crate::proofs::Judged::compatible_by, crate::proofs::Judged::told_before, crate::proofs::Judged::departs_then, crate::proofs::Judged::passes_then, crate::proofs::Judged::on_way_then))]
 pub fn judge_step(
     alloc: Global,
@@ -68,7 +70,8 @@ pub fn judge_step(
     }
 }
 
-/// Judges the end of a plan that leads to this place: the number is one more than that of its steps.
+/// Judges the end of a plan that leads to this place: the number is one more than that of its
+/// steps.
 ///
 /// It stops at the first fault of the goal, or for want of memory.
 pub fn judge_goal(

@@ -1,7 +1,9 @@
-//! The judge of plans: which lists of instances of a lifted task are validated, at what cost, and otherwise which fault is the first.
+//! The judge of plans: which lists of instances of a lifted task are validated, at what cost, and
+//! otherwise which fault is the first.
 //!
-//! A caller begins at `begin`, judges step after step by `judge_step`, and then the end by `judge_goal`; the place then has the cost.
-//! It stands on the meaning of lifted tasks alone, and on nothing that a grounder does.
+//! A caller begins at `begin`, judges step after step by `judge_step`, and then the end by
+//! `judge_goal`; the place then has the cost. It stands on the meaning of lifted tasks alone, and
+//! on nothing that a grounder does.
 #![tactic(auto)]
 
 mod asking;

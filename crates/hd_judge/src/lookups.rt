@@ -12,7 +12,8 @@ use hd_lifted::{Applied, Expr, LiftedTask, ground_form_of};
 use std::alloc::Global;
 use std::marker::Model;
 
-/// A lifted task with tables of the functions that change and of the first values. Contracts see the task.
+/// A lifted task with tables of the functions that change and of the first values. Contracts see
+/// the task.
 #[derive(Drop)]
 pub struct Lookups<'a> {
     task: &'a LiftedTask,

@@ -34,8 +34,8 @@ impl Place {
         self.cost
     }
 
-    /// What effects change here, each by the values before the step, unless a subexpression of an amount leaves the range. The new
-    /// values are not judged.
+    /// What effects change here, each by the values before the step, unless a subexpression of an
+    /// amount leaves the range. The new values are not judged.
     ///
     /// Fails only for want of memory.
     pub fn changes_of(

@@ -29,7 +29,8 @@ fn step_cost(task: &LiftedTask, sum: i128) -> i128
     if task.metric.is_some() { sum } else { 1 }
 }
 
-/// Takes a step whose questions before it are answered, if it stays in the range: the place is then the one after it.
+/// Takes a step whose questions before it are answered, if it stays in the range: the place is then
+/// the one after it.
 ///
 /// On `false` and on an error the place may be anything.
 pub(crate) fn take_step(

@@ -22,7 +22,8 @@ pub(crate) struct Numbers {
     pub(crate) numbers: IndexMap<Ground, i64, Seed>,
 }
 
-/// Where a plan leads: the atoms that are true, the values of fluents, and what it has cost. Contracts speak of `reached_in`.
+/// Where a plan leads: the atoms that are true, the values of fluents, and what it has cost.
+/// Contracts speak of `reached_in`.
 #[derive(Drop)]
 pub struct Place {
     pub(crate) truths: Truths,

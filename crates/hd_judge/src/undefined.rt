@@ -119,7 +119,8 @@ fn undefined_target(
     if_undefined(alloc, lookups, objects, &effect.fluent)
 }
 
-/// The first fluent without a first value that an effect meets: the one that it changes, and then those that its amount reads.
+/// The first fluent without a first value that an effect meets: the one that it changes, and then
+/// those that its amount reads.
 #[tactic(auto, using(crate::proofs::Finding::undefined_append))]
 fn undefined_effect(
     alloc: Global,
@@ -155,7 +156,8 @@ fn undefined_effects(
     Ok(None)
 }
 
-/// The first fluent without a first value that a schema with objects meets: in its comparisons, and then in its effects.
+/// The first fluent without a first value that a schema with objects meets: in its comparisons, and
+/// then in its effects.
 #[tactic(auto, using(crate::proofs::Finding::undefined_append))]
 pub fn undefined_schema(
     alloc: Global,

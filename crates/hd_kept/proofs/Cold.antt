@@ -1,4 +1,5 @@
--- Nothing is kept that needs what nothing adds, and nothing in a circle of actions that only feed one another.
+-- Nothing is kept that needs what nothing adds, and nothing in a circle of actions that only feed
+-- one another.
 use Rattle.std.proofs.Common.{◌≡◌, ℕ, zero, suc, true, List, [], ◌∷◌, Contains, Some, slice_get, refl, sym, ap, ◌∙◌, subst, true≢false, arith}
 use Rattle.std.proofs.lemmas.Option.{none-some, same_Some}
 use Rattle.hd_base.proofs.Members.{Contains-first, Contains-nil}

@@ -1,4 +1,5 @@
--- Lists in a strict order: two of them with the same members are one, and nothing stands twice in one.
+-- Lists in a strict order: two of them with the same members are one, and nothing stands twice in
+-- one.
 use Rattle.std.proofs.Common.{◌≡◌, ℕ, suc, ◌<◌, List, [], ◌∷◌, Contains, Some, slice_get, get_or, refl, sym, ap₂, ◌∙◌, subst, inl, inr, arith}
 use Rattle.std.specs.List.{AllPairs}
 use Rattle.std.specs.declared.cmp.Ordering.TheVariants.{Less, Equal}

@@ -1,4 +1,5 @@
--- What worked examples need: lists of one, instances without objects, and what a kept instance asks at first.
+-- What worked examples need: lists of one, instances without objects, and what a kept instance asks
+-- at first.
 use Rattle.std.proofs.Common.{◌≡◌, ℕ, List, [], ◌∷◌, Contains, inl, inr, refl, arith}
 use Rattle.std.specs.List.{AllPairs}
 use Rattle.hd_base.proofs.Members.{Contains-cons_cases, Contains-nil}

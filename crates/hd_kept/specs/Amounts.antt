@@ -22,7 +22,8 @@ is_changed_by f a = list_any (changes_function f) a.effects
 unfoldable pub is_changed : LiftedTask → ℕ → Bool
 is_changed t f = list_any (is_changed_by f) t.schemas
 
--- an amount is constant where it is a number, or a fluent of a function that no schema changes; every other is dependent
+-- an amount is constant where it is a number, or a fluent of a function that no schema changes;
+-- every other is dependent
 abbrev pub is_constant : LiftedTask → Expression (Operand Applied) → Bool
 is_constant t (leaf (Number v)) = true
 is_constant t (leaf (Fluent a)) = not (is_changed t a.symbol)

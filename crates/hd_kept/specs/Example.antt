@@ -14,7 +14,8 @@ use Rattle.hd_lifted.specs.declared.task.LiftedTask.{LiftedTask}
 use Rattle.hd_lifted.specs.declared.instance.Instance.{Instance}
 use Rattle.hd_lifted.specs.Example.{journey}
 
--- hd_lifted's journey with fuel 9: `go` from place to place needs a road and fuel, which is also the cost
+-- hd_lifted's journey with fuel 9: `go` from place to place needs a road and fuel, which is also
+-- the cost
 abbrev pub with_fuel : LiftedTask
 with_fuel = journey (pos 9)
 
@@ -89,7 +90,8 @@ atom symbol = record { symbol = symbol; arguments = [] }
 abbrev ground_form : ℕ → Ground
 ground_form symbol = record { symbol = symbol; objects = [] }
 
--- ---- marks: `mark` assigns 1 to the mark of its first object and 2 to that of its second. There are two objects
+-- ---- marks: `mark` assigns 1 to the mark of its first object and 2 to that of its second. There
+-- are two objects
 
 abbrev assign_mark : ℕ → ℕ → NumericEffect
 assign_mark k value = record {
@@ -155,7 +157,8 @@ gate atoms = record {
   metric = None;
 }
 
--- ---- a hearth: `kindle` makes the fire burn if the match burns, and `strike` makes the match burn. At first neither does
+-- ---- a hearth: `kindle` makes the fire burn if the match burns, and `strike` makes the match
+-- burn. At first neither does
 
 abbrev pub the_match : Ground
 the_match = ground_form 0
@@ -227,7 +230,8 @@ cold_hearth = record {
   metric = None;
 }
 
--- ---- a circle: `kindle` lights the fire from the match, and `relight` the match from the fire. At first neither burns
+-- ---- a circle: `kindle` lights the fire from the match, and `relight` the match from the fire. At
+-- first neither burns
 
 abbrev pub relight : Schema
 relight = record {
@@ -252,7 +256,8 @@ circle = record {
   metric = None;
 }
 
--- ---- pairs: `pair` asks that its two objects are the same, or that they are not. There are two objects
+-- ---- pairs: `pair` asks that its two objects are the same, or that they are not. There are two
+-- objects
 
 abbrev pub pair : Bool → Schema
 pair alike = record {
@@ -284,7 +289,8 @@ pairs alike = record {
 abbrev pub pairing : ℕ → ℕ → Instance
 pairing first second = record { schema = 0; objects = first ∷ second ∷ [] }
 
--- ---- an order: instances of the first schema and of the second, and forms of the first symbol and of the second, with one object
+-- ---- an order: instances of the first schema and of the second, and forms of the first symbol and
+-- of the second, with one object
 
 abbrev pub numbered_instance : ℕ → ℕ → Instance
 numbered_instance number object = record { schema = number; objects = object ∷ [] }

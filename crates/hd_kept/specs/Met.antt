@@ -1,4 +1,5 @@
--- The fluents that the actions and the goal of a lifted task meet, in the order of the text. (Our own.)
+-- The fluents that the actions and the goal of a lifted task meet, in the order of the text. (Our
+-- own.)
 use Rattle.std.specs.Prelude.{ℕ, if◌then◌else◌, List, [], ◌∷◌, ◌++◌, flat_map}
 use Rattle.hd_base.specs.declared.expression.Operand.{Operand}
 use Rattle.hd_base.specs.declared.expression.Operand.TheVariants.{Number, Fluent}

@@ -27,7 +27,8 @@ pub data IsTaskFluent (t : LiftedTask) (g : Ground) : Type 0 where
 
 -- ---- its order
 
--- a list of numbers comes before another: by the first place where they differ, or where the one ends
+-- a list of numbers comes before another: by the first place where they differ, or where the one
+-- ends
 abbrev pub ComesBefore : List ℕ → List ℕ → Type 0
 ComesBefore xs ys = slice_cmp nat_cmp xs ys ≡ Less
 

@@ -9,8 +9,8 @@ ghost use Rattle.hd_kept.specs.Met.{met_by, met_by_goal};
 ghost use Rattle.hd_kept.specs.Amounts.{is_changed};
 ghost use Rattle.hd_kept.specs.Example.{with_fuel, need, need_bc, at_a, at_b, at_c, road_ab, road_bc, lamp, the_one, marks, marking, gate, locked, hearth, kindling, striking, the_match, the_fire, cold_hearth, circle, pairs, pairing, numbered_instance, numbered_form};
 
-/// The definitions on small tasks: of hd_lifted's journey the predicates are `at` and `road`, and the functions the fuel, what a road
-/// needs, and the cost.
+/// The definitions on small tasks: of hd_lifted's journey the predicates are `at` and `road`, and
+/// the functions the fuel, what a road needs, and the cost.
 pub fn examples_compute()
     // Roads stay; where one is changes.
     ensures at_changes { is_static with_fuel 0 ≡ false }
@@ -33,18 +33,22 @@ pub fn examples_compute()
     ensures lights { IsKept lamp the_one }
 {}
 
-/// What is kept and what is not: where effects clash, where an atom has to be false, and where one action needs another.
+/// What is kept and what is not: where effects clash, where an atom has to be false, and where one
+/// action needs another.
 pub fn kept_instances_compute()
-    // Two assignments to one fluent clash: `mark` with one object twice is no instance. The two others are kept.
+    // Two assignments to one fluent clash: `mark` with one object twice is no instance. The two
+    // others are kept.
     ensures p_twice { IsInstance marks (marking 0 0) → ⊥ }
     ensures q_twice { IsInstance marks (marking 1 1) → ⊥ }
     ensures two_objects { NumbersInstances marks (marking 0 1 ∷ marking 1 0 ∷ []) }
 
-    // What no action changes and is true at first is never false: a gate that is locked lets none through, and another does.
+    // What no action changes and is true at first is never false: a gate that is locked lets none
+    // through, and another does.
     ensures locked_out { IsKept (gate (locked ∷ [])) the_one → ⊥ }
     ensures let_in { IsKept (gate []) the_one }
 
-    // `kindle` needs the match, which is not lit at first and which `kindle` does not light; it is kept, since `strike` lights it.
+    // `kindle` needs the match, which is not lit at first and which `kindle` does not light; it is
+    // kept, since `strike` lights it.
     ensures needs_match { IsSupported hearth [] the_match → ⊥ }
     ensures no_spark { IsSupported hearth (kindling ∷ []) the_match → ⊥ }
     ensures is_kept { IsKept hearth kindling }
@@ -54,9 +58,11 @@ pub fn kept_instances_compute()
     ensures second_round { IsReachable hearth the_fire }
 {}
 
-/// What needs another action that is not there is not kept, and of actions that only feed one another none is.
+/// What needs another action that is not there is not kept, and of actions that only feed one
+/// another none is.
 pub fn unfed_instances_compute()
-    // What an action deletes changes, though nothing adds it: so it is no static condition that leaves `kindle` out.
+    // What an action deletes changes, though nothing adds it: so it is no static condition that
+    // leaves `kindle` out.
     ensures snuffed { is_static cold_hearth 0 ≡ false }
     ensures stays_cold { IsKept cold_hearth kindling → ⊥ }
 
@@ -64,9 +70,11 @@ pub fn unfed_instances_compute()
     ensures neither { (i : Instance) → IsKept circle i → ⊥ }
 {}
 
-/// Equalities leave instances out, and instances and forms are sorted by what they are of before their objects.
+/// Equalities leave instances out, and instances and forms are sorted by what they are of before
+/// their objects.
 pub fn equalities_compute()
-    // Of the four pairs of two objects those of one object twice are kept where both are to be the same, and the others else.
+    // Of the four pairs of two objects those of one object twice are kept where both are to be the
+    // same, and the others else.
     ensures two_alike { NumbersInstances (pairs true) (pairing 0 0 ∷ pairing 1 1 ∷ []) }
     ensures two_of_four { NumbersInstances (pairs false) (pairing 0 1 ∷ pairing 1 0 ∷ []) }
 

@@ -79,7 +79,8 @@ marked_there marks (k ∷ places) i d =
           ]
     ]
 
--- marks that differ from others at most at these places, where the others have none, become the others
+-- marks that differ from others at most at these places, where the others have none, become the
+-- others
 taken_back : (marks others : List Bool) (places : List ℕ) → length marks ≡ length others → AllByRecursion (λ k. get_or others k true ≡ false) places
     → ((i : ℕ) (d : Bool) → i < length marks → (get_or marks i d ≡ get_or others i d) ⊎ Contains places i) → mark_all false marks places ≡ others
 taken_back marks others [] len unset h =

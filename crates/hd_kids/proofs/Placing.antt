@@ -14,7 +14,8 @@ use Rattle.hd_kids.specs.Places.{begun, parent_after, kid_at, kids_by, IsRow, Ar
 
 -- ---- how many entries' kids have begun
 
--- the kids of so many entries have begun at a place where these begin there or before, and the next ones behind
+-- the kids of so many entries have begun at a place where these begin there or before, and the next
+-- ones behind
 pub begun_is : (firsts : List ℕ) (j n : ℕ) → n ≤ length firsts → ((m : ℕ) → m < n → get_or firsts m 0 ≤ j)
     → (n < length firsts → j < get_or firsts n 0) → begun firsts j ≡ n
 unfolding begun
@@ -205,7 +206,8 @@ none_yet firsts actions few = λ i d lt is.
     behind_all (begun firsts i) (length firsts) (begun_few firsts i) few
     (sym (ap (λ (k : Kid). k.parent) (get_or-kids_by firsts actions i d within)) ∙ is)
 
--- the kids of an entry stand from its first place up to the first one of the next entry, or up to the end
+-- the kids of an entry stand from its first place up to the first one of the next entry, or up to
+-- the end
 pub row_is : (firsts actions : List ℕ) (marks : List Bool) (settled n high : ℕ) → AreKids firsts actions marks settled → n < length firsts
     → high ≤ length actions → (suc n < length firsts → high ≡ get_or firsts (suc n) 0) → (length firsts ≤ suc n → high ≡ length actions)
     → IsRow firsts actions n (get_or firsts n 0) high

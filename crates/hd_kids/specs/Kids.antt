@@ -1,11 +1,13 @@
--- The kids that entries post, as contracts see the table of them. (Our own; the pairs are those of the journal.)
+-- The kids that entries post, as contracts see the table of them. (Our own; the pairs are those of
+-- the journal.)
 use Rattle.std.specs.Prelude.{◌≡◌, ◌≢◌, ℕ, ◌+◌, ◌-◌, ◌<◌, Bool, false, ◌&&◌, ◌==◌, List, [], ◌∷◌, ◌++◌, length, slice_set, slice_index_or}
 use Rattle.std.specs.List.{count_by}
 use Rattle.hd_task.specs.declared.plan.Kid.{Kid}
 use Rattle.hd_task.specs.declared.plan.TheConstants.{ROOT_PARENT, ROOT_ACTION}
 
--- a table: the kids in the order in which they were posted, the root first; for each of them a mark, whether it is settled; how many
--- entries there are; and for how many entries and kids more there is room without asking for memory
+-- a table: the kids in the order in which they were posted, the root first; for each of them a
+-- mark, whether it is settled; how many entries there are; and for how many entries and kids more
+-- there is room without asking for memory
 pub record KidsView : Type 0 where
   pub kids : List Kid
   pub marks : List Bool

@@ -1,5 +1,5 @@
--- How the parts of a table show its kids: those of an entry stand side by side, from its first place up to that of the next entry.
--- (Our own.)
+-- How the parts of a table show its kids: those of an entry stand side by side, from its first
+-- place up to that of the next entry. (Our own.)
 use Rattle.std.specs.Prelude.{◌≡◌, ℕ, zero, suc, ◌<◌, ◌≤◌, Bool, nat_lt, List, length, get_or, map, min}
 use Rattle.std.specs.List.{count_by, position_or_len, range_with_len}
 use Rattle.hd_chunks.specs.Chunks.{ChunksView}
@@ -12,7 +12,8 @@ use Rattle.hd_kids.specs.Kids.{KidsView}
 unfoldable pub begun : List ℕ → ℕ → ℕ
 begun firsts j = position_or_len (nat_lt j) firsts
 
--- the parent of a kid where so many entries' kids have begun: the last of them; where there is none, it is the root
+-- the parent of a kid where so many entries' kids have begun: the last of them; where there is
+-- none, it is the root
 abbrev pub parent_after : ℕ → ℕ
 parent_after zero = ROOT_PARENT
 parent_after (suc n) = n

@@ -1,5 +1,5 @@
-//! The kids that the entries of a book have posted, in posting order, and which of them are settled: four bytes and a bit a kid, and
-//! eight bytes an entry, in chunks.
+//! The kids that the entries of a book have posted, in posting order, and which of them are
+//! settled: four bytes and a bit a kid, and eight bytes an entry, in chunks.
 #![tactic(auto)]
 
 pub mod laws;

@@ -3,8 +3,8 @@ ghost use Rattle.std.specs.Prelude.{◌≡◌, ◌≢◌, ℕ, ◌+◌, ◌<◌,
 
 use hd_chunks::Chunks;
 
-/// The place behind an entry's kids, where these are the first places of all entries' kids: there the next entry's begin, or there
-/// are no more.
+/// The place behind an entry's kids, where these are the first places of all entries' kids: there
+/// the next entry's begin, or there are no more.
 pub(crate) fn end_of(firsts: &Chunks<usize>, posted: usize, entry: usize) -> usize
     requires { entry < length firsts.now.items }
     ensures next { entry + 1 < length firsts.now.items

@@ -6,7 +6,8 @@ use hd_task::{Kid, ROOT_ACTION, ROOT_PARENT};
 use std::alloc::Global;
 use std::marker::Model;
 
-/// The kids that entries have posted, in posting order, each with a mark: whether it is settled. The root comes first.
+/// The kids that entries have posted, in posting order, each with a mark: whether it is settled.
+/// The root comes first.
 #[derive(Debug, Drop)]
 pub struct KidTable {
     /// By entry: the place of its first kid.

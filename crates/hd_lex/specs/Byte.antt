@@ -5,7 +5,8 @@ use Rattle.std.specs.Char.{is_ascii_alphabetic, is_ascii_digit}
 use Rattle.hd_lex.specs.declared.byte.Class.{Class}
 use Rattle.hd_lex.specs.declared.byte.Class.TheVariants.{Blank, Semicolon, Parenthesis, Word}
 
--- space (32), tab (9), carriage return (13) and line feed (10) are blanks; then ';' (59), '(' (40) and ')' (41); all others are of words (own)
+-- space (32), tab (9), carriage return (13) and line feed (10) are blanks; then ';' (59), '(' (40)
+-- and ')' (41); all others are of words (own)
 abbrev pub class_of : ℕ → Class
 class_of byte =
     if (byte == 32) || (byte == 9) || (byte == 13) || (byte == 10) then Blank

@@ -1,4 +1,5 @@
--- What the private functions of this crate give, as functions (all own). Public contracts cite `Word` and `Text` in their place.
+-- What the private functions of this crate give, as functions (all own). Public contracts cite
+-- `Word` and `Text` in their place.
 use Rattle.std.specs.Prelude.{◌≡◌, ℕ, ◌+◌, List, [], ◌∷◌, ◌++◌, length, map, ◌==◌, ◌&&◌, nat_le, if◌then◌else◌, Option, Some, None, Result, Ok, Err, ℤ, pos, neg_ℤ}
 use Rattle.std.specs.Char.{is_ascii_alphabetic, is_ascii_digit, to_ascii_lowercase}
 use Rattle.std.specs.Str.Parse.{digits_value}
@@ -86,13 +87,15 @@ unfoldable pub tokens_of : List Placed → Result (List Token) LexError
 tokens_of [] = Ok []
 tokens_of (w ∷ ws) = token_of w >>= λ token. tokens_of ws >>= λ tokens. Ok (token ∷ tokens)
 
--- the words of the text from this place on say this: their tokens, or the fault of the first bad one
+-- the words of the text from this place on say this: their tokens, or the fault of the first bad
+-- one
 pub record Says (at : ℕ) (text : List ℕ) (said : Result (List Token) LexError) : Type 0 where
   pub words : List Placed
   pub are_words : AreWords at text words
   pub tokens : tokens_of words ≡ said
 
--- an error that a call may tell of the text from this place on: want of memory, or the fault of the first bad word
+-- an error that a call may tell of the text from this place on: want of memory, or the fault of the
+-- first bad word
 abbrev pub IsRefusal : ℕ → List ℕ → LexError → Type 0
 IsRefusal at text NoMemory = Unit {0}
 IsRefusal at text (BadByte place) = Says at text (Err (BadByte place))
@@ -108,7 +111,8 @@ listed (Some token) = token ∷ []
 abbrev pub with_front : List Token → Result (List Token) LexError → Result (List Token) LexError
 with_front front said = said >>= λ tokens. Ok (front ++ tokens)
 
--- these tokens were read up to where the rest begins: whatever words the rest has, the text says these tokens and then theirs
+-- these tokens were read up to where the rest begins: whatever words the rest has, the text says
+-- these tokens and then theirs
 abbrev pub IsReadTo : ℕ → List ℕ → List Token → ℕ → List ℕ → Type 0
 IsReadTo at text front to rest =
     (words : List Placed) → AreWords to rest words → Says at text (with_front front (tokens_of words))

@@ -1,5 +1,6 @@
--- The words of a text, where they stand, and the tokens or the fault that they give. All of it is a rule of this project ("own"), after
--- the BNF of PDDL 2.1 (Fox and Long 2003, its appendix), which leaves open how a text is cut.
+-- The words of a text, where they stand, and the tokens or the fault that they give. All of it is a
+-- rule of this project ("own"), after the BNF of PDDL 2.1 (Fox and Long 2003, its appendix), which
+-- leaves open how a text is cut.
 use Rattle.std.specs.Prelude.{◌≡◌, ℕ, ◌+◌, ◌<◌, ◌≤◌, List, [], ◌∷◌, ◌++◌, length, Bool, true, false, Option, Some, None, slice_range}
 use Rattle.std.specs.List.{list_all, AllByRecursion, AllZip}
 use Rattle.hd_lex.specs.Byte.{class_of, is_word_byte, is_line_byte}
@@ -25,7 +26,8 @@ pub record IsRun (test : ℕ → Bool) (text run rest : List ℕ) : Type 0 where
   pub all : list_all test run ≡ true
   pub longest : IsEnd test rest
 
--- the text from this place on is blanks, comments and just these words, with nothing left over and nothing twice (own)
+-- the text from this place on is blanks, comments and just these words, with nothing left over and
+-- nothing twice (own)
 pub data AreWords : ℕ → List ℕ → List Placed → Type 0 where
   -- the text ends
   nothing : {at : ℕ} → AreWords at [] []
@@ -68,7 +70,8 @@ pub record AreTokens (text : List ℕ) (tokens : List Token) : Type 0 where
 abbrev pub IsGood : Placed → Type 0
 IsGood placed = (word : Word) × IsWord placed.bytes word
 
--- the fault of the first bad word: the words are good ones, a bad one with this fault, and any others (own)
+-- the fault of the first bad word: the words are good ones, a bad one with this fault, and any
+-- others (own)
 pub record IsFirstFault (words : List Placed) (error : LexError) : Type 0 where
   pub before : List Placed
   pub bad : Placed
@@ -77,8 +80,9 @@ pub record IsFirstFault (words : List Placed) (error : LexError) : Type 0 where
   pub good : AllByRecursion IsGood before
   pub fault : IsBad bad.at bad.bytes error
 
--- the text from this place on begins with this token, or with a blank or a comment where there is none, and this rest follows at that
--- place: whatever words the rest has, the text has them, and before them the word of the token if there is one (own)
+-- the text from this place on begins with this token, or with a blank or a comment where there is
+-- none, and this rest follows at that place: whatever words the rest has, the text has them, and
+-- before them the word of the token if there is one (own)
 abbrev pub BeginsWith : ℕ → List ℕ → Option Token → ℕ → List ℕ → Type 0
 BeginsWith at text None to rest = (words : List Placed) → AreWords to rest words → AreWords at text words
 BeginsWith at text (Some token) to rest =
@@ -94,7 +98,8 @@ pub record IsFaultFrom (at : ℕ) (text : List ℕ) (error : LexError) : Type 0 
 abbrev pub IsFault : List ℕ → LexError → Type 0
 IsFault text error = IsFaultFrom 0 text error
 
--- each token begins where the one before ends or later, is one byte long or more, and the last ends within the bound (own)
+-- each token begins where the one before ends or later, is one byte long or more, and the last ends
+-- within the bound (own)
 abbrev pub AreInOrder : ℕ → List Token → ℕ → Type 0
 AreInOrder from [] bound = from ≤ bound
 AreInOrder from (token ∷ tokens) bound =

@@ -45,7 +45,8 @@ pub data IsSign : List ℕ → Word → Type 0 where
   greater_or_equal : IsSign (codes ">=") (words.Operator GreaterOrEqual)
   greater : IsSign (codes ">") (words.Operator Greater)
 
--- these bytes spell this name: at most 255 bytes, and its letters are folded to lower case (BNF; the bound and the folding are own)
+-- these bytes spell this name: at most 255 bytes, and its letters are folded to lower case (BNF;
+-- the bound and the folding are own)
 pub record IsName (bytes name : List ℕ) : Type 0 where
   pub spelled : is_name bytes ≡ true
   pub short : length bytes ≤ LONGEST_NAME

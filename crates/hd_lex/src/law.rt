@@ -26,7 +26,8 @@ pub fn each_text_has_its_words()
         → AreWords at text a → AreWords at text b → a ≡ b }
 {}
 
-/// Every text has its tokens, just these, or the fault of its first bad word, just this, and never both.
+/// Every text has its tokens, just these, or the fault of its first bad word, just this, and never
+/// both.
 pub fn each_text_is_good_or_bad()
     ensures good_or_bad { (text : List ℕ)
         → ((tokens : List Token) × AreTokens text tokens)

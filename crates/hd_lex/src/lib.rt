@@ -1,8 +1,10 @@
-//! The words of a text: parentheses, names, variables, keywords, numbers and operators, each with its place.
+//! The words of a text: parentheses, names, variables, keywords, numbers and operators, each with
+//! its place.
 //!
-//! A text is any bytes. Blanks are space, tab, carriage return and line feed. A semicolon begins a comment, which
-//! ends before the next line feed or with the text and may hold any bytes. Each parenthesis is a word, and so is each
-//! longest run of other bytes. Letters are folded to lower case.
+//! A text is any bytes. Blanks are space, tab, carriage return and line feed. A semicolon begins a
+//! comment, which ends before the next line feed or with the text and may hold any bytes. Each
+//! parenthesis is a word, and so is each longest run of other bytes. Letters are folded to lower
+//! case.
 #![tactic(auto)]
 
 mod byte;

@@ -27,9 +27,11 @@ fn token_of(alloc: Global, text: &[u8], at: usize, len: usize) -> Result<Token, 
     })
 }
 
-/// What stands at the front of a text whose first byte stands at this place: a token, or a blank or a comment.
+/// What stands at the front of a text whose first byte stands at this place: a token, or a blank or
+/// a comment.
 ///
-/// Any bytes may come. So a text is read token by token, and no more of them are kept than are wanted.
+/// Any bytes may come. So a text is read token by token, and no more of them are kept than are
+/// wanted.
 pub fn front_of(alloc: Global, text: &[u8], at: usize) -> Result<Front, LexError>
     requires some { 0 < length text.now }
     requires place { at + length text.now < 2 ^ 64 }
@@ -93,7 +95,8 @@ pub fn tokens(alloc: Global, text: &[u8]) -> Result<Vec<Token>, LexError>
     // What is told: the fault of the text's first bad word, or want of memory.
     ensures refusal { IfErr result (λ error. (error ≡ LexError.NoMemory) ⊎ IsFault text.now error) }
 
-    // A text with no bad word is answered, and one with a bad word is refused, unless memory ran out.
+    // A text with no bad word is answered, and one with a bad word is refused, unless memory ran
+    // out.
     ensures good_text { (tokens : List Token) → AreTokens text.now tokens
         → MatchResult result (λ found. found.items ≡ tokens) (λ error. error ≡ LexError.NoMemory) }
     ensures bad_text { (fault : LexError) → IsFault text.now fault

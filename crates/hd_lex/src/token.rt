@@ -34,7 +34,8 @@ pub enum Word {
     Operator(Operator),
 }
 
-/// A word and where it stands: from the byte `from` up to, and without, the byte `to`, counted from 0.
+/// A word and where it stands: from the byte `from` up to, and without, the byte `to`, counted from
+/// 0.
 #[derive(Debug, PartialEq, Eq, Drop)]
 pub struct Token {
     pub from: usize,
@@ -42,7 +43,8 @@ pub struct Token {
     pub word: Word,
 }
 
-/// What stands at the front of a text: a token, or none where a blank or a comment stands there; and how many bytes it has.
+/// What stands at the front of a text: a token, or none where a blank or a comment stands there;
+/// and how many bytes it has.
 #[derive(Debug, PartialEq, Eq, Drop)]
 pub struct Front {
     pub token: Option<Token>,

@@ -31,7 +31,8 @@ unvisited-set stamps i x lt e ne =
 
 -- ---- one walk
 
--- the walk goes on from a type to another, which is visited by no more types than those that this walk visited
+-- the walk goes on from a type to another, which is visited by no more types than those that this
+-- walk visited
 pub record LeadsOn (parents before stamps : List ℕ) (from to : ℕ) : Type 0 where
   pub more_steps : ℕ
   pub few : suc more_steps + unvisited stamps ≤ unvisited before
@@ -133,7 +134,8 @@ walk_closes parents before stamps start t w some is =
       returns = on.leads;
     }
 
--- where the walk stops elsewhere, `object` is above that type, if it is above each that was visited before
+-- where the walk stops elsewhere, `object` is above that type, if it is above each that was visited
+-- before
 walk_stops : (parents before stamps : List ℕ) (start t : ℕ) → IsWalk parents before stamps start t → length before ≡ length parents
     → ((0 < t) → t ≤ length parents → stamp_of stamps t ≢ 0) → stamp_of stamps t ≢ start → AreRootedBy parents before → IsRootedBy parents before t
 walk_stops parents before stamps start zero w same stop other old =

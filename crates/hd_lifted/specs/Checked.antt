@@ -1,4 +1,5 @@
--- What a check of a task asks: that it is well formed, that names and first values are told apart, and that the metric is a cost.
+-- What a check of a task asks: that it is well formed, that names and first values are told apart,
+-- and that the metric is a cost.
 use Rattle.std.specs.Prelude.{◌≡◌, ℕ, None, Some}
 use Rattle.std.specs.List.{AllByRecursion}
 use Rattle.hd_lifted.specs.declared.task.LiftedTask.{LiftedTask}
@@ -13,7 +14,8 @@ HasCostMetric t = (f : ℕ) → t.metric ≡ Some f → IsCostFunction t f
 abbrev pub HasCostsByMetric : LiftedTask → Type 0
 HasCostsByMetric t = t.metric ≡ None → AllByRecursion HasNoCost t.schemas
 
--- the task is well formed, no two of its names and no two first values are of one thing, and its metric is a cost
+-- the task is well formed, no two of its names and no two first values are of one thing, and its
+-- metric is a cost
 pub record IsChecked (t : LiftedTask) : Type 0 where
   pub well_formed : IsWellFormed t
   pub names : HasDistinctNames t

@@ -1,5 +1,5 @@
--- When a condition holds (PDDL 2.1), and when it departs from the range. The parameters stand for a list of objects, which is
--- empty for a goal.
+-- When a condition holds (PDDL 2.1), and when it departs from the range. The parameters stand for a
+-- list of objects, which is empty for a goal.
 use Rattle.std.specs.Prelude.{ℕ, Bool, false, not, ◌&&◌, ◌==◌, if◌then◌else◌, List, Option, Some, None, ℤ}
 use Rattle.std.specs.List.{list_all}
 use Rattle.hd_base.specs.declared.relation.Relation.{Relation}
@@ -17,7 +17,8 @@ abbrev pub literal_holds : (Ground → Bool) → List ℕ → Literal → Bool
 literal_holds atoms objects l =
     if l.positive then atoms (ground_form_of objects l.atom) else not (atoms (ground_form_of objects l.atom))
 
--- a positive equality asks that both arguments are the same object, a negative one that they are not
+-- a positive equality asks that both arguments are the same object, a negative one that they are
+-- not
 abbrev pub equality_holds : List ℕ → Equality → Bool
 equality_holds objects e =
     if e.positive then object_of objects e.left == object_of objects e.right
@@ -53,7 +54,7 @@ comparisons_stay s objects c = list_all (comparison_stays s.values objects) c.co
 unfoldable pub holds : State → List ℕ → Condition → Bool
 holds s objects c = literals_hold s objects c && comparisons_hold s objects c
 
--- a condition departs where its conditions on atoms and objects hold and a subexpression of a comparison is out of the
--- range, whether the comparisons hold or not
+-- a condition departs where its conditions on atoms and objects hold and a subexpression of a
+-- comparison is out of the range, whether the comparisons hold or not
 unfoldable pub condition_departs : State → List ℕ → Condition → Bool
 condition_departs s objects c = literals_hold s objects c && not (comparisons_stay s objects c)

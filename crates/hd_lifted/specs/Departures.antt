@@ -8,17 +8,20 @@ use Rattle.hd_lifted.specs.Effects.{effects_stay}
 use Rattle.hd_lifted.specs.Steps.{Reached, step}
 use Rattle.hd_lifted.specs.declared.instance.Instance.{Instance}
 
--- the goal departs where its conditions on atoms and objects hold and a subexpression of its comparisons is out of the range
+-- the goal departs where its conditions on atoms and objects hold and a subexpression of its
+-- comparisons is out of the range
 unfoldable pub goal_departs : LiftedTask → Reached → Bool
 goal_departs t r = condition_departs r.state [] t.goal
 
--- the plan with one more step is there, and its cost in the range; a cost that is missing is not out of it
+-- the plan with one more step is there, and its cost in the range; a cost that is missing is not
+-- out of it
 abbrev pub cost_stays : Option Reached → Bool
 cost_stays None = false
 cost_stays (Some r) = fits r.cost
 
--- a schema with objects departs where its condition does, or where its condition holds and its cost is negative, or a
--- subexpression of an effect, a new value or the new plan's cost is out of the range
+-- a schema with objects departs where its condition does, or where its condition holds and its cost
+-- is negative, or a subexpression of an effect, a new value or the new plan's cost is out of the
+-- range
 abbrev pub departs_by : LiftedTask → Reached → Option Schema → List ℕ → Bool
 departs_by t r None objects = false
 departs_by t r (Some a) objects =

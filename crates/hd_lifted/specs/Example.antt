@@ -88,8 +88,9 @@ abbrev pub cost_at : Option Reached → Option ℤ
 cost_at None = None
 cost_at (Some r) = r.cost
 
--- ---- a journey: `go` from place ?p to place ?q needs a road and uses up fuel, which is also the cost. There are the places
--- a, b and c, with roads from a to b (which needs 4) and from b to c (which needs 5); the goal is to be at c
+-- ---- a journey: `go` from place ?p to place ?q needs a road and uses up fuel, which is also the
+-- cost. There are the places a, b and c, with roads from a to b (which needs 4) and from b to c
+-- (which needs 5); the goal is to be at c
 
 abbrev pub go : Schema
 go = record {
@@ -233,7 +234,8 @@ scaling = small (changing [] (effect ScaleUp (alone 0) (number (pos 3)) ∷ []))
 
 -- ---- costs that depend on the state
 
--- the action increases x, which is 0 at first, by 1 and costs this; the metric's function is c. y has no value
+-- the action increases x, which is 0 at first, by 1 and costs this; the metric's function is c. y
+-- has no value
 abbrev paying : Expression (Operand Applied) → LiftedTask
 paying amount = record {
   hierarchy = [];
@@ -301,7 +303,8 @@ action_departs t = departs_behind t []
 abbrev pub departs_at_first : LiftedTask → Bool
 departs_at_first t = goal_departs t (start t)
 
--- x is this at first, and these atoms are true; the goal asks for a, and that the square of x is not negative
+-- x is this at first, and these atoms are true; the goal asks for a, and that the square of x is
+-- not negative
 abbrev pub squared : ℤ → List Ground → LiftedTask
 squared x atoms = record {
   hierarchy = [];

@@ -29,7 +29,8 @@ ComparesWithout f c = IsFreeOf f c.left × IsFreeOf f c.right
 abbrev pub HasNoCost : Schema → Type 0
 HasNoCost a = AllByRecursion (λ (e : NumericEffect). is_cost e.change ≡ false) a.effects
 
--- an effect is a cost exactly where it changes the function, and its amount reads no fluent of the function
+-- an effect is a cost exactly where it changes the function, and its amount reads no fluent of the
+-- function
 pub record IsCostOf (f : ℕ) (e : NumericEffect) : Type 0 where
   pub cost : is_cost e.change ≡ (e.fluent.symbol == f)
   pub amount : IsFreeOf f e.amount
@@ -39,7 +40,8 @@ pub record CountsCost (f : ℕ) (a : Schema) : Type 0 where
   pub comparisons : AllByRecursion (ComparesWithout f) a.condition.comparisons
   pub effects : AllByRecursion (IsCostOf f) a.effects
 
--- a function without parameters, which only costs change, and which no comparison, no amount and no first value has
+-- a function without parameters, which only costs change, and which no comparison, no amount and no
+-- first value has
 pub record IsCostFunction (t : LiftedTask) (f : ℕ) : Type 0 where
   pub declared : IsSomeAnd (slice_get t.functions f) (λ (s : Signature). length s.parameters ≡ 0)
   pub schemas : AllByRecursion (CountsCost f) t.schemas

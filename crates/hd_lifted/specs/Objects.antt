@@ -1,4 +1,5 @@
--- The objects of a type, and the tuples of objects that parameters may stand for (PDDL 2.1, typing).
+-- The objects of a type, and the tuples of objects that parameters may stand for (PDDL 2.1,
+-- typing).
 use Rattle.std.specs.Prelude.{◌≡◌, ℕ, List, Some, slice_get}
 use Rattle.std.specs.List.{AllZip}
 use Rattle.hd_lifted.specs.declared.task.Object.{Object}

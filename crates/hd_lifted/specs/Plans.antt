@@ -1,5 +1,5 @@
--- Instances and plans: execution, cost, validity and optimality (PDDL 2.1). A plan is a list of instances, one
--- after the other; it has no times. (The profile is our own.)
+-- Instances and plans: execution, cost, validity and optimality (PDDL 2.1). A plan is a list of
+-- instances, one after the other; it has no times. (The profile is our own.)
 use Rattle.std.specs.Prelude.{◌≡◌, ℕ, false, IsTrue, List, [], ◌∷◌, All, Option, Some, None, slice_get, option_and_then, ℤ, ◌≤ℤ◌}
 use Rattle.hd_lifted.specs.declared.schema.Schema.{Schema}
 use Rattle.hd_lifted.specs.declared.instance.Instance.{Instance}
@@ -9,7 +9,8 @@ use Rattle.hd_lifted.specs.Conditions.{holds}
 use Rattle.hd_lifted.specs.Effects.{effects_clash}
 use Rattle.hd_lifted.specs.Steps.{Reached, step, start}
 
--- an instance of a task: there is the schema, the objects are of its parameters' types, and no two of its effects clash
+-- an instance of a task: there is the schema, the objects are of its parameters' types, and no two
+-- of its effects clash
 pub record IsInstance (t : LiftedTask) (i : Instance) : Type 0 where
   pub schema : Schema
   pub is_schema : slice_get t.schemas i.schema ≡ Some schema
@@ -38,7 +39,8 @@ exec t p = exec_from t (Some (start t)) p
 
 -- ---- validity
 
--- a plan is valid if it is a list of instances, each of its steps is defined, and the goal holds at the end
+-- a plan is valid if it is a list of instances, each of its steps is defined, and the goal holds at
+-- the end
 pub record IsValid (t : LiftedTask) (p : List Instance) : Type 0 where
   pub instances : All (IsInstance t) p
   pub end : Reached
@@ -56,8 +58,8 @@ pub record CostsAtLeast (t : LiftedTask) (p : List Instance) (least : ℤ) : Typ
   pub valid : IsValidAt t p cost
   pub no_less : least ≤ℤ cost
 
--- a plan is optimal if it is valid at a cost and each valid plan costs at least as much: where the cost of a valid plan is
--- missing, no plan is optimal
+-- a plan is optimal if it is valid at a cost and each valid plan costs at least as much: where the
+-- cost of a valid plan is missing, no plan is optimal
 pub record IsOptimal (t : LiftedTask) (p : List Instance) : Type 0 where
   pub cost : ℤ
   pub valid : IsValidAt t p cost

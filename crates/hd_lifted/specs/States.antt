@@ -1,4 +1,5 @@
--- The states of a lifted task: which ground atoms are true, and what values the ground fluents have (PDDL 2.1).
+-- The states of a lifted task: which ground atoms are true, and what values the ground fluents have
+-- (PDDL 2.1).
 use Rattle.std.specs.Prelude.{ℕ, Bool, ◌&&◌, ◌==◌, List, map, Option, ℤ, find, nat_eq, option_map, slice_index_or}
 use Rattle.std.specs.List.{list_any}
 use Rattle.std.specs.Cmp.Lexicographic.{pointwise}

@@ -16,8 +16,9 @@ pub record Reached : Type 0 where
 abbrev pub cost_after : LiftedTask → Reached → Schema → List ℕ → Option ℤ
 cost_after t r a objects = of_both (λ x y. x +ℤ y) r.cost (step_cost t r.state.values a objects)
 
--- a step: defined where the action's condition holds and its cost is not negative. (That a negative cost is no step is our own.)
--- Where an effect reads a fluent without a value, the step is defined all the same, and the new value, or the cost, is missing
+-- a step: defined where the action's condition holds and its cost is not negative. (That a negative
+-- cost is no step is our own.) Where an effect reads a fluent without a value, the step is defined
+-- all the same, and the new value, or the cost, is missing
 unfoldable pub step : LiftedTask → Reached → Schema → List ℕ → Option Reached
 step t r a objects =
     if holds r.state objects a.condition && not (is_negative (step_cost t r.state.values a objects))

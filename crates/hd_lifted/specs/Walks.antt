@@ -36,7 +36,8 @@ IsRootedUnless parents found = MatchOption found (IsRooted parents) (IsOnCycle p
 abbrev pub OnlyStamps : ℕ → List ℕ → List ℕ → Type 0
 OnlyStamps stamp old new = (t : ℕ) → (stamp_of new t ≡ stamp_of old t) ⊎ ((stamp_of old t ≡ 0) × (stamp_of new t ≡ stamp))
 
--- after the walks from the types below a number: they are visited, and the types visited are rooted or one lies on a cycle
+-- after the walks from the types below a number: they are visited, and the types visited are rooted
+-- or one lies on a cycle
 pub record AreVisited (parents stamps : List ℕ) (next : ℕ) (found : Option ℕ) : Type 0 where
   pub same : length stamps ≡ length parents
   pub below : (t : ℕ) → stamp_of stamps t < next

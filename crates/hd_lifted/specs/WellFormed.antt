@@ -1,5 +1,5 @@
--- When a lifted task is well formed: each number in it is that of something declared, and arguments are of the types asked. (The rules of
--- names and types are those of PDDL 2.1.)
+-- When a lifted task is well formed: each number in it is that of something declared, and arguments
+-- are of the types asked. (The rules of names and types are those of PDDL 2.1.)
 use Rattle.std.specs.Prelude.{◌≡◌, ◌≢◌, ◌≤◌, ℕ, true, false, List, [], ◌∷◌, ◌++◌, map, length, slice_get}
 use Rattle.std.specs.List.{AllZip, AllByRecursion}
 use Rattle.std.specs.Option.{IsSomeAnd}
@@ -27,12 +27,14 @@ use Rattle.hd_lifted.specs.Types.{IsSubtype}
 
 -- ---- arguments, where the parameters are of these types
 
--- an argument is of a type: a parameter whose type is that one or below it, or an object that is of it
+-- an argument is of a type: a parameter whose type is that one or below it, or an object that is of
+-- it
 abbrev pub IsArgumentOf : LiftedTask → List ℕ → Argument → ℕ → Type 0
 IsArgumentOf t ps (Parameter k) wanted = IsSomeAnd (slice_get ps k) (λ u. IsSubtype t.hierarchy u wanted)
 IsArgumentOf t ps (Object o) wanted = IsOfType t o wanted
 
--- an atom or a fluent: its predicate or function is declared, and its arguments are as many as asked, each of the type asked
+-- an atom or a fluent: its predicate or function is declared, and its arguments are as many as
+-- asked, each of the type asked
 abbrev pub IsApplied : LiftedTask → List Signature → List ℕ → Applied → Type 0
 IsApplied t symbols ps a = IsSomeAnd (slice_get symbols a.symbol) (λ s. AllZip (IsArgumentOf t ps) a.arguments s.parameters)
 
@@ -131,7 +133,8 @@ SchemaHasTypes t a = AreTypes t a.parameters
 
 -- ---- the whole
 
--- what is declared has types; the schemas, the goal, which has no parameters, and what holds at first are well formed
+-- what is declared has types; the schemas, the goal, which has no parameters, and what holds at
+-- first are well formed
 pub record IsWellFormed (t : LiftedTask) : Type 0 where
   pub objects : AllByRecursion (HasType t) t.objects
   pub predicates : AllByRecursion (SignatureHasTypes t) t.predicates

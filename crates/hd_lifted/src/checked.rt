@@ -6,8 +6,8 @@ ghost use Rattle.hd_lifted.specs.WellFormed.{IsWellFormed, HasDistinctNames, Are
 use crate::task::LiftedTask;
 use std::marker::Model;
 
-/// A lifted task that is well formed, whose names are distinct, whose first values are of different fluents, and whose metric
-/// is a cost. Contracts see the task.
+/// A lifted task that is well formed, whose names are distinct, whose first values are of different
+/// fluents, and whose metric is a cost. Contracts see the task.
 #[derive(Debug, Drop)]
 pub struct Checked {
     task: LiftedTask,

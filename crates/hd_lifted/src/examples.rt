@@ -30,12 +30,14 @@ pub fn examples_compute()
     ensures adds_up { value_at the_x (exec up_and_down (only ∷ [])) ≡ Some (pos 7) }
     ensures costs_one { cost_at (exec up_and_down (only ∷ [])) ≡ Some (pos 1) }
 
-    // An amount without a value leaves its fluent without one, and the step is defined; an assignment gives a value.
+    // An amount without a value leaves its fluent without one, and the step is defined; an
+    // assignment gives a value.
     ensures misses { value_at the_x (exec missing_amount (only ∷ [])) ≡ None }
     ensures misses_no_step { cost_at (exec missing_amount (only ∷ [])) ≡ Some (pos 1) }
     ensures assigns { value_at the_x (exec first_assignment (only ∷ [])) ≡ Some (pos 3) }
 
-    // A cost that depends on the state: 1, then 0. The third step would cost -1, so that it is none, and departs.
+    // A cost that depends on the state: 1, then 0. The third step would cost -1, so that it is
+    // none, and departs.
     ensures pays { cost_at (exec cheaper twice) ≡ Some (pos 1) }
     ensures stays { departs_behind cheaper (only ∷ []) ≡ false }
     ensures no_third { exec cheaper thrice ≡ None }
@@ -83,7 +85,8 @@ pub fn conditions_compute()
     // A scaling multiplies.
     ensures scales { value_at the_x (exec scaling (only ∷ [])) ≡ Some (pos 15) }
 
-    // A goal departs where a subexpression leaves the range, though the comparison holds; but not where its atoms do not hold.
+    // A goal departs where a subexpression leaves the range, though the comparison holds; but not
+    // where its atoms do not hold.
     ensures square_departs { departs_at_first (squared (pos 100000000) (the_atom ∷ [])) ≡ true }
     ensures square_stays { departs_at_first (squared (pos 10000000) (the_atom ∷ [])) ≡ false }
     ensures atoms_first { departs_at_first (squared (pos 100000000) []) ≡ false }

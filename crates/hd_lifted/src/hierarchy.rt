@@ -33,8 +33,9 @@ impl Model for Hierarchy {
 }
 
 impl Hierarchy {
-    /// The hierarchy of these parents, or a type that lies on a cycle, in time linear in the number of parents. Of several such
-    /// types the first listed one is told, which is tested and not proved.
+    /// The hierarchy of these parents, or a type that lies on a cycle, in time linear in the number
+    /// of parents. Of several such types the first listed one is told, which is tested and not
+    /// proved.
     ///
     /// # Errors
     ///
@@ -63,7 +64,8 @@ impl Hierarchy {
         &self.parents
     }
 
-    /// Whether each object of the type `lower` is one of the type `upper`, in time logarithmic in the depth of `lower`.
+    /// Whether each object of the type `lower` is one of the type `upper`, in time logarithmic in
+    /// the depth of `lower`.
     pub fn is_subtype(&self, lower: usize, upper: usize) -> bool
         ensures yes { IsTrue result → IsSubtype self.now lower upper }
         ensures no { IsSubtype self.now lower upper → IsTrue result }
@@ -73,7 +75,8 @@ impl Hierarchy {
     }
 }
 
-/// Whether steps from a type to its parent lead from `lower` to `upper`. A jump is taken where it leads no higher than `upper`.
+/// Whether steps from a type to its parent lead from `lower` to `upper`. A jump is taken where it
+/// leads no higher than `upper`.
 fn leads_to(parents: &[usize], shortcuts: &Shortcuts, lower: usize, upper: usize) -> bool
     requires rooted { IsRooted parents.now }
     requires shortcuts { HasShortcuts parents.now shortcuts.now }
@@ -103,7 +106,8 @@ fn least_on_cycles(alloc: Global, parents: &[usize]) -> Result<Option<usize>, No
     Ok(walk_all(parents, stamps.as_mut_slice()))
 }
 
-/// Walks up from each type, and tells the least type on a cycle, if there is one. At first there are no stamps.
+/// Walks up from each type, and tells the least type on a cycle, if there is one. At first there
+/// are no stamps.
 fn walk_all(parents: &[usize], stamps: &mut [usize]) -> Option<usize>
     requires { stamps.old ≡ replicate (length parents.now) 0 }
     ensures { IsRootedUnless parents.now result }
@@ -115,7 +119,8 @@ fn walk_all(parents: &[usize], stamps: &mut [usize]) -> Option<usize>
     found
 }
 
-/// Walks up from a type. Where that closes a cycle, tells the lesser of the type found so far and the least of the cycle.
+/// Walks up from a type. Where that closes a cycle, tells the lesser of the type found so far and
+/// the least of the cycle.
 fn visit(
     parents: &[usize],
     stamps: &mut [usize],
@@ -132,8 +137,8 @@ fn visit(
     }
 }
 
-/// Walks up from a type, whose number is the walk's stamp, to `object` or to a type that was visited. Where this walk itself
-/// visited it, it lies on a cycle and is the answer.
+/// Walks up from a type, whose number is the walk's stamp, to `object` or to a type that was
+/// visited. Where this walk itself visited it, it lies on a cycle and is the answer.
 fn walk(parents: &[usize], stamps: &mut [usize], start: usize) -> Option<usize>
     requires start { 0 < start }
     requires len { length stamps.old ≡ length parents.now }

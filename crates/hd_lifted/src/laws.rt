@@ -1,4 +1,5 @@
-//! Laws over the definitions. Each function does nothing: its contract is the law, for every task and every plan.
+//! Laws over the definitions. Each function does nothing: its contract is the law, for every task
+//! and every plan.
 ghost use Rattle.std.specs.Prelude.{ℕ, List};
 ghost use Rattle.hd_lifted.specs.Types.{IsRooted, IsAcyclic};
 ghost use Rattle.hd_lifted.specs.declared.task.LiftedTask.{LiftedTask};

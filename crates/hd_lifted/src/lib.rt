@@ -1,8 +1,10 @@
-//! Lifted tasks: a domain and a problem after their names were resolved, everything by number, and what they mean.
+//! Lifted tasks: a domain and a problem after their names were resolved, everything by number, and
+//! what they mean.
 //!
-//! Objects, predicates, functions and actions are numbered from 0 in the order of the text. Type 0 is `object`; then come the
-//! types as listed, then those that are only named as a supertype. The definitions in `specs/` say what a plan of such a task
-//! is (PDDL 2.1, level 2, Fox and Long 2003), over the task as it stands here.
+//! Objects, predicates, functions and actions are numbered from 0 in the order of the text. Type 0
+//! is `object`; then come the types as listed, then those that are only named as a supertype. The
+//! definitions in `specs/` say what a plan of such a task is (PDDL 2.1, level 2, Fox and Long
+//! 2003), over the task as it stands here.
 #![tactic(auto)]
 
 mod checked;

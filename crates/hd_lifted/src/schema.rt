@@ -56,8 +56,8 @@ pub struct Equality {
     pub positive: bool,
 }
 
-/// A number, or the value of a fluent with arguments. What it is applied to has memory of its own, since every part of an
-/// expression is as wide as its widest leaf.
+/// A number, or the value of a fluent with arguments. What it is applied to has memory of its own,
+/// since every part of an expression is as wide as its widest leaf.
 pub type Leaf = Operand<Boxed<Applied>>;
 
 /// A numeric expression over numbers and fluents with arguments.

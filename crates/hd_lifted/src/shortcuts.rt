@@ -1,7 +1,8 @@
 //! Shortcuts up the types: how deep each type stands, and a jump from it to a type further up.
 //!
-//! A jump leads to the parent, or to where the parent's jump and the next one lead, if these two are equally long. So few steps
-//! and jumps, in number about the logarithm of the depth, lead from a type to any type above it.
+//! A jump leads to the parent, or to where the parent's jump and the next one lead, if these two
+//! are equally long. So few steps and jumps, in number about the logarithm of the depth, lead from
+//! a type to any type above it.
 ghost use Rattle.std.specs.Prelude.{◌≡◌, ℕ, ◌<◌, ◌≤◌, List, OnOk, IfOk, length};
 ghost use Rattle.hd_lifted.specs.Types.{entry_of, parent_of, IsSubtype, IsRooted};
 ghost use Rattle.hd_lifted.specs.Jumps.{depth_in, depth_of, AreJumps, HasDepth, HasShortcuts, AreFilling, StaysRight};
@@ -67,7 +68,8 @@ pub fn depth_of(depths: &[usize], kind: usize) -> usize
     }
 }
 
-/// Fills in the depths and jumps of a type and of those above it. A listed type has the depth 0 until then.
+/// Fills in the depths and jumps of a type and of those above it. A listed type has the depth 0
+/// until then.
 fn fill_from(
     alloc: Global,
     parents: &[usize],
@@ -110,7 +112,8 @@ fn fill(parents: &[usize], depths: &mut [usize], jumps: &mut [usize], kind: usiz
     jumps[kind - 1] = jump;
 }
 
-/// Where the jump from a type with this parent leads: over the next two jumps, if these are equally long, else to the parent.
+/// Where the jump from a type with this parent leads: over the next two jumps, if these are equally
+/// long, else to the parent.
 fn jump_over(depths: &[usize], jumps: &[usize], parent: usize) -> usize
     ensures { (parents : List ℕ) → AreJumps parents jumps.now → IsSubtype parents parent result }
 {

@@ -1,5 +1,5 @@
--- What a metric asks of the texts: the function is at first 0, is changed only by increases, and is read nowhere, also in no
--- amount. (Our own.)
+-- What a metric asks of the texts: the function is at first 0, is changed only by increases, and is
+-- read nowhere, also in no amount. (Our own.)
 use Rattle.std.specs.Prelude.{ℕ, nat_abs, ◌==◌, Bool, false, not, ◌&&◌, if◌then◌else◌, List, [], ◌∷◌, Option, Some, None}
 use Rattle.std.specs.List.{list_any}
 use Rattle.std.specs.Option.{option_map}
@@ -105,8 +105,8 @@ missing_in m is = if list_any (is_value_of m.name) is then None else Some m.at
 abbrev pub bad_metric : ℕ → BadMetric
 bad_metric at = record { at = at }
 
--- the first place in a problem where the metric's function is misused: a first value that is not 0, the goal, and the metric where
--- there is no first value
+-- the first place in a problem where the metric's function is misused: a first value that is not 0,
+-- the goal, and the metric where there is no first value
 abbrev pub misused_by_problem : NameAt → ProblemAst → Option ℕ
 misused_by_problem m p = nonzero_in m.name p.init or read_by_condition m.name p.goal or missing_in m p.init
 

@@ -4,8 +4,8 @@ ghost use Rattle.hd_metric.specs.Fault.{text_of};
 
 use std::fmt;
 
-/// A wrong use of the metric's function: it is read, also in an amount of its own, changed otherwise than by an increase, not 0
-/// at first, or without a first value.
+/// A wrong use of the metric's function: it is read, also in an amount of its own, changed
+/// otherwise than by an increase, not 0 at first, or without a first value.
 #[derive(Clone, Copy, Debug, PartialEq, Eq)]
 pub struct BadMetric {
     /// The place of its first byte in its text, counted from 0.

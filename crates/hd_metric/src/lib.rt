@@ -1,4 +1,5 @@
-//! How a domain and a problem use the function that a metric names, and the fault that a wrong use of it is.
+//! How a domain and a problem use the function that a metric names, and the fault that a wrong use
+//! of it is.
 #![tactic(auto)]
 
 mod fault;

@@ -1,4 +1,5 @@
--- What stands on a device in the end, where calls were made one after the other, also where one of them failed.
+-- What stands on a device in the end, where calls were made one after the other, also where one of
+-- them failed.
 use Rattle.std.proofs.Common.{◌≡◌, inl, inr, ℕ, ◌+◌, ◌≤◌, List, [], ◌∷◌, ◌++◌, length, Result, Ok, Err, refl, sym, ap, ◌∙◌, subst, append_assoc, arith}
 use Rattle.std.proofs.lemmas.List.{length-append}
 use Rattle.hd_task.specs.declared.plan.Kid.{Kid}

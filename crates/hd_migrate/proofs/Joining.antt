@@ -224,7 +224,8 @@ module _ {S : Type 0} {G : Ghosts S} where
         (device_of old) (device_of new) (moments digest before is at_rest);
   }
 
-  -- a group may be appended that begins where the entries end, and of which each parent can be written
+  -- a group may be appended that begins where the entries end, and of which each parent can be
+  -- written
   pub next_here : (j : Journal S G) (group : GroupView) → group.first ≡ length j.entries.items
       → list_all (λ (kid : Kid). fits_parent j.version kid.parent) group.kids ≡ true → is_next j group ≡ true
   next_here j group first fit =

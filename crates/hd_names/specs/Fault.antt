@@ -5,7 +5,8 @@ use Rattle.hd_names.specs.declared.fault.NameFault.TheVariants.{UnknownName, Dup
 use Rattle.hd_names.specs.declared.fault.NameStop.{NameStop}
 use Rattle.hd_names.specs.declared.fault.NameStop.TheVariants as stops
 
--- the printed form of a fault: its number and its name, and in parentheses the name at fault and the place
+-- the printed form of a fault: its number and its name, and in parentheses the name at fault and
+-- the place
 abbrev pub text_of : NameFault → List ℕ
 text_of (UnknownName name at) = codes "8 UnknownName(" ++ name ++ codes ", " ++ decimal at ++ codes ")"
 text_of (Duplicate name at) = codes "9 Duplicate(" ++ name ++ codes ", " ++ decimal at ++ codes ")"

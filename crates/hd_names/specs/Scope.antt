@@ -1,4 +1,5 @@
--- What names stand for: each is numbered by its place among those declared. (The scopes of names are those of PDDL 2.1.)
+-- What names stand for: each is numbered by its place among those declared. (The scopes of names
+-- are those of PDDL 2.1.)
 use Rattle.std.specs.Prelude.{◌≡◌, ℕ, suc, List, [], ◌∷◌, ◌++◌, map, slice_get, Option, Some, None, Result, Ok, Err, codes, ◌-◌, length, replicate}
 use Rattle.std.specs.List.{position}
 use Rattle.std.specs.Str.{bytes_eq}
@@ -32,7 +33,8 @@ abbrev pub with_supertypes : List (List ℕ) → List Typed → List (List ℕ)
 with_supertypes names [] = names
 with_supertypes names (t ∷ ts) = with_supertypes (with_supertype names t.of) ts
 
--- `object`, the types that are listed, and those that are only named as a supertype, which are subtypes of `object`
+-- `object`, the types that are listed, and those that are only named as a supertype, which are
+-- subtypes of `object`
 abbrev pub type_names : List Typed → List (List ℕ)
 type_names ts = with_supertypes (codes "object" ∷ names_of ts) ts
 
@@ -80,7 +82,8 @@ signature_table types ss = record {
   items = map (λ s. types_of types s.parameters) ss;
 }
 
--- the first fault of predicates, or of functions, behind others of these names: of each its name, then its parameters
+-- the first fault of predicates, or of functions, behind others of these names: of each its name,
+-- then its parameters
 abbrev pub signatures_fault : List (List ℕ) → List (List ℕ) → List Signature → Option NameFault
 signatures_fault types names [] = None
 signatures_fault types names (s ∷ ss) =
@@ -94,7 +97,8 @@ abbrev pub metric_in : List (List ℕ) → Option NameAt → Option ℕ
 metric_in functions None = None
 metric_in functions (Some n) = position (bytes_eq n.name) functions
 
--- what names stand for in a domain whose types have these names and parents: of objects it may name its constants
+-- what names stand for in a domain whose types have these names and parents: of objects it may name
+-- its constants
 unfoldable pub scope_of : List (List ℕ) → List ℕ → DomainAst → Option NameAt → Scope
 scope_of types parents d metric = record {
   types = types;

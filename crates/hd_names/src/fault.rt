@@ -7,12 +7,14 @@ use hd_base::Name;
 use std::alloc::{AllocError, AllocFailed};
 use std::fmt;
 
-/// A fault of a name, with the place of its first byte in its text, counted from 0. A variable's name has its `?`.
+/// A fault of a name, with the place of its first byte in its text, counted from 0. A variable's
+/// name has its `?`.
 #[derive(Debug, PartialEq, Eq, Drop)]
 pub enum NameFault {
     /// A name that is used and not declared.
     UnknownName(Name, usize),
-    /// A name that is declared twice, `object` as a listed type, or a fluent that is given two values.
+    /// A name that is declared twice, `object` as a listed type, or a fluent that is given two
+    /// values.
     Duplicate(Name, usize),
     /// A type that is its own supertype, directly or by others.
     TypeCycle(Name, usize),

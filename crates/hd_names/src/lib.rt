@@ -1,5 +1,5 @@
-//! What the names of a domain and a problem stand for: types, objects, predicates and functions by number; and the faults of
-//! names.
+//! What the names of a domain and a problem stand for: types, objects, predicates and functions by
+//! number; and the faults of names.
 #![tactic(auto)]
 
 mod declared;

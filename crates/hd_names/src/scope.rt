@@ -13,7 +13,8 @@ use hd_pddl::DomainAst;
 use hd_terms::{ItemKind, Typed};
 use std::alloc::Global;
 
-/// What names stand for. Types are numbers in the hierarchy; a predicate and a function have the types of their parameters.
+/// What names stand for. Types are numbers in the hierarchy; a predicate and a function have the
+/// types of their parameters.
 #[derive(Debug, Drop)]
 pub struct Scope {
     /// `object`, the types that are listed, and those that are only supertypes.
@@ -40,7 +41,8 @@ fn metric_of(functions: &Names, metric: &Option<NameAt>) -> Option<usize>
     }
 }
 
-/// What names stand for in a domain whose types have these names and this hierarchy, by the metric of its problem.
+/// What names stand for in a domain whose types have these names and this hierarchy, by the metric
+/// of its problem.
 ///
 /// # Errors
 /// The first fault of its constants, predicates and functions.

@@ -1,4 +1,5 @@
--- What an expansion finds: where each applicable action leads. (HDA*, Kishimoto, Fukunaga and Botea 2013.)
+-- What an expansion finds: where each applicable action leads. (HDA*, Kishimoto, Fukunaga and Botea
+-- 2013.)
 use Rattle.std.specs.Prelude.{ℕ, if◌then◌else◌, List, [], ◌∷◌, length, Option, Some, None}
 use Rattle.std.specs.List.{filter_map}
 use Rattle.hd_task.specs.declared.state.State.{State}
@@ -11,7 +12,8 @@ use Rattle.hd_task.specs.Plans.{Node, step_by}
 use Rattle.hd_task.specs.Departures.{action_departs}
 use Rattle.hd_task.specs.Expansions.{is_applicable}
 
--- where an applicable action leads from an expanded plan: the action's number, the state after it, and the plan's cost with it
+-- where an applicable action leads from an expanded plan: the action's number, the state after it,
+-- and the plan's cost with it
 pub record ChildView : Type 0 where
   pub action : ℕ
   pub state : State

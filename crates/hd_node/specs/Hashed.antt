@@ -1,4 +1,5 @@
--- When two packed states with their hashes are the same, and that same ones are hashed alike. (Our own.)
+-- When two packed states with their hashes are the same, and that same ones are hashed alike. (Our
+-- own.)
 use Rattle.std.specs.Prelude.{◌≡◌, Bool, true, nat_eq, ◌&&◌}
 use Rattle.std.specs.Cmp.{IsEquivalence}
 use Rattle.std.specs.Hash as fed

@@ -8,8 +8,9 @@ use std::marker::Model;
 
 /// The children of an expansion, in order, which contracts see as the list of them.
 ///
-/// They stand in a block of the allocator, so that an expansion, and an outcome with it, is small wherever it is moved: more than half of the
-/// outcomes of a search may be duplicates, which have no children.
+/// They stand in a block of the allocator, so that an expansion, and an outcome with it, is small
+/// wherever it is moved: more than half of the outcomes of a search may be duplicates, which have
+/// no children.
 #[derive(Debug, Drop)]
 pub struct Children {
     items: Vec<Child>,

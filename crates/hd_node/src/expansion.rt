@@ -17,7 +17,8 @@ use hd_zobrist::Words;
 use std::alloc::Global;
 use std::marker::Model;
 
-/// The expansion of a parcel: where each applicable action leads, what departs from the range, and whether the goal holds.
+/// The expansion of a parcel: where each applicable action leads, what departs from the range, and
+/// whether the goal holds.
 #[derive(Debug, Drop)]
 pub struct Expansion<'t> {
     task: &'t Task,
@@ -74,9 +75,10 @@ pub struct ExpansionParts {
 }
 
 impl<'t> Expansion<'t> {
-    /// The expansion of a parcel of a task: tries the actions that may apply, by an index of the task, and tests the goal, at the parcel's
-    /// state and cost. It takes memory once for the children's list, where there are any, for the packed states that don't stand in place,
-    /// and for the departures, where there are any.
+    /// The expansion of a parcel of a task: tries the actions that may apply, by an index of the
+    /// task, and tests the goal, at the parcel's state and cost. It takes memory once for the
+    /// children's list, where there are any, for the packed states that don't stand in place, and
+    /// for the departures, where there are any.
     ///
     /// # Errors
     /// The parcel and `NoMemory` where there is no room for them.

@@ -32,7 +32,8 @@ fn goal_departure(
     Ok(departures)
 }
 
-/// Pushes a child. A list that is full gets room for as many as are marked, since no more come, so that it takes memory once.
+/// Pushes a child. A list that is full gets room for as many as are marked, since no more come, so
+/// that it takes memory once.
 fn push_child(
     children: &mut Children,
     successors: &Successors<'_>,
@@ -46,7 +47,8 @@ fn push_child(
     children.push(child)
 }
 
-/// What departs at a node, and into a list what it leads to, where the goal's test is known and the candidates at its state are marked.
+/// What departs at a node, and into a list what it leads to, where the goal's test is known and the
+/// candidates at its state are marked.
 fn walk(
     alloc: Global,
     task: &Task,
@@ -92,7 +94,8 @@ fn walk(
     Ok(Sequence::from_vec(departures))
 }
 
-/// What departs at a node, and into a list what it leads to, where the goal's test is known. The index marks the candidates at its state.
+/// What departs at a node, and into a list what it leads to, where the goal's test is known. The
+/// index marks the candidates at its state.
 pub(crate) fn explore<'t>(
     alloc: Global,
     task: &'t Task,

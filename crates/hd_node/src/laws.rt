@@ -7,8 +7,8 @@ ghost use Rattle.hd_task.specs.Expansions.{applicable_at};
 ghost use Rattle.hd_node.specs.declared.batch.TheConstants.{MAX_OUTCOMES};
 ghost use Rattle.hd_node.specs.Children.{ChildView, children_at};
 
-/// The children of a node are those of its applicable actions, in order; each stands where its step leads, at a cost in
-/// the range.
+/// The children of a node are those of its applicable actions, in order; each stands where its step
+/// leads, at a cost in the range.
 pub fn children_are_the_steps()
     ensures actions { (t : Task) (r : Node)
         → map (λ (c : ChildView). c.action) (children_at t r) ≡ applicable_at t (Some r) }

@@ -1,5 +1,5 @@
-//! What travels between the parts of a search: parcels that wait to be expanded, expansions, and the outcomes that a
-//! worker hands to the book in a batch.
+//! What travels between the parts of a search: parcels that wait to be expanded, expansions, and
+//! the outcomes that a worker hands to the book in a batch.
 #![tactic(auto)]
 
 mod batch;

@@ -13,8 +13,8 @@ use std::marker::Model;
 
 /// A generated plan that waits to be expanded: the kid that names it, and where it leads.
 ///
-/// The state is one of the task. That the kid names a plan which leads there is the claim of whoever made the parcel; the
-/// book tests it.
+/// The state is one of the task. That the kid names a plan which leads there is the claim of
+/// whoever made the parcel; the book tests it.
 #[derive(Debug, Drop)]
 pub struct Parcel<'t> {
     pub(crate) task: &'t Task,
@@ -86,8 +86,8 @@ impl<'t> Parcel<'t> {
         }
     }
 
-    /// The parcel of an entry's child. It takes no memory, since the child has all that a parcel has; so what a batch releases
-    /// can be made where nothing may fail any more.
+    /// The parcel of an entry's child. It takes no memory, since the child has all that a parcel
+    /// has; so what a batch releases can be made where nothing may fail any more.
     pub fn of_child(task: &'t Task, parent: u64, child: Child) -> Parcel<'t>
         requires { IsStateOf task.now child.state }
         ensures task { result.task ≡ task.now }

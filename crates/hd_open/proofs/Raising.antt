@@ -6,8 +6,8 @@ use Rattle.std.proofs.lemmas.Grind.{get_or_default_zero}
 use Rattle.hd_open.specs.Counts.{start_of, part_at, HasGroup, IsRaised}
 use Rattle.hd_open.proofs.Lowest.{start_less, skipped, next_start, next_or}
 
--- in one list each part that has a group and ends before this one is one more than in the other, and the other parts are the same; the
--- part that ends here is the next one
+-- in one list each part that has a group and ends before this one is one more than in the other,
+-- and the other parts are the same; the part that ends here is the next one
 pub record IsRaisedUpTo (less more : List ℕ) (group upto : ℕ) : Type 0 where
   pub from : start_of upto ≤ group
   pub past : group < upto

@@ -19,7 +19,8 @@ pub record IsHintOf {A : Type 0} (slots : List (Option A)) (h : Hint) : Type 0 w
   pub filled : IsFilled slots h.arrival
   pub place : place_at slots h.arrival ≡ h.place
 
--- nodes are marked, counted and queued, and the slot of the gap is empty, with its entry still in the queue
+-- nodes are marked, counted and queued, and the slot of the gap is empty, with its entry still in
+-- the queue
 pub record IsKept {A : Type 0} (total : A → Option ℕ) (slots : List (Option A)) (gap : Option Gap) (hint : Option Hint) (q : Queue) (c : Counts) : Type 0 where
   pub queued : IsQueued total slots q
   pub orderly : IsOrderly q

@@ -4,8 +4,8 @@ use Rattle.std.specs.List.{remove}
 use Rattle.std.specs.Coded.{Coded, code_by, coded_ℕ, coded_list, coded_option, coded×}
 use Rattle.hd_open.specs.Totals.{IsBest}
 
--- the nodes that wait, in the order in which they came; and the gap that the node taken out last has left, if nothing has happened
--- since: the place where it stood, and its total
+-- the nodes that wait, in the order in which they came; and the gap that the node taken out last
+-- has left, if nothing has happened since: the place where it stood, and its total
 pub record Open (A : Type 0) : Type 0 where
   pub nodes : List A
   pub gap : Option (ℕ × Option ℕ)

@@ -36,7 +36,8 @@ Has q None arrival = IsAmong q.dead arrival
 abbrev pub AreEmptyBelow : List (List ℕ) → ℕ → Type 0
 AreEmptyBelow small total = (t : ℕ) → t < total → bucket small t ≡ []
 
--- in each bucket, and among those that come last, arrivals ascend; totals without a bucket are greater than those with one
+-- in each bucket, and among those that come last, arrivals ascend; totals without a bucket are
+-- greater than those with one
 pub record IsOrderly (q : Queue) : Type 0 where
   pub ascends : (t : ℕ) → IsAscending (bucket q.small.items t)
   pub few : length q.small.items ≤ BUCKETS

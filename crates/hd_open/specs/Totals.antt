@@ -1,4 +1,5 @@
--- Which node of several is to be expanded first. (Best-first order with the earliest first, as in A*: Hart, Nilsson and Raphael 1968.)
+-- Which node of several is to be expanded first. (Best-first order with the earliest first, as in
+-- A*: Hart, Nilsson and Raphael 1968.)
 use Rattle.std.specs.Prelude.{◌≡◌, ◌⊎◌, ℕ, ◌≤◌, Bool, true, false, nat_lt, List, Option, Some, None, slice_get}
 
 -- whether a total is less than another; where there is none, that is the greatest
@@ -7,8 +8,8 @@ is_less (Some a) (Some b) = nat_lt a b
 is_less (Some a) None = true
 is_less None b = false
 
--- a node of this total at this place comes no later than one of that total at that place: its total is less, or the same and its place
--- is not behind the other's
+-- a node of this total at this place comes no later than one of that total at that place: its total
+-- is less, or the same and its place is not behind the other's
 abbrev pub IsNotAfter : Option ℕ → ℕ → Option ℕ → ℕ → Type 0
 IsNotAfter total place other_total other_place = (is_less total other_total ≡ true) ⊎ ((total ≡ other_total) × (place ≤ other_place))
 

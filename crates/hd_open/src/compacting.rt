@@ -1,4 +1,5 @@
-//! Nodes that are moved together where few of the slots hold one, so that slots which nodes have left are used again.
+//! Nodes that are moved together where few of the slots hold one, so that slots which nodes have
+//! left are used again.
 ghost use Rattle.std.specs.Prelude.{◌≡◌, ◌+◌, ◌*◌, ◌<◌, ◌≤◌, ℕ, None, length, min, take, slice_index_or, IfOk, OnOk, vec_len, vec_capacity};
 ghost use Rattle.hd_open.specs.Live.{live, packed};
 ghost use Rattle.hd_open.specs.Marks.{mark_at, AreMarks};
@@ -55,7 +56,8 @@ fn packed_counts<T>(slots: &[Option<T>], alloc: Global, count: usize) -> Result<
     })
 }
 
-/// A queue of the nodes of these slots, by the arrivals that they have once they are moved together.
+/// A queue of the nodes of these slots, by the arrivals that they have once they are moved
+/// together.
 fn packed_queue<T: Waits>(slots: &[Option<T>], alloc: Global) -> Result<Queue, NoMemory>
     ensures queued { IfOk result (IsQueued T.total (packed slots.now)) }
     ensures orderly { IfOk result IsOrderly }
@@ -103,7 +105,8 @@ fn cut<T>(slots: &mut Vec<Option<T>>, count: usize)
     }
 }
 
-/// Moves the nodes together, so that no slot between them is empty. Nothing happens where there is no memory for what counts and sorts them there.
+/// Moves the nodes together, so that no slot between them is empty. Nothing happens where there is
+/// no memory for what counts and sorts them there.
 #[inline(never)]
 fn compact<T: Waits>(slots: &mut Vec<Option<T>>, counts: &mut Counts, queue: &mut Queue)
     requires kept { IsKept T.total slots.old.items None None queue.old counts.old }
@@ -122,8 +125,9 @@ fn compact<T: Waits>(slots: &mut Vec<Option<T>>, counts: &mut Counts, queue: &mu
     *queue = shorter;
 }
 
-/// Makes room for a node: the nodes are moved together where no slot is left and fewer than half of them hold one. That takes as many steps as there
-/// are slots, which are at least as many as the buckets, and comes again after half as many pushes or more.
+/// Makes room for a node: the nodes are moved together where no slot is left and fewer than half of
+/// them hold one. That takes as many steps as there are slots, which are at least as many as the
+/// buckets, and comes again after half as many pushes or more.
 ///
 /// # Errors
 /// `NoMemory` where there is none for a slot more.

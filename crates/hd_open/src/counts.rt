@@ -1,4 +1,5 @@
-//! How many slots hold a node, counted by groups, so that a place is found without going through all of them.
+//! How many slots hold a node, counted by groups, so that a place is found without going through
+//! all of them.
 ghost use Rattle.std.specs.Prelude.{◌≡◌, ◌+◌, ◌^◌, ◌<◌, ◌≤◌, ℕ, [], length, OnOk};
 ghost use Rattle.hd_open.specs.Counts.{start_of, IsRaised, AreSome, AreBelowLimit};
 
@@ -7,8 +8,8 @@ use std::alloc::Global;
 /// How many slots a group has: as many as a word has bits.
 pub(crate) const GROUP: usize = 64;
 
-/// Which slots hold a node; counts of groups of slots, each over as many groups as the lowest one bit of its number says (the binary indexed
-/// tree: Fenwick 1994); and the count of all.
+/// Which slots hold a node; counts of groups of slots, each over as many groups as the lowest one
+/// bit of its number says (the binary indexed tree: Fenwick 1994); and the count of all.
 #[derive(Drop)]
 pub(crate) struct Counts {
     /// A word for each group, with a bit for each slot.
@@ -18,7 +19,8 @@ pub(crate) struct Counts {
     pub(crate) all: usize,
 }
 
-/// The first group that is counted in the part which ends before this one: the number without its lowest one bit.
+/// The first group that is counted in the part which ends before this one: the number without its
+/// lowest one bit.
 pub(crate) fn start_of(end: usize) -> usize
     requires { 0 < end }
     ensures value { result ≡ start_of end }

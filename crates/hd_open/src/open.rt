@@ -89,7 +89,8 @@ impl<T: Waits> OpenList<T> {
         Ok(())
     }
 
-    /// The place of the best node: that of the least total, the earliest of equal ones. Nodes without a total come last.
+    /// The place of the best node: that of the least total, the earliest of equal ones. Nodes
+    /// without a total come last.
     pub fn best(&mut self) -> Option<usize>
         ensures best { IfSome result (λ k. IsBest T.total self.old.nodes k) }
         ensures none { IfNone result (self.old.nodes ≡ []) }

@@ -13,8 +13,9 @@ use std::collections::BTreeSet;
 /// So many totals, from 0 on, have a bucket each.
 pub(crate) const BUCKETS: u64 = 65_536;
 
-/// Arrivals by their totals: small totals have a bucket each, greater ones are sorted, and those without a total come last. An entry
-/// may be stale: its node may have left, and its slot is not marked then.
+/// Arrivals by their totals: small totals have a bucket each, greater ones are sorted, and those
+/// without a total come last. An entry may be stale: its node may have left, and its slot is not
+/// marked then.
 #[derive(Drop)]
 pub(crate) struct Queue {
     pub(crate) alloc: Global,
@@ -55,8 +56,8 @@ fn first_waiting(arrivals: &mut Arrivals, words: &[u64]) -> Option<usize>
     None
 }
 
-/// From a total on, the first one whose bucket has an arrival whose slot is marked, and the first such arrival there. Those before it are
-/// dropped.
+/// From a total on, the first one whose bucket has an arrival whose slot is marked, and the first
+/// such arrival there. Those before it are dropped.
 fn first_small(small: &mut Vec<Arrivals>, from: usize, words: &[u64]) -> Option<(usize, usize)>
     ensures cleared { (t : ℕ) → AreCleared words.now (bucket small.old.items t)
         (bucket small.new.items t) }
@@ -178,7 +179,8 @@ impl Queue {
     ///
     /// # Errors
     /// `NoMemory` where there is no room for it, or it is no number of 32 bits.
-    // Each push goes through it, and mostly through `add_small`: as calls each would take some ten instructions more.
+    // Each push goes through it, and mostly through `add_small`: as calls each would take some ten
+    // instructions more.
     #[inline(always)]
     pub(crate) fn add(&mut self, total: Option<u128>, arrival: usize) -> Result<(), NoMemory>
         requires orderly { IsOrderly self.old }

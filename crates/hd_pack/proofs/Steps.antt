@@ -128,7 +128,8 @@ applied_by_number t s actions n a same known is =
     let there : slice_get t.actions n ≡ Some a = slice_get_read t.actions (length t.actions) n a refl known (is ∙ ap (λ (xs : List Action). get_or xs n a) same) in
     ap (applied_by t s) (sym there)
 
--- what `apply` answers: d says that the condition departs, h that it holds, es and cs that the effects and the amounts stay in the range
+-- what `apply` answers: d says that the condition departs, h that it holds, es and cs that the
+-- effects and the amounts stay in the range
 abbrev answer_by : Bool → Bool → Bool → Bool → Option ℕ → State → Applied
 answer_by d h es cs c x = cond (d || (h && not ((es && cs) && is_some c))) Answer.Departs (cond h (next_of x c) Answer.No)
 

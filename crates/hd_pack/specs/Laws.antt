@@ -1,4 +1,5 @@
--- What `==` and hashes of packed states owe: to be the same packing is an equivalence, and the same ones are hashed alike. (Our own.)
+-- What `==` and hashes of packed states owe: to be the same packing is an equivalence, and the same
+-- ones are hashed alike. (Our own.)
 use Rattle.std.specs.Prelude.{◌≡◌, true, length, nat_eq}
 use Rattle.std.specs.Cmp.{IsEquivalence}
 use Rattle.std.specs.Hash as fed

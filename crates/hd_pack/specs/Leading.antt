@@ -1,4 +1,5 @@
--- Where an action leads from a packed state: what the task's own step says, with the hash of the state after it. (Our own.)
+-- Where an action leads from a packed state: what the task's own step says, with the hash of the
+-- state after it. (Our own.)
 use Rattle.std.specs.Prelude.{ℕ, ◌+◌, Bool, if◌then◌else◌, List, set, ℤ}
 use Rattle.hd_base.specs.Numbers.{cost_in_range}
 use Rattle.hd_task.specs.declared.state.State.{State}
@@ -36,6 +37,7 @@ with_atom v s i = record { atoms = set s.atoms i v; fluents = s.fluents }
 abbrev pub with_value : State → ℕ → ℤ → State
 with_value s j v = record { atoms = s.atoms; fluents = set s.fluents j v }
 
--- a state whose fluent has the value that an effect gives it, by the values f from before the action
+-- a state whose fluent has the value that an effect gives it, by the values f from before the
+-- action
 abbrev pub with_effect : List ℤ → State → Effect → State
 with_effect f s e = with_value s e.fluent (new_value f e)

@@ -43,7 +43,8 @@ values_in few = []
 unfoldable pub unpacked : ℕ → List ℕ → State
 unpacked n bytes = record { atoms = map (atom_in bytes) (range_with_len 0 n); fluents = values_in (drop (bytes_for n) bytes) }
 
--- bytes are the packing of the state of so many atoms that stands in them, and its values fit 64 bits
+-- bytes are the packing of the state of so many atoms that stands in them, and its values fit 64
+-- bits
 pub record IsPacking (n : ℕ) (bytes : List ℕ) : Type 0 where
   pub packed : bytes ≡ packed_bytes (unpacked n bytes)
   pub fit : AllByRecursion (FitsSigned w64) (unpacked n bytes).fluents

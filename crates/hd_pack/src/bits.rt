@@ -10,11 +10,13 @@ use std::alloc::Global;
 /// How many bytes of a packing may stand in the packing itself.
 const IN_PLACE: usize = 16;
 
-/// The bytes of a packing. A few of them stand in the packing itself: so a state of few atoms and fluents takes no block of the
-/// allocator, which one thread would have to take and another to give back where states go from worker to worker.
+/// The bytes of a packing. A few of them stand in the packing itself: so a state of few atoms and
+/// fluents takes no block of the allocator, which one thread would have to take and another to give
+/// back where states go from worker to worker.
 pub(crate) type Bytes = SmallVec<u8, IN_PLACE>;
 
-/// A copy of bytes. Where they are too many to stand in place, they are copied into their block alone.
+/// A copy of bytes. Where they are too many to stand in place, they are copied into their block
+/// alone.
 ///
 /// # Errors
 /// `NoMemory` where there is no room for the block.

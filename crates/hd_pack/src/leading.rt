@@ -21,7 +21,8 @@ pub enum Led {
     No,
     /// A number leaves the range, or the plan's cost does.
     Departs,
-    /// The state after it, the hash of that state, and the cost of the plan with it, which is in the range.
+    /// The state after it, the hash of that state, and the cost of the plan with it, which is in
+    /// the range.
     Next(Packed, u64, u64),
 }
 
@@ -81,7 +82,8 @@ fn set_fluent(words: &Words, state: &mut Packed, hash: u64, fluent: u32, value: 
     )
 }
 
-/// Gives fluents their new values, each by the values before the action, and gives the hash after that; unless one leaves the range.
+/// Gives fluents their new values, each by the values before the action, and gives the hash after
+/// that; unless one leaves the range.
 fn set_fluents(
     words: &Words,
     kid: &mut Packed,
@@ -103,7 +105,8 @@ fn set_fluents(
     Some(hash)
 }
 
-/// Makes a copy of a state what an action makes of it, and gives the hash after that; unless a new value leaves the range.
+/// Makes a copy of a state what an action makes of it, and gives the hash after that; unless a new
+/// value leaves the range.
 fn write_effects(
     task: &Task,
     words: &Words,
@@ -159,15 +162,16 @@ fn take_effect(
     }
 }
 
-/// Where an action leads from a packed state, with the hash of the state after it and the plan's cost: what [`hd_task::step`]
-/// answers of the state.
+/// Where an action leads from a packed state, with the hash of the state after it and the plan's
+/// cost: what [`hd_task::step`] answers of the state.
 ///
-/// It takes a copy of the bytes where the action's condition and cost let it go on, and no memory else; and time in the action's own
-/// size.
+/// It takes a copy of the bytes where the action's condition and cost let it go on, and no memory
+/// else; and time in the action's own size.
 ///
 /// # Errors
 /// `NoMemory` where there is no room for the bytes of the state after it.
-// It stands in the innermost loop of an expansion, and its answer is some sixty bytes: inlined, most of them are never written.
+// It stands in the innermost loop of an expansion, and its answer is some sixty bytes: inlined,
+// most of them are never written.
 #[inline(always)]
 pub fn leads(
     alloc: Global,

@@ -143,7 +143,8 @@ impl Reads for Packed {
     }
 }
 
-/// A state in few bytes. A layout of the state's numbers of atoms and fluents lets it take memory once.
+/// A state in few bytes. A layout of the state's numbers of atoms and fluents lets it take memory
+/// once.
 ///
 /// # Errors
 /// `NoMemory` where there is no room for the bytes.
@@ -159,7 +160,8 @@ pub fn pack(alloc: Global, layout: &Layout, state: &State) -> Result<Packed, NoM
     })
 }
 
-/// The state of a packing. A layout of the state's numbers of atoms and fluents lets it take memory once for each.
+/// The state of a packing. A layout of the state's numbers of atoms and fluents lets it take memory
+/// once for each.
 ///
 /// # Errors
 /// `NoMemory` where there is no room for the state.

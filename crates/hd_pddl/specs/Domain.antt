@@ -1,5 +1,5 @@
--- The grammar of domains: what forms say, one case an alternative.
--- "BNF" is the BNF of PDDL 2.1 (Fox and Long 2003, its appendix), without what is not read; "own" is a rule of this project.
+-- The grammar of domains: what forms say, one case an alternative. "BNF" is the BNF of PDDL 2.1
+-- (Fox and Long 2003, its appendix), without what is not read; "own" is a rule of this project.
 use Rattle.std.specs.Prelude.{ℕ, List, [], ◌∷◌, codes}
 use Rattle.hd_lex.specs.declared.token.Operator.TheVariants.{Minus}
 use Rattle.hd_forms.specs.declared.names.NameAt.{NameAt}
@@ -51,7 +51,8 @@ pub data AreFunctions : Forms → List Signature → Type 0 where
 abbrev pub made_action : NameAt → List Typed → List Condition → List Effect → Action
 made_action n vs ps es = record { name = n; parameters = vs; precondition = ps; effect = es }
 
--- what stands in an action: :action NAME :parameters ( variables ) [ :precondition condition ] [ :effect effect ] (BNF)
+-- what stands in an action: :action NAME :parameters ( variables ) [ :precondition condition ] [
+-- :effect effect ] (BNF)
 pub data IsAction : Forms → Action → Type 0 where
   action : {a at b c d : ℕ} {n : List ℕ} {parameters more last : Forms}
       {vs : List Typed} {ps : List Condition} {es : List Effect}
@@ -75,7 +76,8 @@ abbrev pub made_domain : NameAt → List Typed → List Typed → List Signature
 made_domain n ts cs ps fs as' =
     record { name = n; types = ts; constants = cs; predicates = ps; functions = fs; actions = as' }
 
--- ( define ( domain NAME ) [requirements] [types] [constants] [predicates] [functions] action* ) (BNF)
+-- ( define ( domain NAME ) [requirements] [types] [constants] [predicates] [functions] action* )
+-- (BNF)
 pub data IsDomain : Forms → DomainAst → Type 0 where
   domain : {forms sections f1 f2 f3 f4 actions : Forms} {n : NameAt} {ts cs : List Typed} {ps fs : List Signature}
       {as' : List Action}

@@ -1,5 +1,5 @@
--- The grammar of problems: what forms say, one case an alternative.
--- "BNF" is the BNF of PDDL 2.1 (Fox and Long 2003, its appendix), without what is not read; "own" is a rule of this project.
+-- The grammar of problems: what forms say, one case an alternative. "BNF" is the BNF of PDDL 2.1
+-- (Fox and Long 2003, its appendix), without what is not read; "own" is a rule of this project.
 use Rattle.std.specs.Prelude.{ℕ, ℤ, List, [], ◌∷◌, Option, Some, None, codes}
 use Rattle.hd_lex.specs.declared.token.Operator.TheVariants.{Equal}
 use Rattle.hd_forms.specs.declared.names.NameAt.{NameAt}
@@ -61,7 +61,8 @@ pub data HasGoal : Forms → List Condition → Forms → Type 0 where
       → AreConditions (list a inside b none) cs
       → HasGoal f cs more
 
--- [ ( :metric minimize ( NAME ) ) ], alone (BNF, where any expression may be minimized or maximized)
+-- [ ( :metric minimize ( NAME ) ) ], alone (BNF, where any expression may be minimized or
+-- maximized)
 pub data IsMetric : Forms → Option NameAt → Type 0 where
   absent : IsMetric none None
   present : {f : Forms} {a b c at : ℕ} {n : List ℕ}

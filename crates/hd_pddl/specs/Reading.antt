@@ -88,7 +88,8 @@ unfoldable pub predicates_at : Forms → Option (List Signature × Forms)
 predicates_at forms = items_or signatures_of (section_at (codes "predicates") forms) forms
 
 unfoldable mutual
-  -- functions one after the other, where `- number` may stand first or not: those found so far, and theirs
+  -- functions one after the other, where `- number` may stand first or not: those found so far, and
+  -- theirs
   pub functions_after : Bool → Forms → List Signature → Option (List Signature)
   functions_after behind none found = Some found
   functions_after behind (word at w rest) found = if is_minus w && behind then numbers_after rest found else None

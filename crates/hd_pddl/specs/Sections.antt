@@ -12,7 +12,8 @@ pub data IsSection (k : List ℕ) : Forms → Forms → Forms → Type 0 where
   section : {a b at : ℕ} {inside more : Forms}
       → IsSection k (list a (word at (Keyword k) inside) b more) inside more
 
--- [ ( :KEYWORD item* ) ], and more, by the rule of its items: where it is absent, there are none (BNF)
+-- [ ( :KEYWORD item* ) ], and more, by the rule of its items: where it is absent, there are none
+-- (BNF)
 pub data HasItems {A : Type 0} (Are : Forms → List A → Type 0) (k : List ℕ) : Forms → List A → Forms → Type 0 where
   absent : {more : Forms} → HasItems Are k more [] more
   present : {f inside more : Forms} {xs : List A} → IsSection k f inside more → Are inside xs → HasItems Are k f xs more

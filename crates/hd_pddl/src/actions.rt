@@ -14,7 +14,8 @@ use hd_forms::{
 use hd_terms::{Condition, Effect, ItemKind, Typed, condition_at, effect_at, typed_of};
 use std::alloc::Global;
 
-/// The parts of the precondition, none where it is absent, and what follows. The place `end` is that behind the forms.
+/// The parts of the precondition, none where it is absent, and what follows. The place `end` is
+/// that behind the forms.
 #[tactic(auto, unfolding(crate::specs::Reading::precondition_at))]
 fn precondition_at(
     alloc: Global,
@@ -30,7 +31,8 @@ fn precondition_at(
     }
 }
 
-/// The parts of the effect, none where it is absent, and what follows. The place `end` is that behind the forms.
+/// The parts of the effect, none where it is absent, and what follows. The place `end` is that
+/// behind the forms.
 #[tactic(auto, unfolding(crate::specs::Reading::action_effect_at))]
 fn action_effect_at(
     alloc: Global,
@@ -46,7 +48,8 @@ fn action_effect_at(
     }
 }
 
-/// The name and the parameters of the action in a form which ends at the place `to`, and what follows them.
+/// The name and the parameters of the action in a form which ends at the place `to`, and what
+/// follows them.
 #[tactic(auto, unfolding(crate::specs::Reading::action_head_at))]
 fn action_head_at(
     alloc: Global,

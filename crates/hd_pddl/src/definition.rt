@@ -13,7 +13,8 @@ use hd_forms::{
 };
 use std::alloc::Global;
 
-/// The name in the head of a definition of this kind, which ends at the place `to`, and what follows the head.
+/// The name in the head of a definition of this kind, which ends at the place `to`, and what
+/// follows the head.
 #[tactic(auto, unfolding(crate::specs::Reading::head_at))]
 pub fn head_at<'a>(
     alloc: Global,
@@ -32,7 +33,8 @@ pub fn head_at<'a>(
     Ok((name, rest))
 }
 
-/// What stands behind this keyword in the first form, the place of the form's closing parenthesis, and what follows it.
+/// What stands behind this keyword in the first form, the place of the form's closing parenthesis,
+/// and what follows it.
 #[tactic(auto, unfolding(crate::specs::Reading::section_at))]
 pub fn section_at<'a>(
     alloc: Global,

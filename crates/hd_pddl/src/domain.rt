@@ -55,7 +55,8 @@ fn domain_of(alloc: Global, forms: &[Form], end: usize) -> Result<DomainAst, Rea
 
 /// The domain that a text is, or why it is none.
 ///
-/// Any bytes may come. The only error that the text of a domain meets is want of memory. Errors name places in bytes from
+/// Any bytes may come. The only error that the text of a domain meets is want of memory. Errors
+/// name places in bytes from
 /// 0. The time and the memory that are taken grow with the text's length alone.
 pub fn read_domain(alloc: Global, text: &[u8]) -> Result<DomainAst, ReadError>
     // What is read is what the text says, and what the text says is read, unless memory runs out.
@@ -63,10 +64,12 @@ pub fn read_domain(alloc: Global, text: &[u8]) -> Result<DomainAst, ReadError>
     ensures only { (tree : DomainAst) → IsDomainText text.now tree
         → MatchResult result (λ answer. answer ≡ tree) (λ error. error ≡ ReadError.NoMemory) }
 
-    // What is told: the first bad word, the first fault of the parentheses, or that the text is outside of the grammar.
+    // What is told: the first bad word, the first fault of the parentheses, or that the text is
+    // outside of the grammar.
     ensures refusal { IfErr result (Explains IsDomain text.now) }
 
-    // A bad word is told, and in a text without one a fault of the parentheses, unless memory ran out.
+    // A bad word is told, and in a text without one a fault of the parentheses, unless memory ran
+    // out.
     ensures bad_word { (fault : LexError) → IsFault text.now fault
         → MatchResult result (λ _. ⊥)
         (λ error. (error ≡ ReadError.NoMemory) ⊎ (error ≡ ReadError.Lex fault)) }

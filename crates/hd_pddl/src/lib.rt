@@ -1,9 +1,9 @@
 //! Reads tasks written in PDDL: a domain and a problem, each a text of its own.
 //!
-//! A text is cut into words (hd_lex), the words are nested by their parentheses (hd_forms), and the grammar is read over
-//! the nested forms: terms, expressions, conditions and effects in hd_terms, domains and problems here. The language is
-//! PDDL 2.1, level 2 (Fox and Long, JAIR 20, 2003), with whole numbers and without quantifiers, disjunctions, conditional
-//! effects and division.
+//! A text is cut into words (hd_lex), the words are nested by their parentheses (hd_forms), and the
+//! grammar is read over the nested forms: terms, expressions, conditions and effects in hd_terms,
+//! domains and problems here. The language is PDDL 2.1, level 2 (Fox and Long, JAIR 20, 2003), with
+//! whole numbers and without quantifiers, disjunctions, conditional effects and division.
 #![tactic(auto)]
 
 mod actions;

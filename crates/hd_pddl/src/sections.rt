@@ -13,7 +13,8 @@ use hd_forms::{Form, ReadError, Word, first_refusal, form_refusal, name_at};
 use hd_terms::{ItemKind, Typed, is_minus, typed_of};
 use std::alloc::Global;
 
-/// The names with their types behind this keyword, none where that section is absent, and what follows.
+/// The names with their types behind this keyword, none where that section is absent, and what
+/// follows.
 #[tactic(auto, unfolding(crate::specs::Reading::names_at, crate::specs::Reading::names_of))]
 pub fn names_at<'a>(
     alloc: Global,
@@ -81,7 +82,8 @@ pub fn predicates_at(
     }
 }
 
-/// The functions that these forms are, each with `- number` behind it or not. The place `end` is that behind the forms.
+/// The functions that these forms are, each with `- number` behind it or not. The place `end` is
+/// that behind the forms.
 #[tactic(auto, unfolding(crate::specs::Reading::functions_of, crate::specs::Reading::functions_after))]
 fn functions_of(alloc: Global, forms: &[Form], end: usize) -> Result<Sequence<Signature>, ReadError>
     ensures { Gives Refuses (λ x. x) result (functions_of (forms_view forms.now)) }

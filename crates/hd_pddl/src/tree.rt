@@ -1,4 +1,5 @@
-//! What texts say, each list in the text's order. A place is that of a first byte in the text, counted from 0.
+//! What texts say, each list in the text's order. A place is that of a first byte in the text,
+//! counted from 0.
 
 use hd_base::{Boxed, Sequence};
 use hd_forms::NameAt;
@@ -34,7 +35,8 @@ pub struct DomainAst {
 /// The value that a fluent has at first.
 #[derive(Debug, Drop)]
 pub struct InitialValue {
-    /// In memory of its own: most facts are atoms, and a list of facts is as wide as its widest item.
+    /// In memory of its own: most facts are atoms, and a list of facts is as wide as its widest
+    /// item.
     pub fluent: Boxed<Atom>,
     pub value: i64,
     /// The place of the number.

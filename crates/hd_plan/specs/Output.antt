@@ -26,7 +26,8 @@ abbrev pub KeepsFor : Option (List ℕ) → Option (List ℕ) → WriteError →
 KeepsFor old new NoMemory = Keeps old new
 KeepsFor old new (Device kind) = Unit {0}
 
--- the error that is told is the one that is noted of the writer; want of memory is none of the writer's
+-- the error that is told is the one that is noted of the writer; want of memory is none of the
+-- writer's
 abbrev pub IsNoted : Option ErrorKind → Option ErrorKind → WriteError → Type 0
 IsNoted old new NoMemory = new ≡ old
 IsNoted old new (Device kind) = new ≡ Some kind

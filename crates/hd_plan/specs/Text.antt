@@ -1,4 +1,5 @@
--- What a plan file says, line by line. All of it is a rule of this project; the words of a line are those of the specs of hd_lex.
+-- What a plan file says, line by line. All of it is a rule of this project; the words of a line are
+-- those of the specs of hd_lex.
 use Rattle.std.specs.Prelude.{◌≡◌, ◌⊎◌, ℕ, ◌+◌, ◌<◌, List, [], ◌∷◌, ◌++◌, length, map, Bool, true, not, ◌==◌}
 use Rattle.std.specs.List.{list_all, AllByRecursion}
 use Rattle.hd_lex.specs.Byte.{is_line_byte}
@@ -26,7 +27,8 @@ step_words s =
 abbrev pub IsSilent : List ℕ → Type 0
 IsSilent line = AreTokens line []
 
--- the line is this step: its words are just those of the step, with blanks anywhere between and around, and no comment stands in it
+-- the line is this step: its words are just those of the step, with blanks anywhere between and
+-- around, and no comment stands in it
 pub record IsStepLine (line : List ℕ) (step : Step) : Type 0 where
   pub tokens : List Token
   pub are_tokens : AreTokens line tokens

@@ -1,4 +1,5 @@
-//! Laws of plan files: what `read_plan` answers is always there, is always one, and is what was written.
+//! Laws of plan files: what `read_plan` answers is always there, is always one, and is what was
+//! written.
 
 ghost use Rattle.std.specs.Prelude.{◌≡◌, ◌⊎◌, ◌<◌, ◌^◌, ℕ, List};
 ghost use Rattle.std.specs.List.{AllByRecursion};

@@ -1,6 +1,7 @@
 //! Plan files: the text of a plan, read and written.
 //!
-//! Each line of a plan file is a step, `(name object ..)`, or says nothing. What a name is, is the rule of hd_lex.
+//! Each line of a plan file is a step, `(name object ..)`, or says nothing. What a name is, is the
+//! rule of hd_lex.
 #![tactic(auto)]
 
 mod error;

@@ -34,8 +34,8 @@ impl<T: Drop> From<AllocFailed<T>> for WriteError {
 
 /// A writer, with the kind of the error that it answered last, if it has answered one.
 ///
-/// No contract over `std::io::Write` alone can say that a writer failed. This one notes each error that its writer answers, so
-/// that what is told of the writer can be held against it.
+/// No contract over `std::io::Write` alone can say that a writer failed. This one notes each error
+/// that its writer answers, so that what is told of the writer can be held against it.
 #[derive(Drop)]
 pub struct Watched<'w, W> {
     writer: &'w mut W,
@@ -64,8 +64,8 @@ impl<'w, W: Write> Watched<'w, W> {
     /// Writes some of these bytes, and answers how many. This alone notes an error.
     ///
     /// # Errors
-    /// The kind of the error that the writer answers, after which nothing of them has been written. A writer that takes none of the
-    /// bytes has failed with `WriteZero`.
+    /// The kind of the error that the writer answers, after which nothing of them has been written.
+    /// A writer that takes none of the bytes has failed with `WriteZero`.
     fn write(&mut self, bytes: &[u8]) -> Result<usize, io::ErrorKind>
         requires { 0 < length bytes.now }
         ensures part { IfOk result (IsPartOf bytes.now) }
@@ -85,10 +85,12 @@ impl<'w, W: Write> Watched<'w, W> {
     /// Writes bytes, whole.
     ///
     /// # Errors
-    /// The kind of the error that the writer answers, after which a beginning of the bytes has been written, and not all of them.
+    /// The kind of the error that the writer answers, after which a beginning of the bytes has been
+    /// written, and not all of them.
     #[tactic(auto, using(crate::proofs::Parts::part_appended))]
     pub fn put(&mut self, bytes: &[u8]) -> Result<(), io::ErrorKind>
-        // All bytes are written, or a beginning of them: where the writer's bytes are known, it is told which of both.
+        // All bytes are written, or a beginning of them: where the writer's bytes are known, it is
+        // told which of both.
         ensures whole { OnOk result (Appends (W.contents self.old.writer.now)
             (W.contents self.new.writer.now) bytes.now) }
         ensures short { OnErr result (AppendsShort (W.contents self.old.writer.now)

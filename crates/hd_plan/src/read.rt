@@ -82,7 +82,8 @@ fn steps_of(alloc: Global, text: &[u8]) -> Result<Vec<Step>, PlanTextError>
 /// `BadLine` with the number of the first bad line, counted from 1, and want of memory.
 #[tactic(auto, using(crate::proofs::Lowered::reads_names, crate::proofs::Files::reads_unique, crate::proofs::Files::good_refused, crate::proofs::Files::bad_answered, crate::proofs::Files::bad_refused))]
 pub fn read_plan(alloc: Global, text: &[u8]) -> Result<Sequence<Step>, PlanTextError>
-    // What is answered: the steps of the text's lines, in order, whose names are those of texts, in lower case.
+    // What is answered: the steps of the text's lines, in order, whose names are those of texts, in
+    // lower case.
     ensures answer { IfOk result (λ steps. ReadsAs text.now steps) }
     ensures names { IfOk result (λ steps. All IsStep steps) }
 
@@ -90,7 +91,8 @@ pub fn read_plan(alloc: Global, text: &[u8]) -> Result<Sequence<Step>, PlanTextE
     ensures refusal { IfErr result (λ error.
         (error ≡ PlanTextError.NoMemory) ⊎ IsFault text.now error) }
 
-    // A text with no bad line is answered, and one with a bad line is refused, unless memory ran out.
+    // A text with no bad line is answered, and one with a bad line is refused, unless memory ran
+    // out.
     ensures good_text { (steps : List Step) → ReadsAs text.now steps
         → MatchResult result (λ found. found ≡ steps) (λ error. error ≡ PlanTextError.NoMemory) }
     ensures bad_text { (fault : PlanTextError) → IsFault text.now fault

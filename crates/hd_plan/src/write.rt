@@ -63,11 +63,12 @@ fn plan_text(alloc: Global, steps: &[Step], cost: u64) -> Result<Vec<u8>, NoMemo
     Ok(text)
 }
 
-/// Writes the text of a plan at a cost: each step as `(name object ..)` on a line, and then `; cost = N`.
+/// Writes the text of a plan at a cost: each step as `(name object ..)` on a line, and then `; cost
+/// = N`.
 ///
 /// # Errors
-/// Want of memory, before anything is written; and the writer's fault, which it has then answered and which is noted of it. A beginning of
-/// the text has then been written, and not all of it.
+/// Want of memory, before anything is written; and the writer's fault, which it has then answered
+/// and which is noted of it. A beginning of the text has then been written, and not all of it.
 #[tactic(auto, using(crate::proofs::Parts::nothing_appended))]
 pub fn write_plan<W: Write>(
     alloc: Global,
@@ -79,13 +80,15 @@ pub fn write_plan<W: Write>(
     ensures whole { OnOk result (Appends (W.contents out.old.writer.now)
         (W.contents out.new.writer.now) (plan_text steps.now cost)) }
 
-    // What an error leaves: a beginning of that text, which is not all of it, and nothing of it where memory ran out.
+    // What an error leaves: a beginning of that text, which is not all of it, and nothing of it
+    // where memory ran out.
     ensures short { OnErr result (AppendsShort (W.contents out.old.writer.now)
         (W.contents out.new.writer.now) (plan_text steps.now cost)) }
     ensures no_memory { IfErr result (KeepsFor (W.contents out.old.writer.now)
         (W.contents out.new.writer.now)) }
 
-    // A fault of the writer is told only where it has answered that error, and none that it answers is passed over.
+    // A fault of the writer is told only where it has answered that error, and none that it answers
+    // is passed over.
     ensures fault { NotesError out.old.fault out.new.fault result }
 {
     let text = plan_text(alloc, steps, cost)?;

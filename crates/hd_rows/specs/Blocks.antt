@@ -8,7 +8,8 @@ use Rattle.hd_rows.specs.declared.block.Block.{Block}
 use Rattle.hd_rows.specs.Rows.{states_in, ArePackings}
 use Rattle.hd_rows.specs.Widths.{Widths, bytes_of}
 
--- how many atoms and fluents each state has, the states, and how many can be pushed without asking for memory
+-- how many atoms and fluents each state has, the states, and how many can be pushed without asking
+-- for memory
 pub record BlocksView : Type 0 where
   pub widths : Widths
   pub states : List State

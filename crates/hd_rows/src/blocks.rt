@@ -13,10 +13,11 @@ use hd_pack::{Layout, Packed};
 use std::alloc::{AllocError, Global};
 use std::marker::Model;
 
-/// Packed states of as many atoms and fluents each, in blocks of as many states as a chunk has items: no growth copies the states that
-/// are there, and none has memory of its own.
+/// Packed states of as many atoms and fluents each, in blocks of as many states as a chunk has
+/// items: no growth copies the states that are there, and none has memory of its own.
 ///
-/// Contracts see these numbers, the states, and the room: the number of states that can be pushed without asking for memory.
+/// Contracts see these numbers, the states, and the room: the number of states that can be pushed
+/// without asking for memory.
 #[derive(Debug, Drop)]
 pub struct RowBlocks {
     alloc: Global,

@@ -20,7 +20,8 @@ use hd_task::{Action, ActionId, Effect, Task, new_value, step_cost};
 use std::alloc::Global;
 use std::marker::Model;
 
-/// A packed state in bytes of its own, which are written over again and again; contracts see it as the state.
+/// A packed state in bytes of its own, which are written over again and again; contracts see it as
+/// the state.
 #[derive(Debug, Drop)]
 pub struct Draft {
     atoms: usize,
@@ -98,7 +99,8 @@ impl Draft {
         Row::of(self.atoms, self.fluents, self.bytes.as_slice())
     }
 
-    /// Makes it a copy of another state. It takes memory only where that has another number of bytes.
+    /// Makes it a copy of another state. It takes memory only where that has another number of
+    /// bytes.
     ///
     /// # Errors
     /// `NoMemory` where there is no room for the bytes: it is as it was.
@@ -161,7 +163,8 @@ impl Draft {
         self.put(fluent as usize, &value);
     }
 
-    /// Gives fluents their new values, each by the values before the action; or says that one leaves the range.
+    /// Gives fluents their new values, each by the values before the action; or says that one
+    /// leaves the range.
     fn set_fluents(&mut self, before: &Row<'_>, effects: &[Effect]) -> bool
         ensures stays { result ≡ list_all (effect_stays before.now.fluents) effects.now }
         ensures written { result ≡ true
@@ -176,7 +179,8 @@ impl Draft {
         true
     }
 
-    /// Makes a copy of a state what an action makes of it; or says that a new value leaves the range.
+    /// Makes a copy of a state what an action makes of it; or says that a new value leaves the
+    /// range.
     fn write_effects(&mut self, task: &Task, before: &Row<'_>, action: &Action) -> bool
         requires copy { self.old ≡ before.now }
         requires of_task { IsStateOf task.now before.now }
@@ -218,9 +222,9 @@ impl Draft {
         }
     }
 
-    /// Makes it the state that an applicable action leads to from another, at a plan of some cost, and gives the plan's cost with it. The
-    /// action's condition is not tested. It takes memory only where that state has another number of bytes, and time in the action's own
-    /// size.
+    /// Makes it the state that an applicable action leads to from another, at a plan of some cost,
+    /// and gives the plan's cost with it. The action's condition is not tested. It takes memory
+    /// only where that state has another number of bytes, and time in the action's own size.
     ///
     /// # Errors
     /// `NoMemory` where there is no room for the bytes.

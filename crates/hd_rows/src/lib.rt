@@ -1,7 +1,7 @@
 //! Packed states of a task in a block of bytes, read and compared where they stand.
 //!
-//! [`Rows`] has them in one block, which grows, and [`RowBlocks`] in many, of which none is copied. A [`Row`] is such a state, and a
-//! [`Draft`] one that is written over.
+//! [`Rows`] has them in one block, which grows, and [`RowBlocks`] in many, of which none is copied.
+//! A [`Row`] is such a state, and a [`Draft`] one that is written over.
 #![tactic(auto)]
 
 mod block;

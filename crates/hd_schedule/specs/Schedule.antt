@@ -97,7 +97,8 @@ said_of line = said_by (words_of line)
 abbrev pub is_line_feed : ℕ → Bool
 is_line_feed byte = byte == 10
 
--- what the lines of a text say, in order. Behind its last line feed stands one more, which says nothing where it is empty
+-- what the lines of a text say, in order. Behind its last line feed stands one more, which says
+-- nothing where it is empty
 abbrev pub all_said : List ℕ → List Said
 all_said text = map said_of (slice_split is_line_feed text)
 

@@ -1,4 +1,5 @@
-//! Laws of schedules: the moves are those of the table, and what is printed of moves is read as these.
+//! Laws of schedules: the moves are those of the table, and what is printed of moves is read as
+//! these.
 
 ghost use Rattle.std.specs.Prelude.{◌≡◌, ◌↔◌, ℕ, List, Some, Ok};
 ghost use Rattle.std.specs.List.{AllByRecursion};
@@ -14,7 +15,8 @@ pub fn moves_are_those_of_the_table()
         → (move_of words ≡ Some move) ↔ IsMove words move }
 {}
 
-/// The line that a move is printed as says this move, and the lines of moves are a schedule of just these.
+/// The line that a move is printed as says this move, and the lines of moves are a schedule of just
+/// these.
 pub fn what_is_printed_is_read_back()
     ensures line { (move : Move) → IsShort move → said_of (move_text move) ≡ said.Move move }
     ensures text { (moves : List Move) → AllByRecursion IsShort moves

@@ -1,6 +1,8 @@
-//! Schedules: the moves of a search that stops and is resumed, as data, and the text that says them.
+//! Schedules: the moves of a search that stops and is resumed, as data, and the text that says
+//! them.
 //!
-//! Each line of a schedule is a move, or says nothing. What is read is not asked whether it is possible.
+//! Each line of a schedule is a move, or says nothing. What is read is not asked whether it is
+//! possible.
 #![tactic(auto)]
 
 mod error;

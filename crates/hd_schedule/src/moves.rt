@@ -14,10 +14,12 @@ pub struct StopAt {
     pub byte: u8,
 }
 
-/// A move of the world that a schedule is played in. Whether it is possible there is not asked here.
+/// A move of the world that a schedule is played in. Whether it is possible there is not asked
+/// here.
 #[derive(Clone, Copy, Debug, PartialEq, Eq)]
 pub enum Move {
-    /// The journal is opened and recovered for so many workers; with a stop, this comes to an end in one of its calls.
+    /// The journal is opened and recovered for so many workers; with a stop, this comes to an end
+    /// in one of its calls.
     Resume { workers: u32, stop: Option<StopAt> },
     /// The worker pops its mailbox into its hand, if that is empty.
     Pop { worker: u32 },

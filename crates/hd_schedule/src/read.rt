@@ -43,7 +43,8 @@ pub fn read_schedule(alloc: Global, text: &[u8]) -> Result<Sequence<Move>, Sched
     ensures refusal { IfErr result (λ error.
         (error ≡ ScheduleError.NoMemory) ⊎ IsFault text.now error) }
 
-    // A text with no bad line is answered, and one with a bad line is refused, unless memory ran out.
+    // A text with no bad line is answered, and one with a bad line is refused, unless memory ran
+    // out.
     ensures good_text { (moves : List Move) → schedule_of text.now ≡ Ok moves
         → MatchResult result (λ found. found ≡ moves) (λ error. error ≡ ScheduleError.NoMemory) }
     ensures bad_text { (line : ℕ) → schedule_of text.now ≡ Err line

@@ -32,7 +32,8 @@ is_next (Fails n) = n == 0
 is_next (Stops n) = n == 0
 is_next Down = false
 
--- what becomes of the reads to come, where a change is begun and fails: the machine may stop in it, and a real device is not asked any more
+-- what becomes of the reads to come, where a change is begun and fails: the machine may stop in it,
+-- and a real device is not asked any more
 abbrev pub reads_behind : Ahead → Ahead → Ahead
 reads_behind Unknown reads = Down
 reads_behind Well reads = reads
@@ -62,7 +63,8 @@ GoesAs (Ok x) fails = fails ≡ false
 GoesAs (Err NoMemory) fails = Unit {0}
 GoesAs (Err Failed) fails = fails ≡ true
 
--- a call goes as it is foretold, where that is known; where the count of failures stands at its greatest value, it fails
+-- a call goes as it is foretold, where that is known; where the count of failures stands at its
+-- greatest value, it fails
 abbrev pub GoesAsForetold : {X : Type 0} → Result X StoreError → ℕ → Option Bool → Type 0
 GoesAsForetold result failures known =
     MatchBool (failures == MOST_FAILURES) (result ≡ Err Failed) (MatchOption known (Unit {0}) (GoesAs result))
@@ -75,7 +77,8 @@ is_down (Fails n) = false
 is_down (Stops n) = false
 is_down Down = true
 
--- whether no change is begun: the count of failures stands at its greatest value, or the machine has stopped
+-- whether no change is begun: the count of failures stands at its greatest value, or the machine
+-- has stopped
 abbrev pub is_refused : ℕ → Ahead → Bool
 is_refused failures changes = (failures == MOST_FAILURES) || is_down changes
 

@@ -17,8 +17,8 @@ OnNoMemory (Ok x) P = Unit {0}
 OnNoMemory (Err NoMemory) P = P
 OnNoMemory (Err Failed) P = Unit {0}
 
--- A change failed. On a device that is closed nothing was begun; on any other it was begun and any part of it was done, by what a read gives
--- now.
+-- A change failed. On a device that is closed nothing was begun; on any other it was begun and any
+-- part of it was done, by what a read gives now.
 abbrev pub BreaksOff : Device → Change → (List ℕ → Type 0) → Device → Type 0
 BreaksOff old change IsPart new =
     ((is_closed old ≡ true) × (new ≡ refused old)) ⊎ ((is_closed old ≡ false) × ((now : List ℕ) × IsPart now × (new ≡ broken old change now)))

@@ -6,8 +6,8 @@ use Rattle.hd_store.specs.declared.error.TheConstants.{MOST_FAILURES}
 use Rattle.hd_store.specs.Ahead.{later, behind_failure, is_refused, reads_behind}
 use Rattle.hd_store.specs.Past.{Step, step, content_after}
 
--- what it held for sure at its start, the steps since then, the last one first, how many calls have failed, and what is known of the changes
--- and the reads to come
+-- what it held for sure at its start, the steps since then, the last one first, how many calls have
+-- failed, and what is known of the changes and the reads to come
 pub record Device : Type 0 where
   pub start : List ℕ
   pub steps : List Step
@@ -23,7 +23,8 @@ content_of device = content_after device.start device.steps
 abbrev pub one_more : ℕ → ℕ
 one_more failures = min (failures + 1) MOST_FAILURES
 
--- whether no change is begun: the count of failures stands at its greatest value, or the device is not asked any more
+-- whether no change is begun: the count of failures stands at its greatest value, or the device is
+-- not asked any more
 abbrev pub is_closed : Device → Bool
 is_closed device = is_refused device.failures device.changes
 

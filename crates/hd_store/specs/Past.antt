@@ -4,8 +4,9 @@ use Rattle.hd_store.specs.declared.change.Change.{Change}
 use Rattle.hd_store.specs.declared.change.Change.TheVariants.{Write, Cut, Sync, FailedSync}
 use Rattle.hd_store.specs.Bytes.{is_in_range}
 
--- A step: a change that was begun, and what a read gives since then. A write or a cut that failed is a step like one that succeeded: by
--- what a read gives it may have been done in part. The last step stands first in a list.
+-- A step: a change that was begun, and what a read gives since then. A write or a cut that failed
+-- is a step like one that succeeded: by what a read gives it may have been done in part. The last
+-- step stands first in a list.
 pub record Step : Type 0 where
   pub change : Change
   pub now : List ℕ

@@ -27,8 +27,8 @@ pub record IsUnchanged (old new : Platter) : Type 0 where
   pub least : new.least ≡ old.least
   pub greatest : new.greatest ≡ old.greatest
 
--- All that is held now is sure, and as long as it may have been at most before; a byte that was not written since the last sync is as it
--- stood, any other is this one.
+-- All that is held now is sure, and as long as it may have been at most before; a byte that was not
+-- written since the last sync is as it stood, any other is this one.
 pub record IsFilledUp (old : Platter) (fill : ℕ) (new : Platter) : Type 0 where
   pub all : IsAllSure new
   pub len : new.len ≡ old.greatest

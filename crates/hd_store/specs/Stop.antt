@@ -3,8 +3,9 @@ use Rattle.std.specs.Prelude.{◌≡◌, ℕ, ◌<◌, ◌≤◌, Bool, false, n
 use Rattle.hd_store.specs.declared.change.Change.TheVariants.{Sync}
 use Rattle.hd_store.specs.Past.{Step, content_after, synced_after, is_written, least_after, greatest_after}
 
--- A stop may leave these bytes. Their number lies between the least and the greatest length since the last sync that succeeded; each byte that
--- was there at that sync and lies in no range written since is as it was; any other may be anything.
+-- A stop may leave these bytes. Their number lies between the least and the greatest length since
+-- the last sync that succeeded; each byte that was there at that sync and lies in no range written
+-- since is as it was; any other may be anything.
 pub record MayLeave (start : List ℕ) (steps : List Step) (found : List ℕ) : Type 0 where
   pub long_enough : least_after start steps ≤ length found
   pub short_enough : length found ≤ greatest_after start steps

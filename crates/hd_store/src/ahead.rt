@@ -55,7 +55,8 @@ impl Ahead {
         matches!(self, Ahead::Down)
     }
 
-    /// What becomes of the reads to come where this is what is known of changes, and one is begun and fails.
+    /// What becomes of the reads to come where this is what is known of changes, and one is begun
+    /// and fails.
     pub(crate) fn reads_behind(self, reads: Ahead) -> Ahead
         ensures { result ≡ reads_behind self reads }
     {

@@ -7,7 +7,8 @@ use std::alloc::{AllocError, AllocFailed};
 use std::fmt;
 use thiserror::Error;
 
-/// The greatest count of failures. Where a store has counted so many, each further call on it fails.
+/// The greatest count of failures. Where a store has counted so many, each further call on it
+/// fails.
 pub const MOST_FAILURES: u64 = 0xffff_ffff_ffff_ffff;
 
 /// Why a call on a store failed.

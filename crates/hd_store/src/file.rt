@@ -25,8 +25,9 @@ const LAST_STREAM: i32 = 2;
 /// failed, no call reaches the file any more: each fails.
 ///
 /// No contract can say what a file holds. That it is the disk that contracts see is a premise,
-/// and so is that nobody else writes it. Each write and sync first looks whether the file has the
-/// length that it should have, and still has a name: else the premise is broken, and it fails.
+/// and so is that nobody else writes it. Each write and sync, and each question for the length,
+/// first looks whether the file has the length that it should have, and still has a name: else the
+/// premise is broken, and it fails.
 #[derive(Drop)]
 pub struct FileStore {
     file: File,
@@ -117,8 +118,8 @@ impl FileStore {
     /// file under the descriptor of a stream.
     ///
     /// # Errors
-    /// - `Failed`: the file or its folder cannot be opened, locked, synced or read; it is no regular
-    ///   file; another store has it open. An empty file may have been made.
+    /// - `Failed`: the file or its folder cannot be opened, locked, synced or read; it is no
+    ///   regular file; another store has it open. An empty file may have been made.
     /// - `NoMemory`: there is no room for the file's bytes.
     pub fn open<R: Files<File = File>>(
         rt: &R,
@@ -201,14 +202,11 @@ impl Store for FileStore {
 
     fn len(&mut self) -> Result<u64, StoreError> {
         self.begin()?;
-        let len = self.image.bytes().len() as u64;
-        match self.file.metadata() {
-            Ok(metadata) if metadata.len() == len => Ok(len),
-            _ => {
-                self.count();
-                Err(StoreError::Failed)
-            }
+        if !self.is_there() {
+            self.count();
+            return Err(StoreError::Failed);
         }
+        Ok(self.image.bytes().len() as u64)
     }
 
     fn read_at(&mut self, at: u64, into: &mut [u8]) -> Result<(), StoreError> {

@@ -1,4 +1,5 @@
-//! What was done to a disk, as proofs see it. It takes no memory, and its calls do nothing when they run.
+//! What was done to a disk, as proofs see it. It takes no memory, and its calls do nothing when
+//! they run.
 ghost use Rattle.std.specs.Prelude.{◌≡◌, ℕ, List, [], ◌∷◌};
 ghost use Rattle.std.specs.Borrow.{ftrue};
 ghost use Rattle.hd_store.specs.Past.{Step, step};

@@ -124,7 +124,8 @@ impl Image {
 impl Image {
     ghost use Rattle.hd_store.specs.Image.{IsFilledWith, IsLike};
 
-    /// A stop, at which each byte that is not sure is this one and the length is the greatest; and a new start.
+    /// A stop, at which each byte that is not sure is this one and the length is the greatest; and
+    /// a new start.
     pub(crate) fn settle(&mut self, fill: u8) -> Result<(), NoMemory>
         ensures ok { OnOk result (IsFilledWith self.old fill self.new) }
         ensures err { OnErr result (IsLike self.old self.new) }

@@ -7,7 +7,8 @@ ghost use Rattle.hd_store.specs.Device.{one_more};
 ghost use Rattle.hd_store.specs.declared.error.TheConstants.{MOST_FAILURES};
 ghost use Rattle.hd_store.specs.Stop.{MayLeave, IsAtRest, IsSynced, IsFilled};
 
-/// At its start, and behind a sync that succeeded, a stop leaves what a read gives, and nothing else.
+/// At its start, and behind a sync that succeeded, a stop leaves what a read gives, and nothing
+/// else.
 pub fn a_sync_leaves_one_content()
     ensures start { (start : List ℕ) → IsAtRest start [] }
     ensures sync { (start now : List ℕ) (steps : List Step)
@@ -26,8 +27,8 @@ pub fn a_change_leaves_any_part_of_itself()
         ↔ IsPartOfCut (content_after start steps) len found }
 {}
 
-/// What a stop may leave before a write or a cut it may leave behind it. So what a stop within the change leaves, one right behind it
-/// may leave too.
+/// What a stop may leave before a write or a cut it may leave behind it. So what a stop within the
+/// change leaves, one right behind it may leave too.
 pub fn a_change_takes_nothing_away()
     ensures write { (start : List ℕ) (steps : List Step) (at count : ℕ) (now found : List ℕ)
         → MayLeave start steps found → MayLeave start (step (Write at count) now ∷ steps) found }
@@ -41,7 +42,8 @@ pub fn a_failed_sync_changes_nothing()
         → MayLeave start (step FailedSync now ∷ steps) found ↔ MayLeave start steps found }
 {}
 
-/// Of all that a stop may leave, one content alone is the longest in which each byte that is not sure is a given one.
+/// Of all that a stop may leave, one content alone is the longest in which each byte that is not
+/// sure is a given one.
 pub fn a_filled_content_is_one()
     ensures { (start : List ℕ) (steps : List Step) (fill : ℕ) (one other : List ℕ)
         → IsFilled start steps fill one → IsFilled start steps fill other → one ≡ other }

@@ -1,8 +1,9 @@
 //! Disks: a trait by which a journal is written, a disk in memory, and one over a file.
 //!
-//! Contracts see a store as a device: what it held for sure at its start, and each write, cut and sync since then, in order. From
-//! these follows what a read gives, and what a stop of the machine may leave at each moment (`specs/Stop`): between two syncs that
-//! succeed, each byte of a written range may be anything afterwards, and the length any between the least and the greatest.
+//! Contracts see a store as a device: what it held for sure at its start, and each write, cut and
+//! sync since then, in order. From these follows what a read gives, and what a stop of the machine
+//! may leave at each moment (`specs/Stop`): between two syncs that succeed, each byte of a written
+//! range may be anything afterwards, and the length any between the least and the greatest.
 #![tactic(auto)]
 
 mod ahead;

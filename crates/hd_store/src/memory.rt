@@ -16,8 +16,9 @@ const MOST_BYTES: usize = 0x7fff_ffff_ffff_ffff;
 
 /// A disk in memory.
 ///
-/// A write, a cut or a sync that fails as planned is begun, and what a read gives stays as it was: a stop behind it may still leave
-/// any part of it. A write that ends within the length, a cut and a sync take no memory.
+/// A write, a cut or a sync that fails as planned is begun, and what a read gives stays as it was:
+/// a stop behind it may still leave any part of it. A write that ends within the length, a cut and
+/// a sync take no memory.
 #[derive(Drop)]
 pub struct MemoryDisk {
     image: Image,
@@ -83,7 +84,8 @@ impl MemoryDisk {
         self.plan.reads = Ahead::Fails(n - 1);
     }
 
-    /// Plans that the machine stops in the n-th write, cut or sync from now on: that is begun, and each call fails until `settle`.
+    /// Plans that the machine stops in the n-th write, cut or sync from now on: that is begun, and
+    /// each call fails until `settle`.
     pub fn stop_at(&mut self, n: u64)
         requires { 0 < n }
         ensures { device_of self.new ≡ record (device_of self.old) { changes = Stops (n - 1) } }
@@ -99,8 +101,8 @@ impl MemoryDisk {
         self.plan = Plan::well(self.plan.failures);
     }
 
-    /// A stop, and a new start: each byte that is not sure then reads `fill`, and the length is the greatest that it may be. Nothing
-    /// that was planned is left.
+    /// A stop, and a new start: each byte that is not sure then reads `fill`, and the length is the
+    /// greatest that it may be. Nothing that was planned is left.
     ///
     /// # Errors
     /// Want of memory, and then nothing is changed.

@@ -207,7 +207,8 @@ impl Platter {
         self.greatest = self.len;
     }
 
-    /// Each byte that is not sure is this one, up to the greatest length, for which there is room; all of it is sure.
+    /// Each byte that is not sure is this one, up to the greatest length, for which there is room;
+    /// all of it is sure.
     fn fill_up(&mut self, fill: u8)
         requires room { HasRoom self.old self.old.greatest }
         ensures { IsFilledUp self.old fill self.new }
@@ -226,7 +227,8 @@ impl Platter {
         self.least = self.greatest;
     }
 
-    /// What a stop leaves where each byte that is not sure is this one then, and the length is the greatest: all of it is sure.
+    /// What a stop leaves where each byte that is not sure is this one then, and the length is the
+    /// greatest: all of it is sure.
     pub(crate) fn stop(&mut self, fill: u8) -> Result<(), NoMemory>
         ensures ok { OnOk result (IsFilledUp self.old fill self.new) }
         ensures err { OnErr result (IsUnchanged self.old self.new) }

@@ -10,8 +10,9 @@ use crate::error::StoreError;
 
 /// A disk, seen as a device: what it held for sure at its start, and each step since then.
 ///
-/// A call that fails counts one failure, as long as the count is below its greatest value, where each call fails; no other call
-/// counts any. A change that fails may have been done in part: what a read gives then, and what a stop may leave, is in the steps.
+/// A call that fails counts one failure, as long as the count is below its greatest value, where
+/// each call fails; no other call counts any. A change that fails may have been done in part: what
+/// a read gives then, and what a stop may leave, is in the steps.
 pub trait Store {
     /// The device that the store is.
     ghost device: { Self → Device };

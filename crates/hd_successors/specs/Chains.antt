@@ -1,4 +1,5 @@
--- The actions that watch an atom first, one after the other from the last: each is found by the one behind it. (Our own.)
+-- The actions that watch an atom first, one after the other from the last: each is found by the one
+-- behind it. (Our own.)
 use Rattle.std.specs.Prelude.{◌≡◌, ℕ, zero, suc, ◌+◌, ◌<◌, ◌==◌, Bool, true, if◌then◌else◌, List, length, get_or, set, slice_get}
 use Rattle.hd_successors.specs.declared.watching.Watch.{Watch}
 use Rattle.hd_successors.specs.declared.watching.Watch.TheVariants.{Always, Atoms}
@@ -13,7 +14,8 @@ abbrev pub last_watcher : List Watch → ℕ → ℕ → ℕ
 last_watcher watched atom zero = 0
 last_watcher watched atom (suc n) = if is_watcher watched atom n then suc n else last_watcher watched atom n
 
--- the chains of the actions below a number: where each atom's begins, and what stands before each action
+-- the chains of the actions below a number: where each atom's begins, and what stands before each
+-- action
 pub record AreChains (watched : List Watch) (last before : List ℕ) (count : ℕ) : Type 0 where
   pub each_action : length before ≡ count
   pub lasts : (atom : ℕ) → atom < length last → get_or last atom 0 ≡ last_watcher watched atom count

@@ -13,8 +13,8 @@ use Rattle.hd_successors.specs.declared.watching.Watch.TheVariants.{Always, Atom
 abbrev pub is_for : ℕ → Literal → Bool
 is_for i l = l.positive && (l.atom == i)
 
--- what may be watched where these literals are asked for: two atoms, each of which one of them asks to be true, or nothing where none
--- asks for a true atom
+-- what may be watched where these literals are asked for: two atoms, each of which one of them asks
+-- to be true, or nothing where none asks for a true atom
 abbrev pub asks_for : List Literal → Watch → Bool
 asks_for ls Always = not (list_any (λ (l : Literal). l.positive) ls)
 asks_for ls (Atoms i j) = list_any (is_for i) ls && list_any (is_for j) ls

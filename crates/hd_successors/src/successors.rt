@@ -14,7 +14,8 @@ use hd_task::Task;
 use std::alloc::Global;
 use std::marker::Model;
 
-/// Which actions of a task may apply at a state: an index, made once for a task, and marks, which are kept from call to call.
+/// Which actions of a task may apply at a state: an index, made once for a task, and marks, which
+/// are kept from call to call.
 #[derive(Debug, Drop)]
 pub struct Successors<'t> {
     task: &'t Task,
@@ -58,7 +59,8 @@ impl<'t> Successors<'t> {
     /// The index of a task, without marks.
     ///
     /// # Errors
-    /// `NoMemory` where there is no room for a number an atom, four numbers an action and two bits an action.
+    /// `NoMemory` where there is no room for a number an atom, four numbers an action and two bits
+    /// an action.
     pub fn new(alloc: Global, task: &'t Task) -> Result<Successors<'t>, NoMemory>
         ensures task { IfOk result (λ s. s.task ≡ task.now) }
         ensures marked { IfOk result (λ s. s.marked ≡ []) }

@@ -31,7 +31,8 @@ pub(crate) struct Watches {
     ghost few_actions: { length watched ≤ MAX_ACTIONS },
 }
 
-/// Puts an action at the end of the chain of what it watches first, and gives what stands before it.
+/// Puts an action at the end of the chain of what it watches first, and gives what stands before
+/// it.
 fn link(last: &mut [u32], watch: Watch, action: u32) -> u32
     requires { action < MAX_ACTIONS }
     ensures last { last.new ≡ last_with last.old watch action }
@@ -175,8 +176,8 @@ impl Watches {
         }
     }
 
-    /// Marks the actions that watch an atom first which a byte has, and another that is true in a state; the byte's atoms are those from
-    /// `base` on.
+    /// Marks the actions that watch an atom first which a byte has, and another that is true in a
+    /// state; the byte's atoms are those from `base` on.
     fn mark_byte(&self, byte: u8, base: usize, state: &Packed, marks: &mut [u64])
         requires room { length self.now.watched ≤ 64 * length marks.old }
         requires near { base ≤ MAX_ATOMS }
@@ -208,7 +209,8 @@ impl Watches {
         }
     }
 
-    /// Marks the candidates at a state, and no other action, where the marks of the actions that watch nothing are known.
+    /// Marks the candidates at a state, and no other action, where the marks of the actions that
+    /// watch nothing are known.
     pub(crate) fn mark_candidates(&self, always: &[u64], state: &Packed, marks: &mut [u64])
         requires always { (i : ℕ) → is_marked always.now i
             ≡ is_always (slice_get self.now.watched i) }

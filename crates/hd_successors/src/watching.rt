@@ -15,12 +15,13 @@ use std::alloc::Global;
 pub enum Watch {
     /// Nothing: it may always apply.
     Always,
-    /// Two atoms that its condition asks to be true, the same one twice where it asks for no other. One that the task lacks is false.
+    /// Two atoms that its condition asks to be true, the same one twice where it asks for no other.
+    /// One that the task lacks is false.
     Atoms(u32, u32),
 }
 
-/// What stands at first for the uses of an atom that is true in the initial state, until an action is seen that makes it false: as it
-/// tells no state from another, it is watched last.
+/// What stands at first for the uses of an atom that is true in the initial state, until an action
+/// is seen that makes it false: as it tells no state from another, it is watched last.
 const STAYS: u32 = 1 << 31;
 
 /// How many actions ask for an atom; none where it is beyond the table.
@@ -57,7 +58,8 @@ fn note_deletes(uses: &mut [u32], deletes: &[u32]) {
     }
 }
 
-/// How many literals of conditions ask for each atom; of one that is true in each state, more than of any other.
+/// How many literals of conditions ask for each atom; of one that is true in each state, more than
+/// of any other.
 fn all_uses(alloc: Global, actions: &[Action], initial: &[bool]) -> Result<Vec<u32>, NoMemory>
     ensures { IfOk result (λ v. length v.items ≡ length initial.now) }
 {
@@ -70,8 +72,8 @@ fn all_uses(alloc: Global, actions: &[Action], initial: &[bool]) -> Result<Vec<u
     Ok(uses)
 }
 
-/// What to watch with one atom more that is asked to be true: of the three the two that fewest ask for, the rarest first, the earlier
-/// of equal ones.
+/// What to watch with one atom more that is asked to be true: of the three the two that fewest ask
+/// for, the rarest first, the earlier of equal ones.
 fn rarer_with(uses: &[u32], rare: u32, other: u32, atom: u32) -> Watch
     ensures { (literals : List Literal) → asks_for literals (Watch.Atoms rare other) ≡ true
         → list_any (is_for atom) literals ≡ true → asks_for literals result ≡ true }
@@ -99,8 +101,8 @@ fn rarer(uses: &[u32], watch: Watch, literal: Literal) -> Watch
     }
 }
 
-/// What an action of these literals watches: the two atoms that fewest ask for, of those that it asks to be true; one that is true in
-/// each state comes last.
+/// What an action of these literals watches: the two atoms that fewest ask for, of those that it
+/// asks to be true; one that is true in each state comes last.
 fn rarest(uses: &[u32], literals: &[Literal]) -> Watch
     ensures { asks_for literals.now result ≡ true }
 {

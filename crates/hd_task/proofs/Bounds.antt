@@ -1,4 +1,5 @@
--- The bound is no greater than the cost of any goal plan of the list, and it is the cost of one of them.
+-- The bound is no greater than the cost of any goal plan of the list, and it is the cost of one of
+-- them.
 use Rattle.std.proofs.Common.{◌≡◌, ℕ, ◌≤◌, List, [], ◌∷◌, Option, Some, None, Contains, ◌⊎◌, inl, inr, refl, sym, ap, ◌∙◌, subst, arith, min}
 use Rattle.std.proofs.lemmas.Bool.{cases_lt}
 use Rattle.std.proofs.lemmas.Option.{none-some}

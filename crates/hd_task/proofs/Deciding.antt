@@ -14,7 +14,8 @@ use Rattle.hd_task.specs.Departures.{cost_stays, departs_by, goal_departs, actio
 use Rattle.hd_task.specs.Applying.{test_of, goal_of, departs_aside, next_of, applied_of, applied_by, applied_at, goes_on, leaves_range, says_yes, says_departs}
 use Rattle.hd_task.specs.Expansions.{is_applicable, goal_cost}
 
--- ---- an action: d says that its condition departs, h that it holds, es that its effects stay in the range
+-- ---- an action: d says that its condition departs, h that it holds, es that its effects stay in
+-- the range
 
 applicable_cases :
     (t : Task) (r : Node) (a : Action) (d h es : Bool) (c : Option ℕ)

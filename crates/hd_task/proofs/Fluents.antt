@@ -1,4 +1,5 @@
--- Effects written one after another, each by the values before, give each fluent the value of its one effect.
+-- Effects written one after another, each by the values before, give each fluent the value of its
+-- one effect.
 use Rattle.std.proofs.Common.{◌≡◌, ℕ, ℤ, pos, ◌<◌, true, false, cond, ◌==◌, nat_lt, ◌&&◌, List, [], ◌∷◌, map, length, get_or, set, fold, Option, Some, None, refl, sym, ap, ◌∙◌, subst, arith, get_or-set_same, get_or-set_other, length-set}
 use Rattle.std.specs.Prelude.{find}
 use Rattle.std.specs.List.{list_all}

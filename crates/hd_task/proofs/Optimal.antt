@@ -1,8 +1,10 @@
 -- A covered list of expansions from which nothing departs has a best plan of the task.
 --
--- The bound is no greater than what any way to the goal costs, from any generated plan on: by induction on the steps that are left.
--- A generated plan is in the list: then the goal holds there, or its next step leads to a generated plan again. Or a plan of the list has its
--- state at no greater cost, and the same steps lead on from there. Or its cost and the estimate reach the bound.
+-- The bound is no greater than what any way to the goal costs, from any generated plan on: by
+-- induction on the steps that are left. A generated plan is in the list: then the goal holds there,
+-- or its next step leads to a generated plan again. Or a plan of the list has its state at no
+-- greater cost, and the same steps lead on from there. Or its cost and the estimate reach the
+-- bound.
 use Rattle.std.proofs.Common.{◌≡◌, ℕ, ◌+◌, ◌<◌, ◌≤◌, Bool, true, false, cond, not, ◌&&◌, IsTrue, List, [], ◌∷◌, ◌++◌, map, filter, length, Option, Some, None, Contains, inl, inr, refl, sym, ap, ◌∙◌, subst, arith, is_some}
 use Rattle.std.specs.Prelude.{flat_map}
 use Rattle.std.proofs.lemmas.Bool.{and_parts, and_from, not_from_false, cond-true, true≢false}

@@ -29,7 +29,8 @@ cond-not : (b : Bool) (x : Reached) → cond (not b) Departs x ≡ cond b x Depa
 cond-not true x = refl
 cond-not false x = refl
 
--- d says that the action's condition departs, h that it holds, es that its effects stay in the range
+-- d says that the action's condition departs, h that it holds, es that its effects stay in the
+-- range
 step_cases :
     (t : Task) (r : Node) (a : Action) (d h es : Bool) (c : Option ℕ)
     → cond (d || (h && not (es && cost_stays (cond h (after_step t r a c) None)))) Departs (reached_by (cond h (after_step t r a c) None))

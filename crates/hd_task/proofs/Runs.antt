@@ -1,4 +1,5 @@
--- Executions: their ends are states of the task, costs only rise, and what follows a state is the same at any cost.
+-- Executions: their ends are states of the task, costs only rise, and what follows a state is the
+-- same at any cost.
 use Rattle.std.proofs.Common.{◌≡◌, ℕ, ◌+◌, ◌-◌, ◌<◌, ◌≤◌, Bool, true, false, cond, List, [], ◌∷◌, ◌++◌, length, slice_get, Option, Some, None, refl, sym, ap, ◌∙◌, subst, arith}
 use Rattle.std.specs.Prelude.{option_and_then}
 use Rattle.std.proofs.lemmas.Option.{none-some, same_Some, slice_get_within}

@@ -40,7 +40,7 @@ comparisons_stay s c = list_all (comparison_stays s.fluents) c.comparisons
 unfoldable pub holds : State → Condition → Bool
 holds s c = literals_hold s c && comparisons_hold s c
 
--- a condition departs where its conditions on atoms and objects hold and a subexpression of a comparison is out of the
--- range, whether the comparisons hold or not
+-- a condition departs where its conditions on atoms and objects hold and a subexpression of a
+-- comparison is out of the range, whether the comparisons hold or not
 unfoldable pub condition_departs : State → Condition → Bool
 condition_departs s c = literals_hold s c && not (comparisons_stay s c)

@@ -1,6 +1,7 @@
--- When a search has looked at enough: each generated plan is expanded, or need not be. The estimate is a parameter: it
--- gives a lower bound on the cost from a state to the goal, or none where it knows that there is no way.
--- (HDA*; the conditions are those of A*, Hart, Nilsson and Raphael 1968.)
+-- When a search has looked at enough: each generated plan is expanded, or need not be. The estimate
+-- is a parameter: it gives a lower bound on the cost from a state to the goal, or none where it
+-- knows that there is no way. (HDA*; the conditions are those of A*, Hart, Nilsson and Raphael
+-- 1968.)
 use Rattle.std.specs.Prelude.{◌≡◌, ℕ, ◌+◌, ◌≤◌, IsTrue, List, Option, Some, None, Contains, ◌⊎◌}
 use Rattle.hd_task.specs.declared.state.State.{State}
 use Rattle.hd_task.specs.declared.task.Task.{Task}
@@ -12,8 +13,8 @@ use Rattle.hd_task.specs.Expansions.{generated, bound_of}
 abbrev pub Estimate : Type 0
 Estimate = State → Option ℕ
 
--- an estimate is admissible if from no state of the task steps to the goal cost less, and it is infinite only where
--- there are none
+-- an estimate is admissible if from no state of the task steps to the goal cost less, and it is
+-- infinite only where there are none
 abbrev pub IsAdmissible : Task → Estimate → Type 0
 IsAdmissible t h =
     (from : Node) (p : List ℕ) (to : Node)

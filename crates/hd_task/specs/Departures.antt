@@ -7,7 +7,8 @@ use Rattle.hd_task.specs.Conditions.{holds, condition_departs}
 use Rattle.hd_task.specs.Effects.{effects_stay}
 use Rattle.hd_task.specs.Plans.{Node, step}
 
--- the goal departs where its conditions on atoms hold and a subexpression of its comparisons is out of the range
+-- the goal departs where its conditions on atoms hold and a subexpression of its comparisons is out
+-- of the range
 unfoldable pub goal_departs : Task → Node → Bool
 goal_departs t r = condition_departs r.state t.goal
 
@@ -16,8 +17,8 @@ abbrev pub cost_stays : Option Node → Bool
 cost_stays None = false
 cost_stays (Some r) = cost_in_range r.cost
 
--- an action departs where its condition does, or where its condition holds and a subexpression of an effect, a new
--- value or the new plan's cost is out of the range
+-- an action departs where its condition does, or where its condition holds and a subexpression of
+-- an effect, a new value or the new plan's cost is out of the range
 abbrev pub departs_by : Task → Node → Option Action → Bool
 departs_by t r None = false
 departs_by t r (Some a) =

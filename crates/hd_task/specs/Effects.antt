@@ -38,7 +38,8 @@ abbrev pub with_term : List ℤ → ℤ → Term → ℤ
 with_term f v (Increase e) = v +ℤ value_of f e
 with_term f v (Decrease e) = v -ℤ value_of f e
 
--- what a change makes of the value v, its amounts by the values f from before the action: increases and decreases add up
+-- what a change makes of the value v, its amounts by the values f from before the action: increases
+-- and decreases add up
 abbrev pub value_by_change : List ℤ → Change → ℤ → ℤ
 value_by_change f (Assign e) v = value_of f e
 value_by_change f (ScaleUp e) v = v *ℤ value_of f e
@@ -97,7 +98,8 @@ change_stays f (Assign e) = stays_in_range f e
 change_stays f (ScaleUp e) = stays_in_range f e
 change_stays f (Sum terms) = list_all (term_stays f) terms
 
--- each subexpression of an effect and the new value are in the range; the sums on the way are not judged
+-- each subexpression of an effect and the new value are in the range; the sums on the way are not
+-- judged
 abbrev pub effect_stays : List ℤ → Effect → Bool
 effect_stays f e = change_stays f e.change && in_range (new_value f e)
 

@@ -49,7 +49,8 @@ atom_action n condition deletes adds =
 abbrev pub atom_state : List Bool → State
 atom_state atoms = record { atoms = atoms; fluents = [] }
 
--- ---- two actions: `set-a` makes a true where it is false, `set-b` needs a and makes b true; the goal is b
+-- ---- two actions: `set-a` makes a true where it is false, `set-b` needs a and makes b true; the
+-- goal is b
 
 abbrev pub two_actions : Task
 two_actions = record {
@@ -87,7 +88,8 @@ their_plans = three_expansions ++ (0 ∷ 1 ∷ 1 ∷ []) ∷ []
 abbrev pub kid : ℕ → ℕ → Kid
 kid parent action = record { parent = parent; action = action }
 
--- ---- two ways to m: `dear` at cost 5, or `near` and `join` at cost 2, which use k up; then `fin` makes g true
+-- ---- two ways to m: `dear` at cost 5, or `near` and `join` at cost 2, which use k up; then `fin`
+-- makes g true
 
 -- where m is true and nothing else
 abbrev pub only_m : State

@@ -1,5 +1,5 @@
--- What a best-first search expands (HDA*, Kishimoto, Fukunaga and Botea 2013): a list of plans, in the order
--- of their expansion.
+-- What a best-first search expands (HDA*, Kishimoto, Fukunaga and Botea 2013): a list of plans, in
+-- the order of their expansion.
 use Rattle.std.specs.Prelude.{ℕ, ◌+◌, ◌<◌, Bool, false, not, ◌&&◌, if◌then◌else◌, List, [], ◌∷◌, ◌++◌, Option, Some, None, is_some, length, take, map, filter, Contains, flat_map, slice_index_or, min}
 use Rattle.hd_task.specs.declared.task.Task.{Task}
 use Rattle.hd_task.specs.declared.departure.DepartsBy.{DepartsBy}
@@ -29,8 +29,8 @@ followed_by p n = p ++ n ∷ []
 abbrev pub children : Task → List ℕ → List (List ℕ)
 children t p = map (followed_by p) (applicable_at t (exec t p))
 
--- what is generated: the empty plan, and each expanded plan followed by each action that is applicable there; in the
--- order of the expansions, then of the actions
+-- what is generated: the empty plan, and each expanded plan followed by each action that is
+-- applicable there; in the order of the expansions, then of the actions
 abbrev pub generated : Task → List (List ℕ) → List (List ℕ)
 generated t expanded = [] ∷ flat_map (children t) expanded
 
@@ -41,8 +41,9 @@ pub record IsNext (t : Task) (expanded : List (List ℕ)) (p : List ℕ) : Type 
   pub generated_before : Contains (generated t expanded) p
   pub is_new : Contains expanded p → ⊥
 
--- a legal list of expansions: each plan may be expanded next, after those before it. So the first is the empty plan,
--- each other is an earlier one followed by an applicable action, and none stands twice
+-- a legal list of expansions: each plan may be expanded next, after those before it. So the first
+-- is the empty plan, each other is an earlier one followed by an applicable action, and none stands
+-- twice
 abbrev pub IsLegal : Task → List (List ℕ) → Type 0
 IsLegal t expanded =
     (n : ℕ) (d : List ℕ) → n < length expanded → IsNext t (take n expanded) (slice_index_or expanded n d)
@@ -82,6 +83,7 @@ abbrev pub departures_from : Task → ℕ → List (List ℕ) → List Departure
 departures_from t n [] = []
 departures_from t n (p ∷ expanded) = map (departure_at n) (departing_at t (exec t p)) ++ departures_from t (n + 1) expanded
 
--- the recorded departures: of the least entry first, there of the goal before the actions, then of the least action
+-- the recorded departures: of the least entry first, there of the goal before the actions, then of
+-- the least action
 abbrev pub departures_of : Task → List (List ℕ) → List Departure
 departures_of t expanded = departures_from t 0 expanded

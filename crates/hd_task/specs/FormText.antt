@@ -1,4 +1,5 @@
--- How a ground form is printed. (Our own; a plan file has a step as a name and its arguments in parentheses.)
+-- How a ground form is printed. (Our own; a plan file has a step as a name and its arguments in
+-- parentheses.)
 use Rattle.std.specs.Prelude.{ℕ, List, [], ◌++◌, codes, slice_get, unwrap_or, flat_map}
 use Rattle.hd_task.specs.declared.form.GroundForm.{GroundForm}
 

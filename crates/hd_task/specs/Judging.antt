@@ -1,4 +1,5 @@
--- The answers of what computes within the range: a value, or nothing where a number leaves the range. (Our own.)
+-- The answers of what computes within the range: a value, or nothing where a number leaves the
+-- range. (Our own.)
 use Rattle.std.specs.Prelude.{◌≡◌, ℕ, Bool, true, false, ◌&&◌, List, Option, Some, is_some, MatchOption, ℤ, ◌+ℤ◌}
 use Rattle.std.specs.List.{list_all, fold}
 use Rattle.hd_base.specs.Answers.{Judges}

@@ -1,5 +1,5 @@
--- Steps and plans: execution, cost and validity (PDDL 2.1). A plan is a list of actions, one after the other,
--- named by their numbers; it has no times. (The profile is our own.)
+-- Steps and plans: execution, cost and validity (PDDL 2.1). A plan is a list of actions, one after
+-- the other, named by their numbers; it has no times. (The profile is our own.)
 use Rattle.std.specs.Prelude.{◌≡◌, ℕ, ◌+◌, IsTrue, if◌then◌else◌, List, [], ◌∷◌, Option, Some, None, length, slice_get, option_and_then}
 use Rattle.hd_task.specs.declared.state.State.{State}
 use Rattle.hd_task.specs.declared.action.Action.{Action}
@@ -52,7 +52,8 @@ start t = record { state = t.initial; cost = 0 }
 abbrev pub exec : Task → List ℕ → Option Node
 exec t p = exec_from t (Some (start t)) p
 
--- validity: each step is defined, and the goal holds at the end. The plan costs what its steps add up to
+-- validity: each step is defined, and the goal holds at the end. The plan costs what its steps add
+-- up to
 pub record IsValidAt (t : Task) (p : List ℕ) (cost : ℕ) : Type 0 where
   pub end : Node
   pub executes : exec t p ≡ Some end

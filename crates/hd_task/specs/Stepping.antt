@@ -29,8 +29,9 @@ is_departure No = false
 is_departure (Next s cost) = false
 is_departure Departs = true
 
--- what an answer of `step` says: the plan goes on exactly where the action is applicable, and departs exactly where the action
--- does; where it goes on, the step leads to the answer's state and cost, and the state is one of the task
+-- what an answer of `step` says: the plan goes on exactly where the action is applicable, and
+-- departs exactly where the action does; where it goes on, the step leads to the answer's state and
+-- cost, and the state is one of the task
 pub record IsStepAnswer (t : Task) (r : Node) (n : ℕ) (answer : Reached) : Type 0 where
   pub applicable : is_next answer ≡ is_applicable t (Some r) n
   pub departs : is_departure answer ≡ action_departs t r n

@@ -1,11 +1,13 @@
--- True verdicts: what a planner may say of a task, in exact integers, whatever it searched. (Validity is that of PDDL 2.1.)
+-- True verdicts: what a planner may say of a task, in exact integers, whatever it searched.
+-- (Validity is that of PDDL 2.1.)
 use Rattle.std.specs.Prelude.{◌≡◌, ℕ, ◌≤◌, List, []}
 use Rattle.hd_task.specs.declared.task.Task.{Task}
 use Rattle.hd_task.specs.Plans.{IsValidAt}
 use Rattle.hd_task.specs.Expansions.{departures_of}
 use Rattle.hd_task.specs.Covers.{Estimate, IsAdmissible, IsCovered}
 
--- a search is finished where its estimate is admissible, its list of expansions is covered and nothing in it departs
+-- a search is finished where its estimate is admissible, its list of expansions is covered and
+-- nothing in it departs
 pub record IsFinished (t : Task) (h : Estimate) (expanded : List (List ℕ)) : Type 0 where
   pub admissible : IsAdmissible t h
   pub covered : IsCovered t h expanded

@@ -1,4 +1,5 @@
--- What a task keeps: its numbers name what it has, and no constant cost is negative. Tests that compute. (Our own.)
+-- What a task keeps: its numbers name what it has, and no constant cost is negative. Tests that
+-- compute. (Our own.)
 use Rattle.std.specs.Prelude.{ℕ, Bool, true, false, not, ◌&&◌, ◌||◌, ◌==◌, List, [], ◌∷◌, length, map, ℤ, pos, ◌+ℤ◌, int_le, nat_lt, nat_le}
 use Rattle.std.specs.List.{list_all, fold}
 use Rattle.hd_base.specs.declared.expression.Operand.{Operand}
@@ -81,7 +82,8 @@ abbrev pub is_rising : List ℕ → Bool
 is_rising [] = true
 is_rising (x ∷ xs) = is_below_first x xs && is_rising xs
 
--- an action adds only atoms of the task, reads and changes only its fluents, and changes each of them once at most
+-- an action adds only atoms of the task, reads and changes only its fluents, and changes each of
+-- them once at most
 abbrev pub action_fits : ℕ → ℕ → Action → Bool
 action_fits atoms fluents a =
     list_all (λ i. nat_lt i atoms) a.adds
@@ -107,7 +109,8 @@ is_number (binary o x y) = false
 abbrev pub constant_sum : List Expr → ℤ
 constant_sum costs = fold (λ sum e. sum +ℤ value_of [] e) (pos 0) costs
 
--- an action's amounts read only fluents of the task, and there are not too many; without a metric there are none
+-- an action's amounts read only fluents of the task, and there are not too many; without a metric
+-- there are none
 abbrev pub costs_fit : ℕ → Bool → Action → Bool
 costs_fit fluents metric a =
     (metric || (length a.costs == 0)) && nat_le (length a.costs) MAX_AMOUNTS && list_all (reads_below fluents) a.costs

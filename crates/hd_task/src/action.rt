@@ -4,8 +4,9 @@ use hd_base::Sequence;
 
 /// A ground action.
 ///
-/// Where its condition holds, the atoms that it deletes become false, then those that it adds true, and each numeric
-/// effect gives its fluent a new value; all of them read the values from before the action.
+/// Where its condition holds, the atoms that it deletes become false, then those that it adds true,
+/// and each numeric effect gives its fluent a new value; all of them read the values from before
+/// the action.
 #[derive(Debug, Drop)]
 pub struct Action {
     /// What it is printed as, and named by in a fault: its schema and objects.
@@ -17,8 +18,9 @@ pub struct Action {
     pub adds: Sequence<u32>,
     /// At most one for a fluent, in the order of the fluents' numbers.
     pub effects: Sequence<Effect>,
-    /// What it adds to the cost of a plan, each by the values before the action. Numbers are constant amounts, all others
-    /// dependent ones. Without a metric there are none, and each action costs 1.
+    /// What it adds to the cost of a plan, each by the values before the action. Numbers are
+    /// constant amounts, all others dependent ones. Without a metric there are none, and each
+    /// action costs 1.
     pub costs: Sequence<Expr>,
 }
 

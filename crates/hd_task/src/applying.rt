@@ -82,7 +82,8 @@ fn fluents_after(
     Ok(Some(Sequence::from_vec(next)))
 }
 
-/// The cost of a step, by the values before it, unless a subexpression of it leaves the range or it is negative.
+/// The cost of a step, by the values before it, unless a subexpression of it leaves the range or it
+/// is negative.
 #[tactic(auto, unfolding(crate::specs::Effects::step_cost))]
 pub fn step_cost<R: Reads>(task: &Task, state: &R, action: &Action) -> Option<u128>
     ensures { JudgesStepCost task.now (R.seen state.now) action.now result }

@@ -31,7 +31,8 @@ pub struct Comparison {
 pub struct Condition {
     pub literals: Sequence<Literal>,
     pub comparisons: Sequence<Comparison>,
-    /// Whether it can't hold in any state, as where an equality of two different objects stands in it.
+    /// Whether it can't hold in any state, as where an equality of two different objects stands in
+    /// it.
     pub never: bool,
 }
 

@@ -35,7 +35,8 @@ pub struct Effect {
     pub change: Change,
 }
 
-/// A sum with one more amount, unless a subexpression leaves the range. The sum itself is not judged.
+/// A sum with one more amount, unless a subexpression leaves the range. The sum itself is not
+/// judged.
 fn plus_value<R: Reads>(state: &R, sum: i128, amount: &Expr) -> Option<i128>
     requires low { neg_ℤ (pos (2 ^ 126)) ≤ℤ sum }
     requires high { sum ≤ℤ pos (2 ^ 126) }
@@ -80,7 +81,8 @@ fn narrow(value: i128) -> Option<i64>
     }
 }
 
-/// The value that an effect gives its fluent by the values of a state, unless it or a subexpression leaves the range.
+/// The value that an effect gives its fluent by the values of a state, unless it or a subexpression
+/// leaves the range.
 pub fn new_value<R: Reads>(state: &R, effect: &Effect) -> Option<i64>
     ensures { JudgesEffect (R.seen state.now).fluents effect.now result }
 {

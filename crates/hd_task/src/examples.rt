@@ -37,7 +37,8 @@ pub fn examples_compute()
     // The root's pair is this one.
     ensures root { (ROOT_PARENT ≡ 2 ^ 40 - 1) × (ROOT_ACTION ≡ 2 ^ 32 - 1) }
 
-    // The plans that pairs name: the root's parent with another action, and a parent that is no earlier entry, name nothing.
+    // The plans that pairs name: the root's parent with another action, and a parent that is no
+    // earlier entry, name nothing.
     ensures names { plans_of (kid ROOT_PARENT ROOT_ACTION ∷ kid 0 0 ∷ kid 1 1 ∷ [])
         ≡ Some three_expansions }
     ensures root_acts { plans_of (kid ROOT_PARENT 5 ∷ []) ≡ None }

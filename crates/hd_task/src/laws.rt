@@ -1,4 +1,5 @@
-//! Laws over the definitions. Each function does nothing: its contract is the law, for every task and every list.
+//! Laws over the definitions. Each function does nothing: its contract is the law, for every task
+//! and every list.
 ghost use Rattle.std.specs.Prelude.{◌≡◌, ◌≢◌, ℕ, ◌+◌, ◌≤◌, ◌++◌, [], ◌∷◌, List, Option, Some, None, Contains, if◌then◌else◌, take, length};
 ghost use Rattle.std.specs.List.{AllPairs};
 ghost use Rattle.hd_task.specs.declared.state.State.{State};
@@ -11,7 +12,8 @@ ghost use Rattle.hd_task.specs.Expansions.{followed_by, is_applicable, generated
 ghost use Rattle.hd_task.specs.Covers.{Estimate, IsAdmissible, IsJustified, zero_estimate};
 ghost use Rattle.hd_task.specs.Verdicts.{IsFinished, IsTrueVerdict, Optimal, NoPlan};
 
-/// A finished search has the last word: the bound is the cost of an optimal plan, and without a bound there is no plan.
+/// A finished search has the last word: the bound is the cost of an optimal plan, and without a
+/// bound there is no plan.
 ///
 /// Validity and cost are in exact integers, without a range, and speak of all plans of the task.
 pub fn verdicts_are_true()
@@ -34,8 +36,8 @@ pub fn goal_plans_are_valid()
         → goal_cost t (exec t p) ≡ Some c → IsValidAt t p c }
 {}
 
-/// What stays when a list of expansions grows: what is justified, a bound that never rises, and the recorded departures,
-/// before those of the further entries.
+/// What stays when a list of expansions grows: what is justified, a bound that never rises, and the
+/// recorded departures, before those of the further entries.
 pub fn expansions_grow()
     ensures justified { (t : Task) (h : Estimate) (expanded more : List (List ℕ)) (p : List ℕ)
         → IsJustified t h expanded p → IsJustified t h (expanded ++ more) p }
@@ -47,8 +49,8 @@ pub fn expansions_grow()
         ≡ departures_of t expanded ++ departures_from t (length expanded) more }
 {}
 
-/// A beginning of a legal list of expansions is legal, and so is a legal list with one generated plan more, which it has
-/// not.
+/// A beginning of a legal list of expansions is legal, and so is a legal list with one generated
+/// plan more, which it has not.
 pub fn legal_lists()
     ensures beginning { (t : Task) (expanded : List (List ℕ)) (m : ℕ)
         → IsLegal t expanded → IsLegal t (take m expanded) }
@@ -56,7 +58,8 @@ pub fn legal_lists()
         → IsLegal t expanded → IsNext t expanded p → IsLegal t (expanded ++ p ∷ []) }
 {}
 
-/// What a legal list of expansions generates holds no plan twice: its length is the number of plans generated.
+/// What a legal list of expansions generates holds no plan twice: its length is the number of plans
+/// generated.
 pub fn generated_once()
     ensures { (t : Task) (expanded : List (List ℕ))
         → IsLegal t expanded → AllPairs (λ (p q : List ℕ). p ≢ q) (generated t expanded) }
@@ -67,8 +70,9 @@ pub fn zero_is_admissible()
     ensures { (t : Task) → IsAdmissible t zero_estimate }
 {}
 
-/// What [`crate::apply`] and [`crate::goal`] answer in a plan's state decides, with the plan's cost, what happens at the
-/// plan: whether an action is applicable, whether it departs, where it leads, and what the goal says.
+/// What [`crate::apply`] and [`crate::goal`] answer in a plan's state decides, with the plan's
+/// cost, what happens at the plan: whether an action is applicable, whether it departs, where it
+/// leads, and what the goal says.
 pub fn answers_decide()
     ensures applicable { (t : Task) (r : Node) (n : ℕ)
         → is_applicable t (Some r) n ≡ goes_on r.cost (applied_at t r.state n) }

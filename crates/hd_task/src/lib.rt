@@ -1,9 +1,9 @@
-//! Numeric planning tasks: what a task, a state and an action are, what an action does in a state, and the laws by
-//! which a finished search has the last word.
+//! Numeric planning tasks: what a task, a state and an action are, what an action does in a state,
+//! and the laws by which a finished search has the last word.
 //!
-//! The definitions in `specs/` say what plans mean (PDDL 2.1, Fox and Long 2003) and what a search has to have looked
-//! at (HDA*, Kishimoto, Fukunaga and Botea 2013). [`apply`], [`action_test`], [`step`] and [`goal`] compute them, and the functions of
-//! [`laws`] state what follows from them.
+//! The definitions in `specs/` say what plans mean (PDDL 2.1, Fox and Long 2003) and what a search
+//! has to have looked at (HDA*, Kishimoto, Fukunaga and Botea 2013). [`apply`], [`action_test`],
+//! [`step`] and [`goal`] compute them, and the functions of [`laws`] state what follows from them.
 #![tactic(auto)]
 
 mod action;

@@ -4,14 +4,15 @@ ghost use Rattle.std.specs.Prelude.{◌≡◌, map};
 use crate::ActionId;
 use std::marker::Model;
 
-/// The parent of the root: no entry has this number. It fits 40 bits, as the number of each entry does.
+/// The parent of the root: no entry has this number. It fits 40 bits, as the number of each entry
+/// does.
 pub const ROOT_PARENT: u64 = (1 << 40) - 1;
 
 /// The action of the root: no action has this number.
 pub const ROOT_ACTION: u32 = u32::MAX;
 
-/// Names a plan: that of the entry `parent`, followed by `action`. The root, of [`ROOT_PARENT`] and [`ROOT_ACTION`], names the
-/// empty plan.
+/// Names a plan: that of the entry `parent`, followed by `action`. The root, of [`ROOT_PARENT`] and
+/// [`ROOT_ACTION`], names the empty plan.
 #[derive(Clone, Copy, Debug, PartialEq, Eq, Hash)]
 pub struct Kid {
     /// The number of an entry, or [`ROOT_PARENT`].

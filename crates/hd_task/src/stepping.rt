@@ -34,7 +34,8 @@ pub fn step(
     requires known { action.0 < length task.now.actions }
     requires of_task { IsStateOf task.now state.now }
     ensures answer { IfOk result (λ r. r ≡ step_at task.now (node state.now cost) action.0) }
-    // It goes on exactly where the action is applicable, to where its step leads, and departs exactly where it does.
+    // It goes on exactly where the action is applicable, to where its step leads, and departs
+    // exactly where it does.
     ensures says { IfOk result (IsStepAnswer task.now (node state.now cost) action.0) }
 {
     match apply(alloc, task, state, action)? {

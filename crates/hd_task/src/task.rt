@@ -20,7 +20,8 @@ pub const MAX_ATOMS: usize = 1 << 20;
 /// The greatest number of fluents of a task.
 pub const MAX_FLUENTS: usize = 1 << 16;
 
-/// The greatest number of amounts that one action adds to the cost, so that the costs of a plan's steps fit 128 bits.
+/// The greatest number of amounts that one action adds to the cost, so that the costs of a plan's
+/// steps fit 128 bits.
 pub const MAX_AMOUNTS: usize = 1 << 32;
 
 /// A planning task: a start, a goal and the actions that may lead there.
@@ -51,7 +52,8 @@ pub struct Task {
     ghost actions_fit: { IsTrue (list_all (action_fits (length atoms) (length fluents)) actions) },
     // The goal names atoms of the task and reads its fluents.
     ghost goal_fits: { IsTrue (goal_fits (length atoms) (length fluents) goal) },
-    // An action's amounts read fluents of the task, and are not too many; without a metric there are none.
+    // An action's amounts read fluents of the task, and are not too many; without a metric there
+    // are none.
     ghost costs_fit: { IsTrue (list_all (costs_fit (length fluents) metric) actions) },
     // An action whose amounts are all constant costs nothing negative.
     ghost constant_costs_fit: { IsTrue (list_all constant_cost_fits actions) },
@@ -62,9 +64,9 @@ impl Task {
     ghost use Rattle.hd_task.specs.WellFormed.{parts_fit};
     ghost use Rattle.hd_task.specs.Parts.{HasParts};
 
-    /// The task of these parts, or `None` where they do not fit together: where a number names nothing, an effect's
-    /// fluent stands twice or out of order, the start is out of the range, a constant cost is negative, or a limit is
-    /// passed.
+    /// The task of these parts, or `None` where they do not fit together: where a number names
+    /// nothing, an effect's fluent stands twice or out of order, the start is out of the range, a
+    /// constant cost is negative, or a limit is passed.
     pub fn new(
         names: Names,
         atoms: Sequence<GroundForm>,

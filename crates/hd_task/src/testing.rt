@@ -47,8 +47,8 @@ fn effect_test(task: &Task, state: &State, action: &Action) -> ActionTest
     }
 }
 
-/// What an action does in a state, the sum of a plan's cost aside: what [`crate::apply`] answers, without the state after
-/// the action. It takes no memory.
+/// What an action does in a state, the sum of a plan's cost aside: what [`crate::apply`] answers,
+/// without the state after the action. It takes no memory.
 #[tactic(auto, unfolding(crate::specs::Applying::test_of, crate::specs::Applying::applied_of, crate::specs::Applying::departs_aside))]
 pub fn action_test(task: &Task, state: &State, action: ActionId) -> ActionTest
     requires known { action.0 < length task.now.actions }

@@ -35,7 +35,8 @@ fn push_objects(text: &mut String, objects: &[Name], numbers: &[usize]) -> Resul
     Ok(())
 }
 
-/// Puts a ground form behind a text: the name of its symbol among `symbols`, and those of its arguments among `objects`.
+/// Puts a ground form behind a text: the name of its symbol among `symbols`, and those of its
+/// arguments among `objects`.
 ///
 /// # Errors
 /// Want of memory: a beginning of the form may then stand behind the text.

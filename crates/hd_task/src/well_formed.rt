@@ -171,7 +171,8 @@ fn action_fits(action: &Action, atoms: usize, fluents: usize) -> bool
         && are_rising(action.effects.as_slice())
 }
 
-/// Whether all actions add atoms of the task, and read and change its fluents, each of them once at most.
+/// Whether all actions add atoms of the task, and read and change its fluents, each of them once at
+/// most.
 pub(crate) fn do_all_fit(actions: &[Action], atoms: usize, fluents: usize) -> bool
     ensures { result ≡ list_all (action_fits atoms fluents) actions.now }
 {
@@ -234,7 +235,8 @@ fn costs_fit(action: &Action, fluents: usize, metric: bool) -> bool
         && read_below(action.costs.as_slice(), fluents)
 }
 
-/// Whether the actions' amounts read fluents of the task, and there are not too many of them, without a metric none.
+/// Whether the actions' amounts read fluents of the task, and there are not too many of them,
+/// without a metric none.
 pub(crate) fn do_costs_fit(actions: &[Action], fluents: usize, metric: bool) -> bool
     ensures { result ≡ list_all (costs_fit fluents metric) actions.now }
 {

@@ -54,7 +54,8 @@ pub data IsCondition : Forms → Condition → Type 0 where
       → IsRelation o r → AreExprs inside (x ∷ (y ∷ []))
       → IsCondition (word a (Operator o) inside) (comparison_by r x y)
 
--- conditions one after the other, and all of their parts in order (BNF; that 'and' is opened is own)
+-- conditions one after the other, and all of their parts in order (BNF; that 'and' is opened is
+-- own)
 pub data AreConditions : Forms → List Condition → Type 0 where
   -- no more
   end : AreConditions none []

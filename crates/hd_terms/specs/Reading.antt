@@ -94,7 +94,8 @@ behind_items k none = none
 behind_items k (word at w rest) = rest_from (item_in k w) (word at w rest) (behind_items k rest)
 behind_items k (list a inside b rest) = list a inside b rest
 
--- the type of items that are followed so, if one is given, and what follows it; whether there are items is told
+-- the type of items that are followed so, if one is given, and what follows it; whether there are
+-- items is told
 unfoldable pub type_behind : Bool → Forms → Option (Option NameAt × Forms)
 type_behind some none = Some (None, none)
 type_behind some (word at w rest) =

@@ -1,5 +1,6 @@
--- Lists of names, or of variables, with types: names one or more, '-' and a type, any number of times; then names without a type.
--- "BNF" is the BNF of PDDL 2.1 (Fox and Long 2003, its appendix); "own" is a rule of this project.
+-- Lists of names, or of variables, with types: names one or more, '-' and a type, any number of
+-- times; then names without a type. "BNF" is the BNF of PDDL 2.1 (Fox and Long 2003, its appendix);
+-- "own" is a rule of this project.
 use Rattle.std.specs.Prelude.{ℕ, List, [], ◌∷◌, ◌++◌, map, Option, Some, None}
 use Rattle.hd_lex.specs.declared.token.Operator.TheVariants.{Minus}
 use Rattle.hd_forms.specs.declared.names.NameAt.{NameAt}

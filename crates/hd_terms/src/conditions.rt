@@ -97,7 +97,8 @@ fn comparison_of(
     }
 }
 
-/// What the operator, the first of the forms `inside`, says of the rest of them, in a form that ends at the place `to`.
+/// What the operator, the first of the forms `inside`, says of the rest of them, in a form that
+/// ends at the place `to`.
 #[tactic(auto, unfolding(crate::specs::Reading::relation_of))]
 fn relation_of(
     alloc: Global,
@@ -240,7 +241,8 @@ fn add_conditions(
     Ok(())
 }
 
-/// The parts of the first form, a condition, and what follows it. The place `end` is that behind the forms.
+/// The parts of the first form, a condition, and what follows it. The place `end` is that behind
+/// the forms.
 #[tactic(auto, unfolding(crate::specs::Reading::condition_at))]
 pub fn condition_at(
     alloc: Global,

@@ -126,7 +126,8 @@ fn add_effects(alloc: Global, forms: &[Form], found: &mut Vec<Effect>) -> Result
     Ok(())
 }
 
-/// The parts of the first form, an effect, and what follows it. The place `end` is that behind the forms.
+/// The parts of the first form, an effect, and what follows it. The place `end` is that behind the
+/// forms.
 #[tactic(auto, unfolding(crate::specs::Reading::effect_at))]
 pub fn effect_at(
     alloc: Global,

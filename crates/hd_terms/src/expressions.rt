@@ -17,7 +17,8 @@ use hd_forms::{Form, Place, ReadError, Word, first_refusal, form_refusal};
 use hd_lex::Operator;
 use std::alloc::Global;
 
-/// What one expression is: one whose parts are read, or an operator and its operands, which end at a place.
+/// What one expression is: one whose parts are read, or an operator and its operands, which end at
+/// a place.
 #[derive(Drop)]
 enum Shape<'a> {
     Known(Expr),
@@ -88,7 +89,8 @@ fn shape_of(alloc: Global, form: &Form) -> Result<Shape<'_>, ReadError>
     }
 }
 
-/// The only one of these expressions. More than one are never given. The place `end` is that behind them.
+/// The only one of these expressions. More than one are never given. The place `end` is that behind
+/// them.
 fn only_one(expressions: Vec<Expr>, end: usize) -> Result<Expr, ReadError>
     ensures { Gives Refuses (λ x. x) result (one_in expressions.items) }
 {
@@ -103,7 +105,8 @@ fn only_one(expressions: Vec<Expr>, end: usize) -> Result<Expr, ReadError>
     }
 }
 
-/// The two expressions that these are. More than two are never given. The place `end` is that behind them.
+/// The two expressions that these are. More than two are never given. The place `end` is that
+/// behind them.
 fn only_two(expressions: Vec<Expr>, end: usize) -> Result<(Expr, Expr), ReadError>
     ensures { Gives Refuses (λ x. x) result (pair_in expressions.items) }
 {
@@ -157,7 +160,8 @@ fn operation_of(
     }
 }
 
-/// Adds these expressions, one after the other, to others, until there are so many. A form behind them is refused.
+/// Adds these expressions, one after the other, to others, until there are so many. A form behind
+/// them is refused.
 #[tactic(auto, unfolding(crate::specs::Reading::exprs_after))]
 fn add_expressions(
     alloc: Global,

@@ -1,8 +1,10 @@
-//! What domains and problems are made of: typed names, atoms, expressions, conditions and effects, read from nested forms.
+//! What domains and problems are made of: typed names, atoms, expressions, conditions and effects,
+//! read from nested forms.
 //!
-//! The language is that of PDDL 2.1, level 2 (Fox and Long, JAIR 20, 2003), without disjunctions, quantifiers, conditional
-//! effects and division. Each call refuses the first token that its rule does not allow, by `Unexpected` or `Unsupported`
-//! with the token's place, and is `NoMemory` where memory runs out.
+//! The language is that of PDDL 2.1, level 2 (Fox and Long, JAIR 20, 2003), without disjunctions,
+//! quantifiers, conditional effects and division. Each call refuses the first token that its rule
+//! does not allow, by `Unexpected` or `Unsupported` with the token's place, and is `NoMemory` where
+//! memory runs out.
 #![tactic(auto)]
 
 mod atoms;

@@ -18,7 +18,8 @@ enum Held {
     Many(Box<Vec<Term>>),
 }
 
-/// The terms of an atom, mostly few and often none: in two words, so that an atom is five. Contracts see their list.
+/// The terms of an atom, mostly few and often none: in two words, so that an atom is five.
+/// Contracts see their list.
 #[derive(Debug, Drop)]
 pub struct Terms {
     held: Held,

@@ -1,7 +1,8 @@
-//! What the parts of domains and problems say. A place is that of a first byte in the text, counted from 0.
+//! What the parts of domains and problems say. A place is that of a first byte in the text, counted
+//! from 0.
 //!
-//! Most conditions and effects are atoms, and a list of them is as wide as its widest part: so what is wider than an atom has
-//! memory of its own.
+//! Most conditions and effects are atoms, and a list of them is as wide as its widest part: so what
+//! is wider than an atom has memory of its own.
 
 use crate::{Terms, TypeName};
 use hd_base::{Boxed, Relation};
@@ -30,8 +31,8 @@ pub struct Atom {
     pub terms: Terms,
 }
 
-/// What stands at the leaves of an expression. Each operation has memory of its own for its operands, which are as wide as the
-/// widest leaf: so a leaf is two words.
+/// What stands at the leaves of an expression. Each operation has memory of its own for its
+/// operands, which are as wide as the widest leaf: so a leaf is two words.
 #[derive(Debug, Drop)]
 pub enum Leaf {
     /// The place of a number's first byte, and the number.

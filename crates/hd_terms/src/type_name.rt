@@ -7,8 +7,8 @@ use std::alloc::Global;
 use std::marker::Model;
 use std::rc::Rc;
 
-/// The name of a type, with its place. All items of a list that stand before one `- type` share it, so that a list takes no
-/// more memory for a type with a long name.
+/// The name of a type, with its place. All items of a list that stand before one `- type` share it,
+/// so that a list takes no more memory for a type with a long name.
 #[derive(Debug, Drop)]
 pub struct TypeName {
     shared: Rc<NameAt>,

@@ -66,8 +66,8 @@ fn behind_items(kind: ItemKind, forms: &[Form]) -> &[Form]
     rest
 }
 
-/// The type of the items that these forms follow, if one is given, and what follows it. The list ends, or a type is given
-/// where there are items. The place `end` is that behind the forms.
+/// The type of the items that these forms follow, if one is given, and what follows it. The list
+/// ends, or a type is given where there are items. The place `end` is that behind the forms.
 #[tactic(auto, unfolding(crate::specs::Reading::type_behind))]
 fn type_behind(
     alloc: Global,

@@ -26,7 +26,8 @@ pub record SayTrees (domain problem : List ℕ) (d : DomainAst) (p : ProblemAst)
   pub domain_says : IsDomainText domain d
   pub problem_says : IsProblemText problem p
 
--- a lifted task is what two texts say: they are read, no fault stands in them, and this is what they stand for
+-- a lifted task is what two texts say: they are read, no fault stands in them, and this is what
+-- they stand for
 pub record IsLiftedOf (domain problem : List ℕ) (l : LiftedTask) : Type 0 where
   pub domain_tree : DomainAst
   pub problem_tree : ProblemAst

@@ -4,7 +4,8 @@ use Rattle.hd_tickets.specs.declared.outgoing.Outgoing.{Outgoing}
 use Rattle.hd_tickets.specs.Queue.{QueueView}
 use Rattle.hd_tickets.specs.Slots.{ticket_at}
 
--- a ticket: how many batches were accepted before its own, and the numbers of that one's entries, from `first` on and below `end`
+-- a ticket: how many batches were accepted before its own, and the numbers of that one's entries,
+-- from `first` on and below `end`
 pub record TicketView : Type 0 where
   pub number : ℕ
   pub first : ℕ
@@ -15,8 +16,8 @@ pub record ReceiptView : Type 0 where
   pub first : ℕ
   pub end : ℕ
 
--- how far the entries are acknowledged; the tickets of all batches, by number, none where one is spent; and whether no more batches
--- are accepted. R is what a ticket releases
+-- how far the entries are acknowledged; the tickets of all batches, by number, none where one is
+-- spent; and whether no more batches are accepted. R is what a ticket releases
 pub record Batches (R : Type 0) : Type 0 where
   pub queue : QueueView
   pub tickets : List (Option (Outgoing R))

@@ -5,8 +5,9 @@ use Rattle.hd_tickets.specs.Queue.{QueueView, end_of, is_out}
 use Rattle.hd_tickets.specs.Batches.{TicketView, Batches, is_ticket_out}
 use Rattle.hd_tickets.specs.Steps.{entered, taken, flushed, handed_back, redeemed, with_halt}
 
--- a call: a batch of so many entries is accepted, with what its ticket releases; a group is taken; the group of these entries, from one
--- on and below another, is acknowledged, or handed back; a ticket is redeemed; no more batches are accepted
+-- a call: a batch of so many entries is accepted, with what its ticket releases; a group is taken;
+-- the group of these entries, from one on and below another, is acknowledged, or handed back; a
+-- ticket is redeemed; no more batches are accepted
 pub data Move (R : Type 0) : Type 0 where
   Enter : ℕ → R → Move R
   Take : Move R
@@ -31,7 +32,8 @@ after_moves (m ∷ moves) b = after_moves moves (after_move m b)
 
 -- ---- whole batches
 
--- where the batches end that a call accepts behind so many entries; one without entries has no end of its own
+-- where the batches end that a call accepts behind so many entries; one without entries has no end
+-- of its own
 abbrev pub ends_at : {R : Type 0} → ℕ → Move R → List ℕ
 ends_at n (Enter count released) = if count == 0 then [] else (n + count) ∷ []
 ends_at n Take = []
@@ -45,7 +47,8 @@ abbrev pub ends_by : {R : Type 0} → ℕ → List (Move R) → List ℕ
 ends_by n [] = []
 ends_by n (m ∷ moves) = ends_at n m ++ ends_by (end_of n (ends_at n m)) moves
 
--- of batches that end here, behind `from`, the first ones are acknowledged, and the others are those of a queue: none is split
+-- of batches that end here, behind `from`, the first ones are acknowledged, and the others are
+-- those of a queue: none is split
 pub record AreCutBy (from : ℕ) (ends : List ℕ) (q : QueueView) : Type 0 where
   pub done : List ℕ
   pub all : ends ≡ done ++ q.ends

@@ -3,8 +3,8 @@ use Rattle.std.specs.Prelude.{◌≡◌, ℕ, ◌+◌, ◌-◌, ◌<◌, ◌≤�
 use Rattle.std.specs.declared.ops.Range.{Range}
 use Rattle.hd_tickets.specs.declared.queue.TheConstants.{MAX_GROUP}
 
--- how many entries are acknowledged; where each batch behind them ends, the oldest first; and how many of these are in the group
--- that is out, 0 where none is
+-- how many entries are acknowledged; where each batch behind them ends, the oldest first; and how
+-- many of these are in the group that is out, 0 where none is
 pub record QueueView : Type 0 where
   pub acknowledged : ℕ
   pub ends : List ℕ

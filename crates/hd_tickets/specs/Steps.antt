@@ -35,7 +35,8 @@ handed_back b = record { queue = with_none_out b.queue; tickets = b.tickets; hal
 abbrev pub without : {R : Type 0} → ℕ → Batches R → Batches R
 without number b = record b { tickets = slice_set b.tickets number None }
 
--- a ticket is redeemed: it is spent where its entries are acknowledged, or no more batches are accepted
+-- a ticket is redeemed: it is spent where its entries are acknowledged, or no more batches are
+-- accepted
 abbrev pub redeemed : {R : Type 0} → TicketView → Batches R → Batches R
 redeemed k b =
     if are_acknowledged b.queue k.first k.end || b.halted then without k.number b else b

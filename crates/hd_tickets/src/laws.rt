@@ -1,12 +1,13 @@
-//! Laws over the definitions, for all lists of calls. Each function does nothing: its contract is the law.
+//! Laws over the definitions, for all lists of calls. Each function does nothing: its contract is
+//! the law.
 ghost use Rattle.std.specs.Prelude.{◌≡◌, ℕ, ◌||◌, ◌++◌, List, true, false};
 ghost use Rattle.hd_tickets.specs.Queue.{entries_of, are_acknowledged};
 ghost use Rattle.hd_tickets.specs.Batches.{Batches, TicketView, is_ticket_out};
 ghost use Rattle.hd_tickets.specs.Steps.{redeemed};
 ghost use Rattle.hd_tickets.specs.Moves.{Move, after_moves, ends_by, groups_by, AreCutBy, Lead};
 
-/// No batch is split: the entries that are acknowledged end where a batch ends, and the batches behind them are those that wait or
-/// are out.
+/// No batch is split: the entries that are acknowledged end where a batch ends, and the batches
+/// behind them are those that wait or are out.
 pub fn batches_stay_whole<R>()
     ensures { (b : Batches R) (moves : List (Move R))
         → AreCutBy b.queue.acknowledged (b.queue.ends ++ ends_by (entries_of b.queue) moves)

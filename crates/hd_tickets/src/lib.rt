@@ -1,8 +1,8 @@
-//! Tickets for batches of entries, and the groups in which these are appended to a journal: what is known of the batches that were
-//! accepted, apart from what they are about.
+//! Tickets for batches of entries, and the groups in which these are appended to a journal: what is
+//! known of the batches that were accepted, apart from what they are about.
 //!
-//! `specs/Steps.antt` says what each call makes of what is known, by one equation each. No call but the one that makes room takes
-//! memory.
+//! `specs/Steps.antt` says what each call makes of what is known, by one equation each. No call but
+//! the one that makes room takes memory.
 #![tactic(auto)]
 
 pub mod laws;

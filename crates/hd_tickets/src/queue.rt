@@ -134,7 +134,8 @@ impl Queue {
         end_among(&self.ends, self.out, self.acknowledged)
     }
 
-    /// The next group goes out, if there is one and none is out: whole batches from the oldest on, as many as fit together.
+    /// The next group goes out, if there is one and none is out: whole batches from the oldest on,
+    /// as many as fit together.
     pub(crate) fn take(&mut self) -> Option<Range<u64>>
         ensures group { result ≡ group_next self.old.batches }
         ensures some { IfSome result (λ g. g.start < g.end) }

@@ -6,7 +6,8 @@ use std::alloc::{AllocError, Global};
 use std::marker::Model;
 use std::ops::Range;
 
-/// The tickets of the batches that were accepted, and the groups in which their entries are appended to a journal.
+/// The tickets of the batches that were accepted, and the groups in which their entries are
+/// appended to a journal.
 ///
 /// Entries and tickets are known by number alone; `R` is what a ticket releases.
 #[derive(Debug, Drop)]
@@ -46,7 +47,8 @@ impl<R: Drop> Tickets<R> {
         }
     }
 
-    /// Spends a ticket that is out and whose entries are acknowledged: what it releases, with a receipt.
+    /// Spends a ticket that is out and whose entries are acknowledged: what it releases, with a
+    /// receipt.
     fn release(&mut self, ticket: Ticket) -> Result<Redeemed<R>, NotOut>
         requires out { is_ticket_out self.old.batches ticket ≡ true }
         requires acknowledged { are_acknowledged self.old.batches.queue ticket.first ticket.end
@@ -133,7 +135,8 @@ impl<R: Drop> Tickets<R> {
         Ok(())
     }
 
-    /// Accepts a batch of so many entries: they wait to be appended, where there are any, and its ticket is out. There is room for it.
+    /// Accepts a batch of so many entries: they wait to be appended, where there are any, and its
+    /// ticket is out. There is room for it.
     pub fn enter(&mut self, count: u64, released: R) -> Ticket
         requires going { self.old.batches.halted ≡ false }
         requires room { self.old.room ≡ true }
@@ -155,8 +158,9 @@ impl<R: Drop> Tickets<R> {
         Ticket::of(number, first, end)
     }
 
-    /// The entries of the next group that is to be appended, which is out from now on: whole batches in the order of their commits, from
-    /// the oldest on, as many as fit into a group. None where nothing waits, or a group is out.
+    /// The entries of the next group that is to be appended, which is out from now on: whole
+    /// batches in the order of their commits, from the oldest on, as many as fit into a group. None
+    /// where nothing waits, or a group is out.
     pub fn take(&mut self) -> Option<Range<u64>>
         ensures group { result ≡ group_next self.old.batches.queue }
         ensures some { IfSome result (λ g. g.start < g.end) }
@@ -184,7 +188,8 @@ impl<R: Drop> Tickets<R> {
         Ok(())
     }
 
-    /// Hands back the group that is out: its batches wait again, before the others, and no more batches are accepted.
+    /// Hands back the group that is out: its batches wait again, before the others, and no more
+    /// batches are accepted.
     ///
     /// # Errors
     /// `NotOut` where no group is out, or it has other entries: nothing has changed.
@@ -201,8 +206,9 @@ impl<R: Drop> Tickets<R> {
         Ok(())
     }
 
-    /// Redeems a ticket: for what it releases, with a receipt, where the batch's entries are acknowledged; else for nothing, where no
-    /// more batches are accepted; else the ticket comes back.
+    /// Redeems a ticket: for what it releases, with a receipt, where the batch's entries are
+    /// acknowledged; else for nothing, where no more batches are accepted; else the ticket comes
+    /// back.
     ///
     /// # Errors
     /// `NotOut` where no such ticket is out: the ticket is spent, and nothing has changed.

@@ -1,4 +1,5 @@
--- Where a list of expansions has no departures, nothing departs at its plans; and what departs at a plan departs in the domain.
+-- Where a list of expansions has no departures, nothing departs at its plans; and what departs at a
+-- plan departs in the domain.
 use Rattle.std.proofs.Common.{◌≡◌, ℕ, ◌+◌, Bool, true, false, List, [], ◌∷◌, ◌++◌, map, filter, length, Contains, Some, None, slice_get, inl, inr, refl, sym, ap, ◌∙◌}
 use Rattle.std.specs.Prelude.{cond}
 use Rattle.std.proofs.lemmas.Option.{slice_get_within}

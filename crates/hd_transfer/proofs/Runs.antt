@@ -1,4 +1,5 @@
--- Plans of the task and their instances: both are executed or neither is, and what they lead to goes along.
+-- Plans of the task and their instances: both are executed or neither is, and what they lead to
+-- goes along.
 use Rattle.std.proofs.Common.{◌≡◌, ℕ, List, [], ◌∷◌, All, Option, Some, None, slice_get, refl, sym, ap, ap₂, ◌∙◌, subst}
 use Rattle.std.specs.Prelude.{option_and_then, option_map, pos}
 use Rattle.std.specs.List.{cons_option, AllByRecursion}

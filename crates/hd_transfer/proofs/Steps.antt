@@ -1,4 +1,5 @@
--- A step of an action and one of its instance: both are defined or neither is, and they lead to states that agree, at one cost.
+-- A step of an action and one of its instance: both are defined or neither is, and they lead to
+-- states that agree, at one cost.
 use Rattle.std.proofs.Common.{◌≡◌, ℕ, Bool, true, false, not, ◌&&◌, ◌||◌, ◌==◌, Contains, filter, Option, Some, None, slice_get, refl, sym, ap, ◌∙◌, subst, arith, true≢false}
 use Rattle.std.specs.Prelude.{length, ℤ, pos, negsuc, ◌+ℤ◌, if◌then◌else◌}
 use Rattle.std.proofs.lemmas.Bool.{eqb-true, eq-eqb, false_from_ne_true}

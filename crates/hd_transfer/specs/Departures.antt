@@ -1,4 +1,5 @@
--- Where a plan leads, nothing leaves the range, or something does: in a task, and in its domain. (Our own.)
+-- Where a plan leads, nothing leaves the range, or something does: in a task, and in its domain.
+-- (Our own.)
 use Rattle.std.specs.Prelude.{◌≡◌, ℕ, true, false, List, Some}
 use Rattle.hd_lifted.specs.declared.instance.Instance.{Instance}
 use Rattle.hd_lifted.specs.declared.task.LiftedTask.{LiftedTask}
@@ -14,7 +15,8 @@ pub record NoActionDeparts (u : Task) (m : Node) : Type 0 where
   pub actions : (n : ℕ) → action_departs u m n ≡ false
   pub goal : goal_departs u m ≡ false
 
--- at what is reached in a domain no instance departs, whether it is kept or not, and the goal doesn't
+-- at what is reached in a domain no instance departs, whether it is kept or not, and the goal
+-- doesn't
 pub record NoInstanceDeparts (t : LiftedTask) (r : Reached) : Type 0 where
   pub instances : (i : Instance) → IsInstance t i → ranges.instance_departs t r i ≡ false
   pub goal : ranges.goal_departs t r ≡ false

@@ -14,7 +14,8 @@ instance_of a = record { schema = a.form.symbol; objects = a.form.objects }
 abbrev pub instance_at : Task → ℕ → Option Instance
 instance_at u n = option_map instance_of (slice_get u.actions n)
 
--- the instances of a plan's actions, in order; a number without an action has none, and no plan that is executed has such a number
+-- the instances of a plan's actions, in order; a number without an action has none, and no plan
+-- that is executed has such a number
 abbrev pub plan_of : Task → List ℕ → List Instance
 plan_of u p = filter_map (instance_at u) p
 

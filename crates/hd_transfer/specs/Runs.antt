@@ -11,8 +11,8 @@ use Rattle.hd_grounding.specs.Agreement.{Agree}
 use Rattle.hd_grounding.specs.Grounding.{IsGrounding}
 use Rattle.hd_transfer.specs.Instances.{plan_of}
 
--- what is reached in the domain corresponds to a node of the task: the states agree on each atom and on each fluent with a number,
--- and the cost is the same
+-- what is reached in the domain corresponds to a node of the task: the states agree on each atom
+-- and on each fluent with a number, and the cost is the same
 pub record Correspond {t : LiftedTask} {u : Task} (made : IsGrounding t u) (r : Reached) (m : Node) : Type 0 where
   pub states : Agree made.atoms made.fluents r.state m.state
   pub costs : r.cost ≡ Some (pos m.cost)
@@ -24,7 +24,8 @@ pub record LeadsThere {t : LiftedTask} {u : Task} (made : IsGrounding t u) (p : 
   pub executes : domain.exec t (plan_of u p) ≡ Some end
   pub correspond : Correspond made end m
 
--- a plan of the domain is `plan_of` a plan that is executed in the task, and leads to a node to which this corresponds
+-- a plan of the domain is `plan_of` a plan that is executed in the task, and leads to a node to
+-- which this corresponds
 pub record IsOfPlan {t : LiftedTask} {u : Task} (made : IsGrounding t u) (q : List Instance) (r : Reached) : Type 0 where
   pub plan : List ℕ
   pub is : plan_of u plan ≡ q

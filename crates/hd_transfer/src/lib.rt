@@ -1,4 +1,5 @@
-//! What a search finds out about a task is so of the domain that the task was grounded from: definitions and laws, and no code.
+//! What a search finds out about a task is so of the domain that the task was grounded from:
+//! definitions and laws, and no code.
 #![tactic(auto)]
 
 pub mod examples;

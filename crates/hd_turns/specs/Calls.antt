@@ -1,4 +1,5 @@
--- What each call of a worker does. (Our own; the search is HDA*, Kishimoto, Fukunaga and Botea 2013.)
+-- What each call of a worker does. (Our own; the search is HDA*, Kishimoto, Fukunaga and Botea
+-- 2013.)
 use Rattle.std.specs.Prelude.{◌≡◌, ℕ, ◌+◌, ◌-◌, true, false, List, [], ◌∷◌, ◌++◌, Option, Some, None, map, filter, take, drop, length, slice_get}
 use Rattle.std.specs.List.{remove}
 use Rattle.hd_task.specs.declared.state.State.{State}
@@ -49,7 +50,8 @@ pub data ExpandsBest (t : Task) (w w' : WorkerView) : Type 0 where
 
 -- ---- `next_batch` and `committed`
 
--- of each outcome, how many expansions stand before it, the first of which is the expansion of this number
+-- of each outcome, how many expansions stand before it, the first of which is the expansion of this
+-- number
 abbrev pub ranks : ℕ → List Outcome → List ℕ
 ranks n [] = []
 ranks n (o ∷ outcomes) = n ∷ ranks (n + length (entry_of o)) outcomes

@@ -1,4 +1,5 @@
--- How an open node is settled. (HDA*, Kishimoto, Fukunaga and Botea 2013: duplicate detection, pruning and expansion.)
+-- How an open node is settled. (HDA*, Kishimoto, Fukunaga and Botea 2013: duplicate detection,
+-- pruning and expansion.)
 use Rattle.std.specs.Prelude.{◌≡◌, ℕ, Bool, true, false, List, [], ◌∷◌, Option, Some}
 use Rattle.hd_task.specs.declared.task.Task.{Task}
 use Rattle.hd_task.specs.Plans.{node}
@@ -17,8 +18,8 @@ use Rattle.hd_closed.specs.Closed.{Closed, IsClosedAt, IsDearer}
 abbrev pub is_beyond : Estimate → Option ℕ → Released → Bool
 is_beyond h seen r = reaches seen (Some (node r.state r.cost)) (h r.state)
 
--- the outcome of an open node: a duplicate by an expansion of the closed list; where there is none, bounded by the bound that was seen
--- last or by an infinite estimate; else its expansion
+-- the outcome of an open node: a duplicate by an expansion of the closed list; where there is none,
+-- bounded by the bound that was seen last or by an infinite estimate; else its expansion
 pub data IsOutcomeOf (t : Task) (h : Estimate) (closed : List Closed) (seen : Option ℕ) (r : Released) (o : Outcome) : Type 0 where
   Again : (c : Closed) → IsClosedAt closed r.state r.cost c → o ≡ Duplicate r.kid c.by → IsOutcomeOf t h closed seen r o
   Beyond :

@@ -4,7 +4,8 @@ use Rattle.hd_task.specs.declared.task.Task.{Task}
 use Rattle.hd_hmax.specs.Rounds.{hmax}
 use Rattle.hd_entries.specs.Holding.{Released}
 
--- a cost plus an estimate; none where the estimate is infinite. Sums are told apart as far as 128 bits go
+-- a cost plus an estimate; none where the estimate is infinite. Sums are told apart as far as 128
+-- bits go
 abbrev pub total_of : ℕ → Option ℕ → Option ℕ
 total_of cost None = None
 total_of cost (Some v) = Some (min (v + cost) (2 ^ 128 - 1))

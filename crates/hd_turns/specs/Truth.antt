@@ -28,7 +28,8 @@ abbrev pub AreRight : BookState → List Outcome → List Outcome → Type 0
 AreRight b earlier [] = Unit {0}
 AreRight b earlier (o ∷ later) = IsRight b earlier o × AreRight b (earlier ++ o ∷ []) later
 
--- an expansion of the closed list is the entry or the outcome that is named, with this state and cost
+-- an expansion of the closed list is the entry or the outcome that is named, with this state and
+-- cost
 abbrev pub IsClosedBy : BookState → List Outcome → Closed → Type 0
 IsClosedBy b outcomes c = node_by b outcomes c.by ≡ Some (node c.state c.cost)
 

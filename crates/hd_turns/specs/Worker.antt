@@ -6,10 +6,12 @@ use Rattle.hd_node.specs.declared.batch.Outcome.{Outcome}
 use Rattle.hd_entries.specs.Holding.{Released}
 use Rattle.hd_closed.specs.Closed.{Closed}
 
--- a worker: its task, its number, and of how many workers it is one; its open nodes in order of arrival; the expansions that it knows of,
--- in order; of each outcome of the batch that it gave last, as long as that is not numbered, how many expansions stand before it; its
--- further outcomes, in order; the parcels that it sends, in order; the bound that it saw last; how many parcels may be released to it;
--- and whether the parcel that it sent last may come back. `Here` counts from the first outcome of the batch that it gave last
+-- a worker: its task, its number, and of how many workers it is one; its open nodes in order of
+-- arrival; the expansions that it knows of, in order; of each outcome of the batch that it gave
+-- last, as long as that is not numbered, how many expansions stand before it; its further outcomes,
+-- in order; the parcels that it sends, in order; the bound that it saw last; how many parcels may
+-- be released to it; and whether the parcel that it sent last may come back. `Here` counts from the
+-- first outcome of the batch that it gave last
 pub record WorkerView : Type 0 where
   pub task : Task
   pub id : ℕ

@@ -1,4 +1,5 @@
--- A plan of steps is validated or has a first fault: never both, and never neither. It has one first fault, and one cost.
+-- A plan of steps is validated or has a first fault: never both, and never neither. It has one
+-- first fault, and one cost.
 use Rattle.std.proofs.Common.{◌≡◌, ℕ, ◌+◌, List, [], ◌∷◌, Some, None, pos, inl, inr, refl, sym, ap, ◌∙◌, subst}
 use Rattle.std.specs.List.{AllZip}
 use Rattle.std.proofs.lemmas.Option.{none-some, same_Some}

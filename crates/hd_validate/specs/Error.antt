@@ -1,4 +1,5 @@
--- How errors are printed: the refusal's number and its name, and in parentheses what is at fault. (Our own.)
+-- How errors are printed: the refusal's number and its name, and in parentheses what is at fault.
+-- (Our own.)
 use Rattle.std.specs.Prelude.{ℕ, List, ◌++◌, codes, decimal, string_bytes}
 use Rattle.hd_validate.specs.declared.error.PlanError.{PlanError}
 use Rattle.hd_validate.specs.declared.error.PlanError.TheVariants.{NoSuchAction, NotApplicable, Undefined, NegativeCost, Departs, GoalUnmet, NoMemory}

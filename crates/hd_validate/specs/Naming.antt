@@ -1,4 +1,5 @@
--- Which instance a step names: a step gives the names of a schema and of objects. (Names are those of PDDL 2.1.)
+-- Which instance a step names: a step gives the names of a schema and of objects. (Names are those
+-- of PDDL 2.1.)
 use Rattle.std.specs.Prelude.{◌≡◌, ℕ, List, slice_get}
 use Rattle.std.specs.List.{AllZip}
 use Rattle.std.specs.Option.{IsSomeAnd}
@@ -17,7 +18,8 @@ IsSchemaNamed t number name = IsSomeAnd (slice_get t.schemas number) (λ (a : Sc
 abbrev pub IsObjectNamed : LiftedTask → ℕ → List ℕ → Type 0
 IsObjectNamed t number name = IsSomeAnd (slice_get t.objects number) (λ (o : declared.Object). o.name ≡ name)
 
--- the numbers are those that the names of a step stand for: the schema's, and the objects' in order, as many as the step has
+-- the numbers are those that the names of a step stand for: the schema's, and the objects' in
+-- order, as many as the step has
 pub record HasNamesOf (t : LiftedTask) (s : Step) (i : Instance) : Type 0 where
   pub schema : IsSchemaNamed t i.schema s.name
   pub objects : AllZip (IsObjectNamed t) i.objects s.args

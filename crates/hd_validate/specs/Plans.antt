@@ -1,4 +1,5 @@
--- When a plan of steps is validated, and otherwise which fault is the first. (The order of the questions is our own.)
+-- When a plan of steps is validated, and otherwise which fault is the first. (The order of the
+-- questions is our own.)
 use Rattle.std.specs.Prelude.{◌≡◌, ℕ, ◌+◌, ◌⊎◌, List, [], ◌∷◌, Some, None}
 use Rattle.std.specs.List.{AllZip}
 use Rattle.hd_plan.specs.declared.step.Step.{Step}
@@ -11,7 +12,8 @@ use Rattle.hd_judge.specs.Asking.{asked_of_step, asked_of_goal}
 use Rattle.hd_judge.specs.Validity.{IsValidated, Passes}
 use Rattle.hd_validate.specs.Naming.{IsStep}
 
--- a plan of steps is validated at a cost if its steps, in order, are those of a list of instances that is
+-- a plan of steps is validated at a cost if its steps, in order, are those of a list of instances
+-- that is
 pub record IsValidatedBy (t : LiftedTask) (steps : List Step) (cost : ℕ) : Type 0 where
   pub plan : List Instance
   pub are_steps : AllZip (IsStep t) steps plan
@@ -25,12 +27,14 @@ pub record PassesBy (t : LiftedTask) (r : Reached) (n : ℕ) (s : Step) (to : Re
   pub is_step : IsStep t s instance
   pub passes : Passes t r n instance to
 
--- the n-th step is one of no instance, or else it is the fault that the first failing question about it tells
+-- the n-th step is one of no instance, or else it is the fault that the first failing question
+-- about it tells
 pub data TellsStepBy (t : LiftedTask) (r : Reached) (n : ℕ) (s : Step) (fault : Fault) : Type 0 where
   names_none : ((i : Instance) → IsStep t s i → ⊥) → fault ≡ NoSuchAction n → TellsStepBy t r n s fault
   fails_named : (i : Instance) → IsStep t s i → asked_of_step t r n i ≡ Some fault → TellsStepBy t r n s fault
 
--- of a list of steps, the first of which is the n-th, and then of the goal, the first failing question tells this fault
+-- of a list of steps, the first of which is the n-th, and then of the goal, the first failing
+-- question tells this fault
 abbrev pub TellsFromBy : LiftedTask → Reached → ℕ → List Step → Fault → Type 0
 TellsFromBy t r n [] fault = asked_of_goal t r n ≡ Some fault
 TellsFromBy t r n (s ∷ steps) fault = TellsStepBy t r n s fault ⊎ ((to : Reached) × PassesBy t r n s to × TellsFromBy t to (n + 1) steps fault)

@@ -1,4 +1,5 @@
--- How fluents and instances are printed. (Our own; a plan file has a step as a name and its arguments in parentheses.)
+-- How fluents and instances are printed. (Our own; a plan file has a step as a name and its
+-- arguments in parentheses.)
 use Rattle.std.specs.Prelude.{ℕ, List, [], ◌++◌, codes, flat_map, slice_get, Option, Some, None}
 use Rattle.hd_lifted.specs.declared.schema.Ground.{Ground}
 use Rattle.hd_lifted.specs.declared.schema.Schema.{Schema}

@@ -10,16 +10,18 @@ use thiserror::Error;
 /// Why a plan of steps is not validated. Steps are numbered from 1.
 #[derive(Debug, PartialEq, Eq, Drop, Error)]
 pub enum PlanError {
-    /// The step is one of no instance of the task: there is no such schema or object, the objects are not as many or not of the
-    /// types that the schema asks for, or two effects clash.
+    /// The step is one of no instance of the task: there is no such schema or object, the objects
+    /// are not as many or not of the types that the schema asks for, or two effects clash.
     NoSuchAction(u64),
     /// A condition of the step does not hold.
     NotApplicable(u64),
-    /// A fluent, in its ground form, that a step or the goal reads or changes, and that has no first value.
+    /// A fluent, in its ground form, that a step or the goal reads or changes, and that has no
+    /// first value.
     Undefined(String),
     /// An instance, in its ground form, that costs the same in each state, and less than 0.
     NegativeCost(String),
-    /// A number leaves the range at the step, or at the goal, whose number is one more than the number of steps.
+    /// A number leaves the range at the step, or at the goal, whose number is one more than the
+    /// number of steps.
     Departs(u64),
     /// The goal does not hold at the end.
     GoalUnmet,

@@ -1,4 +1,5 @@
-//! Laws over the definitions. Each function does nothing: its contract is the law, for every task and every plan.
+//! Laws over the definitions. Each function does nothing: its contract is the law, for every task
+//! and every plan.
 ghost use Rattle.std.specs.Prelude.{◌≡◌, ℕ, List};
 ghost use Rattle.hd_plan.specs.declared.step.Step.{Step};
 ghost use Rattle.hd_lifted.specs.declared.task.LiftedTask.{LiftedTask};
@@ -14,8 +15,8 @@ pub fn steps_are_told_apart()
         → IsStep t s i → IsStep t s j → i ≡ j }
 {}
 
-/// Where no name stands twice, a plan of steps is validated or it has a first fault: never both, and never neither. It has no two
-/// first faults, and no two costs.
+/// Where no name stands twice, a plan of steps is validated or it has a first fault: never both,
+/// and never neither. It has no two first faults, and no two costs.
 pub fn named_plans_are_judged()
     ensures never_both { (t : LiftedTask) (steps : List Step) (cost : ℕ) (fault : Fault)
         → HasDistinctNames t → IsValidatedBy t steps cost → IsFirstFaultBy t steps fault → ⊥ }

@@ -31,7 +31,8 @@ fn numbers_of(
     Ok(Some(Tuple::from_small_vec(numbers)))
 }
 
-/// The instance that has the names of a step, if there is one: whether its objects fit is not asked here.
+/// The instance that has the names of a step, if there is one: whether its objects fit is not asked
+/// here.
 ///
 /// Fails only for want of memory.
 #[tactic(auto, using(crate::proofs::Stepping::names_found, crate::proofs::Stepping::no_schema, crate::proofs::Stepping::no_objects))]

@@ -110,14 +110,16 @@ fn cost_of(alloc: Global, seed: Seed, checked: &Checked, steps: &[Step]) -> Resu
     }
 }
 
-/// Judges a plan of a checked task: its cost, if it is valid, nothing of it leaves the range, and what it meets is defined.
+/// Judges a plan of a checked task: its cost, if it is valid, nothing of it leaves the range, and
+/// what it meets is defined.
 ///
 /// The tables hash by the seed.
 ///
 /// # Errors
-/// The first fault, in the order of the steps, with the goal behind them. Of each step it is asked whether there is such an
-/// instance, then its conditions on atoms and objects, first values, a cost that is negative in each state, its comparisons, and
-/// its effects; and of the goal the same. Or want of memory.
+/// The first fault, in the order of the steps, with the goal behind them. Of each step it is asked
+/// whether there is such an instance, then its conditions on atoms and objects, first values, a
+/// cost that is negative in each state, its comparisons, and its effects; and of the goal the same.
+/// Or want of memory.
 pub fn validate(
     alloc: Global,
     seed: Seed,

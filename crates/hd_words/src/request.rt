@@ -14,7 +14,8 @@ pub const MAX_WORKERS: u32 = 64;
 /// The greatest number of expansions that a search may be asked to stop at.
 pub const MAX_LIMIT: u64 = 1_099_511_627_774;
 
-/// How a search goes: by how many workers, at how many expansions it stops, if at any, and whether it tells how it stands.
+/// How a search goes: by how many workers, at how many expansions it stops, if at any, and whether
+/// it tells how it stands.
 #[derive(Clone, Copy, Debug, PartialEq, Eq)]
 pub struct Search {
     /// From 1 to [`MAX_WORKERS`].
@@ -138,7 +139,8 @@ fn workers_in(found: &ArgMatches<'_>) -> Option<u32>
     Some(workers)
 }
 
-/// How a search is to go, if its number of workers is one of 1 to 64, and its limit, where it has one, one of 1 to [`MAX_LIMIT`].
+/// How a search is to go, if its number of workers is one of 1 to 64, and its limit, where it has
+/// one, one of 1 to [`MAX_LIMIT`].
 fn search_in(found: &ArgMatches<'_>) -> Option<Search>
     ensures { IfSome result IsSearchOf }
 {
@@ -350,8 +352,8 @@ fn request_of(alloc: Global, matches: &ArgMatches<'_>) -> Result<Option<Request>
 /// Reads the words of a command line, of which the first is the program's name.
 ///
 /// # Errors
-/// The text to show, where the words ask for help or the version; the text of the fault, where they are no request; or
-/// `NoMemory`.
+/// The text to show, where the words ask for help or the version; the text of the fault, where they
+/// are no request; or `NoMemory`.
 pub fn read_words<'a>(alloc: Global, words: &'a [String]) -> Result<Request, WordsError>
     ensures { IfOk result IsWithin }
 {

@@ -1,4 +1,5 @@
--- Open nodes and the closed list, as contracts see them. (A*, Hart, Nilsson and Raphael 1968; HDA*, Kishimoto, Fukunaga and Botea 2013.)
+-- Open nodes and the closed list, as contracts see them. (A*, Hart, Nilsson and Raphael 1968; HDA*,
+-- Kishimoto, Fukunaga and Botea 2013.)
 use Rattle.std.specs.Prelude.{◌≡◌, ℕ, ◌-◌, Bool, List, [], ◌∷◌, ◌++◌, Option, Some, None, map, filter, length, slice_get}
 use Rattle.std.specs.List.{remove}
 use Rattle.hd_task.specs.declared.state.State.{State}
@@ -13,7 +14,8 @@ use Rattle.hd_closed.specs.Numbering.{closed_numbered}
 use Rattle.hd_turns.specs.Settling.{IsOutcomeOf, closed_by}
 use Rattle.hd_turns.specs.Totals.{total_at}
 
--- the task, the open nodes in order of arrival, the closed list in order, and how many parcels may still come without memory
+-- the task, the open nodes in order of arrival, the closed list in order, and how many parcels may
+-- still come without memory
 pub record FrontierView : Type 0 where
   pub task : Task
   pub waiting : List Released
@@ -34,7 +36,8 @@ arrived r f = record { task = f.task; waiting = f.waiting ++ r ∷ []; closed = 
 abbrev pub received : Released → FrontierView → FrontierView
 received r f = with_room (f.room - 1) (arrived r f)
 
--- of parcels that are released, those that are own ones are the last open nodes, in their order; all take some of the room
+-- of parcels that are released, those that are own ones are the last open nodes, in their order;
+-- all take some of the room
 abbrev pub opens : (Released → Bool) → List Released → FrontierView → FrontierView
 opens own rs f = record { task = f.task; waiting = f.waiting ++ filter own rs; closed = f.closed; room = f.room - length rs }
 

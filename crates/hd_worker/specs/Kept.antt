@@ -14,7 +14,8 @@ use Rattle.hd_worker.specs.Frontier.{FrontierView}
 abbrev pub lent_room : Bool → ℕ
 lent_room lent = if lent then 1 else 0
 
--- what the parts of a worker keep, where so many parcels are in the outbox and there is room for so many
+-- what the parts of a worker keep, where so many parcels are in the outbox and there is room for so
+-- many
 pub record IsWorker (t : Task) (id workers : ℕ) (f : FrontierView) (given : List ℕ) (outcomes : List Outcome) (outbox : List ParcelView) (len capacity : ℕ) (lent : Bool) : Type 0 where
   pub of_task : f.task ≡ t
   pub within : id < workers

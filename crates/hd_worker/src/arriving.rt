@@ -90,8 +90,8 @@ fn open_first<'t>(
     }
 }
 
-/// The parcels that came become open nodes, in their order, behind the others. Each is estimated, unless its state was before. Room for
-/// so many to come is kept.
+/// The parcels that came become open nodes, in their order, behind the others. Each is estimated,
+/// unless its state was before. Room for so many to come is kept.
 ///
 /// # Errors
 /// `NoMemory` where there is no room for a node; those before it are open nodes.

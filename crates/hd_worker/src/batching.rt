@@ -59,7 +59,8 @@ fn ranks_of(alloc: Global, outcomes: &[Outcome]) -> Result<Vec<u64>, NoMemory>
     Ok(ranks)
 }
 
-/// The first outcomes, so many of them, which leave the list. Where none is left, the list keeps room for as many to come.
+/// The first outcomes, so many of them, which leave the list. Where none is left, the list keeps
+/// room for as many to come.
 ///
 /// # Errors
 /// `NoMemory` where there is no room for the others; the list is as it was.
@@ -102,8 +103,8 @@ fn number_all<'t>(outcomes: &mut [Outcome<'t>], first: u64, given: &[u64])
 }
 
 impl<'t> Worker<'t> {
-    /// The batch of the first outcomes, at most [`MAX_OUTCOMES`]; none where there are no outcomes. It makes the room for what the batch
-    /// releases, and for its numbers.
+    /// The batch of the first outcomes, at most [`MAX_OUTCOMES`]; none where there are no outcomes.
+    /// It makes the room for what the batch releases, and for its numbers.
     ///
     /// # Errors
     /// `NoMemory` where there is none; the worker is as it was.
@@ -153,8 +154,8 @@ impl<'t> Worker<'t> {
         self.frontier.reserve(count)
     }
 
-    /// The batch that was given last is numbered from `first` on: its expansions are these entries. It takes no memory. A batch that was
-    /// refused is numbered from a number on that no entry has.
+    /// The batch that was given last is numbered from `first` on: its expansions are these entries.
+    /// It takes no memory. A batch that was refused is numbered from a number on that no entry has.
     pub fn committed(&mut self, first: u64)
         requires given { self.old.given ≢ [] }
         requires fits { first + MAX_OUTCOMES ≤ 2 ^ 64 }

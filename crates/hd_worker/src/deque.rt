@@ -26,7 +26,8 @@ pub(crate) fn reserve_more<T>(
     }
 }
 
-/// An empty queue keeps room for four times as many items, and for four times as many as are to come.
+/// An empty queue keeps room for four times as many items, and for four times as many as are to
+/// come.
 const KEPT: usize = 256;
 
 /// Gives room of an empty queue back, where it is much more than so much as is needed.

@@ -63,8 +63,9 @@ impl<'t> Worker<'t> {
         self.frontier.open_some(&mut lookup.hmax, most)
     }
 
-    /// The place of the open node of the least cost plus estimate, the earliest of equal ones; those of infinite estimates come last. None
-    /// where nothing is open. Nodes that have no estimate yet are estimated, unless their state was before.
+    /// The place of the open node of the least cost plus estimate, the earliest of equal ones;
+    /// those of infinite estimates come last. None where nothing is open. Nodes that have no
+    /// estimate yet are estimated, unless their state was before.
     ///
     /// # Errors
     /// `NoMemory` where there is no room for what is kept of estimates.
@@ -79,8 +80,8 @@ impl<'t> Worker<'t> {
         self.frontier.best(&mut lookup.hmax)
     }
 
-    /// The least cost plus estimate of the open nodes: that of the node whose place `best` answers. None where each estimate is infinite, or
-    /// nothing is open.
+    /// The least cost plus estimate of the open nodes: that of the node whose place `best` answers.
+    /// None where each estimate is infinite, or nothing is open.
     ///
     /// # Errors
     /// `NoMemory` where there is no room for what is kept of estimates.
@@ -93,8 +94,9 @@ impl<'t> Worker<'t> {
         self.frontier.least(&mut lookup.hmax)
     }
 
-    /// Makes the open node at a place, in the order of arrival, an outcome: a duplicate by the closed list; else bounded by the bound that
-    /// was seen last, or by an infinite estimate; else expanded. Where there is no such place, nothing happens.
+    /// Makes the open node at a place, in the order of arrival, an outcome: a duplicate by the
+    /// closed list; else bounded by the bound that was seen last, or by an infinite estimate; else
+    /// expanded. Where there is no such place, nothing happens.
     ///
     /// # Errors
     /// `NoMemory` where there is no room for it; the node is open again.

@@ -152,7 +152,8 @@ impl<'t> Frontier<'t> {
         )
     }
 
-    /// The place of the open node of the least cost plus estimate, the earliest of equal ones; none where nothing is open.
+    /// The place of the open node of the least cost plus estimate, the earliest of equal ones; none
+    /// where nothing is open.
     ///
     /// # Errors
     /// `NoMemory` where there is no room for the estimates.
@@ -175,7 +176,8 @@ impl<'t> Frontier<'t> {
         Ok(self.nodes.best())
     }
 
-    /// The least cost plus estimate of the open nodes; none where each estimate is infinite, or nothing is open.
+    /// The least cost plus estimate of the open nodes; none where each estimate is infinite, or
+    /// nothing is open.
     ///
     /// # Errors
     /// `NoMemory` where there is no room for the estimates.
@@ -202,7 +204,8 @@ impl<'t> Frontier<'t> {
         Ok(node.total())
     }
 
-    /// Settles the open node at a place, if there is one. Its expansion is named by the place that its outcome has.
+    /// Settles the open node at a place, if there is one. Its expansion is named by the place that
+    /// its outcome has.
     ///
     /// # Errors
     /// `NoMemory` where there is no room for it; the node is open again.
@@ -244,7 +247,8 @@ impl<'t> Frontier<'t> {
         Ok(Some(outcome))
     }
 
-    /// Settles the open node of the least cost plus estimate, the earliest of equal ones, if there is one.
+    /// Settles the open node of the least cost plus estimate, the earliest of equal ones, if there
+    /// is one.
     ///
     /// # Errors
     /// `NoMemory` where there is no room for it; the node is open again.

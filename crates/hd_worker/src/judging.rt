@@ -52,8 +52,9 @@ fn parcel_at<'t>(
     Ok(Parcel::known(task, node.kid(), state, node.cost))
 }
 
-/// The outcome of a node: a duplicate where an expansion of its state costs no more; else bounded where its cost and its estimate reach
-/// the bound that was seen last, or its estimate is infinite; else its expansion.
+/// The outcome of a node: a duplicate where an expansion of its state costs no more; else bounded
+/// where its cost and its estimate reach the bound that was seen last, or its estimate is infinite;
+/// else its expansion.
 ///
 /// # Errors
 /// `NoMemory` where there is no room for its state or its expansion.
@@ -90,7 +91,8 @@ fn outcome_of<'t>(
     }
 }
 
-/// Settles a node that is taken out; its expansion is closed, and named by the place that its outcome has.
+/// Settles a node that is taken out; its expansion is closed, and named by the place that its
+/// outcome has.
 ///
 /// # Errors
 /// `NoMemory` where there is no room for its state or its expansion; nothing is closed.
@@ -126,7 +128,8 @@ fn settle<'t>(
 /// Settles the node that was taken out of the open nodes last.
 ///
 /// # Errors
-/// `NoMemory` where there is no room for its state or its expansion: the node is open again, at its place, and nothing is closed.
+/// `NoMemory` where there is no room for its state or its expansion: the node is open again, at its
+/// place, and nothing is closed.
 pub(crate) fn settle_taken<'t>(
     alloc: Global,
     task: &'t Task,

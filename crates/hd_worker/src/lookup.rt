@@ -9,7 +9,8 @@ use hd_task::Task;
 use hd_zobrist::Words;
 use std::alloc::Global;
 
-/// The words of a task's hashes, the index of its actions, and what computes the estimates of its states.
+/// The words of a task's hashes, the index of its actions, and what computes the estimates of its
+/// states.
 #[derive(Drop)]
 pub struct Lookup<'t> {
     pub words: Words,

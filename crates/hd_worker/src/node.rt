@@ -9,7 +9,8 @@ use hd_hmax::EstimateValue;
 use hd_open::Waits;
 use hd_task::Kid;
 
-/// A parcel that waits to be expanded, with its estimate. Its state stands in the closed list, and is not kept here too.
+/// A parcel that waits to be expanded, with its estimate. Its state stands in the closed list, and
+/// is not kept here too.
 #[derive(Debug, Drop)]
 pub(crate) struct Node {
     /// The kid, in two parts, so that it takes no more room than these.

@@ -27,7 +27,8 @@ pub struct Worker<'t> {
     pub(crate) id: usize,
     pub(crate) workers: usize,
     pub(crate) frontier: Frontier<'t>,
-    /// Of each outcome of the batch that was given last, as long as that is not numbered: how many expansions stand before it.
+    /// Of each outcome of the batch that was given last, as long as that is not numbered: how many
+    /// expansions stand before it.
     pub(crate) given: Vec<u64>,
     pub(crate) outcomes: Vec<Outcome<'t>>,
     pub(crate) outbox: VecDeque<Parcel<'t>>,
@@ -109,8 +110,8 @@ impl<'t> Worker<'t> {
         self.frontier.take(parcel)
     }
 
-    /// Parcels that a batch has released: those whose states this worker owns are open nodes, the others are in the outbox. It takes no
-    /// memory: the calls of `next_batch` made the room.
+    /// Parcels that a batch has released: those whose states this worker owns are open nodes, the
+    /// others are in the outbox. It takes no memory: the calls of `next_batch` made the room.
     pub fn released(&mut self, parcels: Vec<Parcel<'t>>)
         requires room { length parcels.items ≤ self.old.room }
         requires of_task { AllByRecursion (IsParcelOf self.old.task) parcels.items }
@@ -125,7 +126,8 @@ impl<'t> Worker<'t> {
         );
     }
 
-    /// The first parcel of the outbox, if there is one. It takes no memory, and leaves room for the parcel to come back.
+    /// The first parcel of the outbox, if there is one. It takes no memory, and leaves room for the
+    /// parcel to come back.
     pub fn next_out(&mut self) -> Option<Parcel<'t>>
         ensures sent { IfSome result (λ p. slice_get self.old.outbox 0 ≡ Some (parcel_of p)) }
         ensures of_task { IfSome result (λ p. p.task ≡ self.old.task) }

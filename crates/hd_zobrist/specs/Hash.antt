@@ -1,5 +1,6 @@
--- The hash of a state: the exclusive or of a word for each true atom and each fluent with its value (Zobrist 1970), where the words
--- are the first ones of SplitMix64 (Steele, Lea and Flood 2014) from numbers of their own.
+-- The hash of a state: the exclusive or of a word for each true atom and each fluent with its value
+-- (Zobrist 1970), where the words are the first ones of SplitMix64 (Steele, Lea and Flood 2014)
+-- from numbers of their own.
 use Rattle.std.specs.Prelude.{◌≡◌, ℕ, ◌+◌, ◌*◌, ◌<◌, Bool, false, not, if◌then◌else◌, List, [], ◌∷◌, length, get_or, Some, slice_get, set, ℤ, bit_xor}
 use Rattle.std.specs.Int.{w64, cast_unsigned}
 use Rattle.std.specs.List.{fold}

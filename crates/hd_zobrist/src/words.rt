@@ -200,8 +200,8 @@ impl Words {
 
     /// The hash after changes, from the one before them. It takes no memory.
     ///
-    /// Where the changes are those between two states, one after the other, and the old hash is that of the one, this is that of the
-    /// other.
+    /// Where the changes are those between two states, one after the other, and the old hash is
+    /// that of the one, this is that of the other.
     // Most callers have one change, of a known kind: all but that falls away where it is inlined.
     #[inline(always)]
     #[tactic(auto, using(crate::proofs::Hashing::hash_after))]

@@ -37,13 +37,14 @@ use Rattle.hd_threads.specs.Surviving.{StillStand, Survives}
 use Rattle.hd_journal.proofs.Staying.{mending_grows_not}
 use Rattle.hd_migrate.proofs.Contents.{create_ends}
 use Rattle.hplan.specs.declared.fault.Fault.{Fault}
+use Rattle.hplan.specs.declared.fault.Fault.TheVariants.{Search}
 use Rattle.hplan.specs.declared.kept.Start.{Start}
 use Rattle.hplan.specs.declared.kept.Start.TheVariants.{New, Kept}
 use Rattle.hplan.specs.Fault.{journal_in, run_in, search_in}
 use Rattle.hplan.specs.declared.told.Told.{Told}
 use Rattle.hplan.specs.Answer.{IsSolution, IsKeptSolution}
 use Rattle.hplan.specs.PlanText.{printed}
-use Rattle.hplan.specs.Kept.{FailsIn, InMemory, InFile, IsJournalOf, BeganWith, GoesOn, IsKept, WereThere, AreKept, HasNoHeader, IsAsItWasOrMaking, IsLeftByDevice, TellsOfFile, HasFaultyEntry, HasNoSolution, OfMemory, OfMemoryLater, OfThreads, OfFile, OfEntry, OfSearch, IsResumed, IsBegun, IsRefusedRun}
+use Rattle.hplan.specs.Kept.{FailsIn, InMemory, InFile, IsJournalOf, BeganWith, GoesOn, IsKept, WereThere, AreKept, HasNoHeader, IsAsItWasOrMaking, IsLeftByDevice, TellsOfFile, HasFaultyEntry, HasNoSolution, OfMemory, OfMemoryLater, OfThreads, OfFile, OfEntry, OfSearch, IsResumed, IsBegun, IsRefusedRun, StandsOrFails}
 
 -- ---- a journal that is not begun
 
@@ -329,6 +330,25 @@ module _ {S : Type 0} {G : Ghosts S} where
   unsolved_on start t digest before after old new (Ok told) begun survives left refused = tt
   unsolved_on start t digest before after old new (Err f) begun survives left refused =
       refused_run start t digest before after old new f begun survives left refused
+
+  -- the device failed behind what was found
+  pub failed_behind : (start : Start) (t : Task) (digest before after : List ℕ) (old new : of.Journal S G) → IsBegun start digest before old
+      → Survives t old new → content_of (device_of new) ≡ after → HasNoSolution start t digest before after (Search searching.Device)
+  failed_behind start t digest before after old new begun survives left =
+      OfSearch searching.Device (left_by_device start t digest before after old new begun survives left)
+
+-- ---- an answer after the store was looked at again
+
+module _ {X : Type 0} (found now : Result X Fault) where
+  -- what an answer says stands where the answer does
+  pub answer_stands : (P : X → Type 0) → StandsOrFails found now → IfOk found P → IfOk now P
+  answer_stands P (inl same) k = subst (λ r. IfOk r P) (sym same) k
+  answer_stands P (inr failed) k = subst (λ r. IfOk r P) (sym failed) tt
+
+  -- a fault is told as it was, or it is the device's
+  pub fault_stands : (P : Fault → Type 0) → StandsOrFails found now → IfErr found P → P (Search searching.Device) → IfErr now P
+  fault_stands P (inl same) k failing = subst (λ r. IfErr r P) (sym same) k
+  fault_stands P (inr failed) k failing = subst (λ r. IfErr r P) (sym failed) failing
 
 -- ---- in memory
 

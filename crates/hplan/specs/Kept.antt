@@ -1,5 +1,5 @@
 -- Where a search is kept, and what a file holds of it before and afterwards. (Our own.)
-use Rattle.std.specs.Prelude.{◌≡◌, ◌≢◌, ◌⊎◌, ℕ, List, [], ◌++◌, map, Option, IfSome}
+use Rattle.std.specs.Prelude.{◌≡◌, ◌≢◌, ◌⊎◌, ℕ, List, [], ◌++◌, map, Option, IfSome, Result, Err}
 use Rattle.std.specs.List.{AllByRecursion}
 use Rattle.hd_task.specs.declared.task.Task.{Task}
 use Rattle.hd_task.specs.declared.plan.Kid.{Kid}
@@ -204,3 +204,7 @@ IsBegun Kept digest before begun = IsResumed digest before begun
 -- one; or this is told of the fault by which it ended
 abbrev pub IsRefusedRun : {S : Type 0} {G : Ghosts S} → Task → of.Journal S G → of.Journal S G → Fault → Type 0
 IsRefusedRun t old new fault = ((fault ≡ NoMemory) × Grows old new) ⊎ ((why : ThreadsFault) × (fault ≡ search_in why) × Tells t old new why)
+
+-- an answer stands as it was found, or the device failed behind it
+abbrev pub StandsOrFails : {X : Type 0} → Result X Fault → Result X Fault → Type 0
+StandsOrFails found now = (now ≡ found) ⊎ (now ≡ Err (Search searching.Device))

@@ -10,7 +10,7 @@ ghost use Rattle.hd_parallel.specs.Fault.{Tells};
 ghost use Rattle.hd_words.specs.Request.{IsWorkers};
 ghost use Rattle.hplan.specs.declared.fault.Fault.TheVariants as faults;
 ghost use Rattle.hplan.specs.Answer.{IsSolution, IsKeptSolution};
-ghost use Rattle.hplan.specs.Kept.{IsBegun, IsKept, TellsOfFile, HasNoSolution, FailsIn, IsRefusedRun, InMemory, InFile};
+ghost use Rattle.hplan.specs.Kept.{IsBegun, IsKept, TellsOfFile, HasNoSolution, FailsIn, IsRefusedRun, StandsOrFails, InMemory, InFile};
 ghost use Rattle.hplan.specs.PlanText.{printed};
 
 use crate::fault::{Fault, journal_in, search_in, store_in};
@@ -131,6 +131,19 @@ fn journal_on<S: Store>(
     }
 }
 
+/// What a search has found, if its store is still there and as long as it should be. Behind its
+/// last flush nothing else would notice that somebody has removed or cut the file.
+fn looked_again<S: Store>(store: S, found: Result<Told, Fault>) -> (S, Result<Told, Fault>)
+    ensures same { content_of (S.device result.0) ≡ content_of (S.device store) }
+    ensures stands { StandsOrFails found result.1 }
+{
+    let mut store = store;
+    match (store.len(), found) {
+        (Err(_), Ok(_)) => (store, Err(Fault::Search(RunFault::Device))),
+        (_, found) => (store, found),
+    }
+}
+
 /// What the search of a task answers over a journal on a store, and the store as it is then.
 fn solution_on<S: Store, R: Threads + Wait + Sync + Eprint + Clock>(
     rt: &R,
@@ -153,7 +166,7 @@ fn solution_on<S: Store, R: Threads + Wait + Sync + Eprint + Clock>(
         Ok(journal) => {
             let mut journal = journal;
             let found = solution_of(rt, alloc, task, &mut journal, how);
-            (journal.into_store(), found)
+            looked_again(journal.into_store(), found)
         }
         Err((store, error)) => (store, Err(journal_in(error))),
     }

@@ -3,7 +3,8 @@ use Rattle.std.specs.List.{fold}
 use Rattle.hd_images.specs.Constant.{constant_cost}
 use Rattle.hd_images.proofs.negative.costs_negative.Given as goal
 
--- the amounts so far are constant, and `sum` is their exact sum, which is far from the ends of 128 bits
+-- the amounts so far are constant, and `sum` is their exact sum, which is far from the ends of 128
+-- bits
 abbrev pub invariant-loop-effect : goal.invariant-loop-effect
 invariant-loop-effect l = record {
   sum : fold (constant_cost l.lookups l.objects) (Some (pos 0)) (take l.effect-index l.schema.effects) ≡ Some l.sum;

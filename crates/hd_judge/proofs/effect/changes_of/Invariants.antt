@@ -5,7 +5,8 @@ use Rattle.hd_judge.specs.Tables.{value_in}
 use Rattle.hd_judge.specs.Effects.{amount_stays, AreChangesOf, AreNear}
 use Rattle.hd_judge.proofs.effect.changes_of.Given as goal
 
--- the amounts so far stay in the range, and the changes are those of the effects so far, which are far from the ends of 128 bits
+-- the amounts so far stay in the range, and the changes are those of the effects so far, which are
+-- far from the ends of 128 bits
 abbrev pub invariant-loop-effect : goal.invariant-loop-effect
 invariant-loop-effect l = record {
   stay : list_all (amount_stays (value_in l.numbers) l.objects) (take l.effect-index l.effects) ≡ true;

@@ -4,7 +4,8 @@ use Rattle.hd_base.specs.declared.range.TheConstants.{RANGE_END}
 use Rattle.hd_task.specs.Effects.{term_stays, with_term}
 use Rattle.hd_task.proofs.effect.sum_of.Given as goal
 
--- the terms so far stay in the range, and `sum` is their exact sum, which is far from the ends of 128 bits
+-- the terms so far stay in the range, and `sum` is their exact sum, which is far from the ends of
+-- 128 bits
 abbrev pub invariant-loop-term : goal.invariant-loop-term
 invariant-loop-term g l = record {
   stay : list_all (term_stays (g.R.Reads.seen l.state).fluents) (take l.term-index l.terms) ≡ true;

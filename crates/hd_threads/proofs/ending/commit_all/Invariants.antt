@@ -8,7 +8,8 @@ use Rattle.hd_threads.specs.Growing.{Grows}
 use Rattle.hd_threads.specs.Surviving.{Survives}
 use Rattle.hd_threads.proofs.ending.commit_all.Given as goal
 
--- the pass is outside, and the journal is a beginning of what it has seen, all of which is acknowledged
+-- the pass is outside, and the journal is a beginning of what it has seen, all of which is
+-- acknowledged
 abbrev pub invariant-loop-round : goal.invariant-loop-round
 invariant-loop-round g l = record {
   outside : IsOutside l.lock.place l.pass;

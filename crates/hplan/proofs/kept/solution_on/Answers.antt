@@ -1,20 +1,36 @@
-use Rattle.std.proofs.Common.{sym, ap, subst}
+use Rattle.std.proofs.Common.{◌≡◌, List, ◌∙◌, sym, ap, subst}
+use Rattle.hd_task.specs.declared.plan.Kid.{Kid}
 use Rattle.hd_store.specs.Device.{content_of}
-use Rattle.hplan.specs.Kept.{HasNoSolution}
-use Rattle.hplan.proofs.Keeping.{not_begun, solved_on, unsolved_on}
+use Rattle.hd_journal.specs.Journal.{device_of}
+use Rattle.hplan.specs.declared.told.Told.{Told}
+use Rattle.hplan.specs.Answer.{IsSolution}
+use Rattle.hplan.specs.PlanText.{printed}
+use Rattle.hplan.specs.Kept.{IsKept, HasNoSolution}
+use Rattle.hplan.proofs.Keeping.{not_begun, solved_on, unsolved_on, failed_behind, answer_stands, fault_stands}
 use Rattle.hplan.proofs.kept.solution_on.Goals as goal
 
 pub returns-in-Ok-clause-found : goal.returns-in-Ok-clause-found
 returns-in-Ok-clause-found g c =
-    solved_on c.args.start c.args.how.limit c.args.task.now c.args.digest.now (content_of (g.S.Store.device c.args.store))
-    (content_of (g.S.Store.device c.into_store.result)) c.in-Ok.journal c.solution_of-found.new.journal c.solution_of-found.result
-    c.in-Ok.ensures.begun (sym (ap content_of c.into_store.ensures)) c.solution_of-found.ensures.found c.solution_of-found.ensures.grows
+    let before = content_of (g.S.Store.device c.args.store) in
+    let after = content_of (g.S.Store.device c.looked_again.result.0) in
+    let left : content_of (device_of c.solution_of-found.new.journal) ≡ after = sym (c.looked_again.ensures.same ∙ ap content_of c.into_store.ensures) in
+    answer_stands c.solution_of-found.result c.looked_again.result.1
+    (λ told. (kids : List Kid) × IsSolution c.args.how.limit c.args.task.now kids told.ending (printed told.plan) × IsKept c.args.start c.args.digest.now kids before after)
+    c.looked_again.ensures.stands
+    (solved_on c.args.start c.args.how.limit c.args.task.now c.args.digest.now before after c.in-Ok.journal c.solution_of-found.new.journal
+    c.solution_of-found.result c.in-Ok.ensures.begun left c.solution_of-found.ensures.found c.solution_of-found.ensures.grows)
 
 pub returns-in-Ok-clause-refusal : goal.returns-in-Ok-clause-refusal
 returns-in-Ok-clause-refusal g c =
-    unsolved_on c.args.start c.args.task.now c.args.digest.now (content_of (g.S.Store.device c.args.store))
-    (content_of (g.S.Store.device c.into_store.result)) c.in-Ok.journal c.solution_of-found.new.journal c.solution_of-found.result
-    c.in-Ok.ensures.begun c.solution_of-found.ensures.survives (sym (ap content_of c.into_store.ensures)) c.solution_of-found.ensures.refusal
+    let before = content_of (g.S.Store.device c.args.store) in
+    let after = content_of (g.S.Store.device c.looked_again.result.0) in
+    let left : content_of (device_of c.solution_of-found.new.journal) ≡ after = sym (c.looked_again.ensures.same ∙ ap content_of c.into_store.ensures) in
+    fault_stands c.solution_of-found.result c.looked_again.result.1 (HasNoSolution c.args.start c.args.task.now c.args.digest.now before after)
+    c.looked_again.ensures.stands
+    (unsolved_on c.args.start c.args.task.now c.args.digest.now before after c.in-Ok.journal c.solution_of-found.new.journal
+    c.solution_of-found.result c.in-Ok.ensures.begun c.solution_of-found.ensures.survives left c.solution_of-found.ensures.refusal)
+    (failed_behind c.args.start c.args.task.now c.args.digest.now before after c.in-Ok.journal c.solution_of-found.new.journal
+    c.in-Ok.ensures.begun c.solution_of-found.ensures.survives left)
 
 pub returns-in-Err-clause-refusal : goal.returns-in-Err-clause-refusal
 returns-in-Err-clause-refusal g c =

@@ -3,7 +3,8 @@ use Rattle.hd_entries.specs.Settling.{expansions}
 use Rattle.hd_entries.specs.Holding.{unmarked, IsExpanded}
 use Rattle.hd_entries.proofs.expanded.ExpandedPlans.plan_to.Given as goal
 
--- the plan is that of the entry where the walk stands, followed by the actions passed, the last one first
+-- the plan is that of the entry where the walk stands, followed by the actions passed, the last one
+-- first
 abbrev pub invariant-loop-kid : goal.invariant-loop-kid
 invariant-loop-kid l = record {
   held : IsExpanded l.self;

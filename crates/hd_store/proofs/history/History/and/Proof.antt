@@ -1,4 +1,5 @@
--- A value of no bytes is made. What it shows is chosen here, as the contract says it: one step more than the history before it.
+-- A value of no bytes is made. What it shows is chosen here, as the contract says it: one step more
+-- than the history before it.
 use Rattle.std.proofs.Common.{◌≡◌, [], ◌∷◌, refl, take}
 use Rattle.std.proofs.raw_atomic.Walks.{proved}
 use mir.Syntax.{named}
