@@ -1,8 +1,9 @@
-//! Plays files of test cases: command lines of hplan over files in memory or of the system,
-//! each with the exit status, the two outputs and the files that are wanted.
-//! docs/CASES.md has the form.
+//! Plays files of test cases: command lines of hplan, over files in memory or of the system.
 //!
-//! `cases FILE..` plays these files; with no names it plays those that the file `all` lists.
+//! A case gives the exit status, both outputs and the files that it wants; docs/CASES.md has the
+//! form. `cases FILE..` plays these files. Without arguments it plays the files that `data/all`
+//! lists. Each play that fails prints one line. The file `stdout` pins how many plays pass.
+//! Start at `src/playing.rt`, then `src/stage.rt` and `src/running.rt`.
 #![tactic(auto)]
 
 mod files;

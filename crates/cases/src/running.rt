@@ -64,7 +64,7 @@ fn add_word(alloc: Global, words: &mut Vec<String>, text: &str) -> Result<(), St
     }
 }
 
-/// Returns the words of a command line, behind the program's name.
+/// Returns the words of a command line, after the program's name.
 fn words_of(alloc: Global, line: &str) -> Result<Vec<String>, Stop> {
     let mut words = Vec::new(alloc);
     words.push(String::from_str(alloc, "hplan")?)?;
@@ -74,7 +74,7 @@ fn words_of(alloc: Global, line: &str) -> Result<Vec<String>, Stop> {
     Ok(words)
 }
 
-/// Notes the names of files that a run may make: the words behind `--journal` and `--to`.
+/// Notes the names of files that a run may make: the words after `--journal` and `--to`.
 fn note_made(alloc: Global, files: &mut CaseFiles, words: &[String]) -> Result<(), Stop> {
     let mut names = false;
     for word in words {

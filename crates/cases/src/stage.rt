@@ -86,7 +86,7 @@ fn byte_of(alloc: Global, text: &str) -> Result<u8, Stop> {
     }
 }
 
-/// Returns a text as often as this, one behind the other.
+/// Returns a text as often as this, one after the other.
 fn repeated(alloc: Global, bytes: &[u8], times: u64) -> Result<Vec<u8>, AllocError> {
     let mut all = Vec::new(alloc);
     for _ in 0..times {
@@ -369,7 +369,7 @@ impl Stage {
     }
 }
 
-/// Returns a name and what stands behind its colon.
+/// Returns a name and what stands after its colon.
 fn named(text: &str) -> (&str, &str) {
     match text.split_once(":") {
         Some((name, rest)) => (name, rest.strip_prefix(" ").unwrap_or(rest)),

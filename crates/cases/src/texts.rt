@@ -7,11 +7,11 @@ use std::alloc::{AllocError, Global};
 #[derive(Clone, Copy)]
 enum Reading {
     Plain,
-    /// The one behind a backslash.
+    /// The one after a backslash.
     Escape,
     /// The first of two hexadecimal digits.
     High,
-    /// The second one, behind this first.
+    /// The second one, after this first.
     Low(u8),
 }
 

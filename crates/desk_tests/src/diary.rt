@@ -30,7 +30,7 @@ impl Locked for Diary {
 }
 
 impl Diary {
-    /// The empty diary of someone.
+    /// Returns the empty diary of someone.
     pub fn of(alloc: Global, of: u64) -> Result<Diary, AllocError>
         ensures of { IfOk result (λ d. d.sheets.value.of ≡ of) }
         ensures log { IfOk result (λ d. d.sheets.value.log.items ≡ []) }
@@ -40,7 +40,7 @@ impl Diary {
         Ok(Diary { sheets })
     }
 
-    /// Adds an entry. Want of memory changes nothing.
+    /// Adds an entry. Lack of memory changes nothing.
     pub fn add(&mut self, entry: u64) -> Result<(), AllocError>
         ensures of { self.new.sheets.value.of ≡ self.old.sheets.value.of }
         ensures log { BeginsWith self.new.sheets.value.log.items self.old.sheets.value.log.items }

@@ -122,7 +122,7 @@ fn exchange<'t, R: Wait>(
     (hands, sum)
 }
 
-/// Two workers send letters to one another: the sums of what comes to each.
+/// Returns two workers send letters to one another: the sums of what comes to each.
 fn exchanged<R: Threads + Wait + Sync>(
     rt: &R,
     boxes: &Mailboxes<u64, Letter>,

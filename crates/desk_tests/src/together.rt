@@ -41,7 +41,7 @@ fn start<'s, 'e: 's, R: Threads + Wait + Sync>(
     started.ok()
 }
 
-/// Four threads write, and are joined. Says whether all four were started.
+/// Returns four threads write, and are joined. Says whether all four were started.
 fn write_by_four<R: Threads + Wait + Sync>(
     rt: &R,
     lock: &Lock<Diary>,

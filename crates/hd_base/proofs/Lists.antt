@@ -62,7 +62,7 @@ get_or-replicate_same zero i x = refl
 get_or-replicate_same (suc n) zero x = refl
 get_or-replicate_same (suc n) (suc i) x = get_or-replicate_same n i x
 
--- what stands behind a part of a list
+-- what stands after a part of a list
 pub drop_behind : {X : Type 0} (whole : List X) (at : ℕ) (part rest : List X) → drop at whole ≡ part ++ rest → drop (at + length part) whole ≡ rest
 drop_behind whole at part rest e = sym (drop-drop (length part) at whole) ∙ (ap (drop (length part)) e ∙ drop-append_seam part rest)
 

@@ -1,4 +1,4 @@
--- Options: what the value of a test, or of the first of two options, tells.
+-- Options: what the value of a test, or of the first of two options, reports.
 use Rattle.std.proofs.Common.{◌≡◌, Bool, true, false, cond, Option, Some, None, is_some, refl, sym, true≢false}
 use Rattle.std.specs.Option.{option_or, IsSomeAnd, unwrap_or}
 use Rattle.std.proofs.lemmas.Option.{none-some}

@@ -1,5 +1,5 @@
 -- The words by which contracts say what a call answers that may fail, over any error. What an error
--- says is a relation of the crate that has the error; want of memory says nothing.
+-- says is a relation of the crate that has the error; lack of memory says nothing.
 use Rattle.std.specs.Prelude.{◌≡◌, Bool, true, false, Option, Some, None, Result, Ok, Err, MatchOption}
 
 -- ---- an answer that is there for some arguments only
@@ -29,7 +29,7 @@ Leaves Refuses (Err e) left expected = Refuses e expected
 
 -- ---- an answer that is there where there is no fault
 
--- the call answers this value where there is no fault; an error tells `StopsAt` of the fault
+-- the call answers this value where there is no fault; an error reports `StopsAt` of the fault
 abbrev pub Checks : {X E F : Type 0} → (E → Option F → Type 0) → Result X E → Option F → X → Type 0
 Checks StopsAt (Ok x) fault value = (fault ≡ None) × (x ≡ value)
 Checks StopsAt (Err e) fault value = StopsAt e fault

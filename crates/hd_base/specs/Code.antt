@@ -1,4 +1,4 @@
--- How expressions are told apart: each is known by its first leaf and what stands behind it,
+-- How expressions are told apart: each is known by its first leaf and what stands after it,
 -- operands first.
 use Rattle.std.specs.Prelude.{◌≡◌, ◌⊎◌, List, [], ◌∷◌, ◌++◌, refl}
 use Rattle.std.specs.Coded.{Coded, code_by, coded×, coded⊎, coded_list}
@@ -18,13 +18,13 @@ first (leaf l) = l
 first (negate x) = first x
 first (binary o x y) = first x
 
--- the signs behind it, operands first
+-- the signs after it, operands first
 abbrev others : {L : Type 0} → Expression L → List (Sign L)
 others (leaf l) = []
 others (negate x) = others x ++ inr (inl tt) ∷ []
 others (binary o x y) = others x ++ (inl (first y) ∷ (others y ++ inr (inr o) ∷ []))
 
--- the expressions in hand behind a sign
+-- the expressions in hand after a sign
 abbrev put : {L : Type 0} → Sign L → List (Expression L) → List (Expression L)
 put (inl l) es = leaf l ∷ es
 put (inr (inl u)) [] = []
@@ -33,7 +33,7 @@ put (inr (inr o)) [] = []
 put (inr (inr o)) (y ∷ []) = []
 put (inr (inr o)) (y ∷ (x ∷ es)) = binary o x y ∷ es
 
--- the expressions in hand behind signs
+-- the expressions in hand after signs
 abbrev put_all : {L : Type 0} → List (Sign L) → List (Expression L) → List (Expression L)
 put_all [] es = es
 put_all (s ∷ ss) es = put_all ss (put s es)

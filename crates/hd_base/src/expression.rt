@@ -64,7 +64,7 @@ pub enum ExprParts<'a, L> {
 }
 
 impl<L: Drop> Expr<L> {
-    /// A leaf.
+    /// Returns a leaf.
     pub fn leaf(of: L) -> Expr<L>
         ensures { result ≡ leaf of }
     {
@@ -73,7 +73,7 @@ impl<L: Drop> Expr<L> {
         }
     }
 
-    /// An expression with its sign turned. It fails only where memory runs out.
+    /// Returns an expression with its sign turned. It fails only where memory runs out.
     pub fn negate(alloc: Global, expr: Expr<L>) -> Result<Expr<L>, AllocError>
         ensures { IfOk result (λ e. e ≡ negate expr) }
     {
@@ -83,7 +83,7 @@ impl<L: Drop> Expr<L> {
         })
     }
 
-    /// What an operation makes of two expressions. It fails only where memory runs out.
+    /// Returns what an operation makes of two expressions. It fails only where memory runs out.
     pub fn binary(
         alloc: Global,
         operation: Operation,
@@ -99,7 +99,7 @@ impl<L: Drop> Expr<L> {
         })
     }
 
-    /// What it is, one step deep.
+    /// Returns what it is, one step deep.
     pub fn parts(&self) -> ExprParts<'_, L>
         ensures { self.now ≡ expr_by result }
     {

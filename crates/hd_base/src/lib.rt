@@ -1,9 +1,14 @@
-//! What all crates of hplan stand on: small list types, names, want of memory, the range of numbers
-//! with what is done with them, and numeric expressions over any leaves. Contracts see each as
-//! plain data.
+//! The base of all crates: lists, names, numbers, numeric expressions, and words for contracts.
 //!
-//! `specs/` also has the words by which contracts of calls that may fail say what these answer;
-//! `proofs/` has lemmas that speak of lists, options, truth values and numbers alone.
+//! Contracts see containers as plain data, without addresses and capacities: a list as its items, a
+//! name as its bytes, an [`Expr`] as a tree. [`in_range`] decides the range of numbers, from -10^15
+//! to 10^15. [`if_in_range`] and [`total_cost`] return an exact number, or `None` outside of the
+//! range. If memory runs out, a call returns [`NoMemory`].
+//!
+//! A [`Name`] of up to 14 bytes and a [`Tuple`] of up to four items need no memory of their own.
+//! [`Seed`] hashes by SipHash, from a digest of the texts, to resist keys that collide.
+//! `specs/Answers` has the words for calls that may fail. Start reading at [`Name`], then
+//! `specs/Numbers`.
 #![tactic(auto)]
 
 mod boxed;
@@ -28,5 +33,5 @@ pub use sequence::Sequence;
 pub use spare::exact;
 pub use tuple::Tuple;
 
-/// Want of memory: a growth was refused, and nothing was changed.
+/// Lack of memory: a growth was refused, and nothing was changed.
 pub type NoMemory = std::alloc::AllocError;

@@ -10,7 +10,7 @@ use std::alloc::{AllocError, Global};
 use std::fmt;
 use std::marker::Model;
 
-/// The most bytes of a name that lie in the name itself, so that a short name takes no memory
+/// The most bytes of a name that lie in the name itself, so that a short name does not allocate
 /// beside it, and a name is 16 bytes.
 const MOST_INSIDE: usize = 14;
 
@@ -41,7 +41,7 @@ impl Model for Name {
     ghost invariant = { λ n. IsText n.spelling };
 }
 
-/// The bytes of a text that is short enough, as the name itself holds them.
+/// Returns the bytes of a text that is short enough, as the name itself holds them.
 fn inside(text: &str) -> Spelling
     requires { length text.now ≤ MOST_INSIDE }
     ensures bytes { bytes_of result ≡ text.now }
@@ -55,7 +55,7 @@ fn inside(text: &str) -> Spelling
     }
 }
 
-/// The same of a text of ASCII alone, with its letters folded to lower case.
+/// Returns the same of a text of ASCII alone, with its letters folded to lower case.
 fn folded_inside(text: &str) -> Spelling
     requires short { length text.now ≤ MOST_INSIDE }
     requires ascii { IsAscii text.now }
@@ -72,7 +72,7 @@ fn folded_inside(text: &str) -> Spelling
     }
 }
 
-/// A text in memory of its own.
+/// Returns a text in memory of its own.
 fn outside(alloc: Global, text: String) -> Result<Spelling, AllocError>
     ensures bytes { IfOk result (λ s. bytes_of s ≡ string_bytes text) }
     ensures text { IfOk result IsText }
@@ -81,10 +81,10 @@ fn outside(alloc: Global, text: String) -> Result<Spelling, AllocError>
 }
 
 impl Name {
-    /// The name that this text spells.
+    /// Returns the name that this text spells.
     ///
     /// # Errors
-    /// Want of memory.
+    /// Lack of memory.
     pub fn of(alloc: Global, text: &str) -> Result<Name, AllocError>
         ensures { IfOk result (λ n. n ≡ text.now) }
     {
@@ -96,10 +96,11 @@ impl Name {
         Ok(Name { spelling })
     }
 
-    /// The name that this text of ASCII alone spells once its letters are folded to lower case.
+    /// Returns the name that this text of ASCII alone spells once its letters are folded to lower
+    /// case.
     ///
     /// # Errors
-    /// Want of memory.
+    /// Lack of memory.
     pub fn folded(alloc: Global, text: &str) -> Result<Name, AllocError>
         requires { IsAscii text.now }
         ensures { IfOk result (λ n. n ≡ map to_ascii_lowercase text.now) }
@@ -114,7 +115,7 @@ impl Name {
         Ok(Name { spelling })
     }
 
-    /// The text that spells the name.
+    /// Returns the text that spells the name.
     pub fn as_str(&self) -> &str
         ensures { result.now ≡ self.now }
     {
@@ -129,10 +130,10 @@ impl Name {
         }
     }
 
-    /// The same name, in memory of its own.
+    /// Returns the same name, in memory of its own.
     ///
     /// # Errors
-    /// Want of memory.
+    /// Lack of memory.
     pub fn copied(&self, alloc: Global) -> Result<Name, AllocError>
         ensures { IfOk result (λ n. n ≡ self.now) }
     {

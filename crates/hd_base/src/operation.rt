@@ -13,7 +13,7 @@ pub enum Operation {
 }
 
 impl Operation {
-    /// What it makes of two numbers, if that is in the range.
+    /// Returns what it makes of two numbers, if that is in the range.
     pub fn result_in_range(self, left: i64, right: i64) -> Option<i64>
         ensures { Judges result (in_range (result_of self left right)) (result_of self left right) }
     {

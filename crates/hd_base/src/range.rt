@@ -9,15 +9,15 @@ ghost use Rattle.hd_base.specs.Answers.{Judges};
 /// subexpression and plan's cost.
 pub const RANGE_END: u64 = 1_000_000_000_000_000;
 
-/// Whether a number is in the range.
+/// Reports whether a number is in the range.
 pub fn in_range(value: i64) -> bool
     ensures { result ≡ in_range value }
 {
     value.unsigned_abs() <= RANGE_END
 }
 
-/// The exact value that these 64 bits hold, if it is in the range. `None` stands for one that they
-/// can't hold.
+/// Returns the exact value that these 64 bits hold, if it is in the range. `None` stands for one
+/// that they can't hold.
 pub fn if_in_range(value: Option<i64>) -> Option<i64>
     ensures { (z : ℤ) → SomeIff value (FitsSigned w64 z) z → Judges result (in_range z) z }
 {
@@ -27,7 +27,7 @@ pub fn if_in_range(value: Option<i64>) -> Option<i64>
     }
 }
 
-/// The cost of a plan with one more step's, if it is in the range.
+/// Returns the cost of a plan with one more step's, if it is in the range.
 pub fn total_cost(cost: u64, step: u128) -> Option<u64>
     ensures { Judges result (cost_in_range (cost + step)) (cost + step) }
 {

@@ -13,7 +13,7 @@ pub enum Relation {
 }
 
 impl Relation {
-    /// Whether it holds between two numbers.
+    /// Reports whether it holds between two numbers.
     pub fn holds(self, left: i64, right: i64) -> bool
         ensures { result ≡ relation_holds self left right }
     {

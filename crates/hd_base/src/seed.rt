@@ -14,7 +14,7 @@ pub struct Seed {
 }
 
 impl Seed {
-    /// The seed of texts with this digest.
+    /// Returns the seed of texts with this digest.
     pub fn of(digest: [u8; 32]) -> Seed
         ensures { result ≡ record { begun = seeded digest } }
     {

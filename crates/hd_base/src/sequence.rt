@@ -7,7 +7,7 @@ use std::marker::Model;
 
 /// A `Vec` that contracts see as the list of its items, without its capacity and its address.
 ///
-/// Making one from a `Vec` and giving the `Vec` back take no memory.
+/// Making one from a `Vec` and giving the `Vec` back do not allocate.
 #[derive(Debug, Drop)]
 pub struct Sequence<T> {
     items: Vec<T>,
@@ -20,7 +20,7 @@ impl<T> Model for Sequence<T> {
 }
 
 impl<T> Sequence<T> {
-    /// The sequence of no items, which holds no memory yet.
+    /// Returns the sequence of no items, which holds no memory yet.
     pub fn empty(alloc: Global) -> Sequence<T>
         ensures { result ≡ [] }
     {
@@ -29,14 +29,14 @@ impl<T> Sequence<T> {
         }
     }
 
-    /// The items of a `Vec`, in its order.
+    /// Returns the items of a `Vec`, in its order.
     pub fn from_vec(items: Vec<T>) -> Sequence<T>
         ensures { result ≡ items.items }
     {
         Sequence { items }
     }
 
-    /// The `Vec` that holds the items.
+    /// Returns the `Vec` that holds the items.
     pub fn into_vec(self) -> Vec<T>
         ensures { result.items ≡ self }
     {
@@ -44,21 +44,21 @@ impl<T> Sequence<T> {
         items
     }
 
-    /// The items as a slice.
+    /// Returns the items as a slice.
     pub fn as_slice(&self) -> &[T]
         ensures { result.now ≡ self.now }
     {
         self.items.as_slice()
     }
 
-    /// How many items there are.
+    /// Returns how many items there are.
     pub fn len(&self) -> usize
         ensures { result ≡ length self.now }
     {
         self.items.len()
     }
 
-    /// Whether there are none.
+    /// Reports whether there are none.
     pub fn is_empty(&self) -> bool
         ensures { result ≡ (length self.now == 0) }
     {

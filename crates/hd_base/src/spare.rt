@@ -6,7 +6,7 @@ use std::alloc::{AllocError, Global};
 /// How many items a list has at least that is made smaller where it lies.
 const MANY: usize = 16;
 
-/// The same items in a new `Vec` that has no room for more.
+/// Returns the same items in a new `Vec` that has no room for more.
 fn moved<T: Drop>(alloc: Global, items: Vec<T>) -> Result<Vec<T>, AllocError>
     ensures { IfOk result (λ v. v.items ≡ items.items) }
 {
@@ -17,12 +17,12 @@ fn moved<T: Drop>(alloc: Global, items: Vec<T>) -> Result<Vec<T>, AllocError>
     Ok(exact)
 }
 
-/// The same items in a `Vec` that has no room for more. Few items are moved, so that the room that
-/// they leave is whole and can be taken again: what is cut off of it would be too small for most
-/// lists.
+/// Returns the same items in a `Vec` that has no room for more. Few items are moved, so that the
+/// room that they leave is whole and can be taken again: what is cut off of it would be too small
+/// for most lists.
 ///
 /// # Errors
-/// Want of memory.
+/// Lack of memory.
 pub fn exact<T: Drop>(alloc: Global, items: Vec<T>) -> Result<Vec<T>, AllocError>
     ensures { IfOk result (λ v. v.items ≡ items.items) }
 {

@@ -12,7 +12,7 @@ use std::marker::Model;
 /// A short list, which contracts see as the list of its items, without its capacity and its
 /// address.
 ///
-/// Up to four items take no memory of their own.
+/// Up to four items do not allocate of their own.
 #[derive(Debug, Drop)]
 pub struct Tuple<T> {
     items: SmallVec<T, 4>,
@@ -25,28 +25,28 @@ impl<T> Model for Tuple<T> {
 }
 
 impl<T> Tuple<T> {
-    /// The items of a `SmallVec`, in its order.
+    /// Returns the items of a `SmallVec`, in its order.
     pub fn from_small_vec(items: SmallVec<T, 4>) -> Tuple<T>
         ensures { result ≡ items.items }
     {
         Tuple { items }
     }
 
-    /// The items as a slice.
+    /// Returns the items as a slice.
     pub fn as_slice(&self) -> &[T]
         ensures { result.now ≡ self.now }
     {
         self.items.as_slice()
     }
 
-    /// How many items there are.
+    /// Returns how many items there are.
     pub fn len(&self) -> usize
         ensures { result ≡ length self.now }
     {
         self.items.len()
     }
 
-    /// Whether there are none.
+    /// Reports whether there are none.
     pub fn is_empty(&self) -> bool
         ensures { result ≡ (length self.now == 0) }
     {

@@ -7,20 +7,20 @@ use Rattle.hd_task.specs.declared.plan.Kid.{Kid}
 use Rattle.hd_tickets.specs.Queue.{QueueView, group_end, group_next, with_group}
 use Rattle.hd_book.specs.Groups.{entries_between, is_kid, begins_with}
 
--- one kid and the others
+-- one successor and the others
 pub begins_step : (k : Kid) (kids entries : List Kid) (n : ℕ) → begins_with (k ∷ kids) (drop n entries) ≡ (is_kid k (slice_get entries n) && begins_with kids (drop (suc n) entries))
 begins_step k kids [] zero = refl
 begins_step k kids [] (suc n) = refl
 begins_step k kids (e ∷ entries) zero = refl
 begins_step k kids (e ∷ entries) (suc n) = begins_step k kids entries n
 
--- a kid that is there is passed
+-- a successor that is there is passed
 pub begins_on : (k : Kid) (kids entries : List Kid) (n m : ℕ) → m ≡ n + 1 → is_kid k (slice_get entries n) ≡ true → begins_with (k ∷ kids) (drop n entries) ≡ begins_with kids (drop m entries)
 begins_on k kids entries n m e is =
     let next : suc n ≡ m = omega (arith, e) in
     begins_step k kids entries n ∙ (ap (λ v. v && begins_with kids (drop (suc n) entries)) is ∙ ap (λ (i : ℕ). begins_with kids (drop i entries)) next)
 
--- a kid that is not there ends it
+-- a successor that is not there ends it
 pub begins_not : (k : Kid) (kids entries : List Kid) (n : ℕ) → is_kid k (slice_get entries n) ≡ false → begins_with (k ∷ kids) (drop n entries) ≡ false
 begins_not k kids entries n is = begins_step k kids entries n ∙ ap (λ v. v && begins_with kids (drop (suc n) entries)) is
 
@@ -33,7 +33,7 @@ begins_at kids entries i n d h e =
 pub begins_at_not : (kids entries : List Kid) (i n : ℕ) (d : Kid) → i < length kids → is_kid (get_or kids i d) (slice_get entries n) ≡ false → begins_with (drop i kids) (drop n entries) ≡ false
 begins_at_not kids entries i n d h e = ap (λ ks. begins_with ks (drop n entries)) (drop-cons kids i d h) ∙ begins_not (get_or kids i d) (drop (suc i) kids) entries n e
 
--- nor is there one behind the last entry
+-- nor is there one after the last entry
 pub begins_past : (kids entries : List Kid) (i n : ℕ) → i < length kids → length entries ≤ n → begins_with (drop i kids) (drop n entries) ≡ false
 begins_past kids entries i n h past =
     let d : Kid = record { parent = 0; action = 0 } in
@@ -74,6 +74,6 @@ starts_by true true g r e = absurd (none-some r (sym e))
 starts_by true false g r e = ap (λ (x : Range ℕ). x.start) (same_Some r g e)
 starts_by false w g r e = absurd (none-some r (sym e))
 
--- a group begins behind what is acknowledged
+-- a group begins after what is acknowledged
 pub group_starts : (q : QueueView) (r : Range ℕ) → Some r ≡ group_next q → r.start ≡ q.acknowledged
 group_starts q r e = starts_by (q.out == 0) ((with_group q).out == 0) (record { start = q.acknowledged; end = group_end (with_group q) }) r e

@@ -20,12 +20,12 @@ group_of entries g = record { first = g.start; kids = entries_between entries g.
 abbrev pub next_group : BookView → Option GroupView
 next_group b = option_map (group_of b.state.entries) (group_next b.batches.queue)
 
--- an entry, if there is one, is this kid
+-- an entry, if there is one, is this successor
 abbrev pub is_kid : Kid → Option Kid → Bool
 is_kid k None = false
 is_kid k (Some e) = same_kid k e
 
--- a list begins with these kids
+-- a list begins with these successors
 abbrev pub begins_with : List Kid → List Kid → Bool
 begins_with [] entries = true
 begins_with (k ∷ kids) [] = false

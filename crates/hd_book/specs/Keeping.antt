@@ -14,9 +14,9 @@ IsOutgoingOf t (Some o) = o.released.task ≡ t
 
 -- what every book keeps
 pub record IsHeld (b : BookView) : Type 0 where
-  -- the batches have the entries, behind those that are acknowledged
+  -- the batches have the entries, after those that are acknowledged
   pub counted : entries_of b.batches.queue ≡ length b.state.entries
   -- what tickets release is of the book's task
   pub of_task : AllByRecursion (IsOutgoingOf b.state.task) b.batches.tickets
-  -- each batch has settled a kid
+  -- each batch has settled a successor
   pub commits : length b.batches.tickets ≤ settled_count b.state

@@ -18,7 +18,7 @@ abbrev pub refusal_to : BookView → List Outcome → Option CommitRefusal
 refusal_to b outcomes =
     if b.batches.halted then Some Halted else option_map Refused (judged.refusal_to (entries_view b) outcomes)
 
--- a refusal is the one of the batch; or want of memory, which stands neither for a halted book nor
+-- a refusal is the one of the batch; or lack of memory, which stands neither for a halted book nor
 -- for one without room
 abbrev pub IsRefusalTo : BookView → List Outcome → CommitRefusal → Type 0
 IsRefusalTo b outcomes r =

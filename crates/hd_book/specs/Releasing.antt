@@ -8,8 +8,8 @@ use Rattle.hd_node.specs.Parcel.{ParcelView}
 use Rattle.hd_entries.specs.Settling.{IsOf}
 use Rattle.hd_entries.specs.Growing.{kids_in}
 
--- the kids of outcomes of a task, whose first entry has this number, can be made parcels without
--- memory
+-- the successors of outcomes of a task, whose first entry has this number, can be made parcels
+-- without memory
 pub record CanRelease {Z : Type 0} (t : Task) (first : ℕ) (outcomes : List Outcome) (empty : Vec ParcelView Z) : Type 0 where
   pub of_task : AllByRecursion (IsOf t) outcomes
   pub numbered : first + length outcomes < 2 ^ 64

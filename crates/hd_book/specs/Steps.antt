@@ -18,8 +18,8 @@ with_no_batches e = book_of e (tickets.resumed (length e.state.entries))
 abbrev pub new_book : Task → ℕ → BookView
 new_book t most = with_no_batches (no_entries t most)
 
--- the book with exactly these entries: all are acknowledged, no other kid is settled, and no batch
--- was committed
+-- the book with exactly these entries: all are acknowledged, no other successor is settled, and no
+-- batch was committed
 abbrev pub resumed_book : Task → ℕ → List Kid → BookView
 resumed_book t most entries = with_no_batches (resumed t most entries)
 
@@ -31,8 +31,8 @@ added outcomes = length (flat_map entry_of outcomes)
 abbrev pub released : BookView → List Outcome → ParcelsView
 released b outcomes = record { task = b.state.task; kids = released_by (length b.state.entries) outcomes }
 
--- a batch is accepted: its kids are settled, its expansions are entries that wait to be appended,
--- and its ticket is out
+-- a batch is accepted: its successors are settled, its expansions are entries that wait to be
+-- appended, and its ticket is out
 abbrev pub after_commit : List Outcome → BookView → BookView
 after_commit outcomes b = record {
   state = all_settled b.state outcomes;

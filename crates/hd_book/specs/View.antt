@@ -6,7 +6,7 @@ use Rattle.hd_entries.specs.Holding.{EntriesView, Released, posted_count, settle
 use Rattle.hd_tickets.specs.Batches.{Batches}
 use Rattle.hd_book.specs.declared.counts.Counts.{Counts}
 
--- what a ticket releases: kids, each with where it leads, and the task that they are of
+-- what a ticket releases: successors, each with where it leads, and the task that they are of
 pub record ParcelsView : Type 0 where
   pub task : Task
   pub kids : List Released

@@ -56,7 +56,7 @@ impl<'t, L: Ledger> Book<'t, L> {
     ghost use Rattle.hd_book.specs.Refusing.{refusal_to, IsRefusalTo};
     ghost use Rattle.hd_book.specs.Redeeming.{IsReleasedOf};
 
-    /// A book of these parts, whose ledger is new, with the share that is the whole of it.
+    /// Returns a book of these parts, whose ledger is new, with the share that is the whole of it.
     fn open(blank: Blank, content: Box<Content<'t>>) -> (Book<'t, L>, Share<L>)
         requires name { blank.name ≡ L.name }
         requires parts { blank.parts ≡ L.parts }
@@ -68,8 +68,9 @@ impl<'t, L: Ledger> Book<'t, L> {
         (Book { content, made }, share)
     }
 
-    /// The book of a search that has not begun, which may hold `most` entries: the root is posted.
-    /// With it comes a share of the ledger that counts its commits, which is the whole of it.
+    /// Returns the book of a search that has not begun, which may hold `most` entries: the root is
+    /// posted. With it comes a share of the ledger that counts its commits, which is the whole of
+    /// it.
     ///
     /// # Errors
     /// `NoMemory` where there is no room for it.
@@ -90,9 +91,10 @@ impl<'t, L: Ledger> Book<'t, L> {
         Ok(Book::open(blank, content))
     }
 
-    /// The book with exactly these entries, with its share as in [`Book::new`]: all entries are
-    /// acknowledged, no other kid is settled, nothing is committed yet. With it come the parcels of
-    /// all posted kids that are no entries, in posting order. The listener hears how far it is.
+    /// Returns the book with exactly these entries, with its share as in [`Book::new`]: all entries
+    /// are acknowledged, no other successor is settled, nothing is committed yet. With it come the
+    /// parcels of all posted successors that are no entries, in posting order. The listener hears
+    /// how far it is.
     ///
     /// # Errors
     /// `Full` with the number 0 where there are more entries than `most`; else the number of the
@@ -127,9 +129,9 @@ impl<'t, L: Ledger> Book<'t, L> {
         }
     }
 
-    /// Takes a batch: its expansions become entries, its kids are settled, and the ticket is
-    /// redeemed for the kids of its expansions. The share counts one commit more. A batch without
-    /// expansions is acknowledged at once.
+    /// Takes a batch: its expansions become entries, its successors are settled, and the ticket is
+    /// redeemed for the successors of its expansions. The share counts one commit more. A batch
+    /// without expansions is acknowledged at once.
     ///
     /// # Errors
     /// The batch, and why it is refused: it is as it was, and so are the book and the share. In
@@ -166,7 +168,7 @@ impl<'t, L: Ledger> Book<'t, L> {
 
     /// The next group goes out, to be appended to a journal: whole batches in the order of their
     /// commits, from the oldest on, as many as fit into a group. Its pairs are put into the room
-    /// that is handed in. It takes no memory.
+    /// that is handed in. It does not allocate.
     ///
     /// # Errors
     /// The room again, where nothing waits, or a group is out: nothing has changed.
@@ -183,7 +185,7 @@ impl<'t, L: Ledger> Book<'t, L> {
 
     /// Acknowledges the entries of the group that is out: they are appended. The list of its pairs
     /// comes back, to be used again ([`crate::Rooms`]), or let go where the book is not locked any
-    /// more. It takes no memory.
+    /// more. It does not allocate.
     ///
     /// # Errors
     /// `NotOut` where this group is not the one that is out: what said that it was appended is
@@ -200,7 +202,7 @@ impl<'t, L: Ledger> Book<'t, L> {
     }
 
     /// Hands back the group that is out: its batches wait again, before the others, and the book is
-    /// halted. It takes no memory.
+    /// halted. It does not allocate.
     ///
     /// # Errors
     /// `NotOut` where this group is not the one that is out: it is spent, and nothing has changed.
@@ -214,9 +216,9 @@ impl<'t, L: Ledger> Book<'t, L> {
         self.content.hand_back(group)
     }
 
-    /// Redeems a ticket: for the kids of its batch's expansions, with a receipt, where the batch is
-    /// acknowledged; else for nothing, where the book is halted; else the ticket comes back. It
-    /// takes no memory.
+    /// Redeems a ticket: for the successors of its batch's expansions, with a receipt, where the
+    /// batch is acknowledged; else for nothing, where the book is halted; else the ticket comes
+    /// back. It does not allocate.
     ///
     /// # Errors
     /// `NotOut` where no such ticket is out: the ticket is spent, and nothing has changed.
@@ -231,7 +233,7 @@ impl<'t, L: Ledger> Book<'t, L> {
         self.content.redeem(ticket)
     }
 
-    /// Spends a receipt: the numbers of its entries. It takes no memory.
+    /// Spends a receipt: the numbers of its entries. It does not allocate.
     ///
     /// # Errors
     /// `NotOut` where these are not acknowledged; none always are. The receipt is spent.
@@ -243,7 +245,7 @@ impl<'t, L: Ledger> Book<'t, L> {
         self.content.tickets.present(receipt)
     }
 
-    /// From now on each commit is refused. It takes no memory.
+    /// From now on each commit is refused. It does not allocate.
     pub fn halt(&mut self)
         ensures task { self.new.state.task ≡ self.old.state.task }
         ensures begins { BeginsWith self.new.state.entries self.old.state.entries }
@@ -252,21 +254,21 @@ impl<'t, L: Ledger> Book<'t, L> {
         self.content.halt();
     }
 
-    /// Whether each commit is refused.
+    /// Reports whether each commit is refused.
     pub fn is_halted(&self) -> bool
         ensures { result ≡ self.now.batches.halted }
     {
         self.content.tickets.is_halted()
     }
 
-    /// Whether nothing waits to be appended, and no group is out.
+    /// Reports whether nothing waits to be appended, and no group is out.
     pub fn is_idle(&self) -> bool
         ensures { result ≡ is_idle self.now.batches.queue }
     {
         self.content.tickets.is_idle()
     }
 
-    /// How far the search has come. It takes no memory.
+    /// Returns how far the search has come. It does not allocate.
     pub fn counts(&self) -> Counts
         ensures counts { result ≡ counts_of self.now }
         ensures kept { IsKept self.now.state }
@@ -279,14 +281,14 @@ impl<'t, L: Ledger> Book<'t, L> {
         self.content.counts()
     }
 
-    /// The task.
+    /// Returns the task.
     pub fn task(&self) -> &'t Task
         ensures { result.now ≡ self.now.state.task }
     {
         self.content.entries.task()
     }
 
-    /// The kid of the entry with this number, if there is such an entry.
+    /// Returns the successor of the entry with this number, if there is such an entry.
     pub fn entry(&self, number: u64) -> Option<Kid>
         ensures { result ≡ slice_get self.now.state.entries number }
     {
@@ -302,14 +304,14 @@ impl<'t, L: Ledger> Book<'t, L> {
         self.content.entries.node(number)
     }
 
-    /// The least cost of an entry at which the goal holds, if there is one.
+    /// Returns the least cost of an entry at which the goal holds, if there is one.
     pub fn bound(&self) -> Option<u64>
         ensures { result ≡ bound_of self.now.state.task (expansions self.now.state) }
     {
         self.content.entries.bound()
     }
 
-    /// The first departure from the range that was met, if there is one.
+    /// Returns the first departure from the range that was met, if there is one.
     pub fn departure(&self) -> Option<Departure>
         ensures { result ≡ slice_get
             (departures_of self.now.state.task (expansions self.now.state)) 0 }
@@ -317,8 +319,8 @@ impl<'t, L: Ledger> Book<'t, L> {
         self.content.entries.departure()
     }
 
-    /// The plan of the bound, if there is a bound: that of the least-numbered entry at which the
-    /// goal holds at this cost. It is valid.
+    /// Returns the plan of the bound, if there is a bound: that of the least-numbered entry at
+    /// which the goal holds at this cost. It is valid.
     ///
     /// # Errors
     /// `NoMemory` where there is no room for the plan.
@@ -329,7 +331,7 @@ impl<'t, L: Ledger> Book<'t, L> {
         self.content.entries.extract()
     }
 
-    /// The answer, once all is settled, nothing waits to be appended, and no group is out.
+    /// Returns the answer, once all is settled, nothing waits to be appended, and no group is out.
     ///
     /// # Errors
     /// `NoMemory` where there is no room for a plan.

@@ -47,14 +47,14 @@ impl<'t> Model for Content<'t> {
     ghost invariant = { λ c. IsHeld (book_of c.entries c.tickets.batches) };
 }
 
-/// Whether two kids are the same pair.
+/// Reports whether two successors are the same pair.
 fn is_same(one: &Kid, other: &Kid) -> bool
     ensures { result ≡ same_kid one.now other.now }
 {
     one.parent == other.parent && one.action == other.action
 }
 
-/// Whether the entry with this number is this kid.
+/// Reports whether the entry with this number is this successor.
 fn is_entry(entries: &Entries, number: u64, kid: &Kid) -> bool
     ensures is_kid { result ≡ is_kid kid.now (slice_get entries.now.state.entries number) }
     ensures within { result ≡ true → number < length entries.now.state.entries }
@@ -65,7 +65,7 @@ fn is_entry(entries: &Entries, number: u64, kid: &Kid) -> bool
     }
 }
 
-/// Whether the entries from a number on begin with these kids.
+/// Reports whether the entries from a number on begin with these successors.
 fn begin_with(entries: &Entries, first: u64, kids: &[Kid]) -> bool
     ensures begins { result ≡ begins_with kids.now (drop first entries.now.state.entries) }
     ensures fits { result ≡ true → first + length kids.now < 2 ^ 64 }
@@ -84,7 +84,7 @@ fn begin_with(entries: &Entries, first: u64, kids: &[Kid]) -> bool
     true
 }
 
-/// Pushes the kids of the entries from `first` on and below `end` to a `Vec` that has room.
+/// Pushes the successors of the entries from `first` on and below `end` to a `Vec` that has room.
 fn push_entries(kids: &mut Vec<Kid>, entries: &Entries, first: u64, end: u64)
     requires order { first ≤ end }
     requires within { end ≤ length entries.now.state.entries }
@@ -127,7 +127,7 @@ fn make_room<'t>(
 }
 
 impl<'t> Content<'t> {
-    /// These entries, which are all acknowledged, and no batches yet.
+    /// Returns these entries, which are all acknowledged, and no batches yet.
     pub(crate) fn of(alloc: Global, entries: Entries<'t>) -> Content<'t>
         ensures { result ≡ with_no_batches entries.entry }
     {
@@ -231,7 +231,7 @@ impl<'t> Content<'t> {
         self.tickets.halt();
     }
 
-    /// How far the search has come.
+    /// Returns how far the search has come.
     pub(crate) fn counts(&self) -> Counts
         ensures counts { result ≡ counts_of self.now }
         ensures kept { IsKept self.now.state }
@@ -250,7 +250,7 @@ impl<'t> Content<'t> {
         }
     }
 
-    /// The answer, once all is settled and all entries are acknowledged.
+    /// Returns the answer, once all is settled and all entries are acknowledged.
     pub(crate) fn verdict(&self) -> Result<Option<Verdict>, NoMemory>
         ensures over { IfOk result (λ v. is_some v
             ≡ (is_over self.now.state && is_idle self.now.batches.queue)) }

@@ -1,10 +1,14 @@
-//! The book of a search: what its threads share, what its journal is written from, and what a
-//! resumption makes again.
+//! Holds the book of a search: the entries, tickets and counts that its threads share.
 //!
-//! A book has the entries of a search, and of the batches that it accepted the tickets and the
-//! groups in which their entries are appended to a journal. `specs/View.antt` says what contracts
-//! see of it, and `specs/Steps.antt` what each call makes of that, by one equation each. A book
-//! counts its commits in a ledger: what its threads count in their shares adds up to it.
+//! [`Book::commit`] accepts a batch only if it is justified (`refusal_to`), and then grows by
+//! exactly the batch. Else nothing changes. [`Book::redeem`] gives the batch's nodes once it is
+//! acknowledged. [`Book::verdict`] answers exactly if all is settled and acknowledged, memory
+//! aside; the answer is true.
+//!
+//! A book joins hd_entries and hd_tickets. All shares of its ledger add up to the number of commits
+//! ([`Book::audit`]). [`Book::take_pending`] fills a given [`Room`], and does not allocate.
+//!
+//! Start reading at [`Book`], then `specs/View.antt` and `specs/Steps.antt`.
 #![tactic(auto)]
 
 mod book;

@@ -11,8 +11,8 @@ use hd_node::{Batch, Outcome, Parcel};
 use hd_task::Task;
 use std::marker::Model;
 
-/// What a ticket releases: the kids of its batch's expansions, in order, each as a parcel of the
-/// task.
+/// What a ticket releases: the successors of its batch's expansions, in order, each as a parcel of
+/// the task.
 ///
 /// Until they are taken they stay in the batch's outcomes: so a commit moves nothing, and gives no
 /// memory back while the book is locked.
@@ -43,7 +43,8 @@ impl<'t> Model for Parcels<'t> {
 }
 
 impl<'t> Parcels<'t> {
-    /// What a batch of the task releases whose first entry has this number. It takes no memory.
+    /// Returns what a batch of the task releases whose first entry has this number. It takes no
+    /// memory.
     pub(crate) fn of(
         task: &'t Task,
         first: u64,
@@ -66,7 +67,7 @@ impl<'t> Parcels<'t> {
         }
     }
 
-    /// The parcels, in order. It takes no memory.
+    /// Returns the parcels, in order. It does not allocate.
     pub fn into_vec(self) -> Vec<Parcel<'t>>
         ensures kids { map parcel_of result.items ≡ self.entry.kids }
         ensures of_task { AllByRecursion (IsParcelOf self.entry.task) result.items }

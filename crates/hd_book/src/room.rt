@@ -7,7 +7,7 @@ use hd_tickets::MAX_GROUP;
 use std::alloc::Global;
 
 /// An empty list with room for the pairs of any group. The book fills it where a group goes out, so
-/// that it takes no memory then.
+/// that it does not allocate then.
 #[derive(Debug, Drop)]
 pub struct Room {
     kids: Vec<Kid>,
@@ -25,8 +25,8 @@ impl Room {
         Ok(Room { kids })
     }
 
-    /// A list whose pairs are of no use any more, if it has room for any group; else it is given
-    /// up.
+    /// Returns a list whose pairs are of no use any more, if it has room for any group; else it is
+    /// given up.
     fn of(kids: Vec<Kid>) -> Option<Room>
         ensures { is_some result ≡ nat_le MAX_GROUP (vec_capacity kids) }
     {
@@ -38,7 +38,7 @@ impl Room {
         Some(Room { kids })
     }
 
-    /// The list.
+    /// Returns the list.
     pub(crate) fn into_vec(self) -> Vec<Kid>
         ensures empty { result.items ≡ [] }
         ensures enough { MAX_GROUP ≤ vec_capacity result }
@@ -62,7 +62,7 @@ impl Rooms {
         Rooms { alloc, kept: None }
     }
 
-    /// What is kept, or else new room.
+    /// Returns what is kept, or else new room.
     ///
     /// # Errors
     /// `NoMemory` where there is no room.

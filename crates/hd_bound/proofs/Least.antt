@@ -50,7 +50,7 @@ module _ (start : ℕ) where
       least_comm (least_offered start (set views seat w)) u.offers v.offers
       ∙ (ap (λ n. least n u.offers) (least_offered-set views seat v w at) ∙ least_comm (least_offered start views) w.offers u.offers)
 
-  -- a seat that has offered nothing, behind the others
+  -- a seat that has offered nothing, after the others
   pub least_offered-push : (views : List Offers) (w : Offers) → w.offers ≡ [] → least_offered start (views ++ w ∷ []) ≡ least_offered start views
   least_offered-push [] w none = ap (least start) none
   least_offered-push (u ∷ views) w none = ap (λ n. least n u.offers) (least_offered-push views w none)

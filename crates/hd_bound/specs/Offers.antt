@@ -41,7 +41,7 @@ pub record IsLeast (start : ℕ) (s : State (Unit {0}) Offers) : Type 0 where
   pub whole : parts_in s.views ≡ ALL_PARTS
   pub seats : (seat : ℕ) (v : Offers) → get_elem? s.views seat ≡ some v → IsSeatAt (least_offered start s.views) v
 
--- ---- what a step tells its seat
+-- ---- what a step reports its seat
 
 -- the word was read: it is what the seat has seen last
 abbrev pub HasLoaded : Step (Unit {0}) → Me (Unit {0}) Offers → ℕ → Me (Unit {0}) Offers → Type 0

@@ -1,9 +1,14 @@
-//! The bound that the threads of a search share: the least cost of a plan to the goal that any of
-//! them has found.
+//! Shares the bound among the threads of a search: the least cost of a plan that any thread has
+//! found.
 //!
-//! It is one word, which each thread lowers and reads in single steps, and waits for nothing. A
-//! thread has a seat at it, which knows what the thread has seen and offered; the seats of all
-//! threads together know all offers.
+//! [`BoundWord::settle`] returns the least of the start and all offers. [`BoundWord::load`] returns
+//! at most what its seat has seen or offered. [`BoundWord::offer`] lowers the bound to a cost, if
+//! the bound is greater.
+//!
+//! The bound is one machine word: `offer` and `load` take one atomic step each, and never wait. A
+//! [`BoundSeat`] has a thread's knowledge: what it has seen and offered, as ghost values. The right
+//! to know all offers has [`ALL_PARTS`] parts, and only a seat with all of them can settle. Start
+//! reading at [`BoundWord`], then at `specs/Offers`.
 #![tactic(auto)]
 
 mod rule;

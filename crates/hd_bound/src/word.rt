@@ -54,7 +54,7 @@ impl Model for BoundSeat {
     ghost invariant = { λ s. IsAtHand s.seat.me };
 }
 
-/// The bound that a word says.
+/// Returns the bound that a word says.
 fn bound_at(word: u64) -> Option<u64>
     ensures { result ≡ bound_in word }
 {
@@ -62,7 +62,8 @@ fn bound_at(word: u64) -> Option<u64>
 }
 
 impl BoundWord {
-    /// A bound word that starts with a bound, or with none, and the seat that has all parts of it.
+    /// Returns a bound word that starts with a bound, or with none, and the seat that has all parts
+    /// of it.
     ///
     /// # Errors
     /// `NoMemory` where there is no room for it.
@@ -95,7 +96,8 @@ impl BoundWord {
             .fetch_min::<Offered>(&mut seat.seat, 0, cost);
     }
 
-    /// The bound now, if there is one. It is no greater than what this seat has seen or offered.
+    /// Returns the bound now, if there is one. It is no greater than what this seat has seen or
+    /// offered.
     pub fn load(&self, seat: &mut BoundSeat) -> Option<u64>
         requires { seat.old.of ≡ self.now.of }
         ensures bound { result ≡ bound_in seat.new.seen }
@@ -107,7 +109,7 @@ impl BoundWord {
         bound_at(self.table.shared.load::<Loaded>(&mut seat.seat, 0))
     }
 
-    /// A seat with one part, for another thread.
+    /// Returns a seat with one part, for another thread.
     pub fn another(&self, seat: &mut BoundSeat) -> BoundSeat
         requires of { seat.old.of ≡ self.now.of }
         requires parts { 1 < seat.old.parts }
@@ -133,8 +135,8 @@ impl BoundWord {
         self.table.shared.join_seat::<Part>(&mut seat.seat, other);
     }
 
-    /// The bound in the end, of which one seat has all parts: the least of what it started with and
-    /// of all that was offered.
+    /// Returns the bound in the end, of which one seat has all parts: the least of what it started
+    /// with and of all that was offered.
     pub fn settle(self, seat: BoundSeat) -> Option<u64>
         requires of { seat.of ≡ self.of }
         requires parts { seat.parts ≡ ALL_PARTS }

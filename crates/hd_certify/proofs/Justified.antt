@@ -1,4 +1,4 @@
--- Entries cover what they generate exactly where no kid that is no entry need be expanded.
+-- Entries cover what they generate exactly where no successor that is no entry need be expanded.
 use Rattle.std.proofs.Common.{◌≡◌, ℕ, ◌+◌, ◌<◌, ◌≤◌, Bool, true, false, not, ◌⊎◌, inl, inr, ⊎_elim, List, [], ◌∷◌, ◌++◌, map, take, filter, length, get_or, slice_get, Contains, Option, Some, None, IfSome, IfNone, refl, sym, ap, ap₂, ◌∙◌, subst, arith, true≢false, take_all, is_some, ◌↔◌, ◌&&◌}
 use Rattle.std.specs.Prelude.{option_and_then, flat_map}
 use Rattle.std.specs.List.{AllByRecursion}
@@ -173,7 +173,7 @@ closed_more b n states place by s cost closed before at leads =
           ∙ sym (ap (map (exec b.task)) next ∙ map-append (exec b.task) (take n E) (p ∷ [])))
     ] refl leads
 
--- ---- kids that are no entries
+-- ---- successors that are no entries
 
 module _ (t : Task) (entries : List Kid) (kept : IsKept (resumed_state t entries)) where
   abbrev b : BookState
@@ -194,7 +194,7 @@ module _ (t : Task) (entries : List Kid) (kept : IsKept (resumed_state t entries
   count : length P ≡ length G
   count = naming.posted_count t E' short
 
-  -- the kid at a place names the plan that is generated there
+  -- the successor at a place names the plan that is generated there
   names : (j : ℕ) → j < length G → plan_of E' (get_or P j root) ≡ Some (get_or G j [])
   names j lt =
       sym (get_or-map (plan_of E') P j root None (omega (arith, count, lt)))
@@ -204,7 +204,7 @@ module _ (t : Task) (entries : List Kid) (kept : IsKept (resumed_state t entries
   mark : (j : ℕ) → j < length G → get_or b.marks j true ≡ has entries (get_or P j root)
   mark j lt = get_or-map (has entries) P j root true (omega (arith, count, lt))
 
-  -- where the parcel of the kid at a place leads
+  -- where the parcel of the successor at a place leads
   leads_at : (j : ℕ) → j < length G → (q : ParcelView) → LeadsThere b q → q.kid ≡ get_or P j root → exec t (get_or G j []) ≡ Some (node q.state q.cost)
   leads_at j lt q lead is = sym (ap (option_and_then (exec t)) (ap (plan_of E') is ∙ names j lt)) ∙ lead.leads
 

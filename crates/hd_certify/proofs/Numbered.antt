@@ -25,7 +25,7 @@ unmapped : {X Y : Type 0} (f : X → Y) (o : Option X) → option_map f o ≡ No
 unmapped f None e = refl
 unmapped f (Some x) e = absurd (none-some (f x) (sym e))
 
--- a kid that has no fault is the root, or its parent is an entry
+-- a successor that has no fault is the root, or its parent is an entry
 known_by : (known : Bool) (rest : Option Refusal) → cond (not known) (Some UnknownParent) rest ≡ None → known ≡ true
 known_by true rest e = refl
 known_by false rest e = absurd (none-some UnknownParent (sym e))

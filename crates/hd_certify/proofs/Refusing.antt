@@ -47,7 +47,7 @@ kind true false again r e = ap is_of_entry (sym (same_Some NotAKid r e))
 kind true true true r e = ap is_of_entry (sym (same_Some SettledBefore r e))
 kind true true false r e = absurd (none-some r e)
 
--- where the first fault of entries stands, so many places behind those before them
+-- where the first fault of entries stands, so many places after those before them
 record IsFirst (t : Task) (before entries : List Kid) (n : ℕ) (r : Refusal) : Type 0 where
   place : ℕ
   number : length before + place ≡ n
@@ -88,9 +88,9 @@ faulty t before (k ∷ entries) n r e =
           }
     ] refl e
 
--- ---- what is told of it
+-- ---- what is reported of it
 
--- a refusal that is about a kid
+-- a refusal that is about a successor
 abbrev is_of_kid : Refusal → Bool
 is_of_kid UnknownParent = true
 is_of_kid NotAKid = true
@@ -113,7 +113,7 @@ module _ (t : Task) (most : ℕ) (few : most < ROOT_PARENT) (entries : List Entr
   abbrev kids : List Kid
   kids = map kid_of entries
 
-  -- what is told where there is a first fault
+  -- what is reported where there is a first fault
   record IsTold (r : Refusal) : Type 0 where
     le : length entries ≤ most
     first : first_fault t [] kids ≡ Some (n, r)
@@ -133,7 +133,7 @@ module _ (t : Task) (most : ℕ) (few : most < ROOT_PARENT) (entries : List Entr
   memory_told r is (inr (le, inl none)) = omega (arith, le, length-map entries kid_of)
   memory_told r is (inr (le, inr first)) = omega (arith, le, length-map entries kid_of)
 
-  -- the entry that is told is one of them
+  -- the entry that is reported is one of them
   pub entry_there : (r : Refusal) → is_of_kid r ≡ true → IsFaultOf t most kids n r → n < length entries
   entry_there r of_kid is =
       let at = faulty t [] kids n r (told_of r of_kid is).first in

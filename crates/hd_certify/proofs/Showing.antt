@@ -99,13 +99,13 @@ module _ (t : Task) (most : ℕ) (few : most < ROOT_PARENT) (entries : List Entr
       lead_on : AllByRecursion (LeadsThere (resumed_state t kids)) parcels
       lead_on = subst (λ (x : BookState). AllByRecursion (LeadsThere x) parcels) e lead
 
-      -- where a kid need be expanded
+      -- where a successor need be expanded
       pub open_certificate : (AllByRecursion (IsSpared b) parcels → ⊥) → IsCertificateOf t entries None
       open_certificate not_all =
           certificate None
           (λ decisive. not_all (subst (λ (x : BookState). AllByRecursion (IsSpared x) parcels) (sym e) (covered_all t kids kept parcels open_ lead_on decisive.covered)))
 
-      -- where no kid need be, and nothing departs
+      -- where no successor need be, and nothing departs
       pub decisive : (o : Option Departure) → o ≡ slice_get (departures_of b.task (expansions b)) 0 → is_some o ≡ false → AllByRecursion (IsSpared b) parcels → IsDecisive b.task (expansions b)
       decisive (Some d) first none spared = absurd (true≢false none)
       decisive None first none spared =

@@ -1,4 +1,4 @@
--- Which kids of entries need not be expanded, and the expansions of entries in a closed list.
+-- Which successors of entries need not be expanded, and the expansions of entries in a closed list.
 -- (Closed lists are those of A*: Hart, Nilsson and Raphael 1968.)
 use Rattle.std.specs.Prelude.{◌≡◌, ◌⊎◌, ℕ, List, Option, Some, map, take}
 use Rattle.hd_task.specs.Plans.{Node, node, exec}

@@ -7,7 +7,7 @@ use Rattle.hd_entries.specs.Resuming.{AreLegal}
 use Rattle.hd_certify.specs.declared.error.RecoverError.{RecoverError}
 use Rattle.hd_certify.specs.declared.error.RecoverError.TheVariants.{Full, Damaged, NoMemory}
 
--- the printed form: the refusal's number, its name, and the place in decimal; want of memory has no
+-- the printed form: the refusal's number, its name, and the place in decimal; lack of memory has no
 -- number
 abbrev pub text_of : RecoverError → List ℕ
 text_of Full = codes "31 Full"

@@ -24,8 +24,8 @@ abbrev pub Tallies : {X : Type 0} → (X → Type 0) → List X → ℕ → ℕ 
 Tallies P [] from to = to ≡ from
 Tallies P (x ∷ xs) from to = (P x × Tallies P xs (from + 1) to) ⊎ ((P x → ⊥) × Tallies P xs from to)
 
--- so many of the posted kids need not be expanded any more: they are entries, or the entries spare
--- them
+-- so many of the posted successors need not be expanded any more: they are entries, or the entries
+-- spare them
 pub record IsSettledBy (b : BookState) (n : ℕ) : Type 0 where
   pub parcels : List ParcelView
   pub kids : map (λ (p : ParcelView). p.kid) parcels ≡ open_kids b.task b.entries
@@ -54,7 +54,7 @@ pub record IsTableOf (values : List ℕ) (rows : List Row) : Type 0 where
 abbrev pub row : ℕ → ℕ → Row
 row value count = record { value = value; count = count }
 
--- one value more is counted behind rows, of which the last is still being counted: it has this
+-- one value more is counted after rows, of which the last is still being counted: it has this
 -- value, and counts one more; or it has another one, and stands with the rows, and this value's row
 -- is being counted
 abbrev pub CountsOn : List Row → Row → ℕ → List Row → Row → Type 0
@@ -73,7 +73,7 @@ costs_of t expanded = map (λ (p : List ℕ). cost_in (exec t p)) expanded
 
 -- ---- all of it
 
--- this is told of entries, which name a legal list of their task: the bound, its plan, how many
+-- this is reported of entries, which name a legal list of their task: the bound, its plan, how many
 -- plans are generated, and how many of them need not be expanded any more, the first departure, and
 -- how many of the expanded plans have each length, and each cost
 pub record IsSurveyOf (t : Task) (entries : List Entry) (s : Survey) : Type 0 where

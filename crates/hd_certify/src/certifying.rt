@@ -13,7 +13,7 @@ use hd_entries::Entries;
 use hd_task::Task;
 use std::alloc::Global;
 
-/// What entries show that decide their task.
+/// Returns what entries show that decide their task.
 ///
 /// # Errors
 /// `NoMemory` where there is no room for the plan.
@@ -28,8 +28,8 @@ fn shown_by(entries: &Entries<'_>) -> Result<Certified, NoMemory>
     }
 }
 
-/// What these entries, of which there may be `most`, show of a task: that a plan is optimal, or
-/// that there is none; or nothing. What they show is true, whoever made them.
+/// Returns what these entries, of which there may be `most`, show of a task: that a plan is
+/// optimal, or that there is none; or nothing. What they show is true, whoever made them.
 ///
 /// # Errors
 /// `Full` where there are more entries than `most`; `Damaged` with the place of the first that

@@ -15,7 +15,7 @@ use hd_hmax::{EstimateValue, Hmax};
 use hd_node::{By, Parcel};
 use std::alloc::Global;
 
-/// Whether a cost and an estimate reach a bound, or the estimate is infinite.
+/// Reports whether a cost and an estimate reach a bound, or the estimate is infinite.
 fn is_bounded(bound: Option<u64>, cost: u64, value: EstimateValue) -> bool
     ensures { (s : State) → result ≡ reaches bound (Some (node s cost)) (estimated value) }
 {
@@ -28,8 +28,8 @@ fn is_bounded(bound: Option<u64>, cost: u64, value: EstimateValue) -> bool
     }
 }
 
-/// Whether a kid need not be expanded: an entry has its state at no greater cost, or its cost and
-/// its estimate reach the bound, or the estimate is infinite.
+/// Reports whether a successor need not be expanded: an entry has its state at no greater cost, or
+/// its cost and its estimate reach the bound, or the estimate is infinite.
 ///
 /// # Errors
 /// `NoMemory` where there is no room for its state.
@@ -86,7 +86,7 @@ fn close_one<'t>(
     }
 }
 
-/// The expansions of all entries.
+/// Returns the expansions of all entries.
 ///
 /// # Errors
 /// `NoMemory` where there is no room for one.
@@ -104,7 +104,7 @@ pub(crate) fn closed_of<'t>(
     Ok(closed)
 }
 
-/// Whether no kid of these need be expanded.
+/// Reports whether no successor of these need be expanded.
 ///
 /// # Errors
 /// `NoMemory`.

@@ -12,7 +12,7 @@ use thiserror::Error;
 pub enum RecoverError {
     /// There are more entries than there may be.
     Full,
-    /// The entry at this place of the file is not the root in first place, and no kid of an
+    /// The entry at this place of the file is not the root in first place, and no successor of an
     /// earlier entry, or an entry before it is the same.
     Damaged(u64),
     /// Memory ran out.

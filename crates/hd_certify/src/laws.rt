@@ -16,15 +16,15 @@ ghost use Rattle.hd_certify.specs.declared.error.RecoverError.TheVariants.{Damag
 ghost use Rattle.hd_certify.specs.Certificate.{IsCertificateOf};
 ghost use Rattle.hd_certify.specs.Error.{IsRefusal};
 
-/// Entries show one thing.
+/// Law: entries show one thing.
 pub fn entries_show_one_thing()
     ensures { (t : Task) (entries : List Entry) (c d : Option Certified)
         → IsCertificateOf t entries c → IsCertificateOf t entries d → c ≡ d }
 {}
 
-/// The journal of a search that has ended without a departure is certified: where its entries name
-/// a legal list that is covered, and a verdict is this list's answer, they show just this verdict,
-/// and are not refused as damaged.
+/// Law: the journal of a search that has ended without a departure is certified: where its entries
+/// name a legal list that is covered, and a verdict is this list's answer, they show just this
+/// verdict, and are not refused as damaged.
 pub fn ended_searches_are_certified()
     ensures optimal { (t : Task) (entries : List Entry) (expanded : List (List ℕ)) (p : List ℕ)
         → plans_of (map kid_of entries) ≡ Some expanded → IsLegal t expanded

@@ -1,9 +1,14 @@
-//! What a journal's entries show by themselves: that a plan is optimal, that there is none, or
-//! nothing.
+//! Decides what a journal's entries show by themselves: an optimal plan, no plan, or nothing.
 //!
-//! `specs/Certificate.antt` says what entries show. No worker and no book takes part, and nobody
-//! has to be trusted who made the entries: they are made again, and each kid that is no entry is
-//! looked at once.
+//! [`certify`] returns exactly what the entries show, and that is true, no matter who wrote them.
+//! Else it reports too many entries, the first one that makes no legal list with those before it,
+//! or `NoMemory`. [`survey`] returns the counts and the best plan of a search, finished or not.
+//!
+//! Both calls rebuild the entries by hd_entries, without a worker or a book. Then they check each
+//! generated node that is no entry, at most once: is it dominated by an entry, or pruned by the
+//! bound? A closed list answers the first by hash, and keeps the estimates for the second.
+//!
+//! Start reading at [`certify`], then `specs/Certificate.antt`.
 #![tactic(auto)]
 
 mod certified;

@@ -12,8 +12,8 @@ use hd_journal::Kid;
 use hd_task::Task;
 use std::alloc::Global;
 
-/// Whether the entries of a journal, of which there may be `most`, name a legal list of a task:
-/// they are made again, and let go.
+/// Reports whether the entries of a journal, of which there may be `most`, name a legal list of a
+/// task: they are made again, and let go.
 ///
 /// # Errors
 /// `Full` where there are more entries than `most`; `Damaged` with the place of the first that
@@ -36,8 +36,8 @@ fn check(alloc: Global, task: &Task, most: u64, entries: &[Entry]) -> Result<(),
     }
 }
 
-/// The pairs of the entries of a journal, of which there may be `most`, where they name a legal
-/// list of a task. Each parent is the root's or a number below `most`.
+/// Returns the pairs of the entries of a journal, of which there may be `most`, where they name a
+/// legal list of a task. Each parent is the root's or a number below `most`.
 ///
 /// # Errors
 /// `Full` where there are more entries than `most`; `Damaged` with the place of the first that

@@ -17,7 +17,7 @@ use hd_node::Parcel;
 use hd_task::Task;
 use std::alloc::Global;
 
-/// The pair of an entry.
+/// Returns the pair of an entry.
 fn kid_of(entry: &Entry) -> Kid
     ensures { result ≡ kid_of entry.now }
 {
@@ -27,7 +27,7 @@ fn kid_of(entry: &Entry) -> Kid
     }
 }
 
-/// The pairs of entries, in order.
+/// Returns the pairs of entries, in order.
 ///
 /// # Errors
 /// `NoMemory` where there is no room for them.
@@ -41,7 +41,7 @@ pub fn kids_of(alloc: Global, entries: &[Entry]) -> Result<Vec<Kid>, NoMemory>
     Ok(kids)
 }
 
-/// The entry of this number is faulty, which is told with its place.
+/// The entry of this number is faulty, which is reported with its place.
 fn damaged_at(entries: &[Entry], number: u64) -> RecoverError
     requires { number < length entries.now }
     ensures { (at : ℕ) × (result ≡ Damaged at)
@@ -50,7 +50,8 @@ fn damaged_at(entries: &[Entry], number: u64) -> RecoverError
     RecoverError::Damaged(entries[number as usize].at)
 }
 
-/// Why no search can be made again from entries, where that of this number can't be the next one.
+/// Returns why no search can be made again from entries, where that of this number can't be the
+/// next one.
 pub fn fault_at(entries: &[Entry], number: u64, refusal: Refusal) -> RecoverError
     requires { (t : Task) × (most : ℕ) × (most < ROOT_PARENT)
         × IsFaultOf t most (map kid_of entries.now) number refusal }
@@ -70,7 +71,7 @@ pub fn fault_at(entries: &[Entry], number: u64, refusal: Refusal) -> RecoverErro
     }
 }
 
-/// The entries made again, and the parcels of all posted kids that are no entries.
+/// Returns the entries made again, and the parcels of all posted successors that are no entries.
 ///
 /// # Errors
 /// `Full` where there are more entries than `most`; `Damaged` of the first that makes no legal list

@@ -1,4 +1,4 @@
-//! What is told of entries.
+//! What is reported of entries.
 use hd_base::Sequence;
 use hd_task::{Departure, Plan};
 

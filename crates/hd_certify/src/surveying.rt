@@ -1,4 +1,4 @@
-//! The call that tells of entries.
+//! The call that reports of entries.
 ghost use Rattle.std.specs.Prelude.{◌≡◌, ◌+◌, ◌<◌, ◌≤◌, ◌^◌, ℕ, [], length, map, take, get_or, IfOk, IfErr, OnOk, if◌then◌else◌};
 ghost use Rattle.std.specs.List.{AllByRecursion};
 ghost use Rattle.hd_task.specs.declared.plan.TheConstants.{ROOT_PARENT};
@@ -20,7 +20,7 @@ use hd_node::Parcel;
 use hd_task::Task;
 use std::alloc::Global;
 
-/// One more, where it is so.
+/// Returns one more, where it is so.
 fn counted_on(count: u64, is_so: bool) -> u64
     requires { count < 2 ^ 63 }
     ensures { result ≡ (if is_so then count + 1 else count) }
@@ -28,8 +28,8 @@ fn counted_on(count: u64, is_so: bool) -> u64
     if is_so { count + 1 } else { count }
 }
 
-/// How many posted kids need not be expanded any more: they are entries, or one of these parcels
-/// that is spared.
+/// Returns how many posted successors need not be expanded any more: they are entries, or one of
+/// these parcels that is spared.
 ///
 /// # Errors
 /// `NoMemory`.
@@ -52,7 +52,7 @@ fn settled_of<'t>(
     Ok(settled)
 }
 
-/// The length of the plan of the entry with this number, by those of the entries before it.
+/// Returns the length of the plan of the entry with this number, by those of the entries before it.
 fn depth_of(entries: &Entries<'_>, before: &[u64], number: u64) -> u64
     requires kept { IsKept entries.now.state }
     requires before { before.now ≡ map length (take number (expansions entries.now.state)) }
@@ -68,7 +68,7 @@ fn depth_of(entries: &Entries<'_>, before: &[u64], number: u64) -> u64
     }
 }
 
-/// The lengths of the plans of all entries.
+/// Returns the lengths of the plans of all entries.
 ///
 /// # Errors
 /// `NoMemory`.
@@ -84,7 +84,7 @@ fn depths_of(alloc: Global, entries: &Entries<'_>) -> Result<Vec<u64>, NoMemory>
     Ok(depths)
 }
 
-/// What the plans of all entries cost.
+/// Returns what the plans of all entries cost.
 ///
 /// # Errors
 /// `NoMemory`.
@@ -103,8 +103,8 @@ fn costs_of(alloc: Global, entries: &Entries<'_>) -> Result<Vec<u64>, NoMemory>
     Ok(costs)
 }
 
-/// What these entries, of which there may be `most`, tell of a search of a task: how far it is, and
-/// what it has found.
+/// Returns what these entries, of which there may be `most`, tell of a search of a task: how far it
+/// is, and what it has found.
 ///
 /// # Errors
 /// `Full` where there are more entries than `most`; `Damaged` with the place of the first that

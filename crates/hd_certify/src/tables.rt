@@ -26,7 +26,7 @@ fn count_on(rows: &mut Vec<Row>, last: &mut Row, value: u64) -> Result<(), NoMem
     Ok(())
 }
 
-/// The rows of values that ascend.
+/// Returns the rows of values that ascend.
 ///
 /// # Errors
 /// `NoMemory` where there is no room for them.
@@ -49,7 +49,7 @@ fn rows_of(alloc: Global, values: &[u64]) -> Result<Vec<Row>, NoMemory>
     Ok(rows)
 }
 
-/// How often each of these values is there.
+/// Returns how often each of these values is there.
 pub(crate) fn table_of(alloc: Global, values: Vec<u64>) -> Result<Sequence<Row>, NoMemory>
     ensures { IfOk result (IsTableOf values.items) }
 {

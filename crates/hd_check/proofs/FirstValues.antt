@@ -38,7 +38,7 @@ record AreNew (given : List (List ℕ)) (vs : List InitialValue) : Type 0 where
 differ : (g h : Ground) → bytes_eq (key_of h) (key_of g) ≡ false → g ≢ h
 differ g h e same = false≢true (sym e ∙ (bytes_eq-Decides (key_of h) (key_of g)).1 (ap key_of (sym same)))
 
--- what is new behind one more
+-- what is new after one more
 older : (given : List (List ℕ)) (g : Ground) (vs : List InitialValue) → AllByRecursion (IsNew (given ++ key_of g ∷ [])) vs
     → AllByRecursion (IsNew given) vs × AllByRecursion (λ (w : InitialValue). g ≢ w.fluent) vs
 older given g [] h = (tt, tt)

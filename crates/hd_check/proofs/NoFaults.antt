@@ -1,4 +1,4 @@
--- Where no fault is told behind the cycles of types, none is in any part.
+-- Where no fault is reported after the cycles of types, none is in any part.
 use Rattle.std.proofs.Common.{◌≡◌, ℕ, List, [], None}
 use Rattle.hd_base.proofs.Options.{option_or_none}
 use Rattle.hd_base.specs.Options.{◌or◌}
@@ -43,7 +43,7 @@ pub record HasNoMisuse (d : DomainAst) (p : ProblemAst) : Type 0 where
   pub in_domain : misused_in_domain p.metric d ≡ None
   pub in_problem : misused_in_problem p.metric p ≡ None
 
--- no fault is behind the cycles of types
+-- no fault is after the cycles of types
 pub record HasNoFaultBelow (types : List (List ℕ)) (parents : List ℕ) (d : DomainAst) (p : ProblemAst) : Type 0 where
   pub names : HasNoNameFault types d
   pub actions : actions_fault (domain_scope types parents d p) [] d.actions ≡ None

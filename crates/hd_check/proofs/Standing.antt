@@ -53,9 +53,9 @@ stops_at_types d p told same (by_name e first) =
     tells_before d p e (told_later e (in_text Problem (mismatch d p)) (in_text Domain (listed_fault d.types)) same first)
 stops_at_types d p told same (by_cycle e listed tells) = tells_cycle d p e (none_before d p same listed) tells
 
--- ---- faults behind the cycles of types
+-- ---- faults after the cycles of types
 
--- the four parts of the first fault behind them, of which the last is that of the metric
+-- the four parts of the first fault after them, of which the last is that of the metric
 abbrev of_scope : List (List ℕ) → DomainAst → Option CheckError
 of_scope types d = in_text Domain (name_fault (scope_fault types d))
 
@@ -114,7 +114,7 @@ module _ (d : DomainAst) (p : ProblemAst) (types : TypesPart) (same : in_text Pr
   same_task : task_below types.names types.hierarchy d p ≡ lifted_task d p
   same_task = ap (λ ts. task_below ts types.hierarchy d p) k.names ∙ ap (λ ps. task_below (type_names d.types) ps d p) k.hierarchy
 
-  -- the first fault behind these types is told
+  -- the first fault after these types is reported
   stops_below : (e : CheckError) → TellsOf e (fault_below types.names types.hierarchy d p) → Answers d p (Err e)
   stops_below (In source f) first = behind_cycles (In source f) before k.acyclic (sym same_fault ∙ first)
   stops_below NoMemory u = tt

@@ -23,7 +23,7 @@ use Rattle.hd_check.specs.Whole.{of_text, names_in, in_text, listed_fault, Climb
 
 -- ---- answers
 
--- a part that tells its first fault tells it of its text
+-- a part that reports its first fault reports it of its text
 pub told_of : {R : Type 0} (source : Source) (answer : Result R Stop) (fault : Option Fault) (said : R) → Checks StopsAt answer fault said
     → Checks TellsOf (of_text source answer) (in_text source fault) said
 told_of source (Ok r) fault said (none, same) = (ap (in_text source) none, same)
@@ -48,7 +48,7 @@ pub stops_first : (told : NameStop) (fault : Option NameFault) (rest : Option Fa
 stops_first (named.At f) fault rest first = rw first refl
 stops_first named.NoMemory fault rest u = tt
 
--- a type on a cycle is told of the domain
+-- a type on a cycle is reported of the domain
 pub told_cycle : (answer : Result (List ℕ) NameStop) (ts : List Typed) → Climbs answer ts → ClimbsIn (names_in Domain answer) ts
 told_cycle (Ok h) ts climbs = climbs
 told_cycle (Err (named.At f)) ts tells = cycle f tells
@@ -61,7 +61,7 @@ told_name ts e tells = by_name e tells
 pub told_later_cycle : (ts : List Typed) (e : CheckError) → in_text Domain (listed_fault ts) ≡ None → TellsCycleIn ts e → TellsTypes ts e
 told_later_cycle ts e none tells = by_cycle e none tells
 
--- ---- where nothing is told
+-- ---- where nothing is reported
 
 pub text_none : (source : Source) (f : Option Fault) → in_text source f ≡ None → f ≡ None
 text_none source None e = refl

@@ -115,7 +115,7 @@ abbrev pub LiftsEquality : Result Equality Stop → Context → Bool → Term �
 LiftsEquality result c positive t u =
     Checks StopsAt result (within c equality_fault t u) (within c lifted_equality positive t u)
 
--- what was found of a condition, with what a part stands for behind it
+-- what was found of a condition, with what a part stands for after it
 abbrev pub GathersLiterals : {R : Type 0} → Result R Stop → Found → Found → Context → trees.Condition → Type 0
 GathersLiterals result old new c part =
     ChecksInto StopsAt result new.literals.items (within c part_fault part) (old.literals.items ++ within c literals_of part)

@@ -95,7 +95,7 @@ changes_in s ps (e ∷ es) = changes_of s ps e ++ changes_in s ps es
 abbrev pub lifted_effects : Scope → Table ℕ → List Effect → Effects
 lifted_effects s ps es = record { deletes = deletes_in s ps es; adds = adds_in s ps es; changes = changes_in s ps es }
 
--- ---- what calls answer: what was found of an effect, with what a part stands for behind it
+-- ---- what calls answer: what was found of an effect, with what a part stands for after it
 
 abbrev pub GathersDeletes : {R : Type 0} → Result R Stop → Found → Found → Context → Effect → Type 0
 GathersDeletes result old new c e =

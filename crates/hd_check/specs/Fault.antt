@@ -51,7 +51,7 @@ abbrev pub of_names : NameStop → Stop
 of_names (named.At fault) = stops.At (OfName fault)
 of_names named.NoMemory = stops.NoMemory
 
--- the stop is at the first fault; want of memory says nothing
+-- the stop is at the first fault; lack of memory says nothing
 abbrev pub StopsAt : Stop → Option Fault → Type 0
 StopsAt (stops.At f) fault = fault ≡ Some f
 StopsAt stops.NoMemory fault = Unit {0}
@@ -61,7 +61,7 @@ abbrev pub error_in : Source → Stop → CheckError
 error_in source (stops.At fault) = errors.In source fault
 error_in source stops.NoMemory = errors.NoMemory
 
--- the error tells of the first fault; want of memory says nothing
+-- the error reports of the first fault; lack of memory says nothing
 abbrev pub TellsOf : CheckError → Option CheckError → Type 0
 TellsOf (errors.In source f) fault = fault ≡ Some (errors.In source f)
 TellsOf errors.NoMemory fault = Unit {0}

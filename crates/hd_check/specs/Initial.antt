@@ -70,19 +70,19 @@ abbrev pub value_fault : Scope → List (List ℕ) → trees.InitialValue → Op
 value_fault s given v =
     applied_fault s.functions s no_parameters v.fluent or second_value given (key_of (fluent_of s v)) v.fluent or range_fault v
 
--- the first fault of an atom or a first value, behind values of these fluents
+-- the first fault of an atom or a first value, after values of these fluents
 abbrev pub said_fault : Scope → List (List ℕ) → Init → Option Fault
 said_fault s given (inits.Atom a) = applied_fault s.predicates s no_parameters a
 said_fault s given (inits.NotAtom a) = applied_fault s.predicates s no_parameters a
 said_fault s given (inits.Value v) = value_fault s given v
 
--- the fluents that have a value behind it
+-- the fluents that have a value after it
 abbrev pub given_after : Scope → List (List ℕ) → Init → List (List ℕ)
 given_after s given (inits.Atom a) = given
 given_after s given (inits.NotAtom a) = given
 given_after s given (inits.Value v) = with_value s given v
 
--- the first fault of what holds at first, behind values of these fluents
+-- the first fault of what holds at first, after values of these fluents
 abbrev pub initial_fault : Scope → List (List ℕ) → List Init → Option Fault
 initial_fault s given [] = None
 initial_fault s given (i ∷ is) = said_fault s given i or initial_fault s (given_after s given i) is
@@ -134,12 +134,12 @@ LiftsFluent result given s v = Checks StopsAt result (value_fault s given v) (fl
 abbrev pub NotesFluent : {R : Type 0} → Result R Stop → List (List ℕ) → List (List ℕ) → Scope → trees.InitialValue → Type 0
 NotesFluent result old new s v = ChecksInto StopsAt result new (value_fault s old v) (with_value s old v)
 
--- the values, with this one behind them
+-- the values, with this one after them
 abbrev pub Gathers
     : {R : Type 0} → Result R Stop → List InitialValue → List InitialValue → List (List ℕ) → Scope → trees.InitialValue → Type 0
 Gathers result old new given s v = ChecksInto StopsAt result new (value_fault s given v) (old ++ value_in s v)
 
--- what was found, with what is said behind it
+-- what was found, with what is said after it
 abbrev pub NotesSaid : {R : Type 0} → Result R Stop → Found → Found → Scope → Init → Type 0
 NotesSaid result old new s i = ChecksInto StopsAt result new.given (said_fault s old.given i) (given_after s old.given i)
 

@@ -28,7 +28,7 @@ body_fault s ps a = condition_fault s ps a.precondition or effects_fault s ps a.
 unfoldable pub action_fault : Scope → Action → Option Fault
 action_fault s a = name_fault (declared_fault kinds.Variable s.types [] a.parameters) or body_fault s (parameters_in s a) a
 
--- the first fault of actions behind others of these names: of each its name, then what stands in it
+-- the first fault of actions after others of these names: of each its name, then what stands in it
 abbrev pub actions_fault : Scope → List (List ℕ) → List Action → Option Fault
 actions_fault s names [] = None
 actions_fault s names (a ∷ as') =

@@ -1,4 +1,4 @@
--- What a domain and a problem stand for together, and what a check of them tells. (Our own.)
+-- What a domain and a problem stand for together, and what a check of them reports. (Our own.)
 use Rattle.std.specs.Prelude.{◌≡◌, ℕ, if◌then◌else◌, List, [], ◌∷◌, ◌++◌, map, Option, Some, None, Result, Ok, Err, codes}
 use Rattle.std.specs.Str.{bytes_eq}
 use Rattle.hd_forms.specs.declared.names.NameAt.{NameAt}
@@ -169,7 +169,7 @@ metric_fault d p =
     in_text Domain (metric_use_fault (misused_in_domain p.metric d))
     or in_text Problem (metric_use_fault (misused_in_problem p.metric p))
 
--- the first fault that comes behind the cycles of types, which have these names and parents: of the
+-- the first fault that comes after the cycles of types, which have these names and parents: of the
 -- domain's names, of its actions, of the problem, and of the metric
 unfoldable pub fault_below : List (List ℕ) → List ℕ → DomainAst → ProblemAst → Option CheckError
 fault_below types parents d p =
@@ -178,12 +178,12 @@ fault_below types parents d p =
     or in_text Problem (problem_fault (scope_of types parents d p.metric) p)
     or metric_fault d p
 
--- the first fault that comes behind the cycles of types
+-- the first fault that comes after the cycles of types
 abbrev pub fault_behind_cycles : DomainAst → ProblemAst → Option CheckError
 fault_behind_cycles d p = fault_below (type_names d.types) (parents_of d.types) d p
 
--- a fault stands in the texts, at the place that is told: it is the first, but for the cycles of
--- types, of which any may be told
+-- a fault stands in the texts, at the place that is reported: it is the first, but for the cycles
+-- of types, of which any may be told
 pub data Stands (d : DomainAst) (p : ProblemAst) : CheckError → Type 0 where
   before_cycles : (e : CheckError) → fault_before_cycles d p ≡ Some e → Stands d p e
   on_cycle : (f : NameFault) → fault_before_cycles d p ≡ None → TellsCycle d.types f → Stands d p (In Domain (OfName f))
@@ -204,7 +204,7 @@ pub record IsOfTexts (task : LiftedTask) : Type 0 where
   pub faultless : IsFaultless domain problem
   pub stands : task ≡ lifted_task domain problem
 
--- no error tells of a fault in the texts
+-- no error reports of a fault in the texts
 abbrev pub HasNoFault : DomainAst → ProblemAst → Type 0
 HasNoFault d p = (e : CheckError) → Stands d p e → ⊥
 
@@ -218,7 +218,7 @@ HoldsOfFaultless P = (d : DomainAst) (p : ProblemAst) → IsFaultless d p → P 
 abbrev pub ChecksNames : Result (List (List ℕ)) CheckError → List Typed → Type 0
 ChecksNames result ts = Checks TellsOf result (in_text Domain (listed_fault ts)) (type_names ts)
 
--- an error tells a type on a cycle; want of memory says nothing
+-- an error reports a type on a cycle; lack of memory says nothing
 pub data TellsCycleIn (ts : List Typed) : CheckError → Type 0 where
   cycle : (f : NameFault) → TellsCycle ts f → TellsCycleIn ts (In Domain (OfName f))
   no_memory : TellsCycleIn ts NoMemory
@@ -235,8 +235,8 @@ pub record AreTypes (types : TypesPart) (ts : List Typed) : Type 0 where
   pub hierarchy : types.hierarchy ≡ parents_of ts
   pub acyclic : IsAcyclic (parents_of ts)
 
--- an error tells the first fault of the types' names, or where there is none a type on a cycle;
--- want of memory says nothing
+-- an error reports the first fault of the types' names, or where there is none a type on a cycle;
+-- lack of memory says nothing
 pub data TellsTypes (ts : List Typed) : CheckError → Type 0 where
   by_name : (e : CheckError) → TellsOf e (in_text Domain (listed_fault ts)) → TellsTypes ts e
   by_cycle : (e : CheckError) → in_text Domain (listed_fault ts) ≡ None → TellsCycleIn ts e → TellsTypes ts e
@@ -273,7 +273,7 @@ abbrev pub names_in : {R : Type 0} → Source → Result R NameStop → Result R
 names_in source (Ok r) = Ok r
 names_in source (Err stop) = Err (error_in source (of_names stop))
 
--- the lifted task where no fault stands, else a fault that does; want of memory says nothing
+-- the lifted task where no fault stands, else a fault that does; lack of memory says nothing
 abbrev pub Answers : DomainAst → ProblemAst → Result LiftedTask CheckError → Type 0
 Answers d p (Ok task) = IsFaultless d p × (task ≡ lifted_task d p)
 Answers d p (Err (In source fault)) = Stands d p (In source fault)

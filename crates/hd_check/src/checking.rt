@@ -71,7 +71,7 @@ pub struct Declared {
     pub functions: Sequence<Signature>,
 }
 
-/// What a part answers, told of its text.
+/// Returns what a part answers, told of its text.
 fn of_text<T>(source: Source, answer: Result<T, Stop>) -> Result<T, CheckError>
     ensures { result ≡ of_text source answer }
 {
@@ -81,7 +81,7 @@ fn of_text<T>(source: Source, answer: Result<T, Stop>) -> Result<T, CheckError>
     }
 }
 
-/// What names of a text stand for, told of it.
+/// Returns what names of a text stand for, told of it.
 fn names_in<T>(source: Source, answer: Result<T, NameStop>) -> Result<T, CheckError>
     ensures { result ≡ names_in source answer }
 {
@@ -120,7 +120,7 @@ fn hierarchy_in(alloc: Global, names: &Names, listed: &[Typed]) -> Result<Hierar
     names_in(Source::Domain, hierarchy_of(alloc, names, listed))
 }
 
-/// The types that a domain lists, where no type lies on a cycle.
+/// Returns the types that a domain lists, where no type lies on a cycle.
 #[tactic(auto, using(crate::proofs::Telling::told_name, crate::proofs::Telling::told_later_cycle))]
 fn types_part(alloc: Global, seed: Seed, listed: &[Typed]) -> Result<TypesPart, CheckError>
     ensures { ChecksTypes result listed.now }
@@ -135,7 +135,7 @@ fn types_part(alloc: Global, seed: Seed, listed: &[Typed]) -> Result<TypesPart, 
     }
 }
 
-/// What names stand for in a domain of these types.
+/// Returns what names stand for in a domain of these types.
 #[tactic(auto, using(crate::proofs::Telling::told_names))]
 fn scope_part(
     alloc: Global,
@@ -152,7 +152,7 @@ fn scope_part(
     )
 }
 
-/// What a domain's actions stand for in this scope.
+/// Returns what a domain's actions stand for in this scope.
 #[tactic(auto, unfolding(crate::specs::Whole::domain_in), using(crate::proofs::Telling::told_of))]
 fn domain_in(alloc: Global, scope: Scope, domain: &DomainAst) -> Result<DomainPart, CheckError>
     ensures { ChecksActions result scope domain.now }
@@ -167,7 +167,7 @@ fn domain_in(alloc: Global, scope: Scope, domain: &DomainAst) -> Result<DomainPa
     }
 }
 
-/// What a problem's goal stands for in this scope, where the metric's function is declared.
+/// Returns what a problem's goal stands for in this scope, where the metric's function is declared.
 fn goal_in(alloc: Global, scope: &Scope, problem: &ProblemAst) -> Result<Condition, Stop>
     ensures { LiftsIn result goal_fault goal_in scope.now problem.now }
 {
@@ -188,7 +188,7 @@ fn goal_in(alloc: Global, scope: &Scope, problem: &ProblemAst) -> Result<Conditi
     }
 }
 
-/// What a problem's initial state and goal stand for in this scope, which has its objects.
+/// Returns what a problem's initial state and goal stand for in this scope, which has its objects.
 #[tactic(auto, unfolding(crate::specs::Whole::fault_in_problem))]
 fn ends_in(alloc: Global, scope: &Scope, problem: &ProblemAst) -> Result<Ends, Stop>
     ensures { LiftsIn result fault_in_problem ends_in scope.now problem.now }
@@ -203,7 +203,7 @@ fn ends_in(alloc: Global, scope: &Scope, problem: &ProblemAst) -> Result<Ends, S
     }
 }
 
-/// What a problem's part stands for in this scope, which has its objects.
+/// Returns what a problem's part stands for in this scope, which has its objects.
 #[tactic(auto, unfolding(crate::specs::Whole::problem_in))]
 fn problem_in(alloc: Global, scope: Scope, problem: &ProblemAst) -> Result<ProblemPart, Stop>
     ensures { LiftsIn result fault_in_problem problem_in scope problem.now }
@@ -217,7 +217,7 @@ fn problem_in(alloc: Global, scope: Scope, problem: &ProblemAst) -> Result<Probl
     }
 }
 
-/// What a problem's part stands for, by the scope of its domain.
+/// Returns what a problem's part stands for, by the scope of its domain.
 #[tactic(auto, unfolding(crate::specs::Whole::lifted_problem, crate::specs::Whole::problem_fault), using(crate::proofs::Telling::stops_first))]
 fn lifted_problem(alloc: Global, scope: Scope, problem: &ProblemAst) -> Result<ProblemPart, Stop>
     ensures { LiftsIn result problem_fault lifted_problem scope problem.now }
@@ -226,7 +226,8 @@ fn lifted_problem(alloc: Global, scope: Scope, problem: &ProblemAst) -> Result<P
     problem_in(alloc, scope, problem)
 }
 
-/// What a domain's actions and a problem's part stand for, where the domain's part stands for this.
+/// Returns what a domain's actions and a problem's part stand for, where the domain's part stands
+/// for this.
 #[tactic(auto, using(crate::proofs::Telling::told_of))]
 fn parts_in(alloc: Global, first: DomainPart, problem: &ProblemAst) -> Result<Parts, CheckError>
     ensures { ChecksProblem result first problem.now }
@@ -241,7 +242,7 @@ fn parts_in(alloc: Global, first: DomainPart, problem: &ProblemAst) -> Result<Pa
     }
 }
 
-/// Tells that the metric's function is misused so, if it is.
+/// Reports that the metric's function is misused so, if it is.
 fn check_use(source: Source, misuse: Option<BadMetric>) -> Result<(), CheckError>
     ensures { Checks TellsOf result (in_text source (metric_use_fault misuse)) tt }
 {
@@ -251,7 +252,7 @@ fn check_use(source: Source, misuse: Option<BadMetric>) -> Result<(), CheckError
     }
 }
 
-/// The objects that are declared, behind others.
+/// Returns the objects that are declared, after others.
 fn objects_of(
     alloc: Global,
     types: &Names,
@@ -268,7 +269,7 @@ fn objects_of(
     Ok(found)
 }
 
-/// The predicates, or the functions, that are declared.
+/// Returns the predicates, or the functions, that are declared.
 fn signatures_in(
     alloc: Global,
     types: &Names,
@@ -285,7 +286,7 @@ fn signatures_in(
     Ok(Sequence::from_vec(signatures))
 }
 
-/// The constants and the objects that are declared.
+/// Returns the constants and the objects that are declared.
 fn objects_in(
     alloc: Global,
     types: &Names,
@@ -299,7 +300,7 @@ fn objects_in(
     Ok(Sequence::from_vec(objects))
 }
 
-/// What both texts declare, the types and actions aside.
+/// Returns what both texts declare, the types and actions aside.
 fn declared_in(
     alloc: Global,
     types: &Names,
@@ -318,7 +319,7 @@ fn declared_in(
     })
 }
 
-/// The lifted task that has these parts.
+/// Returns the lifted task that has these parts.
 fn task_by(schemas: Sequence<Schema>, part: ProblemPart, declared: Declared) -> LiftedTask
     ensures { result ≡ task_by schemas part declared }
 {
@@ -348,7 +349,7 @@ fn task_by(schemas: Sequence<Schema>, part: ProblemPart, declared: Declared) -> 
     }
 }
 
-/// The lifted task of a domain and a problem whose parts stand for these.
+/// Returns the lifted task of a domain and a problem whose parts stand for these.
 #[tactic(auto, unfolding(crate::specs::Whole::task_with))]
 fn task_of(
     alloc: Global,
@@ -377,7 +378,7 @@ fn check_uses(domain: &DomainAst, problem: &ProblemAst) -> Result<(), CheckError
     check_use(Source::Problem, misused_in_problem(metric, problem))
 }
 
-/// The lifted task of these parts, where the metric's function is used as it may be.
+/// Returns the lifted task of these parts, where the metric's function is used as it may be.
 fn task_by_uses(
     alloc: Global,
     parts: Parts,

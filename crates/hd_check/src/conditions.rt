@@ -4,9 +4,9 @@ ghost use Rattle.hd_check.specs.Conditions.{comparison_fault, condition_fault, l
 ghost use Rattle.hd_check.specs.Conditions.{LiftsLiteral, LiftsEquality, GathersLiterals, GathersEqualities, GathersComparisons};
 
 use crate::context::Context;
-use crate::expressions::expression_of;
+use crate::expressions::resolve_expression;
 use crate::fault::Stop;
-use crate::terms::{applied_of, term_of};
+use crate::terms::{resolve_applied, term_of};
 use hd_base::Sequence;
 use hd_lifted::{Comparison, Condition, Equality, Literal};
 use hd_terms::{Atom, Term};
@@ -21,7 +21,7 @@ fn literal_of(
 ) -> Result<Literal, Stop>
     ensures { LiftsLiteral result context.entry positive atom.now }
 {
-    let atom = applied_of(alloc, &context.scope.predicates, context, atom)?;
+    let atom = resolve_applied(alloc, &context.scope.predicates, context, atom)?;
     Ok(Literal { atom, positive })
 }
 
@@ -44,7 +44,7 @@ fn equality_of(
     })
 }
 
-/// What a comparison of numbers stands for.
+/// Returns what a comparison of numbers stands for.
 fn comparison_of(
     alloc: Global,
     context: Context<'_>,
@@ -52,8 +52,8 @@ fn comparison_of(
 ) -> Result<Comparison, Stop>
     ensures { Lifts result comparison_fault lifted_comparison context.entry said.now }
 {
-    let left = expression_of(alloc, context, &said.left)?;
-    let right = expression_of(alloc, context, said.right.get())?;
+    let left = resolve_expression(alloc, context, &said.left)?;
+    let right = resolve_expression(alloc, context, said.right.get())?;
     Ok(Comparison {
         relation: said.relation,
         left,
@@ -104,7 +104,7 @@ impl Found {
     }
 }
 
-/// What a condition stands for.
+/// Returns what a condition stands for.
 pub fn condition_of(
     alloc: Global,
     context: Context<'_>,

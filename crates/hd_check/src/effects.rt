@@ -5,9 +5,9 @@ ghost use Rattle.hd_check.specs.Effects.{is_metric, lifted_change, change_fault,
 ghost use Rattle.hd_check.specs.Effects.{GathersDeletes, GathersAdds, GathersChanges};
 
 use crate::context::Context;
-use crate::expressions::expression_of;
+use crate::expressions::resolve_expression;
 use crate::fault::Stop;
-use crate::terms::applied_of;
+use crate::terms::resolve_applied;
 use hd_base::{Boxed, Sequence};
 use hd_lifted::{Applied, Change, NumericEffect};
 use hd_terms::{Effect, FluentChange};
@@ -21,7 +21,7 @@ pub struct Effects {
     pub changes: Sequence<NumericEffect>,
 }
 
-/// Whether a function is the metric's.
+/// Reports whether a function is the metric's.
 pub fn is_metric(metric: Option<usize>, function: usize) -> bool
     ensures { result ≡ is_metric metric function }
 {
@@ -31,7 +31,7 @@ pub fn is_metric(metric: Option<usize>, function: usize) -> bool
     }
 }
 
-/// How a change changes its fluent, which may be the metric's.
+/// Returns how a change changes its fluent, which may be the metric's.
 fn change_of(cost: bool, change: hd_forms::Change) -> Change
     ensures { result ≡ lifted_change cost change }
 {
@@ -44,7 +44,7 @@ fn change_of(cost: bool, change: hd_forms::Change) -> Change
     }
 }
 
-/// What a change of a fluent stands for.
+/// Returns what a change of a fluent stands for.
 fn effect_of(
     alloc: Global,
     context: Context<'_>,
@@ -53,9 +53,9 @@ fn effect_of(
     ensures { Lifts result change_fault lifted_effect context.entry said.now }
 {
     let said = said.get();
-    let fluent = applied_of(alloc, &context.scope.functions, context, &said.fluent)?;
+    let fluent = resolve_applied(alloc, &context.scope.functions, context, &said.fluent)?;
     let cost = is_metric(context.scope.metric, fluent.symbol);
-    let amount = expression_of(alloc, context, &said.amount)?;
+    let amount = resolve_expression(alloc, context, &said.amount)?;
     Ok(NumericEffect {
         change: change_of(cost, said.change),
         fluent,
@@ -80,10 +80,15 @@ impl Found {
     {
         match part {
             Effect::Add(atom) => {
-                self.adds.push(applied_of(alloc, &context.scope.predicates, context, atom)?)?;
+                self.adds.push(resolve_applied(alloc, &context.scope.predicates, context, atom)?)?;
             }
             Effect::Delete(atom) => {
-                self.deletes.push(applied_of(alloc, &context.scope.predicates, context, atom)?)?;
+                self.deletes.push(resolve_applied(
+                    alloc,
+                    &context.scope.predicates,
+                    context,
+                    atom,
+                )?)?;
             }
             Effect::Change(said) => {
                 self.changes.push(effect_of(alloc, context, said)?)?;
@@ -93,7 +98,7 @@ impl Found {
     }
 }
 
-/// What an effect stands for.
+/// Returns what an effect stands for.
 pub fn effects_of(alloc: Global, context: Context<'_>, parts: &[Effect]) -> Result<Effects, Stop>
     ensures { Lifts result effects_fault lifted_effects context.entry parts.now }
 {

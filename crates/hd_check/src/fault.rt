@@ -136,7 +136,7 @@ impl<T: Drop> From<AllocFailed<T>> for CheckError {
     }
 }
 
-/// What stopped the check of this text.
+/// Returns what stopped the check of this text.
 pub fn error_in(source: Source, stop: Stop) -> CheckError
     ensures { result ≡ error_in source stop }
 {

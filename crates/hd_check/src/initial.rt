@@ -9,7 +9,7 @@ use crate::context::Context;
 use crate::effects::is_metric;
 use crate::fault::{Fault, Stop};
 use crate::keys::Keys;
-use crate::terms::applied_of;
+use crate::terms::resolve_applied;
 use hd_base::{Sequence, Tuple, in_range};
 use hd_lifted::{Applied, Argument, Ground, InitialValue};
 use hd_names::{Scope, Table, duplicate};
@@ -35,7 +35,7 @@ pub fn no_parameters(alloc: Global, scope: &Scope) -> Table<usize>
     }
 }
 
-/// The object of an argument: outside of actions each is one.
+/// Returns the object of an argument: outside of actions each is one.
 fn object_in(argument: Argument) -> usize
     ensures { result ≡ object_in argument }
 {
@@ -45,7 +45,7 @@ fn object_in(argument: Argument) -> usize
     }
 }
 
-/// An atom or a fluent of objects.
+/// Returns an atom or a fluent of objects.
 fn ground_form(alloc: Global, applied: &Applied) -> Result<Ground, AllocError>
     ensures { IfOk result (λ g. g ≡ ground_form applied.now) }
 {
@@ -59,7 +59,7 @@ fn ground_form(alloc: Global, applied: &Applied) -> Result<Ground, AllocError>
     })
 }
 
-/// What an atom, or a fluent, outside of actions stands for.
+/// Returns what an atom, or a fluent, outside of actions stands for.
 fn ground_of(
     alloc: Global,
     symbols: &Table<Sequence<usize>>,
@@ -73,7 +73,7 @@ fn ground_of(
         scope,
         parameters: &parameters,
     };
-    let applied = applied_of(alloc, symbols, context, atom);
+    let applied = resolve_applied(alloc, symbols, context, atom);
     drop(parameters);
     Ok(ground_form(alloc, &applied?)?)
 }
@@ -101,7 +101,7 @@ fn note_value(alloc: Global, given: &mut Keys, fluent: &Ground, said: &Atom) -> 
     }
 }
 
-/// The fluent that has a first value.
+/// Returns the fluent that has a first value.
 fn fluent_of(
     alloc: Global,
     scope: &Scope,
@@ -118,7 +118,7 @@ fn fluent_of(
     Ok(fluent)
 }
 
-/// One first value more: the metric's function is no part of a state.
+/// Adds one first value more: the metric's function is no part of a state.
 fn add_value(
     alloc: Global,
     scope: &Scope,
@@ -170,7 +170,7 @@ impl Found {
     }
 }
 
-/// What holds at first.
+/// Returns what holds at first.
 pub fn initial_of(alloc: Global, scope: &Scope, init: &[Init]) -> Result<Initial, Stop>
     ensures { LiftsInitial result scope.now init.now }
 {

@@ -29,7 +29,7 @@ impl Model for Keys {
 }
 
 impl Keys {
-    /// No fluents, in a table that hashes by this seed.
+    /// Returns no fluents, in a table that hashes by this seed.
     pub fn none(alloc: Global, seed: Seed) -> Keys
         ensures { result ≡ [] }
     {
@@ -38,7 +38,7 @@ impl Keys {
         }
     }
 
-    /// One fluent more, if it is none of them yet: whether it was none.
+    /// Returns one fluent more, if it is none of them yet: whether it was none.
     pub fn add(&mut self, alloc: Global, fluent: &Ground) -> Result<bool, AllocError>
         ensures new { IfOk result (λ new. new ≡ not (is_named self.old (key_of fluent.now))) }
         ensures keys { IfOk result (λ _. self.new ≡ with_name self.old (key_of fluent.now)) }
@@ -48,7 +48,7 @@ impl Keys {
     }
 }
 
-/// A function, and then its objects.
+/// Returns a function, and then its objects.
 fn key_of(alloc: Global, fluent: &Ground) -> Result<Key, AllocError>
     ensures { IfOk result (λ key. key.items ≡ key_of fluent.now) }
 {

@@ -7,40 +7,41 @@ ghost use Rattle.hd_lifted.specs.Checked.{HasCostMetric, HasCostsByMetric, IsChe
 ghost use Rattle.hd_lifted.specs.WellFormed.{IsWellFormed, HasDistinctNames, AreOfDifferentFluents};
 ghost use Rattle.hd_check.specs.Whole.{IsFaultless, IsOfTexts, HasNoFault, HoldsOfFaultless, lifted_task};
 
-/// No texts have both a task and a fault: a check answers a task exactly where no fault stands.
+/// Law: no texts have both a task and a fault: a check answers a task exactly where no fault
+/// stands.
 pub fn faults_leave_no_task()
     ensures { (d : DomainAst) (p : ProblemAst) → IsFaultless d p → HasNoFault d p }
 {}
 
-/// The task of a domain and a problem without a fault is well formed.
+/// Law: the task of a domain and a problem without a fault is well formed.
 pub fn faultless_texts_are_well_formed()
     ensures { HoldsOfFaultless IsWellFormed }
 {}
 
-/// In the task of a domain and a problem without a fault no two objects have one name, and so of
-/// predicates, functions and schemas.
+/// Law: in the task of a domain and a problem without a fault no two objects have one name, and so
+/// of predicates, functions and schemas.
 pub fn names_are_distinct()
     ensures { HoldsOfFaultless HasDistinctNames }
 {}
 
-/// In the task of a domain and a problem without a fault no fluent has two first values.
+/// Law: in the task of a domain and a problem without a fault no fluent has two first values.
 pub fn fluents_have_one_first_value()
     ensures { HoldsOfFaultless (λ (t : LiftedTask). AreOfDifferentFluents t.values) }
 {}
 
-/// The metric of the task of a domain and a problem without a fault is a function without
+/// Law: the metric of the task of a domain and a problem without a fault is a function without
 /// parameters that is used as a cost alone.
 pub fn metric_is_a_cost()
     ensures { HoldsOfFaultless HasCostMetric }
 {}
 
-/// Without a metric no effect of the task of a domain and a problem is a cost.
+/// Law: without a metric no effect of the task of a domain and a problem is a cost.
 pub fn without_a_metric_nothing_costs()
     ensures { (d : DomainAst) (p : ProblemAst) → HasCostsByMetric (lifted_task d p) }
 {}
 
-/// The task of some texts without a fault is well formed, its names are distinct, its first values
-/// are of different fluents, and its metric is a cost; without one there are no costs.
+/// Law: the task of some texts without a fault is well formed, its names are distinct, its first
+/// values are of different fluents, and its metric is a cost; without one there are no costs.
 pub fn checked_tasks_are_well_formed()
     ensures { (t : LiftedTask) → IsOfTexts t → IsChecked t }
 {}

@@ -1,7 +1,14 @@
-//! Names, types and the metric of a domain and a problem that were read.
+//! Checks the names, types and metric of a domain and a problem, and builds their lifted task.
 //!
-//! `check` answers the lifted task that they stand for, with each name by its number, or the first
-//! fault.
+//! [`check`] returns a task only if the texts have no error, and then exactly their lifted task,
+//! with each name as a number. Otherwise it reports the first error in the order of the texts, at
+//! its place. One exception: of several types on cycles, the contract allows any. No two texts have
+//! both a task and an error ([`laws::faults_leave_no_task`]).
+//!
+//! The parts are checked in the order of their errors: domain name, types, declarations, actions,
+//! problem, metric. Each part takes over what the one before found. The tables of names are those
+//! of hd_names, and hash by a seed that changes no answer. Start reading at [`check`], then
+//! `specs/Whole`.
 #![tactic(auto)]
 
 mod checking;

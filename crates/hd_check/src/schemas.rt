@@ -21,7 +21,7 @@ pub struct Body {
     pub effects: Effects,
 }
 
-/// What an action's precondition and effect stand for.
+/// Returns what an action's precondition and effect stand for.
 #[tactic(auto, unfolding(crate::specs::Schemas::body_fault))]
 fn body_of(alloc: Global, context: Context<'_>, action: &Action) -> Result<Body, Stop>
     ensures { Lifts result body_fault body_of context.entry action.now }
@@ -36,7 +36,7 @@ fn body_of(alloc: Global, context: Context<'_>, action: &Action) -> Result<Body,
     }
 }
 
-/// What an action of this name, with these parameters and this body, stands for.
+/// Returns what an action of this name, with these parameters and this body, stands for.
 fn schema_by(name: Name, parameters: Table<usize>, body: Body) -> Schema
     ensures { result ≡ schema_by name parameters body }
 {
@@ -50,7 +50,7 @@ fn schema_by(name: Name, parameters: Table<usize>, body: Body) -> Schema
     }
 }
 
-/// What an action with these parameters and this body stands for.
+/// Returns what an action with these parameters and this body stands for.
 fn named(
     alloc: Global,
     action: &Action,
@@ -69,7 +69,7 @@ fn named(
     }
 }
 
-/// What an action with these parameters stands for.
+/// Returns what an action with these parameters stands for.
 #[tactic(auto, unfolding(crate::specs::Schemas::schema_with))]
 fn schema_with(
     alloc: Global,
@@ -92,7 +92,7 @@ fn schema_with(
     }
 }
 
-/// What an action stands for.
+/// Returns what an action stands for.
 #[tactic(auto, unfolding(crate::specs::Schemas::lifted_schema, crate::specs::Schemas::action_fault), using(crate::proofs::Telling::stops_first))]
 fn schema_of(alloc: Global, scope: &Scope, action: &Action) -> Result<Schema, Stop>
     ensures { LiftsIn result action_fault lifted_schema scope.now action.now }
@@ -102,7 +102,7 @@ fn schema_of(alloc: Global, scope: &Scope, action: &Action) -> Result<Schema, St
     schema_with(alloc, scope, parameters, action)
 }
 
-/// What actions stand for, in their order.
+/// Returns what actions stand for, in their order.
 #[tactic(auto, using(crate::proofs::Telling::stops_first))]
 pub fn schemas_of(
     alloc: Global,

@@ -14,7 +14,7 @@ use hd_names::{Table, known, spelled};
 use hd_terms::{Atom, ItemKind, Term};
 use std::alloc::Global;
 
-/// What a term stands for.
+/// Returns what a term stands for.
 #[tactic(auto, using(crate::proofs::Telling::stops_part))]
 pub fn term_of(alloc: Global, context: Context<'_>, term: &Term) -> Result<Argument, Stop>
     ensures { Lifts result term_fault lifted_term context.entry term.now }
@@ -31,7 +31,7 @@ pub fn term_of(alloc: Global, context: Context<'_>, term: &Term) -> Result<Argum
     }
 }
 
-/// The declared type of an object or a parameter.
+/// Returns the declared type of an object or a parameter.
 fn type_at(context: Context<'_>, argument: Argument) -> usize
     ensures { result ≡ within context.entry type_at argument }
 {
@@ -47,7 +47,7 @@ fn type_at(context: Context<'_>, argument: Argument) -> usize
     }
 }
 
-/// Tells that a term's type is none of those that are wanted.
+/// Reports that a term's type is none of those that are wanted.
 fn wrong_type(alloc: Global, term: &Term) -> Stop
     ensures { StopsAt result (Some (wrong_type term.now)) }
 {
@@ -61,7 +61,7 @@ fn wrong_type(alloc: Global, term: &Term) -> Stop
     }
 }
 
-/// What an argument for a parameter of this type stands for.
+/// Returns what an argument for a parameter of this type stands for.
 fn argument_of(
     alloc: Global,
     context: Context<'_>,
@@ -79,7 +79,7 @@ fn argument_of(
     }
 }
 
-/// What arguments for parameters of these types stand for.
+/// Returns what arguments for parameters of these types stand for.
 fn arguments_of(
     alloc: Global,
     context: Context<'_>,
@@ -101,7 +101,7 @@ fn arguments_of(
     Ok(Sequence::from_vec(arguments))
 }
 
-/// The types of the parameters of the predicate, or the function, of this number.
+/// Returns the types of the parameters of the predicate, or the function, of this number.
 pub fn parameters_at(symbols: &Table<Sequence<usize>>, number: usize) -> &[usize]
     ensures { result.now ≡ parameters_at symbols.now number }
 {
@@ -111,7 +111,7 @@ pub fn parameters_at(symbols: &Table<Sequence<usize>>, number: usize) -> &[usize
     }
 }
 
-/// Tells that an atom has more or fewer arguments than its name has parameters.
+/// Reports that an atom has more or fewer arguments than its name has parameters.
 pub fn wrong_arity(alloc: Global, name: &NameAt) -> Stop
     ensures { StopsAt result (Some (WrongArity name.now.name name.now.at)) }
 {
@@ -121,9 +121,9 @@ pub fn wrong_arity(alloc: Global, name: &NameAt) -> Stop
     }
 }
 
-/// What an atom, or a fluent, stands for, by the predicates or the functions.
+/// Resolves the names of an atom by the predicates, or of a fluent by the functions.
 #[tactic(auto, using(crate::proofs::Telling::stops_first))]
-pub fn applied_of(
+pub fn resolve_applied(
     alloc: Global,
     symbols: &Table<Sequence<usize>>,
     context: Context<'_>,

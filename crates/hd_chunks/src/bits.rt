@@ -30,7 +30,7 @@ impl Model for Bits {
 }
 
 impl Bits {
-    /// The list of no bits, which holds no memory yet.
+    /// Returns the list of no bits, which holds no memory yet.
     pub fn new(alloc: Global) -> Bits
         ensures items { result.items ≡ [] }
         ensures room { result.room ≡ 0 }
@@ -41,21 +41,21 @@ impl Bits {
         }
     }
 
-    /// How many bits there are.
+    /// Returns how many bits there are.
     pub fn len(&self) -> usize
         ensures { result ≡ length self.now.items }
     {
         self.len
     }
 
-    /// Whether there are none.
+    /// Reports whether there are none.
     pub fn is_empty(&self) -> bool
         ensures { result ≡ (length self.now.items == 0) }
     {
         self.len == 0
     }
 
-    /// How many bits can be pushed without asking for memory.
+    /// Returns how many bits can be pushed without asking for memory.
     pub fn room(&self) -> usize
         ensures { result ≡ self.now.room }
     {
@@ -76,7 +76,7 @@ impl Bits {
         self.words.reserve(count.saturating_sub(free).div_ceil(64))
     }
 
-    /// Adds a bit at the end. It takes no memory.
+    /// Adds a bit at the end. It does not allocate.
     pub fn push(&mut self, bit: bool)
         requires { 0 < self.old.room }
         ensures items { self.new.items ≡ self.old.items ++ bit ∷ [] }
@@ -87,7 +87,7 @@ impl Bits {
         self.len += 1;
     }
 
-    /// The bit of this number.
+    /// Returns the bit of this number.
     pub fn at(&self, number: usize) -> bool
         requires { number < length self.now.items }
         ensures { result ≡ slice_index_or self.now.items number true }
@@ -95,7 +95,7 @@ impl Bits {
         (*self.words.at(number / 64) >> (number % 64)) & 1 == 1
     }
 
-    /// Puts a bit in the place of the one with this number. It takes no memory.
+    /// Puts a bit in the place of the one with this number. It does not allocate.
     pub fn set(&mut self, number: usize, bit: bool)
         requires { number < length self.old.items }
         ensures items { self.new.items ≡ slice_set self.old.items number bit }

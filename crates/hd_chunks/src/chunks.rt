@@ -65,7 +65,7 @@ fn add_chunks<T: Drop>(
 }
 
 impl<T> Chunks<T> {
-    /// The list of no items, which holds no memory yet.
+    /// Returns the list of no items, which holds no memory yet.
     pub fn new(alloc: Global) -> Chunks<T>
         ensures items { result.items ≡ [] }
         ensures room { result.room ≡ 0 }
@@ -77,7 +77,7 @@ impl<T> Chunks<T> {
         }
     }
 
-    /// How many items there are.
+    /// Returns how many items there are.
     pub fn len(&self) -> usize
         ensures len { result ≡ length self.now.items }
         ensures few { length self.now.items + self.now.room ≤ MOST_ITEMS }
@@ -85,14 +85,14 @@ impl<T> Chunks<T> {
         self.len
     }
 
-    /// Whether there are none.
+    /// Reports whether there are none.
     pub fn is_empty(&self) -> bool
         ensures { result ≡ (length self.now.items == 0) }
     {
         self.len == 0
     }
 
-    /// How many items can be pushed without asking for memory.
+    /// Returns how many items can be pushed without asking for memory.
     pub fn room(&self) -> usize
         ensures { result ≡ self.now.room }
     {
@@ -118,7 +118,7 @@ impl<T> Chunks<T> {
         add_chunks(self.alloc, &mut self.chunks, wanted)
     }
 
-    /// Adds an item at the end. It takes no memory.
+    /// Adds an item at the end. It does not allocate.
     pub fn push(&mut self, item: T)
         requires { 0 < self.old.room }
         ensures items { self.new.items ≡ self.old.items ++ item ∷ [] }
@@ -129,7 +129,7 @@ impl<T> Chunks<T> {
         self.len += 1;
     }
 
-    /// The item of this number.
+    /// Returns the item of this number.
     pub fn at(&self, number: usize) -> &T
         requires { number < length self.now.items }
         ensures { result.now ≡ slice_index_or self.now.items number result.now }
@@ -137,7 +137,7 @@ impl<T> Chunks<T> {
         &self.chunks[number / CHUNK][number % CHUNK]
     }
 
-    /// The item of this number, if there is such an item.
+    /// Returns the item of this number, if there is such an item.
     pub fn get(&self, number: usize) -> Option<&T>
         ensures { option_copied result ≡ slice_get self.now.items number }
     {
@@ -148,14 +148,14 @@ impl<T> Chunks<T> {
         }
     }
 
-    /// The items, one after the other.
+    /// Returns the items, one after the other.
     pub fn iter(&self) -> Iter<'_, T>
         ensures { result ≡ self.now.items }
     {
         Iter::of(self)
     }
 
-    /// Puts an item in the place of the one with this number. It takes no memory.
+    /// Puts an item in the place of the one with this number. It does not allocate.
     pub fn set(&mut self, number: usize, item: T)
     where
         T: Drop,

@@ -22,7 +22,7 @@ impl<'a, T> Model for Iter<'a, T> {
 }
 
 impl<'a, T> Iter<'a, T> {
-    /// All items of a list.
+    /// Returns all items of a list.
     pub(crate) fn of(list: &'a Chunks<T>) -> Iter<'a, T>
         ensures { result ≡ list.now.items }
     {

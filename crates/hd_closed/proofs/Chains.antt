@@ -254,7 +254,7 @@ linked_set notes heads heads' place n n' at hash before put = record {
   put = put;
 }
 
--- a note is linked behind the others
+-- a note is linked after the others
 pub linked_push :
     (notes notes' : List Note) (heads heads' : List (Option ℕ)) (hash : ℕ) (n : Note) → notes' ≡ notes ++ n ∷ [] → n.hash ≡ hash → n.before ≡ head_at heads (bucket_at hash (length heads))
     → heads' ≡ set heads (bucket_at hash (length heads)) (Some (length notes)) → IsLinked notes notes' heads heads' (length notes) hash
@@ -270,7 +270,7 @@ linked_push notes notes' heads heads' hash n is same before put = record {
 
 -- ---- tables
 
--- notes are chained anew one after the other
+-- notes are chained again one after the other
 pub chained_set :
     (states : List State) (old notes : List Note) (heads heads' : List (Option ℕ)) (place : ℕ) (n n' : Note) → AreAlike old notes → AreNotesOf states old → AreChained states notes heads place
     → 0 < length heads → slice_get notes place ≡ Some n → n'.hash ≡ n.hash → n'.before ≡ head_at heads (bucket_at n.hash (length heads)) → heads' ≡ set heads (bucket_at n.hash (length heads)) (Some place)
@@ -339,7 +339,7 @@ table_set states notes heads place n n' t at hash before =
       enough = (let e = t.enough in omega (arith, many, e));
     }
 
--- all notes are chained anew
+-- all notes are chained again
 pub table_anew :
     (states : List State) (notes notes' : List Note) (heads heads' : List (Option ℕ)) → IsTable states notes heads → AreAlike notes notes' → AreChained states notes' heads' (length notes) → length notes ≤ length heads'
     → IsTable states notes' heads'
@@ -351,12 +351,12 @@ table_anew states notes notes' heads heads' t a c enough = record {
 
 -- ---- a search for a state
 
--- a place is not behind where a search goes on
+-- a place is not after where a search goes on
 abbrev pub IsUpTo : ℕ → Option ℕ → Type 0
 IsUpTo k None = ⊥
 IsUpTo k (Some q) = k ≤ q
 
--- a search that goes on at a place: the state is not behind it, and a state of the same bucket
+-- a search that goes on at a place: the state is not after it, and a state of the same bucket
 -- stands there
 pub record IsSearch (states : List State) (buckets : ℕ) (s : State) (next : Option ℕ) : Type 0 where
   pub up_to : (k : ℕ) → slice_get states k ≡ Some s → IsUpTo k next

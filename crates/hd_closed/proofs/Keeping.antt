@@ -383,7 +383,7 @@ module _ (t : Task) (states : List State) (notes : List Note) (heads : List (Opt
   abbrev closed_now : List Closed
   closed_now = map (closed_of states) shuts
 
-  -- a state's note tells what names an expansion that costs no more
+  -- a state's note reports what names an expansion that costs no more
   pub told_by :
       (place : ℕ) (n : Note) (cost : ℕ) → slice_get notes place ≡ Some n
       → IfSome (no_dearer shuts n.least cost) (λ by. IfSome (slice_get states place) (λ s. IsNamedBy closed_now s cost by))
@@ -409,7 +409,7 @@ module _ (t : Task) (states : List State) (notes : List Note) (heads : List (Opt
       at_slot q leasts None there = tt
       at_slot q leasts (Some x) there = by_test q x leasts there (nat_le x.cost cost) refl
 
-  -- and where it tells of none, there is none
+  -- and where it reports of none, there is none
   pub told_of_none :
       (place : ℕ) (n : Note) (cost : ℕ) → slice_get notes place ≡ Some n
       → IfNone (no_dearer shuts n.least cost) (IfSome (slice_get states place) (λ s. IsDearer closed_now s cost))
@@ -476,7 +476,7 @@ module _ (t : Task) (states : List State) (notes : List Note) (heads : List (Opt
 
 -- ---- naming expansions from a place on
 
--- the expansions before a place are named anew, and the others are as they were
+-- the expansions before a place are named again, and the others are as they were
 pub record IsNumbering (first : ℕ) (given : List ℕ) (before shuts : List Shut) (place : ℕ) : Type 0 where
   pub done : (j : ℕ) (s : Shut) → j < place → slice_get before j ≡ Some s → slice_get shuts j ≡ Some (shut_numbered first given s)
   pub rest : (j : ℕ) (s : Shut) → place ≤ j → slice_get before j ≡ Some s → slice_get shuts j ≡ Some s
@@ -539,7 +539,7 @@ entered_more shuts place n x entered at is = λ j s lt there. by j s lt there (c
         let equal : x ≡ s = same_Some x s (sym at ∙ (ap (slice_get shuts) same ∙ there)) in
         subst IsEntered (sym is ∙ ap (λ (y : Shut). y.by) equal) tt
 
--- entries stay so when expansions are named anew
+-- entries stay so when expansions are named again
 pub entered_numbered : (first : ℕ) (given : List ℕ) (shuts : List Shut) (place : ℕ) → HasNumbered shuts place → HasNumbered (map (shut_numbered first given) shuts) place
 entered_numbered first given shuts place entered = λ j s lt there. by j s lt (slice_get shuts j) refl (sym (slice_get-map (shut_numbered first given) shuts j) ∙ there)
   where

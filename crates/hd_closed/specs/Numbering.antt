@@ -6,7 +6,7 @@ use Rattle.hd_closed.specs.Closed.{Closed}
 
 -- what names an outcome, once the batch that was given last is numbered from `first` on: an outcome
 -- of that batch is the entry with as many of the batch's entries before it as `given` has at its
--- place; the others count from the first outcome behind the batch
+-- place; the others count from the first outcome after the batch
 abbrev pub numbered : ℕ → List ℕ → By → By
 numbered first given (Entry n) = Entry n
 numbered first given (Here i) = if nat_lt i (length given) then Entry (first + slice_index given i) else Here (i - length given)

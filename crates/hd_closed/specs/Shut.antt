@@ -29,7 +29,7 @@ HasNumbered shuts place = (k : ℕ) (s : Shut) → k < place → slice_get shuts
 abbrev pub shut_numbered : ℕ → List ℕ → Shut → Shut
 shut_numbered first given s = record { by = numbered first given s.by; state = s.state; cost = s.cost }
 
--- expansions are named anew
+-- expansions are named again
 abbrev pub AreNumbered : ℕ → List ℕ → List Shut → List Shut → Type 0
 AreNumbered first given before after = after ≡ map (shut_numbered first given) before
 

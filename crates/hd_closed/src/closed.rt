@@ -72,7 +72,7 @@ impl<'t> Model for ClosedList<'t> {
         × (c.ready ≡ true → vec_len c.shuts < MAX_PLACES) };
 }
 
-/// Names the expansions from a place on anew, once the batch that was given last is numbered from
+/// Names the expansions from a place on again, once the batch that was given last is numbered from
 /// `first` on. Those before it are entries, which keep their names.
 fn number_from(shuts: &mut [Shut], from: usize, first: u64, given: &[u64])
     requires fits { (k : ℕ) → first + slice_index given.now k < 2 ^ 64 }
@@ -89,7 +89,7 @@ fn number_from(shuts: &mut [Shut], from: usize, first: u64, given: &[u64])
     }
 }
 
-/// A place up to which all expansions are entries, where they are so up to another.
+/// Returns a place up to which all expansions are entries, where they are so up to another.
 fn entered_from(shuts: &[Shut], from: usize) -> usize
     requires entered { HasNumbered shuts.now from }
     requires bounded { from ≤ length shuts.now }
@@ -106,7 +106,7 @@ fn entered_from(shuts: &[Shut], from: usize) -> usize
     entered
 }
 
-/// One expansion more, where there is room for it.
+/// Adds one expansion more, where there is room for it.
 fn push_shut(shuts: &mut Vec<Shut>, shut: Shut)
     requires { vec_len shuts.old < vec_capacity shuts.old }
     ensures { shuts.new.items ≡ shuts.old.items ++ shut ∷ [] }
@@ -117,7 +117,7 @@ fn push_shut(shuts: &mut Vec<Shut>, shut: Shut)
     }
 }
 
-/// Whether an expansion of this cost is cheaper than that at a place, if there is one.
+/// Reports whether an expansion of this cost is cheaper than that at a place, if there is one.
 fn is_cheaper(shuts: &[Shut], least: Option<usize>, cost: u64) -> bool
     ensures { result ≡ is_cheaper shuts.now least cost }
 {
@@ -130,7 +130,7 @@ fn is_cheaper(shuts: &[Shut], least: Option<usize>, cost: u64) -> bool
     }
 }
 
-/// What names the expansion at a place, if there is one, and it costs no more.
+/// Returns what names the expansion at a place, if there is one, and it costs no more.
 fn no_dearer(shuts: &[Shut], least: Option<usize>, cost: u64) -> Option<By>
     ensures { result ≡ no_dearer shuts.now least cost }
 {
@@ -150,7 +150,7 @@ fn no_dearer(shuts: &[Shut], least: Option<usize>, cost: u64) -> Option<By>
 }
 
 impl<'t> ClosedList<'t> {
-    /// No states and no expansions.
+    /// Returns no states and no expansions.
     pub fn empty(alloc: Global, task: &'t Task) -> ClosedList<'t>
         ensures { result ≡ record { task = task.now; states = []; closed = []; ready = false } }
     {
@@ -165,7 +165,8 @@ impl<'t> ClosedList<'t> {
         }
     }
 
-    /// The place of a state. One that was not met before comes behind the others, as a copy.
+    /// Returns the place of a state. One that was not met before comes after the others, as a
+    /// copy.
     ///
     /// # Errors
     /// `NoMemory` where there is no room for it.
@@ -198,7 +199,7 @@ impl<'t> ClosedList<'t> {
         Ok(place)
     }
 
-    /// The state at a place.
+    /// Returns the state at a place.
     pub fn state(&self, place: usize) -> Row<'_>
         requires { place < length self.now.states }
         ensures state { slice_get self.now.states place ≡ Some result }
@@ -207,7 +208,7 @@ impl<'t> ClosedList<'t> {
         self.rows.at(place)
     }
 
-    /// The hash of the state at a place.
+    /// Returns the hash of the state at a place.
     pub fn hash(&self, place: usize) -> u64
         requires { place < length self.now.states }
         ensures { IfSome (slice_get self.now.states place) (λ s. result ≡ state_hash s) }
@@ -233,7 +234,7 @@ impl<'t> ClosedList<'t> {
         value
     }
 
-    /// What names an expansion of the state at a place that costs no more, if there is one.
+    /// Returns what names an expansion of the state at a place that costs no more, if there is one.
     pub fn dominating(&self, place: usize, cost: u64) -> Option<By>
         requires { place < length self.now.states }
         ensures named { IfSome result (λ by. IfSome (slice_get self.now.states place)
@@ -263,7 +264,7 @@ impl<'t> ClosedList<'t> {
         Ok(())
     }
 
-    /// One expansion more, of the state at a place. It takes no memory.
+    /// Adds one expansion more, of the state at a place. It does not allocate.
     pub fn close(&mut self, place: usize, by: By, cost: u64)
         requires place { place < length self.old.states }
         requires ready { self.old.ready ≡ true }
@@ -288,7 +289,7 @@ impl<'t> ClosedList<'t> {
         }
     }
 
-    /// Names all expansions anew, once the batch that was given last is numbered from `first` on:
+    /// Names all expansions again, once the batch that was given last is numbered from `first` on:
     /// of each outcome of that batch, `given` has how many expansions stand before it. It takes no
     /// memory, and looks only at expansions from the first one on that had no number before.
     pub fn number(&mut self, first: u64, given: &[u64])

@@ -1,9 +1,14 @@
-//! The closed list of a worker: the expansions that it knows of, in order, and the states that it
-//! has met, each once, by their hashes.
+//! Keeps the closed list of a worker: the states that it met, and the expansions that it knows of.
 //!
-//! An expansion is named by its entry in the book, or, as long as it has no number, by its place
-//! among the worker's own outcomes. The estimate of a state is kept with it, so that no state is
-//! estimated twice.
+//! [`ClosedList::dominating`] names an expansion of a state at no greater cost, exactly if there is
+//! one. [`ClosedList::place_of`] returns the place of a state, and adds a new one.
+//! [`ClosedList::estimate`] returns its h-max. [`ClosedList::number`] names a batch's expansions by
+//! their entries.
+//!
+//! The states stand packed in one block. A hash table with chains finds them by the upper half of
+//! the hash, since the lower bits may select the owner. A note keeps what is known of a state.
+//!
+//! Start reading at [`ClosedList`], then `src/notes.rt`.
 #![tactic(auto)]
 
 mod closed;

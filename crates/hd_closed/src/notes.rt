@@ -24,9 +24,9 @@ pub(crate) struct Note {
     before: Place,
 }
 
-/// The bucket of a hash, of so many, by the upper half of its bits. The lowest ones tell which
-/// worker owns the state where the number of workers is a power of two: since that of the buckets
-/// is one too, the states of one of four workers, say, would all be in a quarter of them.
+/// Returns the bucket of a hash, of so many, by the upper half of its bits. The lowest ones tell
+/// which worker owns the state where the number of workers is a power of two: since that of the
+/// buckets is one too, the states of one of four workers, say, would all be in a quarter of them.
 fn bucket_of(hash: u64, buckets: usize) -> usize
     requires { 0 < buckets }
     ensures value { result ≡ bucket_at hash buckets }
@@ -35,7 +35,7 @@ fn bucket_of(hash: u64, buckets: usize) -> usize
     (hash / (1 << 32) % buckets as u64) as usize
 }
 
-/// The place that the bucket of a hash has.
+/// Returns the place that the bucket of a hash has.
 #[tactic(auto, using(crate::proofs::Chains::head_read))]
 fn head_of(heads: &[Place], hash: u64) -> Option<usize>
     requires { 0 < length heads.now }
@@ -60,7 +60,7 @@ fn link(heads: &mut Vec<Place>, hash: u64, place: usize) -> Place
     before
 }
 
-/// Chains notes anew, by buckets that are empty.
+/// Chains notes again, by buckets that are empty.
 fn link_all(notes: &mut Vec<Note>, heads: &mut Vec<Place>)
     requires some { 0 < length heads.old.items }
     requires few { length notes.old.items ≤ MAX_PLACES }
@@ -118,7 +118,7 @@ fn cover(
     Ok(())
 }
 
-/// Whether this state stands at a place. One of another hash does not.
+/// Reports whether this state stands at a place. One of another hash does not.
 fn stands(rows: &Rows, place: usize, noted: u64, state: &Hashed) -> bool
     requires place { place < length rows.now.states }
     requires of_rows { IsOfRows rows.now state.now }
@@ -130,7 +130,7 @@ fn stands(rows: &Rows, place: usize, noted: u64, state: &Hashed) -> bool
     noted == state.hash() && rows.is(place, state.state())
 }
 
-/// The place of a state's note.
+/// Returns the place of a state's note.
 pub(crate) fn find(rows: &Rows, notes: &[Note], heads: &[Place], state: &Hashed) -> Option<usize>
     requires table { IsTable rows.now.states notes.now heads.now }
     requires of_rows { IsOfRows rows.now state.now }
@@ -151,7 +151,7 @@ pub(crate) fn find(rows: &Rows, notes: &[Note], heads: &[Place], state: &Hashed)
     None
 }
 
-/// One note more, of a state of which nothing is known yet.
+/// Adds one note more, of a state of which nothing is known yet.
 fn push_note(notes: &mut Vec<Note>, heads: &mut Vec<Place>, hash: u64)
     requires room { vec_len notes.old < vec_capacity notes.old }
     requires few { length notes.old.items < MAX_PLACES }
@@ -174,10 +174,10 @@ fn push_note(notes: &mut Vec<Note>, heads: &mut Vec<Place>, hash: u64)
     }
 }
 
-/// One state more, of which nothing is known yet.
+/// Adds one state more, of which nothing is known yet.
 ///
 /// # Errors
-/// Want of memory; no state has come.
+/// Lack of memory; no state has come.
 #[tactic(auto, using(crate::proofs::Chains::alike_same))]
 pub(crate) fn add(
     alloc: Global,

@@ -24,14 +24,14 @@ impl Model for Place {
 }
 
 impl Place {
-    /// No place.
+    /// Returns no place.
     pub(crate) fn none() -> Place
         ensures { result ≡ None }
     {
         Place { code: 0 }
     }
 
-    /// A place.
+    /// Returns a place.
     pub(crate) fn of(place: usize) -> Place
         requires { place < MAX_PLACES }
         ensures { result ≡ Some place }
@@ -41,14 +41,14 @@ impl Place {
         }
     }
 
-    /// The same.
+    /// Returns the same.
     pub(crate) fn copied(&self) -> Place
         ensures { result ≡ self.now }
     {
         Place { code: self.code }
     }
 
-    /// The place, if it is one.
+    /// Returns the place, if it is one.
     pub(crate) fn get(&self) -> Option<usize>
         ensures { result ≡ self.now }
     {
@@ -78,14 +78,14 @@ impl Model for Known {
 }
 
 impl Known {
-    /// No value.
+    /// Returns no value.
     pub(crate) fn none() -> Known
         ensures { result ≡ None }
     {
         Known { code: 0 }
     }
 
-    /// A value; none where it has more than 64 bits.
+    /// Returns a value; none where it has more than 64 bits.
     pub(crate) fn of(value: EstimateValue) -> Known
         ensures { IfSome result (λ v. v ≡ value) }
     {
@@ -103,7 +103,7 @@ impl Known {
         }
     }
 
-    /// The value, if there is one.
+    /// Returns the value, if there is one.
     pub(crate) fn get(&self) -> Option<EstimateValue>
         ensures { result ≡ self.now }
     {

@@ -1,4 +1,4 @@
--- What a search goes on with behind stops, and that what they left is always opened.
+-- What a search goes on with after stops, and that what they left is always opened.
 use Rattle.std.proofs.Common.{◌≡◌, ℕ, ◌≤◌, true, Option, Some, None, List, [], take, length, sym, ap, ◌∙◌, arith}
 use Rattle.std.specs.Prelude.{unwrap_or}
 use Rattle.std.proofs.lemmas.List.{length-take}
@@ -31,7 +31,7 @@ use Rattle.hd_crash.proofs.Halting.{IsCut, run_found, run_goes_on, run_groups}
 use Rattle.hd_crash.proofs.Opened.{left_opened, left_found, left_not_refused}
 use Rattle.hd_crash.proofs.Playing.{run_left, gone_on, reached_sound, recovered_is, resumed_with, IsBegun, begun, rested}
 
--- ---- behind a run
+-- ---- after a run
 
 module _ (t : Task) (f : File) (r : Run) (x : IsSound t f r) (f' : File) (r' : Run) (c : IsCut f r f') (on : IsRunAfter t f' r') where
   abbrev entries : List Kid

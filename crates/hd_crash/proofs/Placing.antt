@@ -1,4 +1,4 @@
--- Groups are told by their entries with their places.
+-- Groups are reported by their entries with their places.
 use Rattle.std.proofs.Common.{◌≡◌, ◌≢◌, ℕ, ◌+◌, ◌*◌, ◌≤◌, List, [], ◌∷◌, ◌++◌, length, drop, refl, sym, ap, ap₂, ◌∙◌, arith}
 use Rattle.std.proofs.Math.Nat.{mul-suc}
 use Rattle.std.specs.List.{AllByRecursion}
@@ -39,7 +39,7 @@ end_is v at (k ∷ kids) =
 group_end : (v : Version) (gate : ℕ) (kids : List Kid) → gate + length (opened v kids) ≡ end_of v (gate + 5) kids
 group_end v gate kids = omega (arith, end_is v (gate + 5) kids, length-counted v kids)
 
--- behind the entries of a group that stand first, the next one's place is not that of one more
+-- after the entries of a group that stand first, the next one's place is not that of one more
 not_here : (v : Version) (gate : ℕ) (groups : List (List Kid)) (k : Kid) (more : List Entry) → AllByRecursion (IsGroup v) groups
     → entries_in v gate groups ≡ record { parent = k.parent; action = k.action; at = gate } ∷ more → ⊥
 not_here v gate [] k more sound e = none_some (record { parent = k.parent; action = k.action; at = gate }) more e
@@ -59,7 +59,7 @@ first_same v at (k ∷ ks) (l ∷ ls) gs hs g h e =
     let more = first_same v (at + entry_width v) ks ls gs hs g h (ap (drop 1) e) in
     (ap₂ (λ (x : Kid) (xs : List Kid). x ∷ xs) (ap first_kid e) more.0, more.1)
 
--- the entries behind a first group
+-- the entries after a first group
 behind : (v : Version) (gate : ℕ) (g : List Kid) (gs : List (List Kid))
     → entries_in v gate (g ∷ gs) ≡ entries_of v (gate + 5) g ++ entries_in v (end_of v (gate + 5) g) gs
 behind v gate g gs = ap (λ (n : ℕ). entries_of v (gate + 5) g ++ entries_in v n gs) (group_end v gate g)

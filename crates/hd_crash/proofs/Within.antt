@@ -44,7 +44,7 @@ at_call d (Writing at bytes) calls = at_one d (Writing at bytes) calls
 at_call d (Cutting len) calls = at_one d (Cutting len) calls
 at_call d Syncing calls = at_first d (Syncing ∷ calls)
 
--- where it is between the device behind a call and the last one, it is between that before it and
+-- where it is between the device after a call and the last one, it is between that before it and
 -- the last one
 one_earlier : (d now last : Device) (call : Call) → IsBetween (after_call d call) now last → IsBetween d now last
 one_earlier d now last call b = record {

@@ -14,8 +14,8 @@ ghost use Rattle.hd_journal.specs.Moments.{IsSettled};
 ghost use Rattle.hd_world.specs.Stops.{File, at_rest, bytes_of, stopped_in, with_group, Opens};
 ghost use Rattle.hd_crash.specs.Left.{Doing, Appending, IsFoundAfter, IsLeft, HasGroups, StopMayLeave};
 
-/// A stop within any of the calls that append a group, or before them, leaves the groups with
-/// anything behind their closed gate, or the whole new group behind a gate that reads anything.
+/// Law: a stop within any of the calls that append a group, or before them, leaves the groups with
+/// anything after their closed gate, or the whole new group after a gate that reads anything.
 pub fn a_stop_in_an_append_leaves_the_groups()
     ensures { (digest : List ℕ) (f : File) (next : List Kid) (c : ℕ) (content : List ℕ)
         → StopMayLeave (stopped_in (at_rest (bytes_of digest f))
@@ -23,7 +23,7 @@ pub fn a_stop_in_an_append_leaves_the_groups()
         → IsLeft digest (Appending f next) content }
 {}
 
-/// A stop within any of the calls that open what stops left, or before them, leaves again what
+/// Law: a stop within any of the calls that open what stops left, or before them, leaves again what
 /// those may have left.
 pub fn a_stop_in_an_opening_leaves_as_much()
     ensures { (digest : List ℕ) (doing : Doing) (content : List ℕ) (calls : List Call) (f : File)
@@ -32,8 +32,9 @@ pub fn a_stop_in_an_opening_leaves_as_much()
         → StopMayLeave (stopped_in (at_rest content) calls c) left → IsLeft digest doing left }
 {}
 
-/// What stops left is opened, and the journal that is there then is the one that stood there, or
-/// that with the whole group that was being appended; or the first one, where one was being made.
+/// Law: what stops left is opened, and the journal that is there then is the one that stood there,
+/// or that with the whole group that was being appended; or the first one, where one was being
+/// made.
 pub fn what_stops_left_is_opened()
     ensures some { (digest : List ℕ) (doing : Doing) (content : List ℕ)
         → length digest ≡ DIGEST_LEN → HasGroups doing → IsLeft digest doing content
@@ -43,14 +44,14 @@ pub fn what_stops_left_is_opened()
         → Opens digest content calls f → IsFoundAfter doing f }
 {}
 
-/// Nothing is said against what stops left.
+/// Law: nothing is said against what stops left.
 pub fn what_stops_left_is_not_refused()
     ensures { (digest : List ℕ) (doing : Doing) (content : List ℕ) (error : ImageError)
         → length digest ≡ DIGEST_LEN → HasGroups doing → IsLeft digest doing content
         → IsRefused digest content error → error ≡ NoMemory }
 {}
 
-/// A content is opened by one list of calls, as one journal.
+/// Law: a content is opened by one list of calls, as one journal.
 pub fn contents_are_opened_in_one_way()
     ensures calls { (digest content : List ℕ) (calls other : List Call) (f g : File)
         → Opens digest content calls f → Opens digest content other g → calls ≡ other }
@@ -58,8 +59,8 @@ pub fn contents_are_opened_in_one_way()
         → Opens digest content calls f → Opens digest content other g → f ≡ g }
 {}
 
-/// Where all calls were done that open a content, the journal's bytes are there; where all were
-/// done that append a group, those of the journal with that group; and nothing is pending.
+/// Law: where all calls were done that open a content, the journal's bytes are there; where all
+/// were done that append a group, those of the journal with that group; and nothing is pending.
 pub fn calls_that_were_done_leave_a_journal()
     ensures opened { (digest content : List ℕ) (calls : List Call) (f : File)
         → length digest ≡ DIGEST_LEN → Opens digest content calls f

@@ -22,15 +22,15 @@ ghost use Rattle.hd_world.specs.World.{World, Stopped, Running, is_recovered, Pl
 ghost use Rattle.hd_crash.specs.Filling.{Filled};
 ghost use Rattle.hd_crash.specs.Lasting.{IsSoundWorld};
 
-/// A search goes on from each beginning of the entries of a legal list, if the journal may have
-/// so many.
+/// Law: a search goes on from each beginning of the entries of a legal list, if the journal may
+/// have so many.
 pub fn beginnings_are_recovered()
     ensures { (t : Task) (f : File) (entries : List Kid) (n : ℕ) → AreLegal t entries
         → n ≤ length entries → length entries ≤ most_of f.version → entries_of f ≡ take n entries
         → is_recovered t f ≡ true }
 {}
 
-/// Each world that a schedule comes to, from an empty disk or a journal, is sound: the search
+/// Law: each world that a schedule comes to, from an empty disk or a journal, is sound: the search
 /// that runs; or what stops left of one. Each move leaves it so.
 pub fn worlds_are_sound()
     ensures steps { (t : Task) (digest : List ℕ) (w after : World) (m : Move)
@@ -44,10 +44,10 @@ pub fn worlds_are_sound()
         → Reaches Anything t digest start moves (Running f r) → IsSound t f r }
 {}
 
-/// The first run is the search of the journal that is there before, or the search at first. Where
-/// a run ends, and one goes on after moves during which nothing runs, a beginning of its search
-/// is left that has all acknowledged entries, and those of the group that was appended, if one
-/// was.
+/// Law: the first run is the search of the journal that is there before, or the search at first.
+/// Where a run ends, and one goes on after moves during which nothing runs, a beginning of its
+/// search is left that has all acknowledged entries, and those of the group that was appended, if
+/// one was.
 pub fn searches_go_on()
     ensures first { (t : Task) (digest start : List ℕ) (earlier : File) (moves : List Move)
         (content : List ℕ) (workers : ℕ) (stop : Option StopAt) (f : File) (r : Run)
@@ -65,8 +65,8 @@ pub fn searches_go_on()
         → IsResumed r t workers f2 r2 }
 {}
 
-/// Whatever stops left, in any number, is opened and not refused, and a search goes on from the
-/// entries that are found.
+/// Law: whatever stops left, in any number, is opened and not refused, and a search goes on from
+/// the entries that are found.
 pub fn what_is_left_goes_on()
     ensures opens { (t : Task) (digest start : List ℕ) (earlier : File) (moves : List Move)
         (content : List ℕ) → length digest ≡ DIGEST_LEN → IsBeginning t digest start earlier
@@ -91,7 +91,7 @@ pub fn what_is_left_goes_on()
         × StepsTo Anything t digest (Stopped content) (Resume workers None) (Running f r) }
 {}
 
-/// What a schedule comes to where each stop leaves the bytes that are not sure as the schedule
+/// Law: what a schedule comes to where each stop leaves the bytes that are not sure as the schedule
 /// names them, it may come to where a stop may leave anything: so all laws of schedules hold of
 /// it.
 pub fn named_bytes_are_among_any()

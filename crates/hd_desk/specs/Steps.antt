@@ -1,4 +1,4 @@
--- What each step of the lock tells the pass that takes it. (Our own.)
+-- What each step of the lock reports the pass that takes it. (Our own.)
 use Rattle.std.specs.Prelude.{◌≡◌, List, [], length, Some}
 use Rattle.std.specs.List.{AllByRecursion}
 use Rattle.hd_desk.specs.declared.rule.TheConstants.{ALL_PARTS}

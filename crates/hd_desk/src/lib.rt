@@ -1,13 +1,13 @@
-//! What the threads of a search share: a lock for one value that only grows, and a mailbox for each
-//! worker.
+//! Shares values among the threads of a search: a lock for a value that only grows, and mailboxes.
 //!
-//! The locked value lies in a queue of one place while the lock is free, and is with one pass
-//! otherwise. Contracts see of it what it is of (a task) and a log, and of a pass what it knows:
-//! the log as it last saw it. What a pass gets from the lock begins with that.
+//! [`Lock::enter`] returns the value; its log begins with what the [`Pass`] last saw.
+//! [`Mailboxes::push`] puts an item in or gives it back, and [`Mailboxes::pop`] takes one. With all
+//! parts of a mailbox, [`Mailboxes::tally`] shows that what was put in was taken or is left.
 //!
-//! Who pushes an item sends it to another worker; who pops takes what was sent to it. Each thread
-//! has a pass of each mailbox, and the passes of one together know what was ever put into it: what
-//! was taken, and what is left.
+//! The value is in a queue of one place while the lock is free; else it is with one pass. A mailbox
+//! is a bounded queue. `push` and `pop` never wait; `enter` spins, then yields. A pass is ghost
+//! knowledge, split into parts, one for each further thread. Start reading at [`Lock`], then at
+//! [`Mailboxes`] and `specs/Passes`.
 #![tactic(auto)]
 
 mod lock;

@@ -44,11 +44,11 @@ pub struct Lock<B: Locked> {
 }
 
 impl<B: Locked> Lock<B> {
-    /// A lock that is free and holds the value, with a pass that has every part and has seen the
-    /// value.
+    /// Returns a lock that is free and holds the value, with a pass that has every part and has
+    /// seen the value.
     ///
     /// # Errors
-    /// Want of memory.
+    /// Lack of memory.
     pub fn open<R: Wait>(rt: &R, alloc: Global, value: B) -> Result<(Lock<B>, Pass<B>), AllocError>
         ensures pass { IfOk result (λ r. IsOutside r.0.place r.1) }
         ensures view { IfOk result (λ r. view r.1 ≡ opened (B.task value) (B.log value)) }
@@ -76,9 +76,9 @@ impl<B: Locked> Lock<B> {
         self.place.pop_as::<Enters, R>(rt, pass)
     }
 
-    /// Whether the lock was taken at a moment of the call. Another thread may take it, or give the
-    /// value back, before this one acts on the answer: it tells whether a try is worth while. A
-    /// lock that no other pass can take is not taken.
+    /// Reports whether the lock was taken at a moment of the call. Another thread may take it, or
+    /// give the value back, before this one acts on the answer: it reports whether a try is worth
+    /// while. A lock that no other pass can take is not taken.
     pub fn is_taken(&self, pass: &mut Pass<B>) -> bool
         requires { IsOutside self.now.place pass.old }
         ensures outside { IsOutside self.now.place pass.new }
@@ -121,8 +121,8 @@ impl<B: Locked> Lock<B> {
         }
     }
 
-    /// A further pass for a further user, with one of this pass's parts. It has seen what this one
-    /// has.
+    /// Returns a further pass for a further user, with one of this pass's parts. It has seen what
+    /// this one has.
     pub fn another(&self, pass: &mut Pass<B>) -> Pass<B>
         requires pass { IsOutside self.now.place pass.old }
         requires parts { 1 < (view pass.old).parts }
@@ -134,8 +134,8 @@ impl<B: Locked> Lock<B> {
         self.place.another::<Parts>(pass)
     }
 
-    /// The value, from a lock that nobody uses any more: all its passes are handed in. It waits for
-    /// no other thread.
+    /// Returns the value, from a lock that nobody uses any more: all its passes are handed in. It
+    /// waits for no other thread.
     pub fn gather<R: Wait>(self, rt: &R, pass: Pass<B>, passes: Vec<Pass<B>>) -> B
         requires pass { IsOutside self.place pass }
         requires passes { All (IsOutside self.place) passes.items }

@@ -57,8 +57,8 @@ impl<'t, K, T: Sent<K>> Model for Hands<'t, K, T> {
     ghost invariant = { λ h. AllByRecursion (IsHand h.of.now) h.passes.items };
 }
 
-/// A mailbox that is empty, and the pass that has all parts of it. An item goes through it, so that
-/// it is known what the items are of.
+/// Returns a mailbox that is empty, and the pass that has all parts of it. An item goes through it,
+/// so that it is known what the items are of.
 fn opened<K, T: Sent<K>, R: Wait>(
     rt: &R,
     alloc: Global,
@@ -121,7 +121,7 @@ fn join<K, T: Sent<K>>(
     boxes[number].absorb::<Part>(pass, other);
 }
 
-/// Empty mailboxes, so many, and the passes that have all parts of them. An item tells what all
+/// Empty mailboxes, so many, and the passes that have all parts of them. An item reports what all
 /// items are of.
 fn open_all<K, T: Sent<K>, R: Wait>(
     rt: &R,
@@ -224,8 +224,8 @@ impl<K, T: Sent<K>> Mailboxes<K, T> {
         self.boxes[from].try_pop_as::<Taken>(pass)
     }
 
-    /// Empty mailboxes, so many, and the passes that have all parts of them. An item tells what all
-    /// items are of; it is not put into any.
+    /// Empty mailboxes, so many, and the passes that have all parts of them. An item reports what
+    /// all items are of; it is not put into any.
     ///
     /// # Errors
     /// `NoMemory` where there is no room for them.

@@ -1,4 +1,4 @@
-//! The rule of the lock's queue, and what each step of it tells.
+//! The rule of the lock's queue, and what each step of it reports.
 ghost use Rattle.hd_desk.specs.Kept.{Kept};
 ghost use Rattle.hd_desk.specs.Steps.{Opened, Entered, Left, IsThere, IsThereAlone, IsGone};
 ghost use Rattle.hd_desk.specs.Views.{unopened, less_one, another_of, with_told, spent};

@@ -77,9 +77,9 @@ accepted true true true why e = absurd (cc)
 accepted true false settled why e = absurd (cc)
 accepted false posted settled why e = absurd (cc)
 
--- ---- the kids of a kept book
+-- ---- the successors of a kept book
 
--- a posted kid stands at its place, and names the plan that is generated there
+-- a posted successor stands at its place, and names the plan that is generated there
 pub record IsAt (b : BookState) (k : Kid) : Type 0 where
   pub within : place_of b k < length (generated b.task (expansions b))
   pub kid : get_or (posted_by b.task (expansions b)) (place_of b k) root ≡ k
@@ -121,7 +121,7 @@ expanded_cases earlier o i r e =
       ]
     ] refl e
 
--- a kid that the outcomes so far and one more do not settle
+-- a successor that the outcomes so far and one more do not settle
 other_kid : (earlier : List Outcome) (o : Outcome) (q : Kid) → is_settled_by (earlier ++ o ∷ []) q ≡ false → (is_settled_by earlier q ≡ false) × (same_kid q (kid_of o) ≡ false)
 other_kid earlier o q e =
     let parts = or_parts (is_settled_by earlier q) (is_settled_by (o ∷ []) q) (sym (list_any-append (λ o. same_kid q (kid_of o)) earlier (o ∷ [])) ∙ e) in
@@ -232,7 +232,7 @@ module _ (t : Task) (entries0 : List Kid) (marks0 : List Bool) (kept0 : IsKept (
   abbrev old : List (List ℕ)
   old = expansions before
 
-  -- two places of the old kids have different ones
+  -- two places of the old successors have different ones
   pub posted_apart : (i j : ℕ) → i < length (generated t old) → j < length (generated t old) → get_or (posted_by t old) i root ≡ get_or (posted_by t old) j root → i ≢ j → ⊥
   posted_apart i j hi hj e ne =
       let short : length old < ROOT_PARENT = omega (arith, count-entries before kept0, kept0.short) in
@@ -244,8 +244,8 @@ module _ (t : Task) (entries0 : List Kid) (marks0 : List Bool) (kept0 : IsKept (
       apart t old i j kept0.marked.legal ne hi hj (same_Some _ _ (sym (at i hi) ∙ (ap (plan_of old) e ∙ at j hj)))
 
   -- the book after some outcomes: it is kept, goes on from the old plans, has left the marks of
-  -- other kids, and has the nodes of the outcomes that are expansions; its further plans lead where
-  -- those do, and the kids that they post are not marked
+  -- other successors, and has the nodes of the outcomes that are expansions; its further plans lead
+  -- where those do, and the successors that they post are not marked
   pub record Follows (earlier : List Outcome) (entries : List Kid) (marks : List Bool) : Type 0 where
     pub kept : IsKept (record { task = t; entries = entries; marks = marks })
     pub more : List (List ℕ)
@@ -294,7 +294,7 @@ module _ (t : Task) (entries0 : List Kid) (marks0 : List Bool) (kept0 : IsKept (
     at_now : IsAt now k
     at_now = stands now f.kept k still_posted
 
-    -- the plan of the kid is the same
+    -- the plan of the successor is the same
     same_plan : get_or (generated t E) (place_of now k) [] ≡ get_or (generated t old) (place_of before k) []
     same_plan =
         ap (λ n. get_or (generated t E) n []) same_place
@@ -308,7 +308,7 @@ module _ (t : Task) (entries0 : List Kid) (marks0 : List Bool) (kept0 : IsKept (
     within_marks : place_of now k < length marks
     within_marks = omega (arith, at_now.within, f.kept.marked.one_each)
 
-    -- another posted kid stands elsewhere
+    -- another posted successor stands elsewhere
     elsewhere : (q : Kid) → is_posted before q ≡ true → same_kid q k ≡ false → place_of before q ≢ place_of now k
     elsewhere q posted_q other e =
         let at_q = stands before kept0 q posted_q in
@@ -317,11 +317,11 @@ module _ (t : Task) (entries0 : List Kid) (marks0 : List Bool) (kept0 : IsKept (
         in
         true≢false (sym (subst (λ x. same_kid q x ≡ true) same (same_kid-refl q)) ∙ other)
 
-    -- a kid that neither the book before nor the outcomes settle is open
+    -- a successor that neither the book before nor the outcomes settle is open
     open_now : is_marked before k ≡ false → is_settled_by earlier k ≡ false → get_or marks (place_of now k) true ≡ false
     open_now unmarked other = ap (λ n. get_or marks n true) same_place ∙ f.opens k posted unmarked other
 
-    -- another old place has another kid
+    -- another old place has another successor
     other_place : (j : ℕ) → j < length marks0 → j ≢ place_of now k → same_kid (get_or (posted_by t old) j root) k ≡ false
     other_place j lt ne =
         elim (same_kid (get_or (posted_by t old) j root) k) as (λ b. same_kid (get_or (posted_by t old) j root) k ≡ b → b ≡ false) [
@@ -330,7 +330,7 @@ module _ (t : Task) (entries0 : List Kid) (marks0 : List Bool) (kept0 : IsKept (
           | false ↦ λ e. refl
         ] refl
 
-    -- the old marks, with that of the kid
+    -- the old marks, with that of the successor
     old_marks : (o : Outcome) → kid_of o ≡ k → (j : ℕ) → j < length marks0 → get_or (set marks (place_of now k) true) j true ≡ (get_or marks0 j true || is_settled_by (earlier ++ o ∷ []) (get_or (posted_by t old) j root))
     old_marks o is_k j lt =
         let q = get_or (posted_by t old) j root in
@@ -367,7 +367,7 @@ module _ (t : Task) (entries0 : List Kid) (marks0 : List Bool) (kept0 : IsKept (
               subst (λ (x : Kid). is_posted before x ≡ true) (sym (same_kid-true q k (only (same_kid q k) (ap (λ (x : Kid). same_kid q x || false) (sym is_k) ∙ last)))) posted
         ] refl
 
-    -- ---- the kid is settled without an entry
+    -- ---- the successor is settled without an entry
 
     abbrev p : List ℕ
     p = get_or (generated t E) (place_of now k) []
@@ -444,7 +444,7 @@ module _ (t : Task) (entries0 : List Kid) (marks0 : List Bool) (kept0 : IsKept (
           why = inr (subst (IsBounded (bound_of t E) d.at.cost) value (within_bound d.at (estimated h.value) test));
         }
 
-    -- ---- the kid is expanded
+    -- ---- the successor is expanded
 
     module _ (e : ExpansionView) (own : e.task ≡ t) (is_k : e.kid ≡ k) (right : is_node (node_of before k) e.state e.cost ≡ true) (room : length entries + 1 < ROOT_PARENT) (unmarked : is_marked before k ≡ false) (other : is_settled_by earlier k ≡ false) where
       abbrev o : Outcome

@@ -64,7 +64,7 @@ module _ (t : Task) (entries : List Entry) (best : Option Best) (departure : Opt
   abbrev E : List (List ℕ)
   E = plans_at (map kid_at entries')
 
-  -- the table, where the batch's kids are marked already, with what the batch posts
+  -- the table, where the batch's successors are marked already, with what the batch posts
   abbrev table' : KidsView
   table' = posted_all marked_table outcomes
 
@@ -169,7 +169,7 @@ module _ (t : Task) (entries : List Entry) (best : Option Best) (departure : Opt
     numbered = h.numbered;
   }
 
-  -- each outcome settles one kid
+  -- each outcome settles one successor
   pub settles_each : SettlesEach before after outcomes
   settles_each = f.counted
 
@@ -198,7 +198,7 @@ admitted c outcomes outcomes' same e =
       nothing = free.nothing;
     }
 
--- ---- how many kids are posted is far from a u64's end
+-- ---- how many successors are posted is far from a u64's end
 
 few_children : (t : Task) (p : List ℕ) → length (children t p) ≤ 2 ^ 20
 few_children t p = omega (arith, length-map (applicable_at t (exec t p)) (followed_by p), few_applicable t (exec t p), few_actions t)
@@ -229,7 +229,7 @@ refused_by_first b outcomes e = goes_on (has_room b outcomes) (first_refusal b.s
 
 -- ---- the same parts, by other names
 
--- what a table keeps, another with the same kids and marks keeps
+-- what a table keeps, another with the same successors and marks keeps
 same_table :
     (t : Task) (entries : List Entry) (best : Option Best) (departure : Option Departure) (table other : KidsView) (most : ℕ)
     → other.kids ≡ table.kids → other.marks ≡ table.marks → other.entries ≡ table.entries

@@ -1,4 +1,4 @@
--- Entries that are made again: the next entry marks its own kid, and its kids are open.
+-- Entries that are made again: the next entry marks its own successor, and its successors are open.
 use Rattle.std.proofs.Common.{◌≡◌, ◌≢◌, ℕ, ◌+◌, ◌<◌, ◌≤◌, ◌==◌, Bool, true, false, cond, not, ◌&&◌, ◌||◌, Option, Some, None, List, [], ◌∷◌, ◌++◌, map, set, replicate, fold, take, drop, length, get_or, inl, inr, refl, sym, ap, ap₂, ◌∙◌, subst, arith, length-append, length-set, append-nil, get_or-set_other, get_or-set_same}
 use Rattle.std.specs.Prelude.{option_and_then, option_map, unwrap_or}
 use Rattle.std.specs.Option.{option_or}
@@ -39,7 +39,7 @@ or_nothing : (a c : Bool) → c ≡ false → (a || (c || false)) ≡ a
 or_nothing true c e = refl
 or_nothing false c e = or-false c ∙ e
 
--- ---- an entry's kids are not among the entries up to it
+-- ---- an entry's successors are not among the entries up to it
 
 other_parent : (k q : Kid) → (q.parent ≡ k.parent → ⊥) → same_kid k q ≡ false
 other_parent k q ne = ap (λ b. b && (k.action == q.action)) (ne_eqb k.parent q.parent (λ e. ne (sym e)))
@@ -64,7 +64,7 @@ none_later (k ∷ ks) before all n a e le short =
     nothing [] = refl
     nothing (k ∷ ks) = nothing ks
 
--- ---- a search made again, and a kid
+-- ---- a search made again, and a successor
 
 module _ (t : Task) (before : List Kid) (kept : IsKept (resumed_state t before)) (k : Kid) where
   abbrev b : BookState
@@ -76,7 +76,7 @@ module _ (t : Task) (before : List Kid) (kept : IsKept (resumed_state t before))
   abbrev P : List Kid
   P = posted_by t E
 
-  -- the mark of a posted kid
+  -- the mark of a posted successor
   pub mark_is : is_posted b k ≡ true → is_marked b k ≡ has before k
   mark_is posted =
       let at = stands b kept k posted in
@@ -85,7 +85,7 @@ module _ (t : Task) (before : List Kid) (kept : IsKept (resumed_state t before))
   pub posted_is : has P k ≡ is_posted b k
   posted_is = sym (nat_lt-position_or_len (same_kid k) P)
 
-  -- the fault of a kid, by the tests of a book
+  -- the fault of a successor, by the tests of a book
   pub fault_is : fault_at t before k ≡ cond (not (knows_parent b k)) (Some UnknownParent) (cond (not (is_posted b k)) (Some NotAKid) (cond (is_marked b k) (Some SettledBefore) None))
   fault_is =
       let known = knows_parent b k in
@@ -96,7 +96,7 @@ module _ (t : Task) (before : List Kid) (kept : IsKept (resumed_state t before))
             ap (λ (x : Bool). cond (not known) (Some UnknownParent) (cond (not x) (Some NotAKid) (cond (has before k) (Some SettledBefore) None))) (posted_is ∙ e)
       ] refl
 
-  -- ---- the kid is the next entry
+  -- ---- the successor is the next entry
 
   module _ (posted : is_posted b k ≡ true) (free : is_marked b k ≡ false) (room : length before + 1 < ROOT_PARENT) where
     abbrev place : ℕ
@@ -105,7 +105,7 @@ module _ (t : Task) (before : List Kid) (kept : IsKept (resumed_state t before))
     at : IsAt b k
     at = stands b kept k posted
 
-    -- the plan of the kid
+    -- the plan of the successor
     abbrev p : List ℕ
     p = get_or (generated t E) (place_of b k) []
 
@@ -124,7 +124,7 @@ module _ (t : Task) (before : List Kid) (kept : IsKept (resumed_state t before))
     pub count : length E ≡ length before
     count = length-plans_of before E kept.named
 
-    -- its kids come after the others
+    -- its successors come after the others
     pub posted_now : posted_by t (plans_at after) ≡ P ++ kids_of (length before) actions
     posted_now =
         ap (posted_by t) plans
@@ -147,7 +147,7 @@ module _ (t : Task) (before : List Kid) (kept : IsKept (resumed_state t before))
     within_marks : place_of b k < length (map (has before) P)
     within_marks = omega (arith, within, length-map P (has before))
 
-    -- the kid at another place is another one
+    -- the successor at another place is another one
     pub other_kid : (j : ℕ) → j < length P → j ≢ place_of b k → same_kid (get_or P j root) k ≡ false
     other_kid j lt ne = other_there t before (map (has before) P) kept k posted j (omega (arith, lt, length-map P (has before))) ne
 

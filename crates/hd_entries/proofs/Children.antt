@@ -35,6 +35,6 @@ few_in (Expanded e ∷ outcomes) = omega (arith, few_of e, few_in outcomes)
 few_in (Duplicate k by ∷ outcomes) = omega (arith, few_in outcomes)
 few_in (Bounded k h ∷ outcomes) = omega (arith, few_in outcomes)
 
--- the kids of a batch can be counted
+-- the successors of a batch can be counted
 pub few_kids : (outcomes outcomes' : List Outcome) → outcomes' ≡ outcomes → length outcomes ≤ MAX_OUTCOMES → kids_in outcomes' < 2 ^ 64
 few_kids outcomes outcomes' same few = omega (arith, few_in outcomes, ap kids_in same, few)

@@ -55,7 +55,7 @@ kept_from t (k ∷ later) before kept short free =
 pub legal_from : (t : Task) (entries : List Kid) → IsKept (resumed_state t entries) → AreLegal t entries
 legal_from t entries kept = (plans_at entries, kept.named, kept.marked.legal)
 
--- ---- a kid that may come next has no fault
+-- ---- a successor that may come next has no fault
 
 no_fault : (known posted among : Bool) → known ≡ true → posted ≡ true → among ≡ false
     → cond (not known) (Some UnknownParent) (cond (not posted) (Some NotAKid) (cond among (Some SettledBefore) None)) ≡ None
@@ -64,7 +64,7 @@ no_fault true false among k p a = absurd (true≢false (sym p))
 no_fault true true true k p a = absurd (true≢false a)
 no_fault true true false k p a = refl
 
--- a kid of the root's parent names a plan only if it is the root
+-- a successor of the root's parent names a plan only if it is the root
 root_same : (expanded : List (List ℕ)) (k : Kid) (p : List ℕ) → k.parent ≡ ROOT_PARENT → plan_of expanded k ≡ Some p → same_kid k root ≡ true
 root_same expanded k p e is =
     let by_action : cond (k.action == ROOT_ACTION) (Some []) None ≡ Some p = sym (cond-true (k.parent == ROOT_PARENT) (cond (k.action == ROOT_ACTION) (Some []) None) (plan_from (slice_get expanded k.parent) k.action) (eq-eqb k.parent ROOT_PARENT e)) ∙ is in

@@ -1,4 +1,4 @@
--- What the parts of a book say of a kid: whether it is posted, and where it leads.
+-- What the parts of a book say of a successor: whether it is posted, and where it leads.
 use Rattle.std.proofs.Common.{◌≡◌, ◌≢◌, ℕ, zero, suc, ◌+◌, ◌-◌, ◌<◌, ◌≤◌, ◌==◌, nat_lt, Bool, true, false, cond, not, ◌&&◌, ◌||◌, Option, Some, None, is_some, List, [], ◌∷◌, filter, length, get_or, slice_get, ◌⊎◌, inl, inr, refl, sym, ap, ap₂, ◌∙◌, subst, arith, true≢false}
 use Rattle.std.specs.Prelude.{option_and_then}
 use Rattle.std.specs.List.{list_any, range_with_len}
@@ -28,7 +28,7 @@ use Rattle.hd_entries.specs.Holding.{kid_at, node_at, unmarked, IsExpanded}
 use Rattle.hd_entries.proofs.Accepting.{same_kid-true}
 use Rattle.hd_entries.proofs.Naming.{plan_of-kid}
 
--- ---- the kids of an entry
+-- ---- the successors of an entry
 
 any_of : (k : Kid) (n : ℕ) (actions : List ℕ) → k.parent ≡ n → list_any (same_kid k) (kids_of n actions) ≡ list_any (λ a. k.action == a) actions
 any_of k n [] e = refl
@@ -40,7 +40,7 @@ none_of k n [] ne = refl
 none_of k n (a ∷ actions) ne =
     ap₂ (λ x y. x || y) (ap (λ b. b && (k.action == a)) (ne_eqb k.parent n ne)) (none_of k n actions ne)
 
--- the kids of entries that are numbered from a greater number on are others
+-- the successors of entries that are numbered from a greater number on are others
 pub none_below : (t : Task) (k : Kid) (n : ℕ) (expanded : List (List ℕ)) → k.parent < n → list_any (same_kid k) (kids_from t n expanded) ≡ false
 none_below t k n [] lt = refl
 none_below t k n (p ∷ expanded) lt =
@@ -157,7 +157,7 @@ module _ (x : ExpandedPlans) (h : IsExpanded x) where
   pub posted-any : (k : Kid) → is_posted (unmarked x) k ≡ list_any (same_kid k) (posted_by t E)
   posted-any k = nat_lt-position_or_len (same_kid k) (posted_by t E)
 
-  -- a kid of an entry is posted where its action is applicable
+  -- a successor of an entry is posted where its action is applicable
   pub entry_posted : (k : Kid) (e d : Entry) → k.parent < length x.entries.items → e ≡ get_or x.entries.items k.parent d → is_applicable t (Some (node_at e)) k.action ≡ is_posted (unmarked x) k
   entry_posted k e d lt is =
       let lt' : k.parent < length E = omega (arith, count) in
@@ -177,7 +177,7 @@ module _ (x : ExpandedPlans) (h : IsExpanded x) where
       ap (option_and_then (exec t)) (plan_of-kid E k.parent k.action (get_or E k.parent []) lt' short refl)
       ∙ (exec-push t (get_or E k.parent []) r k.action (runs k.parent e d lt is) ∙ at)
 
-  -- a kid whose parent is known is the root, or of an entry
+  -- a successor whose parent is known is the root, or of an entry
   pub parent_known : (k : Kid) → knows_parent (unmarked x) k ≡ true → (same_kid k root ≡ true) ⊎ (k.parent < length x.entries.items)
   parent_known k e =
       elim (same_kid k root) as (λ b. (b || nat_lt k.parent (length (unmarked x).entries)) ≡ true → (b ≡ true) ⊎ (k.parent < length x.entries.items)) [

@@ -1,5 +1,5 @@
--- Outcomes that are judged one after the other, each with the kids of those before it marked, are
--- refused as the definition says.
+-- Outcomes that are judged one after the other, each with the successors of those before it marked,
+-- are refused as the definition says.
 use Rattle.std.proofs.Common.{◌≡◌, ◌≢◌, ℕ, ◌+◌, ◌<◌, ◌||◌, nat_lt, Bool, true, false, cond, not, Option, Some, None, List, [], ◌∷◌, ◌++◌, set, take, drop, length, get_or, inl, inr, refl, sym, ap, ◌∙◌, subst, arith, length-set, get_or-set_same, get_or-set_other, true≢false}
 use Rattle.std.specs.List.{position, position_or_len, AllByRecursion}
 use Rattle.std.specs.Option.{option_or}
@@ -71,7 +71,7 @@ module _ (t : Task) (entries : List Kid) (marks0 : List Bool) (kept : IsKept (re
   abbrev P : List Kid
   P = posted_by t (expansions before)
 
-  -- the kid at another place is another one
+  -- the successor at another place is another one
   pub other_there : (k : Kid) → is_posted before k ≡ true → (j : ℕ) → j < length marks0 → j ≢ place_of before k → same_kid (get_or P j root) k ≡ false
   other_there k posted j lt ne =
       let at = stands before kept k posted in
@@ -93,7 +93,7 @@ module _ (t : Task) (entries : List Kid) (marks0 : List Bool) (kept : IsKept (re
   length-marks_after (o ∷ outcomes) marks =
       length-marks_after outcomes (set marks (place_of before (kid_of o)) true) ∙ length-set marks (place_of before (kid_of o)) true
 
-  -- the marks after outcomes whose kids are posted
+  -- the marks after outcomes whose successors are posted
   pub marked_at :
       (outcomes : List Outcome) (marks : List Bool) → length marks ≡ length marks0 → AllByRecursion (λ o. is_posted before (kid_of o) ≡ true) outcomes → (j : ℕ) → j < length marks0
       → get_or (marks_after (holding marks) outcomes) j true ≡ (get_or marks j true || is_settled_by outcomes (get_or P j root))
@@ -116,7 +116,7 @@ module _ (t : Task) (entries : List Kid) (marks0 : List Bool) (kept : IsKept (re
             (other_there k posted.0 j lt ne)
       ])
 
-  -- the marks are those of the book and of the kids of outcomes
+  -- the marks are those of the book and of the successors of outcomes
   record AreMarked (earlier : List Outcome) (marks : List Bool) : Type 0 where
     long : length marks ≡ length marks0
     each : (j : ℕ) → j < length marks0 → get_or marks j true ≡ (get_or marks0 j true || is_settled_by earlier (get_or P j root))
@@ -181,7 +181,7 @@ module _ (t : Task) (entries : List Kid) (marks0 : List Bool) (kept : IsKept (re
   pub first_same : (outcomes : List Outcome) → first_wrong before [] outcomes ≡ first_refusal before [] outcomes
   first_same outcomes = firsts_agree [] outcomes marks0 (record { long = refl; each = λ j lt. sym (or-false (get_or marks0 j true)) })
 
--- what holds of each kid that outcomes settle
+-- what holds of each successor that outcomes settle
 pub all_known : (Q : Kid → Type 0) (outcomes : List Outcome) → ((q : Kid) → is_settled_by outcomes q ≡ true → Q q) → AllByRecursion (λ o. Q (kid_of o)) outcomes
 all_known Q [] h = tt
 all_known Q (o ∷ outcomes) h = (
@@ -191,7 +191,7 @@ all_known Q (o ∷ outcomes) h = (
 
 -- ---- an outcome that is right
 
--- its kid stands at its place, and is not settled
+-- its successor stands at its place, and is not settled
 pub open_place : (b : BookState) (earlier : List Outcome) (o : Outcome) (place : ℕ) → IsRight b earlier o place
     → (place < length (posted_by b.task (expansions b))) × (get_or b.marks place true ≡ false)
 open_place b earlier o place right =

@@ -68,7 +68,7 @@ module _ (t : Task) (h : Estimate) (expanded : List (List ℕ)) (marks : List Bo
         ap (λ plans. get_or plans j []) (generated-push t expanded p) ∙ get_or_append_left (generated t expanded) (children t p) [] j in_plans,
       )
 
-  -- a place behind them: no mark is set there, and a child of the plan stands there
+  -- a place after them: no mark is set there, and a child of the plan stands there
   new_place : (j : ℕ) → length marks ≤ j → j < length marks_after
       → (get_or marks_after j true ≡ false) × IsFrom (followed_by p) (applicable_at t (exec t p)) (get_or (generated t longer) j [])
   new_place j past lt =

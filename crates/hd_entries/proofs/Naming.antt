@@ -1,4 +1,4 @@
--- The plans that entries and kids name.
+-- The plans that entries and successors name.
 use Rattle.std.proofs.Common.{◌≡◌, ℕ, ◌+◌, ◌<◌, ◌==◌, cond, Option, Some, None, List, [], ◌∷◌, ◌++◌, map, length, get_or, fold, slice_get, refl, sym, ap, ap₂, ◌∙◌, subst, arith, length-append, append_assoc}
 use Rattle.std.specs.Prelude.{flat_map, option_and_then}
 use Rattle.std.proofs.lemmas.Bool.{ne_eqb, cond-false}
@@ -21,7 +21,7 @@ plans_of-push entries k expanded p e is =
     fold-append with_entry (Some []) entries (k ∷ [])
     ∙ (ap (λ o. with_entry o k) e ∙ ap (λ o. option_and_then (λ p. Some (expanded ++ p ∷ [])) o) is)
 
--- a kid of an entry
+-- a successor of an entry
 pub plan_of-kid : (expanded : List (List ℕ)) (n a : ℕ) (p : List ℕ) → n < length expanded → length expanded < ROOT_PARENT → get_or expanded n [] ≡ p → plan_of expanded (kid_from n a) ≡ Some (followed_by p a)
 plan_of-kid expanded n a p lt short e =
     cond-false (n == ROOT_PARENT) (cond (a == ROOT_ACTION) (Some []) None) (plan_from (slice_get expanded n) a) (ne_eqb n ROOT_PARENT (λ e. omega arith))
@@ -30,7 +30,7 @@ plan_of-kid expanded n a p lt short e =
 pub plan_of-root : (expanded : List (List ℕ)) → plan_of expanded root ≡ Some []
 plan_of-root expanded = refl
 
--- the kids of one entry name its children
+-- the successors of one entry name its children
 kids_named : (expanded : List (List ℕ)) (n : ℕ) (p : List ℕ) (actions : List ℕ) → n < length expanded → length expanded < ROOT_PARENT → get_or expanded n [] ≡ p → map (plan_of expanded) (kids_of n actions) ≡ map (λ a. Some (followed_by p a)) actions
 kids_named expanded n p [] lt short e = refl
 kids_named expanded n p (a ∷ actions) lt short e =
@@ -40,7 +40,7 @@ map_some : (p : List ℕ) (actions : List ℕ) → map (λ a. Some (followed_by 
 map_some p [] = refl
 map_some p (a ∷ actions) = ap (λ xs. Some (followed_by p a) ∷ xs) (map_some p actions)
 
--- the kids of the entries from some place on name what those generate
+-- the successors of the entries from some place on name what those generate
 from_named : (t : Task) (before after : List (List ℕ)) → length (before ++ after) < ROOT_PARENT → map (plan_of (before ++ after)) (kids_from t (length before) after) ≡ map Some (flat_map (children t) after)
 from_named t before [] short = refl
 from_named t before (p ∷ after) short =
@@ -74,7 +74,7 @@ kids_from-append t n (q ∷ expanded) more =
     ∙ (sym (append_assoc first (kids_from t (n + 1) expanded) (kids_from t (n + 1 + length expanded) more))
     ∙ ap (λ m. (first ++ kids_from t (n + 1) expanded) ++ kids_from t m more) (omega arith))
 
--- further expansions post further kids, and generate further plans
+-- further expansions post further successors, and generate further plans
 pub posted_by-append : (t : Task) (expanded more : List (List ℕ)) → posted_by t (expanded ++ more) ≡ posted_by t expanded ++ kids_from t (length expanded) more
 posted_by-append t expanded more =
     ap (λ (ks : List Kid). root ∷ ks)
@@ -83,7 +83,7 @@ posted_by-append t expanded more =
 pub generated-append : (t : Task) (expanded more : List (List ℕ)) → generated t (expanded ++ more) ≡ generated t expanded ++ flat_map (children t) more
 generated-append t expanded more = ap (λ (ps : List (List ℕ)). [] ∷ ps) (flat_map-append (children t) expanded more)
 
--- as many kids are posted as plans are generated
+-- as many successors are posted as plans are generated
 pub posted_count : (t : Task) (expanded : List (List ℕ)) → length expanded < ROOT_PARENT → length (posted_by t expanded) ≡ length (generated t expanded)
 posted_count t expanded short =
     sym (length-map (posted_by t expanded) (plan_of expanded))

@@ -24,7 +24,7 @@ use Rattle.hd_entries.specs.Holding.{node_at}
 use Rattle.hd_entries.specs.declared.entry.Entry.{Entry}
 use Rattle.hd_entries.specs.Growing.{entered_by, kids_at, kids_in, with_kids, actions_of, posted_one, posted_all}
 
--- ---- the kids of one entry
+-- ---- the successors of one entry
 
 pub entries_with : (actions : List ℕ) (table : KidsView) → (fold with_kid table actions).entries ≡ table.entries
 entries_with [] table = refl
@@ -50,9 +50,9 @@ kid_room_with : (actions : List ℕ) (table : KidsView) → (fold with_kid table
 kid_room_with [] table = omega arith
 kid_room_with (a ∷ actions) table = let rest = kid_room_with actions (with_kid table a) in omega (arith, rest)
 
--- ---- the kids of outcomes
+-- ---- the successors of outcomes
 
--- the kids of outcomes whose entries are numbered from n on
+-- the successors of outcomes whose entries are numbered from n on
 abbrev pub posted_for : ℕ → List Outcome → List Kid
 posted_for n [] = []
 posted_for n (Expanded e ∷ outcomes) = kids_of n (actions_of e.children) ++ posted_for (n + 1) outcomes
@@ -136,9 +136,9 @@ children_rise e =
     subst (λ (actions : List ℕ). AllPairs (λ (a b : ℕ). a < b) actions) (actions_at e.task e (Some (node e.state e.cost)) refl refl)
     (applicable_rises e.task (Some (node e.state e.cost)))
 
--- ---- kids that are posted one after the other
+-- ---- successors that are posted one after the other
 
--- an action that comes after those of an entry's kids, and after one more, comes after these
+-- an action that comes after those of an entry's successors, and after one more, comes after these
 pub after_one :
     (kids : List Kid) (n a b : ℕ) → ComesAfter kids n b → a < b → ComesAfter (kids ++ kid_from n a ∷ []) n b
 after_one kids n a b after lt = λ i d within is.

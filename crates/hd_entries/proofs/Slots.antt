@@ -37,7 +37,7 @@ use Rattle.hd_entries.proofs.Again.{fault_is, mark_is, plans, count, posted_now,
 use Rattle.hd_entries.proofs.Naming.{plan_of-kid}
 use Rattle.hd_entries.proofs.Same.{same_state-refl}
 
--- ---- kids lead where they led
+-- ---- successors lead where they led
 
 same_at : (expanded more : List (List ℕ)) (n : ℕ) (p : List ℕ) → slice_get expanded n ≡ Some p → slice_get (expanded ++ more) n ≡ Some p
 same_at [] more n p e = absurd (none-some p e)
@@ -82,12 +82,12 @@ slot_at b (k ∷ ks) [] i d h lt = absurd h
 slot_at b (k ∷ ks) (s ∷ ss) zero d h lt = h.0
 slot_at b (k ∷ ks) (s ∷ ss) (suc i) d h lt = slot_at b ks ss i d h.1 (omega arith)
 
--- a parcel is a kid's own, and says where that leads
+-- a parcel is a successor's own, and says where that leads
 pub record HasOwn (b : BookState) (k : Kid) (p : ParcelView) : Type 0 where
   pub kid : p.kid ≡ k
   pub leads : LeadsThere b p
 
--- the slot of a kid that is no entry
+-- the slot of a successor that is no entry
 pub own_of : {b : BookState} {k : Kid} {slot : Option ParcelView} → IsSlot b false k slot → (p : ParcelView) → slot ≡ Some p → HasOwn b k p
 own_of {b} {k} {slot} h p is =
     let own : IsSlot b false k (Some p) = subst (λ (s : Option ParcelView). IsSlot b false k s) is h in
@@ -140,7 +140,7 @@ first_again t b p is of_task kid state cost =
       );
     })
 
--- ---- a kid is the next entry
+-- ---- a successor is the next entry
 
 module _ (t : Task) (before : List Kid) (kept : IsKept (resumed_state t before)) (k : Kid) (posted : is_posted (resumed_state t before) k ≡ true) (free : is_marked (resumed_state t before) k ≡ false) (room : length before + 1 < ROOT_PARENT) where
   abbrev b : BookState
@@ -201,7 +201,7 @@ module _ (t : Task) (before : List Kid) (kept : IsKept (resumed_state t before))
     taken ks ss i (omega arith) is (λ j lt ne. far (suc j) (omega arith) (λ e. ne (omega arith))) h.1,
   )
 
-  -- ---- its kids wait
+  -- ---- its successors wait
 
   module _ (r : Node) (executes : exec t p ≡ Some r) where
     new_leads : (a : ℕ) (to : Node) → step_by t r a ≡ Some to → node_of b' (kid_from (length before) a) ≡ Some to
@@ -231,7 +231,7 @@ module _ (t : Task) (before : List Kid) (kept : IsKept (resumed_state t before))
         let parts = cons_parts (parcel_of q) (released_from (length before) c) (map parcel_of qs) (map (released_from (length before)) cs) same in
         (one_fresh q c parts.0 own.0 steps.0, fresh qs cs parts.1 own.1 steps.1)
 
--- a kid that has no fault is posted, is no entry, and waits
+-- a successor that has no fault is posted, is no entry, and waits
 pub record IsReady (t : Task) (before : List Kid) (k : Kid) (slots : List (Option ParcelView)) : Type 0 where
   pub known : knows_parent (resumed_state t before) k ≡ true
   pub posted : is_posted (resumed_state t before) k ≡ true
@@ -261,7 +261,7 @@ ready t before kept k free slots h =
       waits = subst (λ (c : Bool). IsSlot b c k slot) none its;
     }
 
--- a search goes on by the expansion of a kid
+-- a search goes on by the expansion of a successor
 pub goes_on :
     (t : Task) (before : List Kid) (kept : IsKept (resumed_state t before)) (k : Kid) (room : length before + 1 < ROOT_PARENT) (next : BookState) (qs : List ParcelView) (slots : List (Option ParcelView))
     → IsExpansionTo (resumed_state t before) k next (map parcel_of qs) → AllByRecursion (IsParcelOf t) qs → AreSlots (resumed_state t before) (posted_by t (plans_at before)) slots
@@ -308,7 +308,7 @@ goes_on t before kept k room next qs slots x own h =
       subst (λ (s : BookState). IsAgain s (set slots place None ++ map Some qs)) (sym state) (record { state = refl; waits = whole }),
     )
 
--- ---- the expansion of a kid that is open is not refused
+-- ---- the expansion of a successor that is open is not refused
 
 is_node-itself : (s : State) (cost : ℕ) → is_node (Some (node s cost)) s cost ≡ true
 is_node-itself s cost = and_from (same_state s s) (cost == cost) (same_state-refl s) (eq-eqb cost cost refl)

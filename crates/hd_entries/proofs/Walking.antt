@@ -63,7 +63,7 @@ named_at (k ∷ ks) before all (suc n) e lt =
           subst (λ m. plan_of (take m all) (get_or ks n root) ≡ Some (get_or all m [])) next (named_at ks (before ++ p ∷ []) all n e (omega arith))
     ] e
 
--- ---- a kid that names a plan
+-- ---- a successor that names a plan
 
 root_names : (expanded : List (List ℕ)) (k : Kid) (p : List ℕ) → k.parent ≡ ROOT_PARENT → plan_of expanded k ≡ Some p → p ≡ []
 root_names expanded k p e is =

@@ -1,5 +1,5 @@
--- How a batch is judged: outcome by outcome, and each kid is marked before the next outcome is
--- judged. (Our own.)
+-- How a batch is judged: outcome by outcome, and each successor is marked before the next outcome
+-- is judged. (Our own.)
 use Rattle.std.specs.Prelude.{◌≡◌, ℕ, ◌≤◌, Bool, not, if◌then◌else◌, List, [], ◌∷◌, ◌++◌, length, flat_map, Option, Some, None, ◌⊎◌}
 use Rattle.std.specs.Option.{option_or}
 use Rattle.hd_kids.specs.Kids.{KidsView}
@@ -11,7 +11,7 @@ use Rattle.hd_entries.specs.declared.content.Content.{Content}
 use Rattle.hd_entries.specs.Settling.{BookState, knows_parent, place_of, is_posted, is_marked, refusal_by, with_mark, entry_of}
 use Rattle.hd_entries.specs.Growing.{kids_in}
 
--- why an outcome is refused, where the kids of the earlier outcomes of its batch are marked
+-- why an outcome is refused, where the successors of the earlier outcomes of its batch are marked
 abbrev pub refusal_at : BookState → List Outcome → Outcome → Option Refusal
 refusal_at b earlier o =
     if not (knows_parent b (kid_of o)) then Some UnknownParent
@@ -19,7 +19,7 @@ refusal_at b earlier o =
     else if is_marked b (kid_of o) then Some SettledBefore
     else refusal_by b earlier o
 
--- an outcome is right, and its kid stands at this place
+-- an outcome is right, and its successor stands at this place
 pub record IsRight (b : BookState) (earlier : List Outcome) (o : Outcome) (place : ℕ) : Type 0 where
   pub nothing : refusal_at b earlier o ≡ None
   pub stands : place ≡ place_of b (kid_of o)
@@ -28,16 +28,16 @@ pub record IsRight (b : BookState) (earlier : List Outcome) (o : Outcome) (place
 abbrev pub IsWrong : BookState → List Outcome → Outcome → Refusal → Type 0
 IsWrong b earlier o r = (r ≡ NoMemory) ⊎ (refusal_at b earlier o ≡ Some r)
 
--- the book with the mark of an outcome's kid
+-- the book with the mark of an outcome's successor
 abbrev pub marked : BookState → Outcome → BookState
 marked b o = record { task = b.task; entries = b.entries; marks = with_mark b (kid_of o) }
 
--- the first refusal of outcomes, where each kid is marked before the next one is judged
+-- the first refusal of outcomes, where each successor is marked before the next one is judged
 abbrev pub first_wrong : BookState → List Outcome → List Outcome → Option Refusal
 first_wrong b earlier [] = None
 first_wrong b earlier (o ∷ later) = option_or (refusal_at b earlier o) (first_wrong (marked b o) (earlier ++ o ∷ []) later)
 
--- the marks after the kids of outcomes are marked
+-- the marks after the successors of outcomes are marked
 abbrev pub marks_after : BookState → List Outcome → List Bool
 marks_after b [] = b.marks
 marks_after b (o ∷ outcomes) = marks_after (marked b o) outcomes
@@ -62,7 +62,7 @@ pub record SameButMarks (c d : Content) : Type 0 where
   pub entered : d.kids.entries ≡ c.kids.entries
   pub most : d.most ≡ c.most
 
--- there is room for what outcomes add: entries and kids
+-- there is room for what outcomes add: entries and successors
 pub record HasRoomFor (c : Content) (outcomes : List Outcome) : Type 0 where
   pub entries : length (flat_map entry_of outcomes) ≤ c.expanded.entries.room
   pub entered : length (flat_map entry_of outcomes) ≤ c.kids.entry_room

@@ -39,7 +39,7 @@ IsAnswer t expanded (RangeLeft d p) = (slice_get (departures_of t expanded) 0 �
 abbrev pub IsAnswerOf : BookState → Verdict → Type 0
 IsAnswerOf b answer = IsAnswer b.task (expansions b) answer
 
--- a search is over where each posted kid is settled
+-- a search is over where each posted successor is settled
 abbrev pub is_over : BookState → Bool
 is_over b = settled_count b == posted_count b
 

@@ -47,18 +47,18 @@ departure_by first n (Expanded e ∷ outcomes) = departure_by (option_or first (
 departure_by first n (Duplicate k by ∷ outcomes) = departure_by first n outcomes
 departure_by first n (Bounded k h ∷ outcomes) = departure_by first n outcomes
 
--- how many kids an outcome has, if it is an expansion
+-- how many successors an outcome has, if it is an expansion
 abbrev pub kids_at : Outcome → ℕ
 kids_at (Expanded e) = length e.children
 kids_at (Duplicate k by) = 0
 kids_at (Bounded k h) = 0
 
--- how many kids outcomes have
+-- how many successors outcomes have
 abbrev pub kids_in : List Outcome → ℕ
 kids_in [] = 0
 kids_in (o ∷ outcomes) = kids_at o + kids_in outcomes
 
--- the table after the kids of one entry more, by their actions
+-- the table after the successors of one entry more, by their actions
 abbrev pub with_kids : KidsView → List ℕ → KidsView
 with_kids table actions = fold with_kid (with_entry table) actions
 
@@ -66,7 +66,7 @@ with_kids table actions = fold with_kid (with_entry table) actions
 abbrev pub actions_of : List ChildView → List ℕ
 actions_of children = map (λ (c : ChildView). c.action) children
 
--- the table after an outcome: where it is an expansion, its kids are posted
+-- the table after an outcome: where it is an expansion, its successors are posted
 abbrev pub posted_one : KidsView → Outcome → KidsView
 posted_one table (Expanded e) = with_kids table (actions_of e.children)
 posted_one table (Duplicate k by) = table

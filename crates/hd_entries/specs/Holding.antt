@@ -23,7 +23,7 @@ use Rattle.hd_entries.specs.Settling.{BookState, IsKept, entry_of, expansions}
 
 -- ---- what contracts see
 
--- a kid that is released, and where it leads
+-- a successor that is released, and where it leads
 pub record Released : Type 0 where
   pub kid : Kid
   pub state : State
@@ -38,7 +38,7 @@ pub record EntriesView : Type 0 where
 abbrev pub released_from : ℕ → ChildView → Released
 released_from n c = record { kid = kid_from n c.action; state = c.state; cost = c.cost }
 
--- what an outcome releases, if it is an expansion: the kids of the entry that is numbered n
+-- what an outcome releases, if it is an expansion: the successors of the entry that is numbered n
 abbrev pub released_at : ℕ → Outcome → List Released
 released_at n (Expanded e) = map (released_from n) e.children
 released_at n (Duplicate k by) = []
@@ -51,7 +51,7 @@ released_by n (o ∷ outcomes) = released_at n o ++ released_by (n + length (ent
 
 -- ---- what a batch does
 
--- how many kids are settled
+-- how many successors are settled
 abbrev pub settled_count : BookState → ℕ
 settled_count b = count_by (λ m. m) b.marks
 
@@ -67,7 +67,7 @@ BeginsWith entries others = (more : List Kid) × (entries ≡ others ++ more)
 abbrev pub GainsEntries : BookState → BookState → List Outcome → Type 0
 GainsEntries old new outcomes = new.entries ≡ old.entries ++ flat_map entry_of outcomes
 
--- each of the outcomes settles one kid
+-- each of the outcomes settles one successor
 abbrev pub SettlesEach : BookState → BookState → List Outcome → Type 0
 SettlesEach old new outcomes = settled_count new ≡ settled_count old + length outcomes
 
@@ -87,11 +87,11 @@ node_at e = node e.state e.cost
 abbrev pub plans_at : List Kid → List (List ℕ)
 plans_at entries = unwrap_or (plans_of entries) []
 
--- how many kids are posted
+-- how many successors are posted
 abbrev pub posted_count : BookState → ℕ
 posted_count b = length (generated b.task (expansions b))
 
--- the state of the book that has these entries, and these marks for the kids that they post
+-- the state of the book that has these entries, and these marks for the successors that they post
 abbrev pub state_by : Task → List Entry → List Bool → BookState
 state_by t entries marks = record { task = t; entries = map kid_at entries; marks = marks }
 
@@ -138,7 +138,7 @@ pub record AreExpanded (t : Task) (entries : List Entry) (best : Option Best) (d
 abbrev pub IsExpanded : ExpandedPlans → Type 0
 IsExpanded x = AreExpanded x.task.now x.entries.items x.best x.departure
 
--- a table has the kids that entries post
+-- a table has the successors that entries post
 pub record HasKids (t : Task) (entries : List Entry) (table : KidsView) : Type 0 where
   pub posted : table.kids ≡ posted_by t (plans_at (map kid_at entries))
   pub entered : table.entries ≡ length entries

@@ -1,4 +1,4 @@
--- The kids that entries post, as pairs. (Our own; the pairs are those of the journal.)
+-- The successors that entries post, as pairs. (Our own; the pairs are those of the journal.)
 use Rattle.std.specs.Prelude.{ℕ, ◌+◌, List, [], ◌∷◌, ◌++◌, map}
 use Rattle.hd_task.specs.declared.task.Task.{Task}
 use Rattle.hd_task.specs.declared.plan.Kid.{Kid}
@@ -6,11 +6,11 @@ use Rattle.hd_task.specs.Plans.{exec}
 use Rattle.hd_task.specs.Expansions.{applicable_at}
 use Rattle.hd_kids.specs.Kids.{root, kid_from}
 
--- the kids of an entry that is numbered n, by their actions
+-- the successors of an entry that is numbered n, by their actions
 abbrev pub kids_of : ℕ → List ℕ → List Kid
 kids_of n actions = map (kid_from n) actions
 
--- the kids of entries that are numbered from n on
+-- the successors of entries that are numbered from n on
 abbrev pub kids_from : Task → ℕ → List (List ℕ) → List Kid
 kids_from t n [] = []
 kids_from t n (p ∷ expanded) = kids_of n (applicable_at t (exec t p)) ++ kids_from t (n + 1) expanded

@@ -3,7 +3,7 @@ use Rattle.std.specs.Prelude.{ℕ, List, codes}
 use Rattle.hd_entries.specs.declared.refusal.Refusal.{Refusal}
 use Rattle.hd_entries.specs.declared.refusal.Refusal.TheVariants.{UnknownParent, NotAKid, SettledBefore, StateDiffers, NotDominated, BelowBound, Full, NoMemory}
 
--- its number, a space and its name; want of memory has no number
+-- its number, a space and its name; lack of memory has no number
 abbrev pub text_of : Refusal → List ℕ
 text_of UnknownParent = codes "24 UnknownParent"
 text_of NotAKid = codes "25 NotAKid"

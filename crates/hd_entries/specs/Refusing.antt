@@ -14,7 +14,7 @@ has_room b outcomes = nat_le (length b.state.entries + length (flat_map entry_of
 abbrev pub refusal_to : EntriesView → List Outcome → Option Refusal
 refusal_to b outcomes = if not (has_room b outcomes) then Some Full else first_refusal b.state [] outcomes
 
--- a refusal is the one of the batch; or want of memory, which never stands for the first: there is
+-- a refusal is the one of the batch; or lack of memory, which never stands for the first: there is
 -- room
 abbrev pub IsRefusalTo : EntriesView → List Outcome → Refusal → Type 0
 IsRefusalTo b outcomes r = ((r ≡ NoMemory) × (has_room b outcomes ≡ true)) ⊎ (refusal_to b outcomes ≡ Some r)

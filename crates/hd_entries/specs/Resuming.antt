@@ -15,11 +15,11 @@ use Rattle.hd_entries.specs.Kids.{posted_by}
 use Rattle.hd_entries.specs.Settling.{BookState, node_of}
 use Rattle.hd_entries.specs.Holding.{EntriesView, plans_at}
 
--- a kid is among some
+-- a successor is among some
 abbrev pub has : List Kid → Kid → Bool
 has kids k = list_any (same_kid k) kids
 
--- why a kid can't be the next entry after these
+-- why a successor can't be the next entry after these
 abbrev pub fault_at : Task → List Kid → Kid → Option Refusal
 fault_at t before k =
     if not (same_kid k root || nat_lt k.parent (length before)) then Some UnknownParent
@@ -38,7 +38,7 @@ first_fault t before (k ∷ later) =
 abbrev pub AreLegal : Task → List Kid → Type 0
 AreLegal t entries = (expanded : List (List ℕ)) × (plans_of entries ≡ Some expanded) × IsLegal t expanded
 
--- a search with exactly these entries: the kids that are entries are settled, and no other
+-- a search with exactly these entries: the successors that are entries are settled, and no other
 abbrev pub resumed_state : Task → List Kid → BookState
 resumed_state t entries = record { task = t; entries = entries; marks = map (has entries) (posted_by t (plans_at entries)) }
 
@@ -46,11 +46,11 @@ resumed_state t entries = record { task = t; entries = entries; marks = map (has
 abbrev pub resumed : Task → ℕ → List Kid → EntriesView
 resumed t most entries = record { state = resumed_state t entries; most = most }
 
--- the posted kids that are no entries, in posting order
+-- the posted successors that are no entries, in posting order
 abbrev pub open_kids : Task → List Kid → List Kid
 open_kids t entries = filter (λ k. not (has entries k)) (posted_by t (plans_at entries))
 
--- a parcel is of a search's task, and says of its kid where that leads
+-- a parcel is of a search's task, and says of its successor where that leads
 pub record LeadsThere (b : BookState) (p : ParcelView) : Type 0 where
   pub task : p.task ≡ b.task
   pub leads : node_of b p.kid ≡ Some (node p.state p.cost)

@@ -1,5 +1,5 @@
 -- What a batch of outcomes does to a book, and why it may be refused. (Our own; the three ways to
--- settle a kid are those of HDA*, Kishimoto, Fukunaga and Botea 2013: expansion, duplicate
+-- settle a successor are those of HDA*, Kishimoto, Fukunaga and Botea 2013: expansion, duplicate
 -- detection and pruning.)
 use Rattle.std.specs.Prelude.{◌≡◌, ℕ, ◌+◌, ◌<◌, Bool, true, false, not, ◌&&◌, ◌||◌, ◌==◌, nat_lt, nat_le, if◌then◌else◌, List, [], ◌∷◌, ◌++◌, length, slice_get, slice_index_or, slice_set, replicate, Option, Some, None, option_and_then, unwrap_or}
 use Rattle.std.specs.List.{list_any, position_or_len, fold}
@@ -29,7 +29,7 @@ use Rattle.hd_entries.specs.Marks.{IsMarked}
 
 -- ---- a book
 
--- a book: its task, its entries, and a mark for each kid that they post
+-- a book: its task, its entries, and a mark for each successor that they post
 pub record BookState : Type 0 where
   pub task : Task
   pub entries : List Kid
@@ -45,25 +45,25 @@ pub record IsKept (b : BookState) : Type 0 where
   pub marked : IsMarked b.task (hmax b.task) (expansions b) b.marks
   pub short : length b.entries < ROOT_PARENT
 
--- ---- kids of a book
+-- ---- successors of a book
 
--- a kid is the root, or its parent is an entry
+-- a successor is the root, or its parent is an entry
 abbrev pub knows_parent : BookState → Kid → Bool
 knows_parent b k = same_kid k root || nat_lt k.parent (length b.entries)
 
--- where a kid stands among the posted ones; their number if it is none of them
+-- where a successor stands among the posted ones; their number if it is none of them
 abbrev pub place_of : BookState → Kid → ℕ
 place_of b k = position_or_len (same_kid k) (posted_by b.task (expansions b))
 
--- a kid is posted
+-- a successor is posted
 abbrev pub is_posted : BookState → Kid → Bool
 is_posted b k = nat_lt (place_of b k) (length (posted_by b.task (expansions b)))
 
--- a kid's mark
+-- a successor's mark
 abbrev pub is_marked : BookState → Kid → Bool
 is_marked b k = slice_index_or b.marks (place_of b k) true
 
--- where the plan of a kid leads
+-- where the plan of a successor leads
 abbrev pub node_of : BookState → Kid → Option Node
 node_of b k = option_and_then (exec b.task) (plan_of (expansions b) k)
 
@@ -115,7 +115,7 @@ reaches (Some limit) (Some r) (Some v) = nat_le limit (r.cost + v)
 
 -- ---- refusals, in the order in which they are looked for
 
--- why an outcome is refused by what it says of its kid
+-- why an outcome is refused by what it says of its successor
 abbrev pub refusal_by : BookState → List Outcome → Outcome → Option Refusal
 refusal_by b earlier (Expanded e) = if is_node (node_of b e.kid) e.state e.cost then None else Some StateDiffers
 refusal_by b earlier (Duplicate k by) = if dominates (node_by b earlier by) (node_of b k) then None else Some NotDominated
@@ -124,7 +124,7 @@ refusal_by b earlier (Bounded k h) =
     (if reaches (bound_of b.task (expansions b)) (node_of b k) (estimated h.value) then None else Some BelowBound)
     else Some StateDiffers
 
--- a kid is settled by an earlier outcome
+-- a successor is settled by an earlier outcome
 abbrev pub is_settled_by : List Outcome → Kid → Bool
 is_settled_by earlier k = list_any (λ o. same_kid k (kid_of o)) earlier
 
@@ -143,11 +143,12 @@ first_refusal b earlier (o ∷ later) = option_or (refusal_of b earlier o) (firs
 
 -- ---- what an accepted batch does
 
--- a kid is marked
+-- a successor is marked
 abbrev pub with_mark : BookState → Kid → List Bool
 with_mark b k = slice_set b.marks (place_of b k) true
 
--- the book after an outcome: its kid is marked; an expansion is an entry more, and posts its kids
+-- the book after an outcome: its successor is marked; an expansion is an entry more, and posts its
+-- successors
 abbrev pub settled : BookState → Outcome → BookState
 settled b (Expanded e) = record {
   task = b.task;

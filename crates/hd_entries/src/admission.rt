@@ -20,24 +20,24 @@ use hd_rows::{Draft, Row};
 use hd_task::{ActionId, Kid, NoMemory, ROOT_ACTION, ROOT_PARENT, Task};
 use std::alloc::Global;
 
-/// Whether a packed state and one that was reached are equal.
-fn is_same(one: &Packed, other: &Draft) -> bool
+/// Reports whether a packed state and one that was reached are equal.
+fn are_states_equal(one: &Packed, other: &Draft) -> bool
     ensures there { result ≡ same_state one.now other.now }
     ensures back { result ≡ same_state other.now one.now }
 {
     other.row().is_packed(one)
 }
 
-/// Whether a node has a place's state at no greater cost.
+/// Reports whether a node has a place's state at no greater cost.
 fn is_no_dearer(state: &Packed, cost: u64, reached: &Place) -> bool
     ensures { result ≡ dominates (Some (node state.now cost))
         (Some (node reached.now.state reached.now.cost)) }
 {
-    is_same(state, &reached.state) && cost <= reached.cost
+    are_states_equal(state, &reached.state) && cost <= reached.cost
 }
 
 impl<'t> ExpandedPlans<'t> {
-    /// Whether a kid is the root, or its parent is an entry.
+    /// Reports whether a successor is the root, or its parent is an entry.
     pub(crate) fn knows_parent(&self, kid: Kid) -> bool
         ensures { result ≡ knows_parent (unmarked self.now) kid }
     {
@@ -45,8 +45,8 @@ impl<'t> ExpandedPlans<'t> {
             || (kid.parent as usize) < self.entries.len()
     }
 
-    /// The place becomes where a posted kid leads, by the book's own application. It is posted, so
-    /// its action is applicable.
+    /// The place becomes where a posted successor leads, by the book's own application. It is
+    /// posted, so its action is applicable.
     ///
     /// # Errors
     /// `NoMemory` where there is no room for the state: only for the root, or where the place was
@@ -77,7 +77,7 @@ impl<'t> ExpandedPlans<'t> {
         Ok(())
     }
 
-    /// Whether what a duplicate names has a state at no greater cost.
+    /// Reports whether what a duplicate names has a state at no greater cost.
     fn dominates(&self, earlier: &[Outcome<'t>], by: By, reached: &Place) -> bool
         requires held { IsExpanded self.now }
         ensures { result ≡ dominates (node_by (unmarked self.now) earlier.now by)
@@ -99,7 +99,7 @@ impl<'t> ExpandedPlans<'t> {
         }
     }
 
-    /// Whether a cost and an estimate reach the bound, or the estimate is infinite.
+    /// Reports whether a cost and an estimate reach the bound, or the estimate is infinite.
     fn reaches(&self, reached: &Place, estimate: EstimateValue) -> bool
         requires held { IsExpanded self.now }
         ensures { result ≡ reaches (bound_of self.now.task.now (expansions (unmarked self.now)))
@@ -114,7 +114,7 @@ impl<'t> ExpandedPlans<'t> {
         }
     }
 
-    /// Why an outcome is refused by what it says of where its kid leads.
+    /// Returns why an outcome is refused by what it says of where its successor leads.
     fn refusal_by(
         &self,
         earlier: &[Outcome<'t>],
@@ -128,7 +128,9 @@ impl<'t> ExpandedPlans<'t> {
     {
         match outcome {
             Outcome::Expanded(expansion) => {
-                if is_same(expansion.state(), &reached.state) && reached.cost == expansion.cost() {
+                if are_states_equal(expansion.state(), &reached.state)
+                    && reached.cost == expansion.cost()
+                {
                     None
                 } else {
                     Some(Refusal::StateDiffers)
@@ -142,7 +144,7 @@ impl<'t> ExpandedPlans<'t> {
                 }
             }
             Outcome::Bounded(_, estimate) => {
-                if !is_same(estimate.state(), &reached.state) {
+                if !are_states_equal(estimate.state(), &reached.state) {
                     Some(Refusal::StateDiffers)
                 } else if self.reaches(reached, estimate.value()) {
                     None
@@ -153,8 +155,9 @@ impl<'t> ExpandedPlans<'t> {
         }
     }
 
-    /// The place of an outcome's kid, where the outcome is right. The kids of the outcomes before
-    /// it in its batch are settled already. Where its kid leads is written to a place.
+    /// Returns the place of an outcome's successor, where the outcome is right. The successors of
+    /// the outcomes before it in its batch are settled already. Where its successor leads is
+    /// written to a place.
     ///
     /// # Errors
     /// Why it is refused, or `NoMemory`.
@@ -189,8 +192,8 @@ impl<'t> ExpandedPlans<'t> {
         }
     }
 
-    /// Settles the kids of the outcomes from a number on, each before the next outcome is judged;
-    /// or none of them, where one is refused.
+    /// Settles the successors of the outcomes from a number on, each before the next outcome is
+    /// judged; or none of them, where one is refused.
     ///
     /// # Errors
     /// Why the first that is not right is refused, or `NoMemory`; the table is as it was.

@@ -27,7 +27,7 @@ impl<'t> ExpandedPlans<'t> {
         }
     }
 
-    /// The plan that an entry names.
+    /// Returns the plan that an entry names.
     fn plan_to(&self, entry: usize) -> Result<Plan, NoMemory>
         requires held { IsExpanded self.now }
         requires among { entry < length self.now.entries.items }
@@ -44,7 +44,7 @@ impl<'t> ExpandedPlans<'t> {
         Ok(Plan::from_vec(actions))
     }
 
-    /// The plan of the bound, if there is a bound.
+    /// Returns the plan of the bound, if there is a bound.
     pub(crate) fn best_plan(&self) -> Result<Option<Plan>, NoMemory>
         requires held { IsExpanded self.now }
         ensures { IfOk result (IsBoundPlanOf self.now.task.now (expansions (unmarked self.now))) }
@@ -57,7 +57,7 @@ impl<'t> ExpandedPlans<'t> {
 }
 
 impl<'t> Content<'t> {
-    /// How many kids are posted.
+    /// Returns how many successors are posted.
     pub(crate) fn posted(&self) -> u64
         requires held { IsHeld self.now }
         ensures posted { result ≡ posted_count (state_of self.now) }
@@ -66,7 +66,7 @@ impl<'t> Content<'t> {
         self.kids.posted()
     }
 
-    /// How many kids are settled.
+    /// Returns how many successors are settled.
     pub(crate) fn settled(&self) -> u64
         requires held { IsHeld self.now }
         ensures settled { result ≡ settled_count (state_of self.now) }
@@ -75,7 +75,7 @@ impl<'t> Content<'t> {
         self.kids.settled()
     }
 
-    /// The answer, whether or not all is settled.
+    /// Returns the answer, whether or not all is settled.
     fn answer(&self) -> Result<Verdict, NoMemory>
         requires held { IsHeld self.now }
         ensures { IfOk result (IsAnswer self.now.expanded.task.now
@@ -89,7 +89,7 @@ impl<'t> Content<'t> {
         }
     }
 
-    /// The plan of the bound, if there is a bound: it is valid.
+    /// Returns the plan of the bound, if there is a bound: it is valid.
     pub(crate) fn extract(&self) -> Result<Option<Plan>, NoMemory>
         requires held { IsHeld self.now }
         ensures plan { IfOk result (IsBoundPlanOf self.now.expanded.task.now
@@ -99,7 +99,7 @@ impl<'t> Content<'t> {
         self.expanded.best_plan()
     }
 
-    /// The answer, once all is settled.
+    /// Returns the answer, once all is settled.
     pub(crate) fn verdict(&self) -> Result<Option<Verdict>, NoMemory>
         requires held { IsHeld self.now }
         ensures over { IfOk result (λ v. is_some v ≡ (settled_count (state_of self.now)

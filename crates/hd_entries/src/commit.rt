@@ -20,7 +20,7 @@ use hd_node::{Batch, Outcome, Parcel};
 use hd_task::NoMemory;
 use std::alloc::Global;
 
-/// How many outcomes are expansions.
+/// Returns how many outcomes are expansions.
 pub(crate) fn count_entries(outcomes: &[Outcome]) -> usize
     ensures count { result ≡ length (flat_map entry_of outcomes.now) }
     ensures few { result ≤ length outcomes.now }
@@ -34,8 +34,8 @@ pub(crate) fn count_entries(outcomes: &[Outcome]) -> usize
     count
 }
 
-/// Makes room for so many entries and for the kids that outcomes add, and a `Vec` for the parcels
-/// of these kids.
+/// Makes room for so many entries and for the successors that outcomes add, and a `Vec` for the
+/// parcels of these successors.
 fn make_room<'t>(
     alloc: Global,
     entries: &mut EntryTable,
@@ -60,7 +60,7 @@ fn make_room<'t>(
 }
 
 impl<'t> Content<'t> {
-    /// Whether there is room for so many entries more.
+    /// Reports whether there is room for so many entries more.
     pub(crate) fn has_room(&self, more: usize) -> bool
         requires held { IsHeld self.now }
         ensures { result ≡ nat_le (length (state_of self.now).entries + more) self.now.most }
@@ -69,8 +69,8 @@ impl<'t> Content<'t> {
         entries.saturating_add(more as u64) <= self.most
     }
 
-    /// Makes room for a batch of these outcomes, and a `Vec` for the parcels of their kids, and
-    /// settles their kids; or refuses it.
+    /// Makes room for a batch of these outcomes, and a `Vec` for the parcels of their successors,
+    /// and settles their successors; or refuses it.
     pub(crate) fn admit(&mut self, outcomes: &[Outcome<'t>]) -> Result<Vec<Parcel<'t>>, Refusal>
         requires held { IsHeld self.old }
         requires fits { kids_in outcomes.now < 2 ^ 64 }
@@ -103,7 +103,7 @@ impl<'t> Content<'t> {
         }
     }
 
-    /// Adds a batch that is not refused; there is room for it, and its kids are settled.
+    /// Adds a batch that is not refused; there is room for it, and its successors are settled.
     pub(crate) fn accept(&mut self, outcomes: &[Outcome<'t>])
         requires of_task { AllByRecursion (IsOf self.old.expanded.task.now) outcomes.now }
         requires room { HasRoomFor self.old outcomes.now }

@@ -12,7 +12,7 @@ pub(crate) struct Content<'t> {
     pub(crate) expanded: ExpandedPlans<'t>,
     /// What the expanded plans have posted, and what of it is settled.
     pub(crate) kids: KidTable,
-    /// Where the kid leads that was judged last: a commit takes no memory for it.
+    /// Where the successor leads that was judged last: a commit does not allocate for it.
     pub(crate) reached: Place,
     /// How many entries there may be.
     pub(crate) most: u64,
@@ -22,7 +22,7 @@ impl<'t> Content<'t> {
     ghost use Rattle.std.specs.Prelude.{◌≡◌, [], ◌∷◌, None, false, IfOk};
     ghost use Rattle.hd_kids.specs.Kids.{root};
 
-    /// The parts of a search without entries: the root is posted.
+    /// Returns the parts of a search without entries: the root is posted.
     ///
     /// # Errors
     /// `NoMemory` where there is no room for it.

@@ -7,8 +7,8 @@ use hd_task::{Departure, Kid, NoMemory, Plan, Task};
 use std::alloc::Global;
 use std::marker::Model;
 
-/// The entries of a search, with the kids that they post and what of those is settled: no batch is
-/// accepted that is not justified.
+/// The entries of a search, with the successors that they post and what of those is settled: no
+/// batch is accepted that is not justified.
 #[derive(Debug, Drop)]
 pub struct Entries<'t> {
     content: Content<'t>,
@@ -42,7 +42,7 @@ impl<'t> Entries<'t> {
     ghost use Rattle.hd_entries.specs.Resuming.{first_fault, open_kids, resumed, IsFaultOf, LeadsThere};
     ghost use Rattle.hd_entries.specs.Answers.{is_over, IsCoveredBook, IsAnswerOf, IsBoundPlanOf, IsValidPlan, IsTrueAnswer};
 
-    /// No entries, of which there may be `most`: the root is posted.
+    /// Returns no entries, of which there may be `most`: the root is posted.
     ///
     /// # Errors
     /// `NoMemory` where there is no room for it.
@@ -55,8 +55,8 @@ impl<'t> Entries<'t> {
         })
     }
 
-    /// Exactly these entries, with no other kid settled; and the parcels of all posted kids that
-    /// are no entries, in posting order. The listener hears how far it is.
+    /// Exactly these entries, with no other successor settled; and the parcels of all posted
+    /// successors that are no entries, in posting order. The listener hears how far it is.
     ///
     /// # Errors
     /// `Full` with the number 0 where there are more entries than `most`; else the number of the
@@ -82,7 +82,7 @@ impl<'t> Entries<'t> {
         Ok((Entries { content }, parcels))
     }
 
-    /// Whether there is room for the entries of a batch.
+    /// Reports whether there is room for the entries of a batch.
     pub fn has_room(&self, batch: &Batch<'t>) -> bool
         ensures { result ≡ has_room self.now batch.now.outcomes }
     {
@@ -90,9 +90,9 @@ impl<'t> Entries<'t> {
             .has_room(count_entries(batch.outcomes.as_slice()))
     }
 
-    /// Takes a batch: its expansions become entries, and its kids are settled. Gives an empty `Vec`
-    /// with room for the parcels of its expansions' kids, which [`crate::release_kids`] makes of
-    /// the batch once it is taken.
+    /// Takes a batch: its expansions become entries, and its successors are settled. Gives an empty
+    /// `Vec` with room for the parcels of its expansions' successors, which [`crate::release_kids`]
+    /// makes of the batch once it is taken.
     ///
     /// # Errors
     /// Why it is refused: the entries are as they were. In this order: `Full`, then for each
@@ -119,14 +119,14 @@ impl<'t> Entries<'t> {
         self.content.commit(batch)
     }
 
-    /// The task.
+    /// Returns the task.
     pub fn task(&self) -> &'t Task
         ensures { result.now ≡ self.now.state.task }
     {
         self.content.expanded.task
     }
 
-    /// How many entries there are: plans that are expanded. It takes no memory.
+    /// Returns how many entries there are: plans that are expanded. It does not allocate.
     pub fn len(&self) -> u64
         ensures kept { IsKept self.now.state }
         ensures len { result ≡ length self.now.state.entries }
@@ -136,8 +136,8 @@ impl<'t> Entries<'t> {
         self.content.expanded.entries.len() as u64
     }
 
-    /// How many kids are posted: plans that are generated, the root's among them. It takes no
-    /// memory.
+    /// Returns how many successors are posted: plans that are generated, the root's among them. It
+    /// does not allocate.
     pub fn posted(&self) -> u64
         ensures posted { result ≡ posted_count self.now.state }
         ensures few { result < 2 ^ 61 }
@@ -145,7 +145,8 @@ impl<'t> Entries<'t> {
         self.content.posted()
     }
 
-    /// How many kids are settled: they are entries, or need not be. It takes no memory.
+    /// Returns how many successors are settled: they are entries, or need not be. It does not
+    /// allocate.
     pub fn settled(&self) -> u64
         ensures settled { result ≡ settled_count self.now.state }
         ensures few { result ≤ posted_count self.now.state }
@@ -153,7 +154,7 @@ impl<'t> Entries<'t> {
         self.content.settled()
     }
 
-    /// The kid of the entry with this number, if there is such an entry.
+    /// Returns the successor of the entry with this number, if there is such an entry.
     pub fn entry(&self, number: u64) -> Option<Kid>
         ensures { result ≡ slice_get self.now.state.entries number }
     {
@@ -172,7 +173,7 @@ impl<'t> Entries<'t> {
         self.content.expanded.node(number)
     }
 
-    /// The least cost of an entry at which the goal holds, if there is one.
+    /// Returns the least cost of an entry at which the goal holds, if there is one.
     pub fn bound(&self) -> Option<u64>
         ensures { result ≡ bound_of self.now.state.task (expansions self.now.state) }
     {
@@ -182,7 +183,7 @@ impl<'t> Entries<'t> {
         }
     }
 
-    /// The first departure from the range that was met, if there is one.
+    /// Returns the first departure from the range that was met, if there is one.
     pub fn departure(&self) -> Option<Departure>
         ensures { result ≡ slice_get
             (departures_of self.now.state.task (expansions self.now.state)) 0 }
@@ -190,8 +191,8 @@ impl<'t> Entries<'t> {
         self.content.expanded.departure
     }
 
-    /// The plan of the bound, if there is a bound: that of the least-numbered entry at which the
-    /// goal holds at this cost. It is valid.
+    /// Returns the plan of the bound, if there is a bound: that of the least-numbered entry at
+    /// which the goal holds at this cost. It is valid.
     ///
     /// # Errors
     /// `NoMemory` where there is no room for the plan.
@@ -202,7 +203,7 @@ impl<'t> Entries<'t> {
         self.content.extract()
     }
 
-    /// The answer, once all is settled.
+    /// Returns the answer, once all is settled.
     ///
     /// # Errors
     /// `NoMemory` where there is no room for a plan.

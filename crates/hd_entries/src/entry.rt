@@ -9,7 +9,7 @@ use hd_rows::{Draft, Row};
 use hd_task::Kid;
 use std::alloc::Global;
 
-/// An expanded plan: the kid that names it, and where it leads.
+/// An expanded plan: the successor that names it, and where it leads.
 #[derive(Debug, Drop)]
 pub(crate) struct Entry<'e> {
     pub(crate) kid: Kid,
@@ -26,7 +26,8 @@ pub(crate) struct Label {
     pub(crate) cost: u64,
 }
 
-/// Where a kid leads, and what its plan costs. It is written over from one kid to the next.
+/// Where a successor leads, and what its plan costs. It is written over from one successor to the
+/// next.
 #[derive(Debug, Drop)]
 pub(crate) struct Place {
     pub(crate) state: Draft,
@@ -34,7 +35,7 @@ pub(crate) struct Place {
 }
 
 impl Place {
-    /// Nowhere yet. It takes no memory.
+    /// Nowhere yet. It does not allocate.
     pub(crate) fn empty(alloc: Global) -> Place
         ensures { result.cost ≡ 0 }
     {
@@ -52,19 +53,19 @@ pub(crate) struct Best {
     pub(crate) entry: usize,
 }
 
-/// Whether a state and one that was reached are equal.
-fn is_same(one: &Row<'_>, other: &Draft) -> bool
+/// Reports whether a state and one that was reached are equal.
+fn are_states_equal(one: &Row<'_>, other: &Draft) -> bool
     ensures { result ≡ same_state one.now other.now }
 {
     other.row().is(one)
 }
 
 impl<'e> Entry<'e> {
-    /// Whether it has a place's state at no greater cost.
+    /// Reports whether it has a place's state at no greater cost.
     pub(crate) fn is_no_dearer(&self, reached: &Place) -> bool
         ensures { result ≡ dominates (Some (node_at self.now))
             (Some (node reached.now.state reached.now.cost)) }
     {
-        is_same(self.state.row(), &reached.state) && self.cost <= reached.cost
+        are_states_equal(self.state.row(), &reached.state) && self.cost <= reached.cost
     }
 }

@@ -26,7 +26,7 @@ pub(crate) struct ExpandedPlans<'t> {
 impl<'t> ExpandedPlans<'t> {
     ghost use Rattle.std.specs.Prelude.{◌≡◌, [], None};
 
-    /// No expanded plans of a task.
+    /// Returns no expanded plans of a task.
     pub(crate) fn none(alloc: Global, task: &'t Task, words: Words) -> ExpandedPlans<'t>
         ensures task { result.task.now ≡ task.now }
         ensures entries { result.entries.items ≡ [] }

@@ -28,7 +28,7 @@ impl<'r> Model for HashedRow<'r> {
 }
 
 impl<'r> HashedRow<'r> {
-    /// A state whose hash is known.
+    /// Returns a state whose hash is known.
     pub(crate) fn known(row: Row<'r>, hash: u64) -> HashedRow<'r>
         requires { hash ≡ state_hash row }
         ensures { result ≡ row.entry }
@@ -36,21 +36,21 @@ impl<'r> HashedRow<'r> {
         HashedRow { row, hash }
     }
 
-    /// The state.
+    /// Returns the state.
     pub fn row(&self) -> &Row<'r>
         ensures { result.now ≡ self.now }
     {
         &self.row
     }
 
-    /// The state's hash.
+    /// Returns the state's hash.
     pub fn hash(&self) -> u64
         ensures { result ≡ state_hash self.now }
     {
         self.hash
     }
 
-    /// A copy in bytes of its own, with the same hash.
+    /// Returns a copy in bytes of its own, with the same hash.
     ///
     /// # Errors
     /// `NoMemory` where there is no room for the bytes.

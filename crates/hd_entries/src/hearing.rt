@@ -17,7 +17,7 @@ impl Listener for Unheard {
     fn hear(&self, _done: u64, _all: u64) {}
 }
 
-/// Tells a listener every so many entries how far they are.
+/// Reports a listener every so many entries how far they are.
 pub(crate) fn tell<H: Listener>(heard: &H, done: usize, all: usize) {
     if done % HEARD_EACH == 0 {
         heard.hear(done as u64, all as u64);

@@ -15,7 +15,8 @@ ghost use Rattle.hd_entries.specs.Kids.{posted_by};
 ghost use Rattle.hd_entries.specs.Resuming.{first_fault, resumed_state, AreLegal};
 ghost use Rattle.hd_entries.specs.Settling.{BookState, expansions, IsKept, IsOf, entry_of, first_refusal, all_settled};
 
-/// What a book posts names what its expansions generate, in order: a kid is a place in both.
+/// Law: what a book posts names what its expansions generate, in order: a successor is a place in
+/// both.
 pub fn kids_name_plans()
     ensures names { (t : Task) (expanded : List (List ℕ))
         → length expanded < ROOT_PARENT
@@ -25,8 +26,8 @@ pub fn kids_name_plans()
         → length (posted_by t expanded) ≡ length (generated t expanded) }
 {}
 
-/// A book without entries is kept, and so is each book after a batch that is not refused: no batch
-/// can make a book hold what is not justified.
+/// Law: a book without entries is kept, and so is each book after a batch that is not refused: no
+/// batch can make a book hold what is not justified.
 pub fn books_are_kept()
     ensures first { (t : Task) → IsKept (record { task = t; entries = []; marks = false ∷ [] }) }
     ensures batch { (b : BookState) (outcomes : List Outcome)
@@ -36,8 +37,8 @@ pub fn books_are_kept()
         → (all_settled b outcomes).entries ≡ b.entries ++ flat_map entry_of outcomes }
 {}
 
-/// A kept book in which all kids are marked is covered; where nothing departs, it has the last
-/// word.
+/// Law: a kept book in which all successors are marked is covered; where nothing departs, it has
+/// the last word.
 pub fn full_books_decide()
     ensures covered { (b : BookState)
         → IsKept b → All (λ m. m ≡ true) b.marks → IsCovered b.task (hmax b.task) (expansions b) }
@@ -50,8 +51,8 @@ pub fn full_books_decide()
         → IsTrueVerdict b.task NoPlan }
 {}
 
-/// A list of entries has no fault exactly where it names the plans of a legal list. What is made
-/// again from such a list is kept.
+/// Law: a list of entries has no fault exactly where it names the plans of a legal list. What is
+/// made again from such a list is kept.
 pub fn faultless_entries_are_legal()
     ensures legal { (t : Task) (entries : List Kid) → length entries < ROOT_PARENT
         → (first_fault t [] entries ≡ None) ↔ AreLegal t entries }

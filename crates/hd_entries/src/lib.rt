@@ -1,10 +1,14 @@
-//! The entries of a search: which plans are expanded, what they have posted, when a batch is
-//! refused, and the laws by which what is held is justified.
+//! Holds the entries of a search and the nodes that they generate, and judges each batch.
 //!
-//! `specs/Settling.antt` says what entries and marks are, what each batch of outcomes does to them,
-//! and the refusals in their order; `specs/Resuming.antt` what a list of entries is made into
-//! again. The laws say that entries which only take batches that are not refused hold nothing that
-//! is not justified, and that they decide the task where all kids are settled.
+//! [`Entries::commit`] takes a batch only if it is justified (`refusal_to`), and then grows by
+//! exactly the batch. Else nothing changes. [`Entries::verdict`] answers exactly if all is settled,
+//! memory aside, and the answer is true. [`Entries::resume`] rebuilds exactly the given entries.
+//!
+//! A commit makes all its room first. Then it judges each outcome by applying the node's action to
+//! its parent's state. A refusal takes the marks back. States and nodes stand in blocks that no
+//! growth copies.
+//!
+//! Start reading at [`Entries`], then `specs/Settling.antt`, `specs/Resuming.antt` and [`laws`].
 #![tactic(auto)]
 
 mod admission;

@@ -10,21 +10,21 @@ use thiserror::Error;
 /// Why a batch or an entry is refused.
 #[derive(Clone, Copy, Debug, PartialEq, Eq, Error)]
 pub enum Refusal {
-    /// A kid is not the root, and its parent was no entry before the batch.
+    /// A successor is not the root, and its parent was no entry before the batch.
     UnknownParent,
-    /// A kid's action is not applicable at its parent.
+    /// A successor's action is not applicable at its parent.
     NotAKid,
-    /// A kid is settled already, by the entries or by an earlier outcome of the batch.
+    /// A successor is settled already, by the entries or by an earlier outcome of the batch.
     SettledBefore,
     /// An outcome's state or cost is not what applying the action gives.
     StateDiffers,
     /// What a duplicate names has not its state at no greater cost.
     NotDominated,
-    /// A kid's cost and estimate do not reach the bound.
+    /// A successor's cost and estimate do not reach the bound.
     BelowBound,
     /// The entries would be more than there may be.
     Full,
-    /// Want of memory.
+    /// Lack of memory.
     NoMemory,
 }
 

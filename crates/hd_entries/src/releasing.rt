@@ -11,7 +11,7 @@ ghost use Rattle.hd_entries.specs.Growing.{kids_at, kids_in};
 use hd_node::{Children, Expansion, Outcome, Parcel};
 use hd_task::Task;
 
-/// Pushes the kids of an entry as parcels.
+/// Pushes the successors of an entry as parcels.
 fn release<'t>(parcels: &mut Vec<Parcel<'t>>, task: &'t Task, entry: u64, children: Children)
     requires room { vec_len parcels.old + length children ≤ vec_capacity parcels.old }
     requires of_task { AllByRecursion (λ (c : ChildView). IsStateOf task.now c.state) children }
@@ -27,7 +27,7 @@ fn release<'t>(parcels: &mut Vec<Parcel<'t>>, task: &'t Task, entry: u64, childr
     }
 }
 
-/// Pushes the kids of an expansion, which is the entry of this number, as parcels.
+/// Pushes the successors of an expansion, which is the entry of this number, as parcels.
 fn release_expansion<'t>(
     parcels: &mut Vec<Parcel<'t>>,
     task: &'t Task,
@@ -47,8 +47,8 @@ fn release_expansion<'t>(
     release(parcels, task, entry, parts.children);
 }
 
-/// Pushes the kids of an outcome as parcels, if it is an expansion, which is the entry of this
-/// number then. Gives the number of the next entry.
+/// Pushes the successors of an outcome as parcels, if it is an expansion, which is the entry of
+/// this number then. Gives the number of the next entry.
 fn release_outcome<'t>(
     parcels: &mut Vec<Parcel<'t>>,
     task: &'t Task,
@@ -77,10 +77,10 @@ fn release_outcome<'t>(
     }
 }
 
-/// What outcomes of a task release: the kids of the expansions among them, in order, as parcels.
-/// They are pushed to a `Vec` that is empty and has room for them, so it takes no memory. The first
-/// of the expansions is the entry of this number: the number of entries that there were before the
-/// outcomes were committed.
+/// Returns what outcomes of a task release: the successors of the expansions among them, in order,
+/// as parcels. They are pushed to a `Vec` that is empty and has room for them, so it does not
+/// allocate. The first of the expansions is the entry of this number: the number of entries that
+/// there were before the outcomes were committed.
 pub fn release_kids<'t>(
     task: &'t Task,
     first: u64,

@@ -1,4 +1,4 @@
-//! Entries are made again from a list of their kids.
+//! Entries are made again from a list of their successors.
 ghost use Rattle.std.specs.Prelude.{◌≡◌, ◌+◌, ◌<◌, ◌≤◌, ◌++◌, ◌⊎◌, [], ◌∷◌, None, Some, false, true, length, map, slice_index_or, slice_set, IfOk, IfErr, OnOk, OnErr};
 ghost use Rattle.std.specs.List.{AllByRecursion};
 ghost use Rattle.hd_task.specs.declared.plan.TheConstants.{ROOT_PARENT};
@@ -19,7 +19,7 @@ use hd_successors::Successors;
 use hd_task::{Kid, NoMemory, ROOT_ACTION, ROOT_PARENT, Task};
 use std::alloc::Global;
 
-/// The batch of an expansion alone.
+/// Returns the batch of an expansion alone.
 fn alone<'t>(alloc: Global, expansion: Expansion<'t>) -> Result<Batch<'t>, NoMemory>
     ensures { IfOk result (λ b. b.outcomes ≡ Expanded expansion.entry ∷ []) }
 {
@@ -55,7 +55,7 @@ fn keep<'t>(parcels: &mut Vec<Parcel<'t>>, slot: Option<Parcel<'t>>) -> Result<(
     }
 }
 
-/// The parcels that still wait.
+/// Returns the parcels that still wait.
 fn left_of<'t>(alloc: Global, waiting: Vec<Option<Parcel<'t>>>) -> Result<Vec<Parcel<'t>>, NoMemory>
     ensures { IfOk result (λ ps. ps.items ≡ left_in waiting.entry.items) }
 {
@@ -66,7 +66,7 @@ fn left_of<'t>(alloc: Global, waiting: Vec<Option<Parcel<'t>>>) -> Result<Vec<Pa
     Ok(parcels)
 }
 
-/// What waits at a place, and waits no more.
+/// Returns what waits at a place, and waits no more.
 fn taken<'t>(waiting: &mut Vec<Option<Parcel<'t>>>, place: usize) -> Option<Parcel<'t>>
     requires { place < length waiting.old.items }
     ensures taken { result ≡ slice_index_or waiting.old.items place None }
@@ -76,7 +76,7 @@ fn taken<'t>(waiting: &mut Vec<Option<Parcel<'t>>>, place: usize) -> Option<Parc
 }
 
 impl<'t> Content<'t> {
-    /// The place of a kid that can be the next entry.
+    /// Returns the place of a successor that can be the next entry.
     ///
     /// # Errors
     /// Why it can't.
@@ -102,8 +102,8 @@ impl<'t> Content<'t> {
         Ok(place)
     }
 
-    /// Expands the parcel of a kid that is posted and not settled, and gives the parcels of its
-    /// kids.
+    /// Expands the parcel of a successor that is posted and not settled, and gives the parcels of
+    /// its successors.
     ///
     /// # Errors
     /// `NoMemory`.
@@ -149,7 +149,7 @@ impl<'t> Content<'t> {
         }
     }
 
-    /// Makes a kid the next entry again.
+    /// Makes a successor the next entry again.
     ///
     /// # Errors
     /// Why it can't be the next entry, or `NoMemory`.
@@ -185,7 +185,7 @@ impl<'t> Content<'t> {
         Ok(())
     }
 
-    /// Makes these kids the entries again, in order, and tells the listener how far it is.
+    /// Makes these successors the entries again, in order, and reports the listener how far it is.
     ///
     /// # Errors
     /// The number of the first that can't be the next entry, and why; or `NoMemory`.
@@ -222,8 +222,8 @@ impl<'t> Content<'t> {
         Ok(())
     }
 
-    /// What waits where there are no entries: the parcel of the root.
-    fn root_alone(&self, alloc: Global) -> Result<Vec<Option<Parcel<'t>>>, NoMemory>
+    /// Returns what waits where there are no entries: the parcel of the root.
+    fn only_root(&self, alloc: Global) -> Result<Vec<Option<Parcel<'t>>>, NoMemory>
         requires none { state_of self.now ≡ resumed_state self.now.expanded.task.now [] }
         ensures { IfOk result (λ w. IsAgain (state_of self.now) w.items) }
     {
@@ -237,7 +237,8 @@ impl<'t> Content<'t> {
         Ok(vec![in alloc; Some(parcel)]?)
     }
 
-    /// Makes these kids the entries again, as [`Content::enter_all`], by an index of the task.
+    /// Makes these successors the entries again, as [`Content::enter_all`], by an index of the
+    /// task.
     fn enter_list<H: Listener>(
         &mut self,
         alloc: Global,
@@ -265,7 +266,7 @@ impl<'t> Content<'t> {
         }
     }
 
-    /// The parts without entries, and what waits.
+    /// Returns the parts without entries, and what waits.
     fn emptied(
         alloc: Global,
         task: &'t Task,
@@ -279,11 +280,11 @@ impl<'t> Content<'t> {
         ensures again { IfOk result (λ r. IsAgain (state_of r.0) r.1.items) }
     {
         let content = Content::new(alloc, task, most)?;
-        let waiting = content.root_alone(alloc)?;
+        let waiting = content.only_root(alloc)?;
         Ok((content, waiting))
     }
 
-    /// The parts with exactly these entries, and what waits.
+    /// Returns the parts with exactly these entries, and what waits.
     fn resumed<H: Listener>(
         alloc: Global,
         task: &'t Task,
@@ -311,7 +312,7 @@ impl<'t> Content<'t> {
         }
     }
 
-    /// The parts with exactly these entries, and the parcels that are left, as
+    /// Returns the parts with exactly these entries, and the parcels that are left, as
     /// [`crate::Entries::resume`] says.
     pub(crate) fn resume<H: Listener>(
         alloc: Global,

@@ -19,7 +19,7 @@ use hd_kids::KidTable;
 use hd_node::{Child, Expansion, Outcome};
 use hd_task::{Departure, GoalTest, Task};
 
-/// How many kids the expansions among outcomes have.
+/// Returns how many successors the expansions among outcomes have.
 pub(crate) fn kids_of(outcomes: &[Outcome]) -> usize
     requires fits { kids_in outcomes.now < 2 ^ 64 }
     ensures { result ≡ kids_in outcomes.now }
@@ -33,7 +33,7 @@ pub(crate) fn kids_of(outcomes: &[Outcome]) -> usize
     count
 }
 
-/// What an expansion costs, if it meets the goal.
+/// Returns what an expansion costs, if it meets the goal.
 fn goal_cost(expansion: &Expansion) -> Option<u64>
     ensures { result ≡ goal_cost expansion.now.task
         (Some (node expansion.now.state expansion.now.cost)) }
@@ -45,7 +45,7 @@ fn goal_cost(expansion: &Expansion) -> Option<u64>
     }
 }
 
-/// The better one of what is best so far and a later entry.
+/// Returns the better one of what is best so far and a later entry.
 fn better(best: Option<Best>, entry: usize, cost: Option<u64>) -> Option<Best>
     ensures { result ≡ better best entry cost }
 {
@@ -62,7 +62,7 @@ fn better(best: Option<Best>, entry: usize, cost: Option<u64>) -> Option<Best>
     }
 }
 
-/// The first departure of an expansion that is the entry of this number.
+/// Returns the first departure of an expansion that is the entry of this number.
 fn first_departure(expansion: &Expansion, entry: u64) -> Option<Departure>
     ensures { result ≡ option_map (departure_at entry) (slice_get expansion.now.departures 0) }
 {
@@ -72,8 +72,8 @@ fn first_departure(expansion: &Expansion, entry: u64) -> Option<Departure>
     }
 }
 
-/// The first departure so far; or, if there is none, that of an expansion that is the entry of this
-/// number.
+/// Returns the first departure so far; or, if there is none, that of an expansion that is the entry
+/// of this number.
 fn departure_with(
     departure: Option<Departure>,
     entry: u64,
@@ -88,7 +88,8 @@ fn departure_with(
     }
 }
 
-/// The best and the first departure after outcomes, where the next entry has the number `first`.
+/// Returns the best and the first departure after outcomes, where the next entry has the number
+/// `first`.
 pub(crate) fn found_after(
     best: Option<Best>,
     departure: Option<Departure>,
@@ -112,7 +113,7 @@ pub(crate) fn found_after(
     (best, departure)
 }
 
-/// Posts the children of an expansion, as the kids of an entry more.
+/// Posts the children of an expansion, as the successors of an entry more.
 fn post(kids: &mut KidTable, children: &[Child])
     requires entry_room { 0 < kids.old.entry_room }
     requires kid_room { length children.now ≤ kids.old.kid_room }
@@ -126,7 +127,7 @@ fn post(kids: &mut KidTable, children: &[Child])
     }
 }
 
-/// Posts the kids of the expansions among outcomes.
+/// Posts the successors of the expansions among outcomes.
 pub(crate) fn post_all(kids: &mut KidTable, outcomes: &[Outcome])
     requires entry_room { length (flat_map entry_of outcomes.now) ≤ kids.old.entry_room }
     requires kid_room { kids_in outcomes.now ≤ kids.old.kid_room }

@@ -40,7 +40,7 @@ impl Model for EntryTable {
 }
 
 impl EntryTable {
-    /// No entries, and no memory yet.
+    /// Returns no entries, and no memory yet.
     pub(crate) fn new(alloc: Global, layout: Layout) -> EntryTable
         ensures atoms { result.widths.atoms ≡ layout.atoms }
         ensures fluents { result.widths.fluents ≡ layout.fluents }
@@ -52,7 +52,7 @@ impl EntryTable {
         }
     }
 
-    /// How many entries there are.
+    /// Returns how many entries there are.
     pub(crate) fn len(&self) -> usize
         ensures len { result ≡ length self.now.items }
         ensures few { length self.now.items + self.now.room ≤ MOST_ITEMS }
@@ -60,7 +60,7 @@ impl EntryTable {
         self.labels.len()
     }
 
-    /// The entry of this number.
+    /// Returns the entry of this number.
     pub(crate) fn at(&self, number: usize) -> Entry<'_>
         requires { number < length self.now.items }
         ensures { result ≡ slice_index_or self.now.items number result }
@@ -73,7 +73,7 @@ impl EntryTable {
         }
     }
 
-    /// The entry of this number, if there is such an entry.
+    /// Returns the entry of this number, if there is such an entry.
     pub(crate) fn get(&self, number: usize) -> Option<Entry<'_>>
         ensures { result ≡ slice_get self.now.items number }
     {
@@ -99,7 +99,7 @@ impl EntryTable {
         self.states.reserve(count)
     }
 
-    /// Adds an entry at the end. It takes no memory.
+    /// Adds an entry at the end. It does not allocate.
     pub(crate) fn push(&mut self, kid: Kid, state: &Hashed, cost: u64)
         requires room { 0 < self.old.room }
         requires widths { HasWidths self.old.widths state.now }

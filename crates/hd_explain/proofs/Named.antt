@@ -55,7 +55,7 @@ pub halts_first : (t : LiftedTask) (r here : Reached) (n : ℕ) (s : Step) (rest
 halts_first t r here n s rest halts.Untold told = inr (told.0, inl told.1, told.2)
 halts_first t r here n s rest (halts.Told p) told = (told.0, inl told.1)
 
--- where it ends behind a step that passes, too
+-- where it ends after a step that passes, too
 pub halts_behind : (t : LiftedTask) (r to here : Reached) (n : ℕ) (s : Step) (rest : List Step) (h : Halt) → PassesBy t r n s to → HaltsFrom t to (n + 1) rest here h
     → HaltsFrom t r n (s ∷ rest) here h
 halts_behind t r to here n s rest halts.Untold passes told =
@@ -76,7 +76,7 @@ halts_whole t r here from n [] steps s d h some first whole told = absurd (no_le
 halts_whole t r here from n (x ∷ after) steps s d h some first whole told =
     whole here h (halts_first t r here n x after h (subst (λ (y : Step). HaltsAt t r n y here h) first told))
 
--- where a step passes, what holds of the steps behind it holds of the whole
+-- where a step passes, what holds of the steps after it holds of the whole
 pub halts_next : (t : LiftedTask) (r to from : Reached) (n : ℕ) (rest steps : List Step) (s d : Step) → 1 ≤ length rest → s ≡ get_or rest 0 d → PassesBy t r n s to
     → ((end : Reached) (g : Halt) → HaltsFrom t r n rest end g → HaltsFrom t from 1 steps end g)
     → (end : Reached) (g : Halt) → HaltsFrom t to (n + 1) (take (length rest - 1) (drop 1 rest)) end g → HaltsFrom t from 1 steps end g
@@ -101,7 +101,7 @@ goal_untold t r way met n =
 
 -- ---- the whole
 
--- a reason is that of a fault which is told
+-- a reason is that of a fault which is reported
 explains_tells : (t : LiftedTask) (r : Reached) (n : ℕ) (steps : List Step) (fault : Fault) (here : Reached) (p : PlanReason)
     → ExplainsFrom t r n steps fault here p.instance p.reason → TellsFromBy t r n steps fault
 explains_tells t r n [] fault here p e = goal_reason_asked t r n p.reason e.2 ∙ ap Some (sym e.3)

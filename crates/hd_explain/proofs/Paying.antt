@@ -29,7 +29,7 @@ step_is t v a objects sum is =
       | false ↦ refl
     ]
 
--- what is told of a cost is told of the step
+-- what is reported of a cost is reported of the step
 reason_by : (t : LiftedTask) (r : Reached) (a : Schema) (objects : List ℕ) (before : ℕ) (step : ℤ) (es : List NumericEffect) (reason : Reason)
     → effects_stay r.state.values a objects ≡ true → step_cost t r.state.values a objects ≡ Some step → r.cost ≡ Some (pos before) → es ≡ a.effects
     → IsReasonOfCost before step es reason → IsReasonOfEffects t r a objects reason

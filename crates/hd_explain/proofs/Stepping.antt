@@ -1,4 +1,4 @@
--- What a step tells behind others, and what is defined where it is taken.
+-- What a step reports after others, and what is defined where it is taken.
 use Rattle.std.proofs.Common.{◌≡◌, ℕ, ◌<◌, List, [], ◌∷◌, ◌++◌, None, length, get_or, inl, subst, arith}
 use Rattle.std.specs.Prelude.{flat_map}
 use Rattle.std.proofs.lemmas.List.Elements.{Contains-append_right}

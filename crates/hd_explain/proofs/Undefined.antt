@@ -1,4 +1,4 @@
--- Where the goal's literals and equalities hold, a fluent without a first value is told exactly
+-- Where the goal's literals and equalities hold, a fluent without a first value is reported exactly
 -- where there is one.
 use Rattle.std.proofs.Common.{◌≡◌, ℕ, Bool, true, false, [], Option, Some, None, refl, sym, ap, ◌∙◌}
 use Rattle.std.specs.Prelude.{is_some, option_map}

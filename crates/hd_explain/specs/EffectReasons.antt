@@ -89,7 +89,7 @@ ExplainsValues changes objects es answer =
     (λ n. (n.effects.now ≡ es) × (find (λ e. not (change_fits changes objects e)) es ≡ Some n.effect.now)
     × (new_value_in changes (ground_form_of objects n.effect.now.fluent) ≡ Some n.value))
 
--- why a step of this cost can't be taken behind a plan of that cost
+-- why a step of this cost can't be taken after a plan of that cost
 abbrev pub IsReasonOfCost : ℕ → ℤ → List NumericEffect → Reason → Type 0
 IsReasonOfCost before step es (reasons.Literal l) = ⊥
 IsReasonOfCost before step es (reasons.Equality e) = ⊥

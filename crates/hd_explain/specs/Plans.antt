@@ -84,7 +84,7 @@ NeedsNoReason t steps =
 
 -- ---- what the code answers
 
--- no question about these steps and the goal tells a fault, or one that says all that there is to
+-- no question about these steps and the goal reports a fault, or one that says all that there is to
 -- say
 abbrev pub NeedsNoReasonFrom : LiftedTask → Reached → ℕ → List Step → Type 0
 NeedsNoReasonFrom t r n steps =

@@ -98,12 +98,12 @@ value_text (Some v) = codes " = " ++ signed_decimal v
 abbrev pub reading_text : LiftedTask → Reading → List ℕ
 reading_text t r = fluent_text t r.fluent ++ value_text r.value
 
--- fluents with their values behind a colon, with commas between them
+-- fluents with their values after a colon, with commas between them
 abbrev pub readings_text : LiftedTask → List Reading → List ℕ
 readings_text t [] = []
 readings_text t (r ∷ rs) = codes ": " ++ reading_text t r ++ flat_map (λ x. codes ", " ++ reading_text t x) rs
 
--- the line that tells a reason where a plan leads
+-- the line that reports a reason where a plan leads
 abbrev pub text_of : LiftedTask → Reached → List ℕ → Reason → List ℕ
 text_of t here objects reason =
     said_text t objects reason ++ readings_text t (map (reading_at here.state.values) (fluents_of objects reason))

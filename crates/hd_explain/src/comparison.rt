@@ -20,7 +20,7 @@ pub(crate) enum Compared<'a> {
     Departs(Departure<'a>),
 }
 
-/// Whether two values compare in this way: where one is missing, they don't.
+/// Reports whether two values compare in this way: where one is missing, they don't.
 fn relation_holds(relation: Relation, left: Option<i64>, right: Option<i64>) -> bool
     ensures { result ≡ relation_holds_if relation left right }
 {
@@ -52,7 +52,8 @@ fn compare<'a>(
     Ok(Compared::Holds(relation_holds(said.relation, left, right)))
 }
 
-/// The first departure of comparisons at a place, or else the first of them that does not hold.
+/// Returns the first departure of comparisons at a place, or else the first of them that does not
+/// hold.
 #[tactic(auto, using(crate::proofs::Finding::all_where_none))]
 pub(crate) fn explain_comparisons<'a>(
     alloc: Global,

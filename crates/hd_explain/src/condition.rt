@@ -10,7 +10,7 @@ use hd_judge::Place;
 use hd_lifted::{Condition, Equality, Literal, ground_form_of, object_of};
 use std::alloc::Global;
 
-/// Whether a literal holds at a place.
+/// Reports whether a literal holds at a place.
 fn literal_holds(
     alloc: Global,
     place: &Place,
@@ -24,7 +24,7 @@ fn literal_holds(
     Ok(place.is_true(&atom) == said.positive)
 }
 
-/// The first literal that does not hold at a place.
+/// Returns the first literal that does not hold at a place.
 fn failing_literal<'a>(
     alloc: Global,
     place: &Place,
@@ -44,14 +44,14 @@ fn failing_literal<'a>(
     Ok(None)
 }
 
-/// Whether an equality holds.
+/// Reports whether an equality holds.
 fn equality_holds(objects: &[usize], said: Equality) -> bool
     ensures { result ≡ equality_holds objects.now said }
 {
     (object_of(objects, said.left) == object_of(objects, said.right)) == said.positive
 }
 
-/// The first equality that does not hold.
+/// Returns the first equality that does not hold.
 fn failing_equality(objects: &[usize], said: &[Equality]) -> Option<Equality>
     ensures { result ≡ failing_equality objects.now said.now }
 {
@@ -65,12 +65,12 @@ fn failing_equality(objects: &[usize], said: &[Equality]) -> Option<Equality>
     None
 }
 
-/// Why a condition on atoms and objects does not hold at a place, where the parameters stand for
-/// the objects: the first literal that does not hold, or else the first equality. `None` says that
-/// all of them hold; comparisons are not asked.
+/// Returns why a condition on atoms and objects does not hold at a place, where the parameters
+/// stand for the objects: the first literal that does not hold, or else the first equality. `None`
+/// says that all of them hold; comparisons are not asked.
 ///
 /// # Errors
-/// Want of memory.
+/// Lack of memory.
 #[tactic(auto, using(crate::proofs::Finding::all_where_none))]
 pub(crate) fn explain_literals<'a>(
     alloc: Global,

@@ -15,7 +15,7 @@ use hd_judge::{Changes, Lookups, Place};
 use hd_lifted::{LiftedTask, NumericEffect, Schema, ground_form_of};
 use std::alloc::Global;
 
-/// The departure of an effect's amount at a place, if it has one.
+/// Returns the departure of an effect's amount at a place, if it has one.
 fn departure_of<'a>(
     alloc: Global,
     place: &Place,
@@ -31,7 +31,7 @@ fn departure_of<'a>(
     }
 }
 
-/// The first departure of the effects' amounts at a place.
+/// Returns the first departure of the effects' amounts at a place.
 fn departing_amount<'a>(
     alloc: Global,
     place: &Place,
@@ -51,7 +51,7 @@ fn departing_amount<'a>(
     Ok(None)
 }
 
-/// The value that a step gives to an effect's fluent, if that is out of the range.
+/// Returns the value that a step gives to an effect's fluent, if that is out of the range.
 fn leaving_value(
     alloc: Global,
     changes: &Changes,
@@ -70,7 +70,7 @@ fn leaving_value(
     }
 }
 
-/// The first of the effects whose fluent's new value is out of the range.
+/// Returns the first of the effects whose fluent's new value is out of the range.
 fn leaving_effect<'a>(
     alloc: Global,
     changes: &Changes,
@@ -93,7 +93,7 @@ fn leaving_effect<'a>(
     Ok(None)
 }
 
-/// Why a step of this cost can't be taken behind a plan of that cost, if it can't.
+/// Returns why a step of this cost can't be taken after a plan of that cost, if it can't.
 #[tactic(auto, using(crate::proofs::Paying::natural_total, crate::proofs::Paying::negative_step))]
 fn explain_cost<'a>(before: u64, step: i128, effects: &'a [NumericEffect]) -> Option<Reason<'a>>
     ensures { ExplainsCost before step effects.now result }
@@ -119,7 +119,7 @@ fn step_cost(task: &LiftedTask, sum: i128) -> i128
     if task.metric.is_some() { sum } else { 1 }
 }
 
-/// Why a step departs whose amounts stay in the range, by what its effects change.
+/// Returns why a step departs whose amounts stay in the range, by what its effects change.
 fn explain_changes<'a>(
     alloc: Global,
     lookups: &Lookups<'_>,
@@ -145,13 +145,13 @@ fn explain_changes<'a>(
     Ok(explain_cost(place.cost(), step, effects))
 }
 
-/// Why a step's effects depart at a place, where the objects stand for the schema's parameters: the
-/// first subexpression of an amount that is out of the range, or else the first effect whose
-/// fluent's new value is, or else the step's cost, which is negative, or else the plan's cost with
-/// it. `None` says that nothing departs.
+/// Returns why a step's effects depart at a place, where the objects stand for the schema's
+/// parameters: the first subexpression of an amount that is out of the range, or else the first
+/// effect whose fluent's new value is, or else the step's cost, which is negative, or else the
+/// plan's cost with it. `None` says that nothing departs.
 ///
 /// # Errors
-/// Want of memory.
+/// Lack of memory.
 pub fn explain_effects<'a>(
     alloc: Global,
     lookups: &Lookups<'_>,

@@ -76,8 +76,8 @@ pub fn place_after(
     }
 }
 
-/// Why a schema with objects is refused at a place, where its literals and equalities hold and what
-/// it meets has first values: its comparisons, or else its effects.
+/// Returns why a schema with objects is refused at a place, where its literals and equalities hold
+/// and what it meets has first values: its comparisons, or else its effects.
 fn explain_numbers<'a>(
     alloc: Global,
     lookups: &Lookups<'_>,
@@ -100,17 +100,17 @@ fn explain_numbers<'a>(
     }
 }
 
-/// Why a step is refused at a place: the first literal or equality of its condition that does not
-/// hold; or else, where all that it meets has first values and its cost is not negative in each
-/// state, its first comparison that departs, or else the first that does not hold, or else what of
-/// its effects departs.
+/// Returns why a step is refused at a place: the first literal or equality of its condition that
+/// does not hold; or else, where all that it meets has first values and its cost is not negative in
+/// each state, its first comparison that departs, or else the first that does not hold, or else
+/// what of its effects departs.
 ///
 /// `None` says that it is not refused for such a reason: it is one of no instance, or its literals
 /// and equalities hold, and a fluent that it meets has no first value, or it costs the same in each
 /// state and less than 0, or its comparisons hold and nothing departs.
 ///
 /// # Errors
-/// Want of memory.
+/// Lack of memory.
 pub fn explain_step<'a>(
     alloc: Global,
     lookups: &Lookups<'_>,

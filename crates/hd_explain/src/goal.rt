@@ -14,7 +14,7 @@ use hd_judge::{Fault, Lookups, Place, Stop, judge_goal};
 use hd_lifted::LiftedTask;
 use std::alloc::{AllocError, Global};
 
-/// Whether a fault is that of a fluent without a first value.
+/// Reports whether a fault is that of a fluent without a first value.
 fn is_undefined(fault: &Fault) -> bool
     ensures { result ≡ is_undefined fault.now }
 {
@@ -28,7 +28,8 @@ fn is_undefined(fault: &Fault) -> bool
     }
 }
 
-/// Whether a fluent that the goal meets has no first value, where its literals and equalities hold.
+/// Reports whether a fluent that the goal meets has no first value, where its literals and
+/// equalities hold.
 #[tactic(auto, using(crate::proofs::Undefined::none_told, crate::proofs::Undefined::fault_told))]
 fn goal_undefined(alloc: Global, lookups: &Lookups<'_>, place: &Place) -> Result<bool, NoMemory>
     requires hold { literals_hold (reached_in place.now).state [] lookups.now.goal ≡ true }
@@ -46,15 +47,15 @@ fn goal_undefined(alloc: Global, lookups: &Lookups<'_>, place: &Place) -> Result
     }
 }
 
-/// Why the goal is not met at a place: its first literal or equality that does not hold; or else,
-/// where all that it meets has first values, its first comparison that departs, or else the first
-/// that does not hold.
+/// Returns why the goal is not met at a place: its first literal or equality that does not hold; or
+/// else, where all that it meets has first values, its first comparison that departs, or else the
+/// first that does not hold.
 ///
 /// `None` says that its literals and equalities hold, and a fluent that it meets has no first
 /// value, or its comparisons hold and stay in the range.
 ///
 /// # Errors
-/// Want of memory.
+/// Lack of memory.
 pub fn explain_goal<'a>(
     alloc: Global,
     lookups: &Lookups<'_>,

@@ -159,7 +159,7 @@ fn explain_all<'a>(
     explain_end(alloc, lookups, task, place)
 }
 
-/// The line of a reason at a place.
+/// Returns the line of a reason at a place.
 fn line_of(
     alloc: Global,
     task: &LiftedTask,
@@ -179,7 +179,7 @@ fn line_of(
     }
 }
 
-/// The line that explains a plan which begins here.
+/// Returns the line that explains a plan which begins here.
 fn explain_from(
     alloc: Global,
     names: &TaskNames<'_>,
@@ -211,15 +211,15 @@ fn explain_from(
     }
 }
 
-/// Why a plan of a checked task is not valid, in one line without a line's end: the reason of its
-/// first fault, as `text_of` tells it. The tables hash by the seed.
+/// Returns why a plan of a checked task is not valid, in one line without a line's end: the reason
+/// of its first fault, as `text_of` reports it. The tables hash by the seed.
 ///
 /// `None` says that the plan is valid, or that its fault says all that there is to say: a step is
 /// one of no instance, a fluent has no first value, or a step costs the same in each state and less
 /// than 0.
 ///
 /// # Errors
-/// Want of memory.
+/// Lack of memory.
 pub fn explain(
     alloc: Global,
     seed: Seed,

@@ -22,7 +22,7 @@ pub struct Reading {
     pub value: Option<i64>,
 }
 
-/// Puts a fluent with its value behind others.
+/// Puts a fluent with its value after others.
 fn push_reading(
     alloc: Global,
     readings: &mut Vec<Reading>,
@@ -40,7 +40,7 @@ fn push_reading(
     Ok(())
 }
 
-/// Puts the fluents that an expression reads, with their values, behind others.
+/// Puts the fluents that an expression reads, with their values, after others.
 fn push_expression(
     alloc: Global,
     readings: &mut Vec<Reading>,
@@ -65,7 +65,7 @@ fn push_expression(
     }
 }
 
-/// Puts the fluents that a comparison reads, with their values, behind others.
+/// Puts the fluents that a comparison reads, with their values, after others.
 fn push_comparison(
     alloc: Global,
     readings: &mut Vec<Reading>,
@@ -81,7 +81,7 @@ fn push_comparison(
     push_expression(alloc, readings, place, objects, &said.right)
 }
 
-/// Whether an effect is a part of the cost.
+/// Reports whether an effect is a part of the cost.
 pub(crate) fn is_cost(change: Change) -> bool
     ensures { result ≡ is_cost change }
 {
@@ -91,7 +91,7 @@ pub(crate) fn is_cost(change: Change) -> bool
     }
 }
 
-/// Puts the fluents that an effect's amount reads, with their values, behind others, if the effect
+/// Puts the fluents that an effect's amount reads, with their values, after others, if the effect
 /// is on this fluent.
 fn push_change(
     alloc: Global,
@@ -112,7 +112,7 @@ fn push_change(
     push_expression(alloc, readings, place, objects, &said.amount)
 }
 
-/// Puts the fluents that the amounts of the effects on a fluent read, with their values, behind
+/// Puts the fluents that the amounts of the effects on a fluent read, with their values, after
 /// others.
 fn push_changes(
     alloc: Global,
@@ -134,8 +134,8 @@ fn push_changes(
     Ok(())
 }
 
-/// Puts a fluent whose new value is told, and those that its new value is made of, with their
-/// values, behind others.
+/// Puts a fluent whose new value is reported, and those that its new value is made of, with their
+/// values, after others.
 fn push_new_value(
     alloc: Global,
     readings: &mut Vec<Reading>,
@@ -154,7 +154,7 @@ fn push_new_value(
     push_changes(alloc, readings, place, objects, fluent, new.effects)
 }
 
-/// Puts the fluents that the amounts of the cost read, with their values, behind others.
+/// Puts the fluents that the amounts of the cost read, with their values, after others.
 fn push_costs(
     alloc: Global,
     readings: &mut Vec<Reading>,
@@ -176,7 +176,7 @@ fn push_costs(
     Ok(())
 }
 
-/// Puts the fluents that a reason speaks of, with their values, behind others.
+/// Puts the fluents that a reason speaks of, with their values, after others.
 fn push_readings(
     alloc: Global,
     readings: &mut Vec<Reading>,
@@ -203,11 +203,11 @@ fn push_readings(
     }
 }
 
-/// The fluents that a reason speaks of, from the left, with their values at the place. One that is
-/// read twice stands twice.
+/// Returns the fluents that a reason speaks of, from the left, with their values at the place. One
+/// that is read twice stands twice.
 ///
 /// # Errors
-/// Want of memory.
+/// Lack of memory.
 pub fn readings_of(
     alloc: Global,
     place: &Place,

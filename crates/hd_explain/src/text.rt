@@ -19,7 +19,7 @@ use std::fmt::Write;
 
 // ---- ground forms
 
-/// Puts an object's name behind a text.
+/// Puts an object's name after a text.
 fn push_object(text: &mut String, task: &LiftedTask, object: usize) -> Result<(), NoMemory>
     ensures { OnOk result (string_bytes text.new ≡ string_bytes text.old
         ++ name_of_object (slice_get task.now.objects object)) }
@@ -30,7 +30,7 @@ fn push_object(text: &mut String, task: &LiftedTask, object: usize) -> Result<()
     }
 }
 
-/// Puts an object behind a space behind a text.
+/// Puts an object after a space after a text.
 fn push_argument(text: &mut String, task: &LiftedTask, object: usize) -> Result<(), NoMemory>
     ensures { OnOk result (string_bytes text.new ≡ string_bytes text.old
         ++ object_text task.now.objects object) }
@@ -39,7 +39,7 @@ fn push_argument(text: &mut String, task: &LiftedTask, object: usize) -> Result<
     push_object(text, task, object)
 }
 
-/// Puts objects behind a text, each behind a space.
+/// Puts objects after a text, each after a space.
 fn push_objects(text: &mut String, task: &LiftedTask, objects: &[usize]) -> Result<(), NoMemory>
     ensures { OnOk result (string_bytes text.new ≡ string_bytes text.old
         ++ flat_map (object_text task.now.objects) objects.now) }
@@ -50,7 +50,7 @@ fn push_objects(text: &mut String, task: &LiftedTask, objects: &[usize]) -> Resu
     Ok(())
 }
 
-/// Puts a symbol's name behind a text.
+/// Puts a symbol's name after a text.
 fn push_symbol(text: &mut String, symbols: &[Signature], symbol: usize) -> Result<(), NoMemory>
     ensures { OnOk result (string_bytes text.new ≡ string_bytes text.old
         ++ name_of_function (slice_get symbols.now symbol)) }
@@ -61,7 +61,7 @@ fn push_symbol(text: &mut String, symbols: &[Signature], symbol: usize) -> Resul
     }
 }
 
-/// Puts a ground form behind a text, its symbol one of these.
+/// Puts a ground form after a text, its symbol one of these.
 fn push_form(
     text: &mut String,
     task: &LiftedTask,
@@ -78,7 +78,7 @@ fn push_form(
     text.push_str(")")
 }
 
-/// Puts a fluent behind a text.
+/// Puts a fluent after a text.
 fn push_fluent(
     alloc: Global,
     text: &mut String,
@@ -95,7 +95,7 @@ fn push_fluent(
 
 // ---- conditions
 
-/// Puts a literal behind a text.
+/// Puts a literal after a text.
 fn push_literal(
     alloc: Global,
     text: &mut String,
@@ -115,7 +115,7 @@ fn push_literal(
     text.push_str(")")
 }
 
-/// Puts two objects that are the same behind a text.
+/// Puts two objects that are the same after a text.
 fn push_same(
     text: &mut String,
     task: &LiftedTask,
@@ -132,7 +132,7 @@ fn push_same(
     text.push_str(")")
 }
 
-/// Puts an equality behind a text.
+/// Puts an equality after a text.
 fn push_equality(
     text: &mut String,
     task: &LiftedTask,
@@ -150,7 +150,7 @@ fn push_equality(
     text.push_str(")")
 }
 
-/// The beginning of what an operation makes of two expressions.
+/// Returns the beginning of what an operation makes of two expressions.
 fn operation_start(operation: Operation) -> &'static str
     ensures { result.now ≡ operation_sign operation }
 {
@@ -161,7 +161,7 @@ fn operation_start(operation: Operation) -> &'static str
     }
 }
 
-/// Puts a number or a fluent behind a text.
+/// Puts a number or a fluent after a text.
 fn push_leaf(
     alloc: Global,
     text: &mut String,
@@ -178,7 +178,7 @@ fn push_leaf(
     }
 }
 
-/// Puts an expression behind a text.
+/// Puts an expression after a text.
 fn push_expression(
     alloc: Global,
     text: &mut String,
@@ -206,7 +206,7 @@ fn push_expression(
     }
 }
 
-/// The beginning of a comparison.
+/// Returns the beginning of a comparison.
 fn relation_start(relation: Relation) -> &'static str
     ensures { result.now ≡ relation_sign relation }
 {
@@ -219,7 +219,7 @@ fn relation_start(relation: Relation) -> &'static str
     }
 }
 
-/// Puts a comparison behind a text.
+/// Puts a comparison after a text.
 fn push_comparison(
     alloc: Global,
     text: &mut String,
@@ -239,14 +239,14 @@ fn push_comparison(
 
 // ---- reasons
 
-/// Puts a value that is out of the range behind a text.
+/// Puts a value that is out of the range after a text.
 fn push_out(text: &mut String, value: i128) -> Result<(), NoMemory>
     ensures { OnOk result (string_bytes text.new ≡ string_bytes text.old ++ out_text value) }
 {
     write!(text, " is {value}, out of the range")
 }
 
-/// Puts a subexpression with its value behind a text.
+/// Puts a subexpression with its value after a text.
 fn push_departure(
     alloc: Global,
     text: &mut String,
@@ -262,7 +262,7 @@ fn push_departure(
     push_out(text, departure.value)
 }
 
-/// Puts words, a fluent and its value, which is out of the range, behind a text.
+/// Puts words, a fluent and its value, which is out of the range, after a text.
 fn push_changed(
     alloc: Global,
     text: &mut String,
@@ -281,7 +281,7 @@ fn push_changed(
     push_out(text, value)
 }
 
-/// Puts a fluent's new value behind a text.
+/// Puts a fluent's new value after a text.
 fn push_new_value(
     alloc: Global,
     text: &mut String,
@@ -299,7 +299,7 @@ fn push_new_value(
     push_changed(alloc, text, task, objects, words, fluent, new.value)
 }
 
-/// Puts a number between words behind a text.
+/// Puts a number between words after a text.
 fn push_between(text: &mut String, before: &str, after: &str, value: i128) -> Result<(), NoMemory>
     ensures { OnOk result (string_bytes text.new ≡ string_bytes text.old
         ++ (before.now ++ signed_decimal value ++ after.now)) }
@@ -309,7 +309,7 @@ fn push_between(text: &mut String, before: &str, after: &str, value: i128) -> Re
     text.push_str(after)
 }
 
-/// Puts a negative cost behind a text.
+/// Puts a negative cost after a text.
 fn push_negative_cost(text: &mut String, value: i128) -> Result<(), NoMemory>
     ensures { OnOk result (string_bytes text.new ≡ string_bytes text.old
         ++ (codes "the cost of the step is " ++ signed_decimal value
@@ -318,7 +318,7 @@ fn push_negative_cost(text: &mut String, value: i128) -> Result<(), NoMemory>
     push_between(text, "the cost of the step is ", ", less than 0", value)
 }
 
-/// Puts two numbers with words around them behind a text.
+/// Puts two numbers with words around them after a text.
 fn push_both(
     text: &mut String,
     first: &str,
@@ -335,7 +335,7 @@ fn push_both(
     text.push_str(last)
 }
 
-/// Puts a plan's cost behind a text: that of the step, and that before it.
+/// Puts a plan's cost after a text: that of the step, and that before it.
 fn push_plan_cost(text: &mut String, value: i128, before: u64) -> Result<(), NoMemory>
     ensures { OnOk result (string_bytes text.new ≡ string_bytes text.old
         ++ (codes "the cost of the step is " ++ signed_decimal value
@@ -347,7 +347,7 @@ fn push_plan_cost(text: &mut String, value: i128, before: u64) -> Result<(), NoM
     push_both(text, first, value, ", and with the ", before, last)
 }
 
-/// Puts behind a text that what it says does not hold.
+/// Puts after a text that what it says does not hold.
 fn push_unmet(text: &mut String) -> Result<(), NoMemory>
     ensures { OnOk result (string_bytes text.new ≡ string_bytes text.old
         ++ codes " does not hold") }
@@ -355,7 +355,7 @@ fn push_unmet(text: &mut String) -> Result<(), NoMemory>
     text.push_str(" does not hold")
 }
 
-/// Puts what a reason says behind a text, without the values of its fluents.
+/// Puts what a reason says after a text, without the values of its fluents.
 fn push_reason(
     alloc: Global,
     text: &mut String,
@@ -386,7 +386,7 @@ fn push_reason(
     }
 }
 
-/// Puts the value of a fluent behind a text.
+/// Puts the value of a fluent after a text.
 fn push_value(text: &mut String, value: Option<i64>) -> Result<(), NoMemory>
     ensures { OnOk result (string_bytes text.new ≡ string_bytes text.old ++ value_text value) }
 {
@@ -396,7 +396,7 @@ fn push_value(text: &mut String, value: Option<i64>) -> Result<(), NoMemory>
     }
 }
 
-/// Puts a fluent with its value behind a text.
+/// Puts a fluent with its value after a text.
 fn push_reading(text: &mut String, task: &LiftedTask, reading: &Reading) -> Result<(), NoMemory>
     ensures { OnOk result (string_bytes text.new ≡ string_bytes text.old
         ++ reading_text task.now reading.now) }
@@ -405,7 +405,7 @@ fn push_reading(text: &mut String, task: &LiftedTask, reading: &Reading) -> Resu
     push_value(text, reading.value)
 }
 
-/// Puts fluents with their values behind a text, each behind a comma.
+/// Puts fluents with their values after a text, each after a comma.
 fn push_more(text: &mut String, task: &LiftedTask, readings: &[Reading]) -> Result<(), NoMemory>
     ensures { OnOk result (string_bytes text.new ≡ string_bytes text.old
         ++ flat_map (λ x. codes ", " ++ reading_text task.now x) readings.now) }
@@ -419,7 +419,7 @@ fn push_more(text: &mut String, task: &LiftedTask, readings: &[Reading]) -> Resu
     Ok(())
 }
 
-/// Puts fluents with their values behind a text, the first behind a colon.
+/// Puts fluents with their values after a text, the first after a colon.
 fn push_readings(text: &mut String, task: &LiftedTask, readings: &[Reading]) -> Result<(), NoMemory>
     ensures { OnOk result (string_bytes text.new ≡ string_bytes text.old
         ++ readings_text task.now readings.now) }
@@ -432,12 +432,12 @@ fn push_readings(text: &mut String, task: &LiftedTask, readings: &[Reading]) -> 
     push_more(text, task, more)
 }
 
-/// One line that tells a reason, without a line's end, such as `(at b) does not hold` or `(>=
-/// (fuel) 9) does not hold: (fuel) = 8`. The objects stand for the parameters of the step's action;
-/// for the goal there are none.
+/// Returns one line that reports a reason, without a line's end, such as `(at b) does not hold` or
+/// `(>= (fuel) 9) does not hold: (fuel) = 8`. The objects stand for the parameters of the step's
+/// action; for the goal there are none.
 ///
 /// # Errors
-/// Want of memory.
+/// Lack of memory.
 pub fn text_of(
     alloc: Global,
     task: &LiftedTask,

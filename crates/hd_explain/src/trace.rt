@@ -21,7 +21,7 @@ pub(crate) enum Outcome<'a> {
     Departs(Departure<'a>),
 }
 
-/// An expression's value, or the expression itself where that is out of the range.
+/// Returns an expression's value, or the expression itself where that is out of the range.
 fn judged<'a>(said: &'a Expr, value: i128) -> Outcome<'a>
     ensures { IsOutcomeBy said.now (Some value) result }
 {
@@ -32,7 +32,7 @@ fn judged<'a>(said: &'a Expr, value: i128) -> Outcome<'a>
     }
 }
 
-/// The value of a leaf at a place, if it has one.
+/// Returns the value of a leaf at a place, if it has one.
 fn leaf_value(
     alloc: Global,
     place: &Place,
@@ -51,7 +51,7 @@ fn leaf_value(
     }
 }
 
-/// The value of an expression with its sign turned.
+/// Returns the value of an expression with its sign turned.
 fn negated<'a>(said: &'a Expr, inner: Option<i64>) -> Outcome<'a>
     ensures { IsOutcomeBy said.now (option_map neg_ℤ inner) result }
 {
@@ -61,7 +61,7 @@ fn negated<'a>(said: &'a Expr, inner: Option<i64>) -> Outcome<'a>
     }
 }
 
-/// What an operation makes of two numbers.
+/// Returns what an operation makes of two numbers.
 fn result_of(operation: Operation, left: i64, right: i64) -> i128
     ensures { result ≡ result_of operation left right }
 {
@@ -74,7 +74,7 @@ fn result_of(operation: Operation, left: i64, right: i64) -> i128
     }
 }
 
-/// The value of what an operation makes of two values.
+/// Returns the value of what an operation makes of two values.
 fn combined<'a>(
     said: &'a Expr,
     operation: Operation,
@@ -89,8 +89,8 @@ fn combined<'a>(
     }
 }
 
-/// The value of an expression at a place, or else the first of its subexpressions that is out of
-/// the range: what it is made of before itself, and the left before the right.
+/// Returns the value of an expression at a place, or else the first of its subexpressions that is
+/// out of the range: what it is made of before itself, and the left before the right.
 pub(crate) fn outcome_of<'a>(
     alloc: Global,
     place: &Place,

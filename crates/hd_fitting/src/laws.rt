@@ -18,14 +18,14 @@ ghost use Rattle.hd_grounding.specs.Faults.{IsTooLarge};
 ghost use Rattle.hd_fitting.specs.Counted.{AreCounted, AreFaultless};
 ghost use Rattle.hd_fitting.specs.Fitting.{grounded_parts_fit, HasGroundedParts};
 
-/// Where the lists that number a task are within the limits of one, and no instance has too many
-/// amounts, it is not too large.
+/// Law: where the lists that number a task are within the limits of one, and no instance has too
+/// many amounts, it is not too large.
 pub fn few_are_not_too_large()
     ensures { (t : LiftedTask) (instances : List Instance) (atoms fluents : List Ground)
         → AreCounted t instances atoms fluents → IsTooLarge t → ⊥ }
 {}
 
-/// What a checked task is grounded to fits together, where it is within the limits and has no
+/// Law: what a checked task is grounded to fits together, where it is within the limits and has no
 /// fault: so `Task::new` answers it.
 pub fn grounded_parts_fit_together()
     ensures { (t : LiftedTask) (instances : List Instance) (atoms fluents : List Ground)
@@ -35,8 +35,8 @@ pub fn grounded_parts_fit_together()
         → grounded_parts_fit t atoms fluents actions ≡ true }
 {}
 
-/// A task of the parts that are made of what is counted and has no fault is the grounding of the
-/// lifted task.
+/// Law: a task of the parts that are made of what is counted and has no fault is the grounding of
+/// the lifted task.
 pub fn grounded_parts_are_a_grounding()
     ensures { (t : LiftedTask) (instances : List Instance) (atoms fluents : List Ground)
         (actions : List Action) (u : Task)
@@ -45,7 +45,7 @@ pub fn grounded_parts_are_a_grounding()
         → HasGroundedParts t atoms fluents actions u → IsGrounding t u }
 {}
 
-/// What an instance of a well formed task applies to its objects is of the declared types: the
+/// Law: what an instance of a well formed task applies to its objects is of the declared types: the
 /// atoms that it asks for, adds and deletes, and the fluents that it meets.
 pub fn instances_are_typed()
     ensures adds { (t : LiftedTask) (i : Instance) (is : IsInstance t i) (a : Applied)

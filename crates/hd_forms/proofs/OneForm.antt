@@ -20,7 +20,7 @@ together (opening at ∷ marks) around done = together marks (record { from = at
 together (closing at ∷ marks) [] done = None
 together (closing at ∷ marks) (begun ∷ around) done = together marks around (append begun.before (list begun.from done at none))
 
--- the marks of forms put these forms behind what is there
+-- the marks of forms put these forms after what is there
 put_behind : (f : Forms) (marks : List Mark) (around : List Begun) (done : Forms)
     → together (marks_of f ++ marks) around done ≡ together marks around (append done f)
 put_behind none marks around done = ap (together marks around) (sym (append-none done))

@@ -39,7 +39,7 @@ is_forms text ts fs are written balanced = record {
 one_forms : (text : List ℕ) (f g : Forms) → IsFormsText text f → IsFormsText text g → f ≡ g
 one_forms text f g h k = same_forms f g (same_marks text (marks_of f) (marks_of g) h.marks k.marks)
 
--- what the fault of the words tells
+-- what the fault of the words reports
 pub words_explained : (text : List ℕ) (e : LexError) → (e ≡ lexing.NoMemory) ⊎ IsFault text e → ExplainsForms text (of_lexer e)
 words_explained text lexing.NoMemory h = tt
 words_explained text (lexing.BadByte at) (inl e) = absurd cc
@@ -49,7 +49,7 @@ words_explained text (lexing.BadNumber at) (inr h) = h
 words_explained text (lexing.NameTooLong at) (inl e) = absurd cc
 words_explained text (lexing.NameTooLong at) (inr h) = h
 
--- what a fault of the parentheses tells
+-- what a fault of the parentheses reports
 pub parentheses_explained : (text : List ℕ) (ts : List Token) (e : ReadError) → AreTokens text ts
     → Tells e (parenthesis_fault (length text) (marks_from ts)) → ExplainsForms text e
 parentheses_explained text ts errors.NoMemory are tells = tt
@@ -111,7 +111,7 @@ explained Says text (errors.Unexpected at) h = absurd h
 explained Says text (errors.Unsupported w at) h = absurd h
 explained Says text (errors.TooDeep at) h = h
 
--- ---- what each text is told
+-- ---- what each text is reported
 
 -- forms that are in order have no fault
 in_order : (text : List ℕ) (fs : Forms) (e : ReadError) → IsFormsText text fs → IsUnbalanced text e → ⊥
@@ -121,7 +121,7 @@ in_order text fs e h u =
     let wrong = u.fault in
     absurd cc
 
--- a tree's text is answered by it, or refused for want of memory
+-- a tree's text is answered by it, or refused for lack of memory
 pub only_of : {Tree : Type 0} {Says : Forms → Tree → Type 0} {read : Forms → Option Tree} (by : IsReadBy Says read)
     (text : List ℕ) (r : Result Tree ReadError) → IfOk r (IsTextOf Says text) → IfErr r (Explains Says text)
     → (t : Tree) → IsTextOf Says text t → MatchResult r (λ answer. answer ≡ t) (λ e. e ≡ errors.NoMemory)
@@ -136,7 +136,7 @@ only_of by text (Err (errors.TooDeep at)) found told t d = absurd (in_order text
 abbrev IsToldAs : {Tree : Type 0} → ReadError → Result Tree ReadError → Type 0
 IsToldAs fault r = MatchResult r (λ _. ⊥) (λ e. (e ≡ errors.NoMemory) ⊎ (e ≡ fault))
 
--- a bad word is told
+-- a bad word is reported
 pub bad_word_of : {Tree : Type 0} (Says : Forms → Tree → Type 0) (text : List ℕ) (r : Result Tree ReadError)
     → IfOk r (IsTextOf Says text) → IfErr r (Explains Says text)
     → (fault : LexError) → IsFault text fault → IsToldAs (errors.Lex fault) r
@@ -153,7 +153,7 @@ one_fault text a b h k =
     let same = same_marks text h.marks k.marks h.has_marks k.has_marks in
     same_Some a b (sym h.fault ∙ ap (parenthesis_fault (length text)) same ∙ k.fault)
 
--- a fault of the parentheses is told
+-- a fault of the parentheses is reported
 pub bad_parentheses_of : {Tree : Type 0} (Says : Forms → Tree → Type 0) (text : List ℕ) (r : Result Tree ReadError)
     → IfOk r (IsTextOf Says text) → IfErr r (Explains Says text)
     → (fault : ReadError) → IsUnbalanced text fault → IsToldAs fault r

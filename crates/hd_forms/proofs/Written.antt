@@ -49,7 +49,7 @@ marks-push : (fs : List Form) (f : Form)
     → marks_of (forms_view (fs ++ f ∷ [])) ≡ marks_of (forms_view fs) ++ marks_of (form_view f)
 marks-push fs f = ap marks_of (view-push fs f) ∙ marks-append (forms_view fs) (form_view f)
 
--- a word behind what was read
+-- a word after what was read
 pub marks_written-word : (os : List OpenForm) (fs : List Form) (at : ℕ) (w : Word)
     → marks_written os (fs ++ forms.Word at w ∷ []) ≡ marks_written os fs ++ symbol at w ∷ []
 marks_written-word os fs at w =
@@ -69,7 +69,7 @@ written_inside os o fs =
     ∙ ap (λ (ms : List Mark). around ++ ms) (append_assoc before (opening o.from ∷ []) inside)
     ∙ sym (append_assoc around before (opening o.from ∷ inside))
 
--- a form closed behind what was read
+-- a form closed after what was read
 pub marks_written-finish : (os : List OpenForm) (o : OpenForm) (inside : Vec Form Global) (to : ℕ)
     → marks_written os (o.before.items ++ forms.List to o.from inside ∷ []) ≡ marks_written (os ++ o ∷ []) inside.items ++ closing to ∷ []
 marks_written-finish os o inside to =

@@ -16,7 +16,7 @@ text_of (Unsupported word at) = codes "6 Unsupported(" ++ string_bytes word ++ c
 text_of (TooDeep at) = codes "7 TooDeep(" ++ decimal at ++ codes ")"
 text_of NoMemory = codes "NoMemory"
 
--- the lexer's faults are passed on as they are, and its want of memory is the reader's (own)
+-- the lexer's faults are passed on as they are, and its lack of memory is the reader's (own)
 abbrev pub of_lexer : LexError → ReadError
 of_lexer faults.NoMemory = NoMemory
 of_lexer (faults.BadByte at) = Lex (faults.BadByte at)

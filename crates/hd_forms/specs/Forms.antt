@@ -78,7 +78,7 @@ fault_from end (suc depth) (closing at ∷ marks) = fault_from end depth marks
 abbrev pub parenthesis_fault : ℕ → List Mark → Option ReadError
 parenthesis_fault end marks = fault_from end 0 marks
 
--- the error is want of memory, or it is this fault (own)
+-- the error is lack of memory, or it is this fault (own)
 abbrev pub Tells : ReadError → Option ReadError → Type 0
 Tells errors.NoMemory fault = Unit {0}
 Tells (errors.Lex e) fault = ⊥

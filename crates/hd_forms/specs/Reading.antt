@@ -10,7 +10,7 @@ use Rattle.hd_forms.specs.declared.word.Word.{Word}
 use Rattle.hd_forms.specs.declared.word.Word.TheVariants as words
 use Rattle.hd_forms.specs.Forms.{Forms, none, word, list}
 
--- the errors of the grammar, and want of memory
+-- the errors of the grammar, and lack of memory
 abbrev pub IsOfGrammar : ReadError → Type 0
 IsOfGrammar errors.NoMemory = Unit {0}
 IsOfGrammar (errors.Lex e) = ⊥
@@ -19,7 +19,7 @@ IsOfGrammar (errors.Unexpected at) = Unit {0}
 IsOfGrammar (errors.Unsupported w at) = Unit {0}
 IsOfGrammar (errors.TooDeep at) = ⊥
 
--- the error is one of the grammar, and nothing is read; or it is want of memory
+-- the error is one of the grammar, and nothing is read; or it is lack of memory
 abbrev pub Refuses : {Y : Type 0} → ReadError → Option Y → Type 0
 Refuses errors.NoMemory read = Unit {0}
 Refuses (errors.Lex e) read = ⊥

@@ -35,8 +35,8 @@ pub record IsOutside {Tree : Type 0} (Says : Forms → Tree → Type 0) (text : 
   pub written : IsFormsText text forms
   pub outside : (tree : Tree) → ¬ IsTextOf Says text tree
 
--- what each refusal tells of a text that is to say something by the rule: its first bad word, the
--- first fault of its parentheses, or that it is outside of the grammar; want of memory tells
+-- what each refusal reports of a text that is to say something by the rule: its first bad word, the
+-- first fault of its parentheses, or that it is outside of the grammar; lack of memory reports
 -- nothing (own)
 abbrev pub Explains : {Tree : Type 0} → (Forms → Tree → Type 0) → List ℕ → ReadError → Type 0
 Explains Says text errors.NoMemory = Unit {0}
@@ -46,7 +46,7 @@ Explains Says text (errors.Unexpected at) = IsOutside Says text
 Explains Says text (errors.Unsupported word at) = IsOutside Says text
 Explains Says text (errors.TooDeep at) = IsUnbalanced text (errors.TooDeep at)
 
--- what each refusal of words and parentheses tells of a text (own)
+-- what each refusal of words and parentheses reports of a text (own)
 abbrev pub ExplainsForms : List ℕ → ReadError → Type 0
 ExplainsForms text errors.NoMemory = Unit {0}
 ExplainsForms text (errors.Lex fault) = IsFault text fault

@@ -1,9 +1,13 @@
-//! Nested forms: a text's words, nested by its parentheses, which are then read from the left.
+//! Nests the tokens of a text (hd_lex) by its parentheses, and reads words and forms from the left.
 //!
-//! A text is cut into words (hd_lex) and the words are nested here. What forms say is a matter of
-//! grammars, which stand above: here is what such a grammar asks of the next form, and how it
-//! refuses. Places are counted in bytes from 0. Each call that reads is `NoMemory` where memory
-//! runs out.
+//! [`text_forms`] returns the forms with which the text is written, at most 64 of them open at
+//! once. Else it reports the first bad word, or, in a text without one, the first error of the
+//! parentheses. A call such as [`name_at`] or [`group_at`] returns exactly what its rule gives of
+//! the next forms. It refuses them only if the rule gives nothing, or if memory runs out.
+//!
+//! Tokens come one by one from the lexer, and the open forms lie on a stack. A [`Form`] has at most
+//! 40 bytes, and a closed one keeps no spare room. Places are counted in bytes from 0. Start
+//! reading at [`text_forms`], then `specs/Forms`.
 #![tactic(auto)]
 
 mod error;

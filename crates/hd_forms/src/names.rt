@@ -19,7 +19,7 @@ pub struct NameAt {
     pub at: usize,
 }
 
-/// The name at this place, in memory of its own.
+/// Returns the name at this place, in memory of its own.
 pub fn placed_name(alloc: Global, name: &Name, at: usize) -> Result<NameAt, AllocError>
     ensures { IfOk result (λ n. n ≡ placed_name name.now at) }
 {
@@ -27,7 +27,7 @@ pub fn placed_name(alloc: Global, name: &Name, at: usize) -> Result<NameAt, Allo
     Ok(NameAt { name, at })
 }
 
-/// The first name, and what follows it. The place `end` is that behind the forms.
+/// Returns the first name, and what follows it. The place `end` is that after the forms.
 pub fn name_at(alloc: Global, forms: &[Form], end: usize) -> Result<(NameAt, &[Form]), ReadError>
     ensures { Gives Refuses (λ x. (x.0, forms_view x.1.now)) result
         (name_at (forms_view forms.now)) }
@@ -47,7 +47,8 @@ pub fn name_at(alloc: Global, forms: &[Form], end: usize) -> Result<(NameAt, &[F
     }
 }
 
-/// The first number, its place, and what follows it. The place `end` is that behind the forms.
+/// Returns the first number, its place, and what follows it. The place `end` is that after the
+/// forms.
 pub fn number_at(
     alloc: Global,
     forms: &[Form],
@@ -68,7 +69,8 @@ pub fn number_at(
     }
 }
 
-/// What stands in the first form, the place of its closing parenthesis, and what follows it.
+/// Returns what stands in the first form, the place of its closing parenthesis, and what follows
+/// it.
 pub fn group_at(
     alloc: Global,
     forms: &[Form],
@@ -94,7 +96,7 @@ pub fn end_at(alloc: Global, forms: &[Form]) -> Result<(), ReadError>
     }
 }
 
-/// What follows this name.
+/// Returns what follows this name.
 pub fn behind_name<'a>(
     alloc: Global,
     text: &str,
@@ -122,7 +124,7 @@ pub fn behind_name<'a>(
     }
 }
 
-/// What follows this keyword, if it stands first.
+/// Returns what follows this keyword, if it stands first.
 pub fn find_keyword<'a>(text: &str, forms: &'a [Form]) -> Option<&'a [Form]>
     ensures { MatchOption result
         (behind_keyword text.now (forms_view forms.now) ≡ None)
@@ -146,7 +148,7 @@ pub fn find_keyword<'a>(text: &str, forms: &'a [Form]) -> Option<&'a [Form]>
     }
 }
 
-/// What follows this keyword.
+/// Returns what follows this keyword.
 pub fn behind_keyword<'a>(
     alloc: Global,
     text: &str,

@@ -39,7 +39,7 @@ impl Place {
         })
     }
 
-    /// The place as a number.
+    /// Returns the place as a number.
     pub fn get(&self) -> usize
         ensures { result ≡ self.now }
     {

@@ -8,7 +8,7 @@ use crate::word::{Word, is_unsupported_keyword};
 use hd_lex::Operator;
 use std::alloc::{AllocError, Global};
 
-/// The word as it is written, if it belongs to a part of PDDL that is not read.
+/// Returns the word as it is written, if it belongs to a part of PDDL that is not read.
 fn unsupported_text(alloc: Global, word: &Word) -> Result<Option<String>, AllocError> {
     match word {
         Word::Unsupported(name) => return Ok(Some(String::from_str(alloc, name.as_str())?)),
@@ -48,7 +48,7 @@ pub fn form_refusal(alloc: Global, form: &Form) -> ReadError
     }
 }
 
-/// Refuses the first token of these forms, or what stands behind them, at the place `end`, where
+/// Refuses the first token of these forms, or what stands after them, at the place `end`, where
 /// there are none.
 pub fn first_refusal(alloc: Global, forms: &[Form], end: usize) -> ReadError
     ensures { IsOfGrammar result }

@@ -12,7 +12,7 @@ use hd_lex::{Front, LexError, front_of};
 use std::alloc::Global;
 
 /// Asks that the rest of a text, whose first byte stands at this place, has no bad word. A bad word
-/// is told before any parenthesis, also one that stands before it.
+/// is reported before any parenthesis, also one that stands before it.
 fn check_words(alloc: Global, text: &[u8], at: usize) -> Result<(), LexError>
     requires { at + length text.now < 2 ^ 64 }
     ensures good { IfOk result (λ _. HasTokens at text.now) }
@@ -59,7 +59,7 @@ fn nest(
     Ok(())
 }
 
-/// The forms of a text, or the first fault of its words, or else of its parentheses.
+/// Returns the forms of a text, or the first fault of its words, or else of its parentheses.
 pub fn text_forms(alloc: Global, text: &[u8]) -> Result<Vec<Form>, ReadError>
     ensures forms { IfOk result (λ forms. IsFormsText text.now (forms_view forms.items)) }
     ensures refusal { IfErr result (ExplainsForms text.now) }

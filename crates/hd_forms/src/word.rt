@@ -26,16 +26,16 @@ pub enum Word {
     /// can be named by it.
     Unsupported(Name),
     Name(Name),
-    /// A name behind `:`, without it.
+    /// A name after `:`, without it.
     Keyword(Name),
-    /// A name behind `?`, without it.
+    /// A name after `?`, without it.
     Variable(Name),
     Operator(Operator),
     /// A number, with its sign.
     Number(i64),
 }
 
-/// Whether the word, spelled as a name, belongs to a part of PDDL that is not read.
+/// Reports whether the word, spelled as a name, belongs to a part of PDDL that is not read.
 fn is_unsupported_name(word: &str) -> bool
     ensures { result ≡ is_unsupported_name word.now }
 {
@@ -51,12 +51,12 @@ fn is_unsupported_name(word: &str) -> bool
         || word == "total-time"
 }
 
-/// Whether the keyword, without its `:`, belongs to a part of PDDL that is not read.
+/// Reports whether the keyword, without its `:`, belongs to a part of PDDL that is not read.
 pub fn is_unsupported_keyword(word: &str) -> bool {
     word == "durative-action" || word == "derived" || word == "constraints"
 }
 
-/// What a word spelled as a name says.
+/// Returns what a word spelled as a name says.
 pub fn name_word(name: Name) -> Word
     ensures { result ≡ name_word name }
 {

@@ -1,4 +1,4 @@
--- What is counted of a task, and what is told where it is too much or at fault.
+-- What is counted of a task, and what is reported where it is too much or at fault.
 use Rattle.std.proofs.Common.{◌≡◌, ◌≢◌, ◌↔◌, ◌+◌, ◌<◌, ◌≤◌, ◌∙◌, ℕ, true, false, List, [], ◌++◌, take, length, filter, Contains, Option, Some, None, inl, inr, refl, sym, subst, arith}
 use Rattle.std.specs.Prelude.{nat_lt, not, find, slice_get, slice_index_or, get_or}
 use Rattle.std.specs.List.{AllPairs}

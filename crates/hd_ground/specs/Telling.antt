@@ -1,4 +1,4 @@
--- What is told of a lifted task that has no task to search. (Our own.)
+-- What is reported of a lifted task that has no task to search. (Our own.)
 use Rattle.std.specs.Prelude.{◌≡◌, ℕ, List, string_bytes}
 use Rattle.hd_lifted.specs.declared.instance.Instance.{Instance}
 use Rattle.hd_lifted.specs.declared.schema.Ground.{Ground}
@@ -28,7 +28,7 @@ pub record NamesNegative (t : LiftedTask) (text : List ℕ) : Type 0 where
   pub negative : IsNegative t instance
   pub is : text ≡ action_text t instance
 
--- what an error tells of a task; want of memory tells nothing
+-- what an error reports of a task; lack of memory reports nothing
 abbrev pub Tells : LiftedTask → GroundError → Type 0
 Tells t TooMany = IsTooLarge t
 Tells t (Undefined fluent) = NamesUndefined t (string_bytes fluent)

@@ -8,7 +8,7 @@ use hd_images::count_costs;
 use hd_lifted::{Instance, LiftedTask, Schema};
 use hd_task::MAX_AMOUNTS;
 
-/// Whether a schema adds more amounts to the cost than an action may.
+/// Reports whether a schema adds more amounts to the cost than an action may.
 #[tactic(auto, using(crate::proofs::Limits::few_effects))]
 fn has_more_amounts(schema: &Schema) -> bool
     ensures { result ≡ nat_lt MAX_AMOUNTS (amounts_of schema.now) }
@@ -18,7 +18,7 @@ fn has_more_amounts(schema: &Schema) -> bool
     effects.len() > MAX_AMOUNTS && count_costs(effects) > MAX_AMOUNTS
 }
 
-/// Whether one of these instances adds more amounts to the cost than an action may.
+/// Reports whether one of these instances adds more amounts to the cost than an action may.
 #[tactic(auto, using(crate::proofs::Limits::few_none, crate::proofs::Limits::few_more, crate::proofs::Limits::few_without, crate::proofs::Limits::more_found))]
 pub fn have_more_amounts(task: &LiftedTask, instances: &[Instance]) -> bool
     ensures more { result ≡ true → HasMoreAmountsIn task.now instances.now }

@@ -31,7 +31,7 @@ pub struct Counted {
     pub undefined: Option<Ground>,
 }
 
-/// Why a search for instances stops, within the limits of a task.
+/// Returns why a search for instances stops, within the limits of a task.
 #[tactic(auto, using(crate::proofs::Limits::too_many))]
 fn stopped(stop: Stop) -> GroundError
     ensures { (t : LiftedTask) (limits : Limits) → limits.actions ≡ MAX_ACTIONS
@@ -43,7 +43,7 @@ fn stopped(stop: Stop) -> GroundError
     }
 }
 
-/// The kept instances and the atoms that they reach, where they are not too many.
+/// Returns the kept instances and the atoms that they reach, where they are not too many.
 fn kept_of(alloc: Global, seed: Seed, task: &LiftedTask) -> Result<Reached, GroundError>
     ensures reached { IfOk result (λ r. HasReached task.now r.instances r.atoms) }
     ensures few { IfOk result (λ r. length r.instances ≤ MAX_ACTIONS) }
@@ -65,7 +65,7 @@ fn kept_of(alloc: Global, seed: Seed, task: &LiftedTask) -> Result<Reached, Grou
     Ok(reached)
 }
 
-/// The task's atoms by number, where they are not too many.
+/// Returns the task's atoms by number, where they are not too many.
 #[tactic(auto, using(crate::proofs::Limits::too_many_atoms, crate::proofs::Limits::numbers_atoms))]
 fn atoms_of(
     alloc: Global,
@@ -86,8 +86,8 @@ fn atoms_of(
     Ok(Numbers::of(forms)?)
 }
 
-/// The task's fluents by number, where they are not too many, and the first one that is met and has
-/// no first value.
+/// Returns the task's fluents by number, where they are not too many, and the first one that is met
+/// and has no first value.
 #[tactic(auto, using(crate::proofs::Limits::too_many_fluents, crate::proofs::Limits::numbers_fluents, crate::proofs::Limits::first_undefined))]
 fn fluents_of(
     alloc: Global,
@@ -121,7 +121,7 @@ fn fluents_of(
     }
 }
 
-/// What a task has, where it is not too much.
+/// Returns what a task has, where it is not too much.
 pub fn counted_of(alloc: Global, seed: Seed, lookups: &Lookups<'_>) -> Result<Counted, GroundError>
     ensures counted { IfOk result (λ c. AreCounted lookups.now c.instances c.atoms c.fluents) }
     ensures undefined { IfOk result (λ c. c.undefined ≡ undefined_in lookups.now c.instances) }

@@ -8,7 +8,7 @@ use hd_lifted::{Ground, Instance, LiftedTask};
 use hd_task::form_text;
 use std::alloc::Global;
 
-/// A fluent in its ground form.
+/// Returns a fluent in its ground form.
 pub fn fluent_text(alloc: Global, task: &LiftedTask, fluent: &Ground) -> Result<String, NoMemory>
     ensures { IfOk result (λ s. string_bytes s ≡ fluent_text task.now fluent.now) }
 {
@@ -26,7 +26,7 @@ pub fn fluent_text(alloc: Global, task: &LiftedTask, fluent: &Ground) -> Result<
     text
 }
 
-/// An action in its ground form.
+/// Returns an action in its ground form.
 pub fn action_text(
     alloc: Global,
     task: &LiftedTask,

@@ -15,7 +15,7 @@ use hd_lifted::Checked;
 use hd_task::Task;
 use std::alloc::Global;
 
-/// The task of what was counted, if nothing is at fault.
+/// Returns the task of what was counted, if nothing is at fault.
 fn faultless_task(
     alloc: Global,
     lookups: &Lookups<'_>,
@@ -32,7 +32,7 @@ fn faultless_task(
     Ok(task_of(alloc, lookups, counted)?)
 }
 
-/// The same, once it is counted.
+/// Returns the same, once it is counted.
 fn ground_with(alloc: Global, seed: Seed, lookups: &Lookups<'_>) -> Result<Task, GroundError>
     requires { IsChecked lookups.now }
     ensures task { IfOk result (IsGrounding lookups.now) }
@@ -44,16 +44,16 @@ fn ground_with(alloc: Global, seed: Seed, lookups: &Lookups<'_>) -> Result<Task,
     task
 }
 
-/// The task to search of a checked task: its actions are the kept instances (no plan can use
-/// another), in the order of their schemas and then of their objects, the first parameter's
+/// Returns the task to search of a checked task: its actions are the kept instances (no plan can
+/// use another), in the order of their schemas and then of their objects, the first parameter's
 /// slowest; its atoms are those that are true at first, that an action adds or that the goal names,
 /// its fluents those that an action or the goal reads or changes, the metric's function aside, in
 /// the order of their symbols and then of their objects. The tables used on the way hash by the
 /// seed, which changes no answer.
 ///
 /// A task has one grounding at most (`hd_grounding::laws::groundings_are_one`), and none where one
-/// of the errors but `NoMemory` is told (`faults_leave_no_grounding`): so each comes exactly where
-/// it should.
+/// of the errors but `NoMemory` is reported (`faults_leave_no_grounding`): so each comes exactly
+/// where it should.
 ///
 /// # Errors
 /// `TooMany` where there would be more actions, atoms or fluents than a task may have, or an action

@@ -31,7 +31,7 @@ struct Ends {
     goal: Condition,
 }
 
-/// What atoms and fluents are printed as.
+/// Returns what atoms and fluents are printed as.
 fn both_forms(
     alloc: Global,
     atoms: &Numbers,
@@ -50,7 +50,7 @@ fn both_forms(
     }
 }
 
-/// What is printed of a task.
+/// Returns what is printed of a task.
 fn printed_of(
     alloc: Global,
     lookups: &Lookups<'_>,
@@ -75,7 +75,7 @@ fn printed_of(
     }
 }
 
-/// The state at first, and the goal.
+/// Returns the state at first, and the goal.
 fn ends_of(
     alloc: Global,
     lookups: &Lookups<'_>,
@@ -97,7 +97,7 @@ fn ends_of(
     }
 }
 
-/// The actions that instances are, in their order.
+/// Returns the actions that instances are, in their order.
 fn actions_of(
     alloc: Global,
     lookups: &Lookups<'_>,
@@ -116,7 +116,7 @@ fn actions_of(
     Ok(Sequence::from_vec(actions))
 }
 
-/// The task of parts that fit together.
+/// Returns the task of parts that fit together.
 fn task_with(printed: Printed, ends: Ends, actions: Sequence<Action>, metric: bool) -> Task
     requires { parts_fit printed.names printed.atoms printed.fluents ends.initial actions
         ends.goal metric ≡ true }
@@ -135,10 +135,10 @@ fn task_with(printed: Printed, ends: Ends, actions: Sequence<Action>, metric: bo
     }
 }
 
-/// The task to search of what was counted, where nothing is at fault.
+/// Returns the task to search of what was counted, where nothing is at fault.
 ///
 /// # Errors
-/// Want of memory.
+/// Lack of memory.
 pub fn task_of(alloc: Global, lookups: &Lookups<'_>, counted: &Counted) -> Result<Task, NoMemory>
     requires checked { IsChecked lookups.now }
     requires counted { AreCounted lookups.now counted.now.instances counted.now.atoms

@@ -1,4 +1,4 @@
--- What is told first, and what is no fault, of ovens with more than one amount or more than one
+-- What is reported first, and what is no fault, of ovens with more than one amount or more than one
 -- fluent without a value.
 use Rattle.std.proofs.Common.{◌≡◌, List, [], ◌∷◌, refl, sym, ap, arith, true≢false}
 use Rattle.std.specs.Prelude.{pos, negsuc}

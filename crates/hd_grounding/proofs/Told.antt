@@ -1,4 +1,4 @@
--- One fault is told of a task at most.
+-- One fault is reported of a task at most.
 use Rattle.std.proofs.Common.{◌≡◌, List, sym, ap, ◌∙◌}
 use Rattle.std.proofs.lemmas.Option.{none-some, same_Some}
 use Rattle.hd_lifted.specs.declared.schema.Ground.{Ground}

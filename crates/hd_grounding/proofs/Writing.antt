@@ -131,7 +131,7 @@ module _ (atoms fluents : List Ground) (s : domain.State) (n : State) (agree : A
       ∙ sums_agree a fs (with_term n.fluents z (term_of fluents objects e)) read
       (λ x c. among x (Contains-later e fs x c)) (λ x c. sums x (Contains-later e fs x c))
 
-  -- behind an effect on the fluent
+  -- after an effect on the fluent
   behind : (h : NumericEffect) (es fs : List NumericEffect) → is_on objects g h ≡ true → list_any (lifted.clash objects h) es ≡ false
       → ((x : NumericEffect) → Contains fs x → Contains es x) → ((x : NumericEffect) → Contains fs x → is_on objects g x ≡ true)
       → ((x : NumericEffect) → Contains (h ∷ fs) x → lifted.stands_alone x.change ≡ false) ⊎ (length (h ∷ fs) ≤ 1)

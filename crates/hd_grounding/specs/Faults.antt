@@ -74,7 +74,7 @@ is_negative_instance t i = costs_negative t (slice_get t.schemas i.schema) i.obj
 abbrev pub negative_in : LiftedTask → List Instance → Option Instance
 negative_in t instances = find (is_negative_instance t) instances
 
--- ---- what is told, in the order in which it is looked for
+-- ---- what is reported, in the order in which it is looked for
 
 -- a fluent is the first undefined one, where nothing is too large
 pub record IsUndefined (t : LiftedTask) (g : Ground) : Type 0 where

@@ -8,12 +8,12 @@ ghost use Rattle.hd_grounding.specs.Example.{lantern, lantern_task, the_instance
 ghost use Rattle.hd_grounding.specs.Faults.{IsTooLarge, IsUndefined, IsNegative, is_negative_instance};
 ghost use Rattle.hd_grounding.specs.Grounding.{IsGrounding};
 
-/// A grounding: of a lantern that takes oil, and costs 1 and as much as there is of the oil.
+/// Law: a grounding: of a lantern that takes oil, and costs 1 and as much as there is of the oil.
 pub fn examples_compute()
     ensures grounded { IsGrounding lantern lantern_task }
 {}
 
-/// Faults of an oven, whose one action is `heat`, and what is none.
+/// Law: faults of an oven, whose one action is `heat`, and what is none.
 pub fn faults_compute()
     // A fluent that is met and has no value.
     ensures undefined { IsUndefined without_fuel the_fuel }
@@ -35,30 +35,30 @@ pub fn faults_compute()
     ensures within { (n : ℕ) → n ≤ MAX_AMOUNTS → IsTooLarge (paying_often n) → ⊥ }
 {}
 
-/// What the goal names is an atom of the task, also where it is to be false and no action could
-/// make it true.
+/// Law: what the goal names is an atom of the task, also where it is to be false and no action
+/// could make it true.
 pub fn goal_atoms_compute()
     ensures named { IsTaskAtom forbidding the_permission }
     ensures not_reachable { IsReachable forbidding the_permission → ⊥ }
 {}
 
-/// What of two is told, and what of two amounts is no fault.
+/// Law: what of two is reported, and what of two amounts is no fault.
 pub fn orders_compute()
     // It is the sum that is looked at, -1 and 3, and all amounts have to be constant: the fuel less
     // 10 is not.
     ensures costs_enough { (i : Instance) → IsNegative paying_in_all i → ⊥ }
     ensures depends_in_part { (i : Instance) → IsNegative paying_back_by_fuel i → ⊥ }
 
-    // A fluent without a value is told before a cost of -1.
+    // A fluent without a value is reported before a cost of -1.
     ensures fuel_first { IsUndefined paying_back_without_fuel the_fuel }
     ensures cost_untold { (i : Instance) → IsNegative paying_back_without_fuel i → ⊥ }
 
-    // Of two fluents without values the first in the text is told, also where its number is the
+    // Of two fluents without values the first in the text is reported, also where its number is the
     // greater one.
     ensures draught_first { IsUndefined without_both the_draught }
     ensures fuel_untold { IsUndefined without_both the_fuel → ⊥ }
 
-    // What the goal reads is looked at, behind what the actions meet.
+    // What the goal reads is looked at, after what the actions meet.
     ensures in_goal { IsUndefined goal_without_fuel the_fuel }
     ensures goal_last { IsUndefined without_either the_draught }
 {}

@@ -20,7 +20,7 @@ ghost use Rattle.hd_grounding.specs.Grounding.{IsGrounding};
 ghost use Rattle.hd_grounding.specs.Faults.{IsTooLarge, IsUndefined, IsNegative};
 ghost use Rattle.hd_grounding.specs.Agreement.{Agree, IsNumbered, HasAtomsOf, KeepsFirstValues, HasNumberedEffects};
 
-/// Where a state of the domain and one of the task agree, a condition holds in the one exactly
+/// Law: where a state of the domain and one of the task agree, a condition holds in the one exactly
 /// where its image does in the other, if each atom that it wants to be true has a number, and each
 /// fluent that it reads.
 pub fn conditions_are_grounded()
@@ -30,8 +30,8 @@ pub fn conditions_are_grounded()
         → meaning.holds s objects c ≡ holds n (condition_of atoms fluents objects c) }
 {}
 
-/// Where the states agree, they agree on each atom with a number after an action, too: (s minus
-/// Del) union Add, in both.
+/// Law: where the states agree, they agree on each atom with a number after an action, too: (s
+/// minus Del) union Add, in both.
 pub fn atoms_are_grounded()
     ensures { (t : LiftedTask) (atoms fluents : List Ground) (objects : List ℕ) (a : Schema)
         (b : Action) (s : domain.State) (n : State) (k : ℕ) (g : Ground)
@@ -39,7 +39,7 @@ pub fn atoms_are_grounded()
         → slice_get atoms k ≡ Some g → atoms_after s.atoms a objects g ≡ atom_after n b k }
 {}
 
-/// Where the states agree, the amounts of an action add up to one cost in both, by the values
+/// Law: where the states agree, the amounts of an action add up to one cost in both, by the values
 /// before it.
 pub fn costs_are_grounded()
     ensures { (t : LiftedTask) (atoms fluents : List Ground) (objects : List ℕ) (a : Schema)
@@ -49,8 +49,8 @@ pub fn costs_are_grounded()
         ≡ Some (sum_of_costs n.fluents (costs_of t fluents objects a)) }
 {}
 
-/// Where the states agree, a fluent has the same value after an action in both: its effects become
-/// one change, since none clash.
+/// Law: where the states agree, a fluent has the same value after an action in both: its effects
+/// become one change, since none clash.
 pub fn values_are_grounded()
     ensures { (atoms fluents : List Ground) (objects : List ℕ) (a : Schema)
         (s : domain.State) (n : State) (g : Ground) (z : ℤ)
@@ -60,14 +60,14 @@ pub fn values_are_grounded()
         (change_of fluents objects (filter (is_on objects g) a.effects)) z) }
 {}
 
-/// A lifted task has one grounding at most: whoever grounds it makes the same task, with the same
-/// numbers.
+/// Law: a lifted task has one grounding at most: whoever grounds it makes the same task, with the
+/// same numbers.
 pub fn groundings_are_one()
     ensures { (t : LiftedTask) (u v : Task) → IsGrounding t u → IsGrounding t v → u ≡ v }
 {}
 
-/// What is too large, reads a fluent without a first value, or costs less than 0 in each state has
-/// no grounding: so no fault is told of a task that could have been made.
+/// Law: what is too large, reads a fluent without a first value, or costs less than 0 in each state
+/// has no grounding: so no fault is reported of a task that could have been made.
 pub fn faults_leave_no_grounding()
     ensures too_large { (t : LiftedTask) (u : Task) → IsGrounding t u → IsTooLarge t → ⊥ }
     ensures undefined { (t : LiftedTask) (u : Task) (g : Ground)
@@ -76,8 +76,8 @@ pub fn faults_leave_no_grounding()
         → IsGrounding t u → IsNegative t i → ⊥ }
 {}
 
-/// One fault is told of a task at most: where something is too large, that alone; else the first
-/// fluent without a first value, if there is one; else the first instance of a negative cost.
+/// Law: one fault is reported of a task at most: where something is too large, that alone; else the
+/// first fluent without a first value, if there is one; else the first instance of a negative cost.
 pub fn faults_are_one()
     ensures undefined { (t : LiftedTask) (g h : Ground)
         → IsUndefined t g → IsUndefined t h → g ≡ h }

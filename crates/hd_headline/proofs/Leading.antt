@@ -1,4 +1,4 @@
--- Where the plans of posted kids and of entries lead.
+-- Where the plans of posted successors and of entries lead.
 use Rattle.std.proofs.Common.{◌≡◌, ℕ, ◌<◌, true, not, Option, Some, None, is_some, List, [], length, take, get_or, Contains, inl, inr, refl, sym, ap, ◌∙◌, arith, true≢false}
 use Rattle.std.specs.Prelude.{option_and_then, flat_map}
 use Rattle.std.proofs.lemmas.Bool.{and_parts}

@@ -1,5 +1,5 @@
--- Where a search goes on, each open kid and each closed entry is at its owner, and each open kid
--- is in exactly one place.
+-- Where a search goes on, each open successor and each closed entry is at its owner, and each open
+-- successor is in exactly one place.
 use Rattle.std.proofs.Common.{◌≡◌, ℕ, ◌%◌, ◌<◌, ◌≤◌, true, false, cond, not, Some, None, List, [], map, length, slice_get, Contains, refl, sym, ap, ◌∙◌, subst, arith, true≢false}
 use Rattle.std.specs.List.{range_with_len}
 use Rattle.std.proofs.lemmas.Bool.{eq-eqb, ltb-true, ltb-false}
@@ -44,7 +44,7 @@ module _ (t : Task) (entries : List Kid) (kept : IsKept (resumed_state t entries
   abbrev posted : List Kid
   posted = posted_by t (plans_at entries)
 
-  -- ---- open kids
+  -- ---- open successors
 
   among_posted : (k : Kid) → is_posted b k ≡ true → Contains posted k
   among_posted k e = subst (Contains posted) (stands b kept k e).kid (Contains-get_or posted (place_of b k) root (ltb-true (place_of b k) (length posted) e))
@@ -83,7 +83,7 @@ module _ (t : Task) (entries : List Kid) (kept : IsKept (resumed_state t entries
 
   -- ---- places
 
-  -- a kid that is not marked is posted, and no entry
+  -- a successor that is not marked is posted, and no entry
   unmarked_posted : (k : Kid) → is_marked b k ≡ false → is_posted b k ≡ true
   unmarked_posted k free =
       elim (is_posted b k) as (λ p. is_posted b k ≡ p → p ≡ true) [

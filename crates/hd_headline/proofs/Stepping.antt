@@ -65,7 +65,7 @@ module _ (t : Task) (digest : List ℕ) (f f' : File) (r r' : Run) (x : IsSound 
   steps_search moves.Ack e = goes moves.Ack e
   steps_search (moves.Stop stop) e = stop_search stop e
 
--- ---- no kid is lost
+-- ---- no successor is lost
 
 module _ (t : Task) (digest : List ℕ) (f f' : File) (r r' : Run) (x : IsSound t f r) (whole : IsWhole r) where
   same_whole : Running f' r' ≡ Running f r → IsWhole r'

@@ -88,7 +88,7 @@ module _ (t : Task) (digest : List ℕ) (len : length digest ≡ DIGEST_LEN) (st
     becomes = becomes_then t a (search_of r) (search_of r') x.becomes (is_moved t r r' m (steps_search t digest f f' r r' x.sound m step));
   }
 
-  -- a search that goes on has each kid
+  -- a search that goes on has each successor
   starts_whole : (f : File) (r : Run) → IsRunAfter t f r → IsSound t f r → IsWhole r
   starts_whole f r on x =
       let entries = entries_of f in

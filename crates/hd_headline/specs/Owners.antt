@@ -1,5 +1,5 @@
--- Where the kids and the entries of a search are when it goes on. (Our own; that the hash of a
--- state names its owner is HDA*'s, Kishimoto, Fukunaga and Botea 2013.)
+-- Where the successors and the entries of a search are when it goes on. (Our own; that the hash of
+-- a state names its owner is HDA*'s, Kishimoto, Fukunaga and Botea 2013.)
 use Rattle.std.specs.Prelude.{◌≡◌, ℕ, ◌%◌, List, Some, Contains}
 use Rattle.hd_task.specs.declared.task.Task.{Task}
 use Rattle.hd_task.specs.declared.plan.Kid.{Kid}
@@ -12,7 +12,7 @@ use Rattle.hd_entries.specs.Resuming.{resumed_state}
 use Rattle.hd_closed.specs.Closed.{Closed}
 use Rattle.hd_recovery.specs.Recovered.{recovered_worker}
 
--- a kid is open at the worker that owns its state, with the state and the cost that its plan
+-- a successor is open at the worker that owns its state, with the state and the cost that its plan
 -- leads to
 pub record IsOpenAtOwner (t : Task) (entries : List Kid) (workers : ℕ) (k : Kid) : Type 0 where
   pub parcel : Released

@@ -16,10 +16,10 @@ ghost use Rattle.hd_world.specs.Headline.{MovesSearch, AnswersTruly};
 ghost use Rattle.hd_schedule.specs.declared.moves.Move.{Move};
 ghost use Rattle.hd_headline.specs.Owners.{IsOpenAtOwner, IsClosedAtOwner};
 
-/// Where a search goes on from entries that have no fault, no kid is lost and none is doubled:
-/// each one that the entries post, and that is none of them, is in exactly one place, and any
-/// other in none. That place is the open list of the worker that owns the kid's state; and each
-/// entry is closed at the worker that owns its state.
+/// Law: where a search goes on from entries that have no fault, no successor is lost and none is
+/// doubled: each one that the entries post, and that is none of them, is in exactly one place, and
+/// any other in none. That place is the open list of the worker that owns the successor's state;
+/// and each entry is closed at the worker that owns its state.
 pub fn resumptions_lose_no_kid()
     ensures once { (t : Task) (most workers : ℕ) (entries : List Kid) (k : Kid)
         → length entries < ROOT_PARENT → first_fault t [] entries ≡ None → 1 ≤ workers
@@ -34,13 +34,13 @@ pub fn resumptions_lose_no_kid()
         → n < length entries → IsClosedAtOwner t entries workers n }
 {}
 
-/// Where all that a run holds is true of its book, what it answers is true of all plans, or names
-/// the first departure that was recorded; and the plan of the bound is valid.
+/// Law: where all that a run holds is true of its book, what it answers is true of all plans, or
+/// names the first departure that was recorded; and the plan of the bound is valid.
 pub fn answers_are_true()
     ensures { (t : Task) (r : Run) → IsTrueRun t r → AnswersTruly t r }
 {}
 
-/// Where a sound run goes on after a move, its search was moved as an abstract search may be
+/// Law: where a sound run goes on after a move, its search was moved as an abstract search may be
 /// moved: a flush, and a stop that falls in no call, change nothing of it.
 pub fn steps_move_the_search()
     ensures { (t : Task) (digest : List ℕ) (f f' : File) (r r' : Run) (m : Move) → IsSound t f r

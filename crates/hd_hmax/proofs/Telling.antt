@@ -35,12 +35,12 @@ greatest_is f xs level x each among is =
     (λ c e. sym (ap (up_to c) is) ∙ each_passes (λ y. up_to c (f y)) xs x (each_up_to c f xs e) among)
     (λ c e. greatest_up_to c f xs (λ y m. up_to-more level c (f y) (leb-true level c e) (each y m)))
 
--- ---- one behind the other
+-- ---- one after the other
 
 pub drop_next : (xs : List ℕ) (i : ℕ) → i < length xs → drop i xs ≡ get_or xs i 0 ∷ drop (i + 1) xs
 drop_next xs i h = drop-cons xs i 0 h ∙ ap (λ k. get_or xs i 0 ∷ drop k xs) (sym (add-one i))
 
--- ---- a rule is told
+-- ---- a rule is reported
 
 module _ (t : Task) (pending : List Bool) (left : List ℕ) (r : ℕ) (rest : List ℕ) (f : IsCounted t pending left (r ∷ rest)) where
   pub told_known : r ≤ length t.actions

@@ -1,5 +1,5 @@
 -- A task's actions as rules over the places of literals. A rule is an action, by its number, or
--- behind the last action the goal. (Our own.)
+-- after the last action the goal. (Our own.)
 use Rattle.std.specs.Prelude.{◌≡◌, ℕ, ◌+◌, ◌*◌, ◌-◌, ◌<◌, ◌≤◌, ◌==◌, ◌^◌, nat_le, nat_lt, Bool, true, false, not, ◌&&◌, if◌then◌else◌, List, [], ◌∷◌, ◌++◌, map, filter, length, Option, Some, None, slice_get, slice_index_or}
 use Rattle.std.specs.List.{All}
 use Rattle.hd_task.specs.declared.condition.Literal.{Literal}

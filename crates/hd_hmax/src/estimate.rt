@@ -43,7 +43,7 @@ impl<'t> Model for Estimate<'t> {
 }
 
 impl<'t> Estimate<'t> {
-    /// The estimate of a state, whose value is known.
+    /// Returns the estimate of a state, whose value is known.
     pub fn of(task: &'t Task, state: Packed, value: EstimateValue) -> Estimate<'t>
         requires { estimated value ≡ hmax task.now state }
         ensures task { result.task ≡ task.now }
@@ -53,7 +53,7 @@ impl<'t> Estimate<'t> {
         Estimate { task, state, value }
     }
 
-    /// The state that it is of.
+    /// Returns the state that it is of.
     pub fn state(&self) -> &Packed
         ensures { result.now ≡ self.now.state }
     {

@@ -14,7 +14,7 @@ use hd_task::{Reads, State, Task};
 use std::alloc::Global;
 use std::marker::Model;
 
-/// What computes the estimates of a task's states: its rules, made once, and what is written anew
+/// What computes the estimates of a task's states: its rules, made once, and what is written again
 /// for each state.
 #[derive(Debug, Drop)]
 pub struct Hmax<'t> {
@@ -36,7 +36,7 @@ impl<'t> Model for Hmax<'t> {
     ghost view = { λ h. record { task = h.rules.task.now } };
 }
 
-/// The value of an estimate.
+/// Returns the value of an estimate.
 fn value_of(cost: Option<u128>) -> EstimateValue
     ensures { estimated result ≡ cost }
 {
@@ -47,7 +47,7 @@ fn value_of(cost: Option<u128>) -> EstimateValue
 }
 
 impl<'t> Hmax<'t> {
-    /// What computes the estimates of a task's states.
+    /// Returns what computes the estimates of a task's states.
     ///
     /// # Errors
     /// `NoMemory` where there is no room for six numbers an action, six an atom, and one for each
@@ -60,7 +60,7 @@ impl<'t> Hmax<'t> {
         Ok(Hmax { rules, work })
     }
 
-    /// The estimate of a state, in whatever form it is kept. It takes no memory.
+    /// Returns the estimate of a state, in whatever form it is kept. It does not allocate.
     pub fn value<R: Reads>(&mut self, state: &R) -> EstimateValue
         requires of_task { IsStateOf self.old.task (R.seen state.now) }
         ensures value { estimated result ≡ hmax self.old.task (R.seen state.now) }
@@ -69,7 +69,7 @@ impl<'t> Hmax<'t> {
         value_of(self.work.goal_cost(&self.rules, state))
     }
 
-    /// The estimate of a state, which keeps the state packed.
+    /// Returns the estimate of a state, which keeps the state packed.
     ///
     /// # Errors
     /// `NoMemory` where there is no room for the packed state.
@@ -84,7 +84,7 @@ impl<'t> Hmax<'t> {
         Ok(Estimate::of(self.rules.task, state, value))
     }
 
-    /// The estimate of a packed state, with a copy of it.
+    /// Returns the estimate of a packed state, with a copy of it.
     ///
     /// # Errors
     /// `NoMemory` where there is no room for the copy.

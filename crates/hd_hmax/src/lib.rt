@@ -1,10 +1,15 @@
-//! The estimate of what it costs at least to get from a state to the goal: h-max (Bonet and Geffner
-//! 2001), over atoms and their negations.
+//! Estimates the cost from a state to the goal from below: h-max (Bonet and Geffner 2001), over
+//! atoms and their negations.
 //!
-//! Each literal is taken to cost as much as the cheapest action that brings it about, and an action
-//! to cost its price and as much as the dearest literal of its condition; what is true costs
-//! nothing, and nothing that is true once is ever lost. The estimate is what the dearest literal of
-//! the goal costs. No way to the goal costs less ([`laws::hmax_is_admissible`]).
+//! [`Hmax::value`] returns exactly `hmax` of the state, and does not allocate. No way to the goal
+//! costs less, and it is infinite only if there is none ([`laws::hmax_is_admissible`]).
+//!
+//! A literal costs 0 if it is true, else as much as the cheapest action that achieves it. An action
+//! costs its price plus its most expensive condition literal. The estimate is the most expensive
+//! goal literal. As in Dijkstra's algorithm, the cheapest ready action comes first. A row has those
+//! that get ready in order of cost, and a heap the others.
+//!
+//! Start reading at [`Hmax::value`], then `src/settling.rt`.
 #![tactic(auto)]
 
 mod estimate;

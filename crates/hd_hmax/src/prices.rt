@@ -12,7 +12,7 @@ use hd_base::NoMemory;
 use hd_task::{Action, Expr, ExprParts, Operand, Task};
 use std::alloc::Global;
 
-/// A sum with one more amount, if that is constant.
+/// Returns a sum with one more amount, if that is constant.
 fn plus_constant(sum: i128, amount: &Expr) -> Option<i128>
     requires low { neg_ℤ (pos (2 ^ 126)) ≤ℤ sum }
     requires high { sum ≤ℤ pos (2 ^ 126) }
@@ -25,7 +25,7 @@ fn plus_constant(sum: i128, amount: &Expr) -> Option<i128>
     }
 }
 
-/// The sum of the amounts, if all of them are constant.
+/// Returns the sum of the amounts, if all of them are constant.
 fn sum_of_constants(amounts: &[Expr]) -> Option<i128>
     ensures value { Judges result (list_all is_number amounts.now) (constant_sum amounts.now) }
     ensures small { IfSome result (λ sum. sum ≤ℤ pos (2 ^ 63 * length amounts.now)) }
@@ -37,8 +37,8 @@ fn sum_of_constants(amounts: &[Expr]) -> Option<i128>
     Some(sum)
 }
 
-/// The sum of an action's amounts, if all of them are constant, and 0 where one depends on the
-/// state.
+/// Returns the sum of an action's amounts, if all of them are constant, and 0 where one depends on
+/// the state.
 fn constant_price(action: &Action) -> u128
     requires few { length action.now.costs ≤ MAX_AMOUNTS }
     ensures price { result ≡ constant_price action.now }
@@ -50,7 +50,7 @@ fn constant_price(action: &Action) -> u128
     }
 }
 
-/// What an action costs at least, whatever the state.
+/// Returns what an action costs at least, whatever the state.
 #[tactic(auto, unfolding(crate::specs::Prices::price))]
 fn price(task: &Task, action: &Action) -> u128
     requires few { length action.now.costs ≤ MAX_AMOUNTS }
@@ -64,7 +64,7 @@ fn price(task: &Task, action: &Action) -> u128
     }
 }
 
-/// The prices of a task's actions.
+/// Returns the prices of a task's actions.
 ///
 /// # Errors
 /// `NoMemory` where there is no room for a number an action.

@@ -58,7 +58,7 @@ fn push_late(heap: &mut BinaryHeap<Reverse<(u128, u32)>>, item: Reverse<(u128, u
 }
 
 impl Queue {
-    /// A queue with room for so many rules.
+    /// Returns a queue with room for so many rules.
     ///
     /// # Errors
     /// `NoMemory` where there is no room for twice as many.
@@ -91,7 +91,7 @@ impl Queue {
         self.heap.clear();
     }
 
-    /// Puts a rule into it. It takes no memory, since there is room.
+    /// Puts a rule into it. It does not allocate, since there is room.
     #[inline(always)]
     pub(crate) fn push(&mut self, cost: u128, rule: u32)
         requires room { vec_len self.old.run < vec_capacity self.old.run }
@@ -115,7 +115,7 @@ impl Queue {
         }
     }
 
-    /// Whether the next rule of the row is there, and costs no more than any of the heap.
+    /// Reports whether the next rule of the row is there, and costs no more than any of the heap.
     #[inline(always)]
     fn is_next_in_run(&self) -> bool
         ensures yes { result ≡ true → IsNext self.now.run.items self.now.taken

@@ -1,4 +1,4 @@
-//! Rows of numbers, one behind the other in one list.
+//! Rows of numbers, one after the other in one list.
 ghost use Rattle.std.specs.Prelude.{◌≡◌, ◌<◌, ◌++◌, ◌∷◌, [], IfOk, OnOk, length, slice_index_or};
 
 use hd_base::NoMemory;
@@ -25,7 +25,7 @@ impl Model for Rows {
 }
 
 impl Rows {
-    /// No rows.
+    /// Returns no rows.
     ///
     /// # Errors
     /// `NoMemory` where there is no room for a number.
@@ -38,7 +38,7 @@ impl Rows {
         })
     }
 
-    /// One row more, behind the others.
+    /// Adds one row more, after the others.
     ///
     /// # Errors
     /// `NoMemory` where there is no room for the row.
@@ -51,7 +51,7 @@ impl Rows {
         Ok(())
     }
 
-    /// The row of this number.
+    /// Returns the row of this number.
     #[inline(always)]
     pub(crate) fn row(&self, number: usize) -> &[u32]
         requires { number < length self.now }

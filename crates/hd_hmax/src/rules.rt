@@ -1,6 +1,6 @@
 //! A task's actions as rules over places, made once.
 //!
-//! A rule is an action, by its number, or behind the last action the goal. A place is that of a
+//! A rule is an action, by its number, or after the last action the goal. A place is that of a
 //! literal: first those of the atoms, then those of their negations; the last of each half stands
 //! for all atoms that the task lacks.
 ghost use Rattle.std.specs.Prelude.{◌≡◌, ℕ, ◌+◌, ◌*◌, ◌<◌, ◌≤◌, ◌++◌, ◌∷◌, [], ◌==◌, Some, None, IfOk, OnOk, length, map, replicate, slice_get, slice_index_or, slice_set, nat_lt, if◌then◌else◌};
@@ -35,7 +35,7 @@ pub(crate) struct Rules<'t> {
     ghost of_task: { AreRulesOf task.now atoms prices.items counts.items askers brings },
 }
 
-/// The place of an atom or of its negation.
+/// Returns the place of an atom or of its negation.
 #[inline(always)]
 pub(crate) fn place_at(atoms: usize, atom: usize, positive: bool) -> usize
     requires few { atoms ≤ MAX_ATOMS }
@@ -45,7 +45,7 @@ pub(crate) fn place_at(atoms: usize, atom: usize, positive: bool) -> usize
     if positive { atom } else { atoms + 1 + atom }
 }
 
-/// The place of a literal.
+/// Returns the place of a literal.
 fn place_of(atoms: usize, literal: Literal) -> usize
     requires few { atoms ≤ MAX_ATOMS }
     ensures place { result ≡ place atoms literal }
@@ -56,14 +56,14 @@ fn place_of(atoms: usize, literal: Literal) -> usize
     place_at(atoms, near, literal.positive)
 }
 
-/// Whether an atom is one of these.
+/// Reports whether an atom is one of these.
 fn names_atom(atoms: &[u32], atom: u32) -> bool
     ensures { result ≡ names_atom atoms.now atom }
 {
     atoms.iter().any(|named| *named == atom)
 }
 
-/// The literals of a rule's condition.
+/// Returns the literals of a rule's condition.
 fn asked_by(task: &Task, rule: usize) -> &[Literal]
     ensures { result.now ≡ asked_by task.now (slice_get task.now.actions rule) }
 {
@@ -180,7 +180,7 @@ fn askers_of(alloc: Global, task: &Task) -> Result<(Rows, Vec<usize>), NoMemory>
     Ok((askers, counts))
 }
 
-/// Whether a rule needs a place.
+/// Reports whether a rule needs a place.
 fn is_asked(askers: &Rows, place: usize) -> bool
     requires { place < length askers.now }
     ensures { result ≡ is_asked askers.now place }
@@ -188,7 +188,7 @@ fn is_asked(askers: &Rows, place: usize) -> bool
     !askers.row(place).is_empty()
 }
 
-/// Puts the places of added atoms behind others, if a rule needs them.
+/// Puts the places of added atoms after others, if a rule needs them.
 fn push_added(row: &mut Vec<u32>, atoms: usize, askers: &Rows, adds: &[u32]) -> Result<(), NoMemory>
     requires few { atoms ≤ MAX_ATOMS }
     requires places { length askers.now ≡ places atoms }
@@ -203,7 +203,7 @@ fn push_added(row: &mut Vec<u32>, atoms: usize, askers: &Rows, adds: &[u32]) -> 
     Ok(())
 }
 
-/// Puts the places of the negations of deleted atoms behind others, if a rule needs them, but for
+/// Puts the places of the negations of deleted atoms after others, if a rule needs them, but for
 /// what is added.
 fn push_deleted(
     row: &mut Vec<u32>,
@@ -228,7 +228,7 @@ fn push_deleted(
     Ok(())
 }
 
-/// The places of what an action brings about, if a rule needs them.
+/// Returns the places of what an action brings about, if a rule needs them.
 fn brings_of(
     alloc: Global,
     atoms: usize,
@@ -265,7 +265,7 @@ fn all_brings(
     Ok(rows)
 }
 
-/// How many atoms a task has.
+/// Returns how many atoms a task has.
 fn atoms_of(task: &Task) -> usize
     ensures count { result ≡ length task.now.atoms }
     ensures few { result ≤ MAX_ATOMS }
@@ -274,7 +274,7 @@ fn atoms_of(task: &Task) -> usize
 }
 
 impl<'t> Rules<'t> {
-    /// The rules of a task.
+    /// Returns the rules of a task.
     ///
     /// # Errors
     /// `NoMemory` where there is no room for two numbers a rule, two a place, and one for each

@@ -12,7 +12,7 @@ use hd_base::NoMemory;
 use hd_task::Reads;
 use std::alloc::Global;
 
-/// What is written anew for each state.
+/// What is written again for each state.
 #[derive(Debug, Drop)]
 pub(crate) struct Work {
     /// By place: whether what it costs is not known yet.
@@ -38,7 +38,7 @@ fn copy_all(left: &mut Vec<usize>, counts: &[usize])
 }
 
 impl Work {
-    /// Tells a rule that a place which it needs costs as much as the level. Where that was the
+    /// Reports a rule that a place which it needs costs as much as the level. Where that was the
     /// last, it can be taken.
     #[inline(always)]
     fn tell(&mut self, rules: &Rules<'_>, rule: u32, level: u128)
@@ -62,8 +62,8 @@ impl Work {
         }
     }
 
-    /// Closes a place that costs as much as the level, if it is open, and tells the rules that need
-    /// it.
+    /// Closes a place that costs as much as the level, if it is open, and reports the rules that
+    /// need it.
     #[inline(always)]
     fn settle(&mut self, rules: &Rules<'_>, place: usize, level: u128)
         requires own { place < places (length rules.now.task.now.atoms) }
@@ -151,7 +151,7 @@ impl Work {
         }
     }
 
-    /// What the literals of the goal cost from a state on.
+    /// Returns what the literals of the goal cost from a state on.
     pub(crate) fn goal_cost<R: Reads>(&mut self, rules: &Rules<'_>, state: &R) -> Option<u128>
         requires of_task { IsStateOf rules.now.task.now (R.seen state.now) }
         requires width { HasWidth rules.now.task.now self.old }

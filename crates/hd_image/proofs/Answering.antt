@@ -72,7 +72,7 @@ kids_from v (suc n) bytes fits len =
       bytes_are = sym (take-append-drop width bytes) ∙ ap₂ (λ (xs ys : List ℕ). xs ++ ys) (sym first.1.bytes_are) others.bytes_are;
     }
 
--- ---- the group behind a gate
+-- ---- the group after a gate
 
 group_from : (v : Version) (behind : List ℕ) (len : ℕ) → IsBytes behind → IsGroupLen v behind len → HasGroup v behind
 group_from v behind len fits is =

@@ -38,7 +38,7 @@ group_one v ks ls r s gk gl e =
 
 -- ---- groups
 
--- what no group stands at the front of, with an open gate before it and a gate behind it
+-- what no group stands at the front of, with an open gate before it and a gate after it
 pub record IsEnd (v : Version) (bytes : List ℕ) : Type 0 where
   pub some : 0 < length bytes
   pub none : (kids : List Kid) (next : List ℕ) → IsGroup v kids → 0 < length next → bytes ≢ opened v kids ++ next

@@ -58,7 +58,7 @@ reads v digest groups gate behind content len sound ends whole =
 
 -- ---- while a group is appended
 
--- the group stands behind its gate, which is open
+-- the group stands after its gate, which is open
 pub joined : (v : Version) (digest : List ℕ) (groups : List (List Kid)) (next : List Kid)
     → front v digest groups ++ 1 ∷ (counted v next ++ 0 ∷ []) ≡ image v digest (groups ++ next ∷ [])
 joined v digest groups next =

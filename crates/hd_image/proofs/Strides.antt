@@ -169,7 +169,7 @@ not_within v behind len is le has =
     let within : len < length behind = subst (λ (n : ℕ). n < length behind) (sym is) (group_len v behind has).within in
     omega (arith, le, within)
 
--- a group that stands behind its gate
+-- a group that stands after its gate
 pub record StandsFirst (v : Version) (rest next : List ℕ) (kids : List Kid) : Type 0 where
   pub group : IsGroup v kids
   pub whole : rest ≡ opened v kids ++ next

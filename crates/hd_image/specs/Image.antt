@@ -13,7 +13,7 @@ use Rattle.hd_image.specs.declared.entry.TheConstants.{MAX_GROUP}
 
 -- ---- versions
 
--- the byte that tells the version
+-- the byte that reports the version
 abbrev pub version_byte : Version → ℕ
 version_byte One = 1
 version_byte Two = 2
@@ -73,7 +73,7 @@ pub record IsGroup (v : Version) (kids : List Kid) : Type 0 where
 unfoldable pub counted : Version → List Kid → List ℕ
 counted v kids = little_bytes 4 (length kids) ++ flat_map (entry_bytes v) kids
 
--- a group behind its open gate
+-- a group after its open gate
 abbrev pub opened : Version → List Kid → List ℕ
 opened v kids = 1 ∷ counted v kids
 
@@ -103,7 +103,7 @@ entries_of v at [] = []
 entries_of v at (kid ∷ kids) = entry_at kid at ∷ entries_of v (at + entry_width v) kids
 
 -- the entries of groups, of which the first has its gate at this place. A gate and a count take
--- five bytes; the next gate stands behind the group
+-- five bytes; the next gate stands after the group
 abbrev pub entries_in : Version → ℕ → List (List Kid) → List Entry
 entries_in v gate [] = []
 entries_in v gate (kids ∷ groups) = entries_of v (gate + 5) kids ++ entries_in v (gate + length (opened v kids)) groups

@@ -13,19 +13,19 @@ use Rattle.hd_image.specs.Image.{IsGroup, counted, opened, header, entries_in}
 
 -- ---- the header
 
--- a header was being made: its gate is closed, and no group stands behind it
+-- a header was being made: its gate is closed, and no group stands after it
 pub record IsHalfMade (content : List ℕ) : Type 0 where
   pub rest : List ℕ
   pub closed : content ≡ 0 ∷ rest
   pub some : 1 ≤ length rest
   pub short : length rest ≤ FIRST_GATE
 
--- a header may have this gate where so many bytes stand behind it: the gate is open, or it was
--- being opened, and then the first group's gate alone stands behind the header
+-- a header may have this gate where so many bytes stand after it: the gate is open, or it was
+-- being opened, and then the first group's gate alone stands after the header
 abbrev pub IsHead : ℕ → ℕ → Type 0
 IsHead head behind = ((head ≡ 1) × (1 ≤ behind)) ⊎ ((head ≢ 0) × (head ≢ 1) × (behind ≡ 1))
 
--- a header with this gate stands at the front, and the body behind it
+-- a header with this gate stands at the front, and the body after it
 pub record IsHeaded (content : List ℕ) (head : ℕ) (v : Version) (digest body : List ℕ) : Type 0 where
   pub whole : content ≡ head ∷ header v digest ++ body
   pub digest_len : length digest ≡ DIGEST_LEN
@@ -48,7 +48,7 @@ pub record IsOtherTask (digest content : List ℕ) : Type 0 where
 
 -- ---- the groups
 
--- a whole group and the byte of the next gate stand behind an open gate
+-- a whole group and the byte of the next gate stand after an open gate
 pub record HasGroup (v : Version) (behind : List ℕ) : Type 0 where
   pub kids : List Kid
   pub next : List ℕ
@@ -57,7 +57,7 @@ pub record HasGroup (v : Version) (behind : List ℕ) : Type 0 where
   pub whole : behind ≡ counted v kids ++ next
 
 -- the header of this task stands at the front, then whole groups, and then, here, an open gate
--- without a whole group behind it
+-- without a whole group after it
 pub record IsDamaged (digest content : List ℕ) (at : ℕ) : Type 0 where
   pub head : ℕ
   pub v : Version
@@ -68,8 +68,8 @@ pub record IsDamaged (digest content : List ℕ) (at : ℕ) : Type 0 where
   pub torn : ¬ HasGroup v behind
   pub place : at ≡ FIRST_GATE + length (flat_map (opened v) groups)
 
--- what is told of a journal by its version, its header's gate, its groups, its last gate, and what
--- stands behind that
+-- what is reported of a journal by its version, its header's gate, its groups, its last gate, and
+-- what stands after that
 abbrev pub contents_of : Version → ℕ → List (List Kid) → ℕ → List ℕ → Contents
 contents_of v head groups gate behind =
     record {
@@ -82,7 +82,7 @@ contents_of v head groups gate behind =
     }
 
 -- the header of this task stands at the front, then groups, then a gate that is not open, and
--- anything; and just this is told
+-- anything; and just this is reported
 pub record IsJournal (digest content : List ℕ) (found : Contents) : Type 0 where
   pub head : ℕ
   pub v : Version
@@ -102,7 +102,7 @@ IsFound digest content Unmade = length content ≤ 1
 IsFound digest content HalfMade = IsHalfMade content
 IsFound digest content (Journal found) = IsJournal digest content found
 
--- why a content is no sound journal of the task; want of memory says nothing of it
+-- why a content is no sound journal of the task; lack of memory says nothing of it
 abbrev pub IsRefused : List ℕ → List ℕ → ImageError → Type 0
 IsRefused digest content NotAJournal = IsNoJournal content
 IsRefused digest content OtherTask = IsOtherTask digest content

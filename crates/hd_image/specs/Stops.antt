@@ -12,31 +12,31 @@ use Rattle.hd_image.specs.Reading.{IsHalfMade, IsFound, contents_of}
 
 -- ---- while a group is appended, or a file is mended
 
--- the last gate is closed, and anything may stand behind it. So it is while a group is written
+-- the last gate is closed, and anything may stand after it. So it is while a group is written
 -- there, and while it is cut off again
 pub record IsClosed (v : Version) (digest : List ℕ) (groups : List (List Kid)) (content : List ℕ) : Type 0 where
   pub behind : List ℕ
   pub whole : content ≡ front v digest groups ++ 0 ∷ behind
 
--- the last gate may read anything, and the next group stands behind it, whole, with the next gate
+-- the last gate may read anything, and the next group stands after it, whole, with the next gate
 -- closed. So it is while the gate is opened, and while it is closed again
 pub record IsOpening (v : Version) (digest : List ℕ) (groups : List (List Kid)) (next : List Kid) (content : List ℕ) : Type 0 where
   pub gate : ℕ
   pub whole : content ≡ front v digest groups ++ gate ∷ (counted v next ++ 0 ∷ [])
 
--- what a stop may leave while the next group is appended behind these
+-- what a stop may leave while the next group is appended after these
 abbrev pub IsBeforeOrAfter : Version → List ℕ → List (List Kid) → List Kid → List ℕ → Type 0
 IsBeforeOrAfter v digest groups next content = IsClosed v digest groups content ⊎ IsOpening v digest groups next content
 
 -- ---- while a header is made
 
--- the header's gate may read anything, and the header stands behind it, whole, with the first
+-- the header's gate may read anything, and the header stands after it, whole, with the first
 -- group's gate closed
 pub record IsOpeningHeader (v : Version) (digest content : List ℕ) : Type 0 where
   pub gate : ℕ
   pub whole : content ≡ gate ∷ header v digest ++ 0 ∷ []
 
--- what a stop may leave while a header is made: a byte at most, a closed gate with anything behind
+-- what a stop may leave while a header is made: a byte at most, a closed gate with anything after
 -- it that is no longer than a header and the first group's gate, or a whole header whose gate is
 -- being opened
 abbrev pub IsMaking : Version → List ℕ → List ℕ → Type 0
@@ -62,7 +62,7 @@ ReadsAsNone digest content v = IsFound digest content Unmade ⊎ (IsFound digest
 
 -- ---- mending
 
--- with its header's gate opened, its last gate closed and what stands behind that cut off, a
+-- with its header's gate opened, its last gate closed and what stands after that cut off, a
 -- content is the journal of groups, whose entries are those that were found
 pub record IsMended (digest content : List ℕ) (found : Contents) : Type 0 where
   pub groups : List (List Kid)

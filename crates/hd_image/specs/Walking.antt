@@ -17,8 +17,8 @@ pub record AreWhole (v : Version) (bytes : List ℕ) : Type 0 where
   pub count : ℕ
   pub is : length bytes ≡ entry_width v * count
 
--- so many bytes behind an open gate are a count and as many entries, and the next gate stands
--- behind them
+-- so many bytes after an open gate are a count and as many entries, and the next gate stands
+-- after them
 pub record IsGroupLen (v : Version) (behind : List ℕ) (len : ℕ) : Type 0 where
   pub some : 1 ≤ little_number 4 behind
   pub most : little_number 4 behind ≤ MAX_GROUP
@@ -40,7 +40,7 @@ pub record HasWalked (v : Version) (body rest : List ℕ) (entries : List Entry)
   pub some : 0 < length rest
   pub told : entries ≡ entries_in v FIRST_GATE groups
 
--- groups stand in the body up to an open gate here, behind which there is no whole group
+-- groups stand in the body up to an open gate here, after which there is no whole group
 pub record IsTorn (v : Version) (body : List ℕ) (at : ℕ) : Type 0 where
   pub groups : List (List Kid)
   pub behind : List ℕ

@@ -3,20 +3,20 @@
 use crate::{Entry, Version};
 use hd_base::Sequence;
 
-/// What is told of a journal.
+/// What is reported of a journal.
 #[derive(Debug, Drop)]
 pub struct Contents {
     /// The version of its format.
     pub version: Version,
     /// The entries of its groups, in order.
     pub entries: Sequence<Entry>,
-    /// The place of the last gate, behind which the next group goes.
+    /// The place of the last gate, after which the next group goes.
     pub last_gate: u64,
     /// Whether the header's gate is open. If not, it was being opened.
     pub header_open: bool,
     /// Whether the last gate is closed. If not, it was being opened, or closed again.
     pub gate_closed: bool,
-    /// How many bytes stand behind the last gate. They are no part of the journal.
+    /// How many bytes stand after the last gate. They are no part of the journal.
     pub behind: u64,
 }
 

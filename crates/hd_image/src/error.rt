@@ -12,7 +12,7 @@ pub enum ImageError {
     NotAJournal,
     /// The header is of another task.
     OtherTask,
-    /// No whole group stands behind the open gate at this place.
+    /// No whole group stands after the open gate at this place.
     Damaged(u64),
     /// Memory ran out; the file is not to blame.
     NoMemory,

@@ -10,22 +10,23 @@ use hd_base::NoMemory;
 use hd_task::{Kid, ROOT_PARENT};
 use std::alloc::Global;
 
-/// Whether a parent may be written.
+/// Reports whether a parent may be written.
 fn fits_one(version: Version, parent: u64) -> bool
     ensures { result ≡ fits_parent version parent }
 {
     parent == ROOT_PARENT || parent < version.most()
 }
 
-/// Whether each parent may be written.
+/// Reports whether each parent may be written.
 fn all_fit(version: Version, kids: &[Kid]) -> bool
     ensures { result ≡ list_all (λ kid. fits_parent version kid.parent) kids.now }
 {
     kids.iter().all(|kid| fits_one(version, kid.parent))
 }
 
-/// Whether each parent may be written in a journal of this version: it is the root's, or the number
-/// of an entry that the journal may have. Parents that may be written can be told by their bytes.
+/// Reports whether each parent may be written in a journal of this version: it is the root's, or
+/// the number of an entry that the journal may have. Parents that may be written can be told by
+/// their bytes.
 pub fn fits(version: Version, kids: &[Kid]) -> bool
     ensures all { result ≡ list_all (λ kid. fits_parent version kid.parent) kids.now }
     ensures told { IsTrue result
@@ -47,7 +48,7 @@ fn push_number(bytes: &mut Vec<u8>, number: u64, width: usize) -> Result<(), NoM
     Ok(())
 }
 
-/// The number that stands for a parent.
+/// Returns the number that stands for a parent.
 fn number_of(version: Version, parent: u64) -> u64
     ensures { result ≡ parent_number version parent }
 {
@@ -86,8 +87,8 @@ fn push_entries(bytes: &mut Vec<u8>, version: Version, kids: &[Kid]) -> Result<(
     Ok(())
 }
 
-/// What is written behind the last gate to append a group: its count, its entries, and the next
-/// gate, closed.
+/// Returns what is written after the last gate to append a group: its count, its entries, and the
+/// next gate, closed.
 ///
 /// # Errors
 /// `NoMemory` where there is no room for the bytes.

@@ -6,7 +6,7 @@ ghost use Rattle.hd_image.specs.Reading.{IsHalfMade, IsHead, IsHeaded};
 
 use crate::Version;
 
-/// An open gate: a whole group, or a whole header, stands behind it.
+/// An open gate: a whole group, or a whole header, stands after it.
 pub const OPEN: u8 = 1;
 
 /// What is written for a closed gate. Whatever is not open is no longer, or not yet, part of the
@@ -16,15 +16,15 @@ pub const CLOSED: u8 = 0;
 /// How many bytes a digest has.
 pub const DIGEST_LEN: usize = 32;
 
-/// The place of the first group's gate, behind the header. So many bytes also stand behind the
+/// The place of the first group's gate, after the header. So many bytes also stand after the
 /// header's gate in a new journal: its header, and this gate.
 pub const FIRST_GATE: usize = 38;
 
 /// The letters with which a header begins.
 const LETTERS: [u8; 4] = *b"HDPJ";
 
-/// What stands behind the header's gate in a new journal: the header, and the first group's gate,
-/// closed.
+/// Returns what stands after the header's gate in a new journal: the header, and the first group's
+/// gate, closed.
 pub fn header_bytes(version: Version, digest: &[u8; DIGEST_LEN]) -> [u8; FIRST_GATE]
     ensures { result ≡ header version digest.now ++ 0 ∷ [] }
 {
@@ -35,7 +35,7 @@ pub fn header_bytes(version: Version, digest: &[u8; DIGEST_LEN]) -> [u8; FIRST_G
     bytes
 }
 
-/// Whether a header was being made, and its gate is closed.
+/// Reports whether a header was being made, and its gate is closed.
 pub(crate) fn is_half_made(content: &[u8]) -> bool
     ensures { IsTrue result ↔ IsHalfMade content.now }
 {
@@ -48,7 +48,7 @@ pub(crate) fn is_half_made(content: &[u8]) -> bool
     content[0] == CLOSED
 }
 
-/// Whether a header may have this gate where so many bytes stand behind it.
+/// Reports whether a header may have this gate where so many bytes stand after it.
 fn is_head(head: u8, behind: usize) -> bool
     requires { 1 ≤ behind }
     ensures { IsTrue result ↔ IsHead head behind }
@@ -62,7 +62,7 @@ fn is_head(head: u8, behind: usize) -> bool
     behind == 1
 }
 
-/// The version of the header that stands at the front of a content.
+/// Returns the version of the header that stands at the front of a content.
 pub(crate) fn headed(content: &[u8]) -> Option<Version>
     ensures long { IfSome result (λ _. FIRST_GATE < length content.now) }
     ensures some { IfSome result (λ v. IsHeaded content.now (slice_index content.now 0) v

@@ -13,28 +13,28 @@ ghost use Rattle.hd_image.specs.Image.{IsGroup, counted, opened, header, front, 
 ghost use Rattle.hd_image.specs.Reading.{IsFound, IsAnswer, contents_of};
 ghost use Rattle.hd_image.specs.Stops.{IsBeforeOrAfter, IsMaking, ReadsAs, IsAfter, ReadsAsNone, IsMended};
 
-/// A content is read in one way: want of memory aside, it has one answer at most.
+/// Law: a content is read in one way: lack of memory aside, it has one answer at most.
 pub fn contents_are_read_in_one_way()
     ensures { (digest content : List ℕ) (a b : Result Found ImageError)
         → a ≢ Err NoMemory → b ≢ Err NoMemory
         → IsAnswer digest content a → IsAnswer digest content b → a ≡ b }
 {}
 
-/// Each content has an answer: it is found to be something, or there is a reason against it.
+/// Law: each content has an answer: it is found to be something, or there is a reason against it.
 pub fn each_content_has_an_answer()
     ensures { (digest content : List ℕ) → ((i : ℕ) → slice_index content i < 256)
         → (a : Result Found ImageError) × (a ≢ Err NoMemory) × IsAnswer digest content a }
 {}
 
-/// A journal is read as just the groups that were written.
+/// Law: a journal is read as just the groups that were written.
 pub fn images_are_read_as_their_groups()
     ensures { (v : Version) (digest : List ℕ) (groups : List (List Kid))
         → length digest ≡ DIGEST_LEN → AllByRecursion (IsGroup v) groups
         → IsFound digest (image v digest groups) (Journal (contents_of v 1 groups 0 [])) }
 {}
 
-/// What a stop leaves while a group is appended is read as the groups before, or is the journal of
-/// these and the new one.
+/// Law: what a stop leaves while a group is appended is read as the groups before, or is the
+/// journal of these and the new one.
 pub fn stops_leave_the_groups_before_or_after()
     ensures { (v : Version) (digest : List ℕ) (groups : List (List Kid)) (next : List Kid)
         (content : List ℕ) → length digest ≡ DIGEST_LEN
@@ -43,23 +43,23 @@ pub fn stops_leave_the_groups_before_or_after()
         → ReadsAs digest content v groups ⊎ IsAfter digest content v groups next }
 {}
 
-/// What a stop leaves while a header is made is read as a header that is still to be made, or as a
-/// journal of no groups.
+/// Law: what a stop leaves while a header is made is read as a header that is still to be made, or
+/// as a journal of no groups.
 pub fn stops_leave_a_header_to_make_or_no_groups()
     ensures { (v : Version) (digest content : List ℕ) → length digest ≡ DIGEST_LEN
         → IsMaking v digest content → ReadsAsNone digest content v }
 {}
 
-/// A journal that is found becomes, once it is mended, the image of groups whose entries were
+/// Law: a journal that is found becomes, once it is mended, the image of groups whose entries were
 /// found.
 pub fn what_is_mended_is_an_image()
     ensures { (digest content : List ℕ) (found : Contents)
         → IsFound digest content (Journal found) → IsMended digest content found }
 {}
 
-/// What is written is the image of groups: a header that was made has none, and a group that was
-/// opened is the last of them. Its entries stand behind the others, five bytes behind what was the
-/// last gate.
+/// Law: what is written is the image of groups: a header that was made has none, and a group that
+/// was opened is the last of them. Its entries stand after the others, five bytes after what was
+/// the last gate.
 pub fn what_is_written_is_an_image()
     ensures made { (v : Version) (digest : List ℕ)
         → 1 ∷ header v digest ++ 0 ∷ [] ≡ image v digest [] }

@@ -1,10 +1,13 @@
-//! The bytes of a journal, written and read, apart from any device.
+//! Writes and reads the bytes of a journal, apart from any device.
 //!
-//! A journal is a header and groups of entries, with a gate, one byte, before the header, before
-//! each group, and at the end. An open gate stands before a whole group; the last gate is closed.
-//! [`read`] tells what a file's bytes are, [`header_bytes`] and [`closed_group`] make the bytes
-//! that a device is to write, and the functions of [`laws`] state that what was written is read,
-//! and what a stop may leave.
+//! [`read`] reports exactly what a file's bytes are: a journal with its entries, a header still to
+//! be made, or why they are refused. Memory aside, each content has exactly one answer.
+//! [`header_bytes`] and [`closed_group`] return the bytes to write. [`laws`] state that what was
+//! written is read back, and what a stop may leave.
+//!
+//! A journal is a header and groups of entries. A gate, one byte, stands before each of them and at
+//! the end. An open gate stands before a whole group; the last gate is closed. [`read`] walks from
+//! gate to gate, and allocates once. Start reading at `specs/Image`, then at [`read`].
 #![tactic(auto)]
 
 mod contents;

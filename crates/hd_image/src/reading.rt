@@ -8,13 +8,13 @@ use crate::{CLOSED, Contents, DIGEST_LEN, FIRST_GATE, Found, ImageError, OPEN};
 use hd_base::Sequence;
 use std::alloc::Global;
 
-/// What the bytes of a file are, for the task of this digest. Memory is taken once, for the
+/// Returns what the bytes of a file are, for the task of this digest. Memory is taken once, for the
 /// entries, by the bytes that are there.
 ///
 /// # Errors
 /// `NotAJournal` where no header stands at the front, and none was being made; `OtherTask` where it
 /// has another digest; `Damaged` with the place of the first open gate that has no whole group and
-/// next gate behind it; `NoMemory` where there is no room for the entries.
+/// next gate after it; `NoMemory` where there is no room for the entries.
 pub fn read(alloc: Global, content: &[u8], digest: &[u8; DIGEST_LEN]) -> Result<Found, ImageError>
     ensures found { IfOk result (λ found. IsFound digest.now content.now found) }
     ensures refused { IfErr result (λ error. IsRefused digest.now content.now error) }

@@ -14,7 +14,7 @@ pub enum Version {
 }
 
 impl Version {
-    /// The byte that tells the version.
+    /// Returns the byte that reports the version.
     pub fn byte(self) -> u8
         ensures { result ≡ version_byte self }
     {
@@ -24,7 +24,7 @@ impl Version {
         }
     }
 
-    /// The version that a byte tells, if it tells one.
+    /// Returns the version that a byte reports, if it reports one.
     #[tactic(auto, using(crate::proofs::Numbering::no_version))]
     pub fn of_byte(byte: u8) -> Option<Version>
         ensures some { IfSome result (λ v. byte ≡ version_byte v) }
@@ -37,7 +37,7 @@ impl Version {
         }
     }
 
-    /// How many bytes a parent takes.
+    /// Returns how many bytes a parent takes.
     pub fn parent_width(self) -> usize
         ensures { result ≡ parent_width self }
     {
@@ -47,7 +47,7 @@ impl Version {
         }
     }
 
-    /// How many bytes an entry takes.
+    /// Returns how many bytes an entry takes.
     pub fn entry_width(self) -> usize
         ensures { result ≡ entry_width self }
     {
@@ -57,7 +57,7 @@ impl Version {
         }
     }
 
-    /// The number that stands for the root's parent.
+    /// Returns the number that stands for the root's parent.
     pub fn root_number(self) -> u64
         ensures { result ≡ root_number self }
     {
@@ -67,7 +67,7 @@ impl Version {
         }
     }
 
-    /// How many entries a journal may have at most: their numbers are below this.
+    /// Returns how many entries a journal may have at most: their numbers are below this.
     pub fn most(self) -> u64
         ensures { result ≡ most_of self }
     {

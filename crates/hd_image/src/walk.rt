@@ -1,4 +1,4 @@
-//! The groups behind a header, walked through from gate to gate.
+//! The groups after a header, walked through from gate to gate.
 ghost use Rattle.std.specs.Prelude.{◌≡◌, ◌≢◌, ◌+◌, ◌-◌, ◌*◌, ◌^◌, ◌<◌, ◌≤◌, [], IfOk, IfErr, IfSome, IfNone, length, drop, slice_index};
 ghost use Rattle.hd_image.specs.Image.{parent_width, entry_width, parent_number, HasNumber, IsHeld, entry_bytes};
 ghost use Rattle.hd_image.specs.Reading.{HasGroup};
@@ -10,7 +10,7 @@ use hd_base::NoMemory;
 use hd_task::{Kid, ROOT_PARENT};
 use std::alloc::Global;
 
-/// The parent that a number stands for.
+/// Returns the parent that a number stands for.
 fn parent_of(version: Version, number: u64) -> u64
     requires { number < 256 ^ parent_width version }
     ensures has { HasNumber version result }
@@ -22,7 +22,7 @@ fn parent_of(version: Version, number: u64) -> u64
     number
 }
 
-/// The pair that the bytes of an entry tell.
+/// Returns the pair that the bytes of an entry tell.
 fn kid_in(version: Version, bytes: &[u8]) -> Kid
     requires { length bytes.now ≡ entry_width version }
     ensures held { IsHeld version result }
@@ -59,7 +59,7 @@ fn push_entries(
     Ok(())
 }
 
-/// How many bytes so many entries have.
+/// Returns how many bytes so many entries have.
 fn entries_len(version: Version, count: usize) -> usize
     requires { count ≤ MAX_GROUP }
     ensures len { result ≡ entry_width version * count }
@@ -71,8 +71,8 @@ fn entries_len(version: Version, count: usize) -> usize
     }
 }
 
-/// How many bytes the count and the entries of a group have, where it stands behind an open gate
-/// with the byte of the next one.
+/// Returns how many bytes the count and the entries of a group have, where it stands after an open
+/// gate with the byte of the next one.
 fn group_len(version: Version, behind: &[u8]) -> Option<usize>
     ensures some { IfSome result (λ len. IsGroupLen version behind.now len) }
     ensures none { IfNone result (¬ HasGroup version behind.now) }
@@ -88,7 +88,7 @@ fn group_len(version: Version, behind: &[u8]) -> Option<usize>
     if len < behind.len() { Some(len) } else { None }
 }
 
-/// The entries of the groups behind the header, and the bytes from the last gate on.
+/// Returns the entries of the groups after the header, and the bytes from the last gate on.
 ///
 /// Memory is taken once, by the bytes that are there.
 pub(crate) fn walk(

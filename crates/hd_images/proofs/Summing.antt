@@ -82,7 +82,7 @@ no_sum t a objects i none =
     ∙ (fold-append (constant_cost t objects) (Some (pos 0)) (take i a.effects) (drop i a.effects)
     ∙ (ap (λ (o : Option ℤ). fold (constant_cost t objects) o (drop i a.effects)) none ∙ fold-none t objects (drop i a.effects))))
 
--- the whole sum tells
+-- the whole sum reports
 pub whole_sum : (t : LiftedTask) (a : Schema) (objects : List ℕ) (i : ℕ) (sum : ℤ) → length a.effects ≤ i
     → fold (constant_cost t objects) (Some (pos 0)) (take i a.effects) ≡ Some sum → costs_negative t (Some a) objects ≡ is_negative (Some sum)
 whole_sum t a objects i sum all is =

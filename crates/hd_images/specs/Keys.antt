@@ -18,7 +18,7 @@ forms_of keys = map (λ (k : SmallVec ℕ). form_by k.items) keys
 abbrev pub HasSymbol : SmallVec ℕ → Type 0
 HasSymbol k = (g : Ground) × (k.items ≡ form_key g)
 
--- each of these forms comes before those behind it
+-- each of these forms comes before those after it
 abbrev pub IsRising : List Ground → Type 0
 IsRising forms = AllPairs (λ g h. ComesBefore (form_key g) (form_key h)) forms
 

@@ -6,7 +6,7 @@ use Rattle.hd_lifted.specs.declared.schema.Literal.{Literal}
 use Rattle.hd_lifted.specs.declared.task.LiftedTask.{LiftedTask}
 use Rattle.hd_lifted.specs.States.{is_listed, ground_form_of}
 
--- a form goes behind the others, if it is none of them yet
+-- a form goes after the others, if it is none of them yet
 abbrev pub with_form : List Ground → Ground → List Ground
 with_form forms g = if is_listed forms g then forms else forms ++ g ∷ []
 

@@ -19,7 +19,7 @@ type ChangedAtoms = (Sequence<u32>, Sequence<u32>);
 /// What a schema with objects does to fluents, and what it adds to the cost.
 type ChangedNumbers = (Sequence<Effect>, Sequence<Expr>);
 
-/// What an instance is printed as, and its condition.
+/// Returns what an instance is printed as, and its condition.
 fn described(
     alloc: Global,
     atoms: &Numbers,
@@ -42,7 +42,7 @@ fn described(
     }
 }
 
-/// The atoms that a schema with objects deletes, and those that it adds.
+/// Returns the atoms that a schema with objects deletes, and those that it adds.
 fn changed_atoms(
     alloc: Global,
     atoms: &Numbers,
@@ -62,7 +62,7 @@ fn changed_atoms(
     }
 }
 
-/// What a schema with objects does to fluents, and what it adds to the cost.
+/// Returns what a schema with objects does to fluents, and what it adds to the cost.
 fn changed_numbers(
     alloc: Global,
     lookups: &Lookups<'_>,
@@ -84,7 +84,7 @@ fn changed_numbers(
     }
 }
 
-/// All that a schema with objects changes.
+/// Returns all that a schema with objects changes.
 fn changed(
     alloc: Global,
     lookups: &Lookups<'_>,
@@ -110,10 +110,10 @@ fn changed(
     }
 }
 
-/// The action that an instance of a schema is.
+/// Returns the action that an instance of a schema is.
 ///
 /// # Errors
-/// Want of memory.
+/// Lack of memory.
 pub fn action_of(
     alloc: Global,
     lookups: &Lookups<'_>,

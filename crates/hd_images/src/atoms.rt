@@ -35,10 +35,10 @@ fn add_goal(alloc: Global, forms: &mut Forms, literals: &[Literal]) -> Result<()
     Ok(())
 }
 
-/// The atoms that are reached, and those that the goal names, each once.
+/// Returns the atoms that are reached, and those that the goal names, each once.
 ///
 /// # Errors
-/// Want of memory.
+/// Lack of memory.
 pub fn atoms_in(
     alloc: Global,
     seed: Seed,

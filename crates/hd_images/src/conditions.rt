@@ -9,10 +9,10 @@ use hd_lifted::{Applied, equalities_hold};
 use hd_task::{Comparison, Condition, Literal};
 use std::alloc::Global;
 
-/// The numbers of atoms: one without a number is left out.
+/// Returns the numbers of atoms: one without a number is left out.
 ///
 /// # Errors
-/// Want of memory.
+/// Lack of memory.
 pub fn numbers_of(
     alloc: Global,
     atoms: &Numbers,
@@ -51,7 +51,7 @@ fn literals_of(
     Ok(Sequence::from_vec(literals))
 }
 
-/// A comparison, each fluent by its number.
+/// Returns a comparison, each fluent by its number.
 fn comparison_of(
     alloc: Global,
     fluents: &Numbers,
@@ -90,11 +90,11 @@ fn comparisons_of(
     Ok(Sequence::from_vec(comparisons))
 }
 
-/// A condition, its atoms and fluents by number. Where one of its equalities fails, it can't hold
-/// in any state.
+/// Returns a condition, its atoms and fluents by number. Where one of its equalities fails, it
+/// can't hold in any state.
 ///
 /// # Errors
-/// Want of memory.
+/// Lack of memory.
 pub fn condition_of(
     alloc: Global,
     atoms: &Numbers,

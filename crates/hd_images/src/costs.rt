@@ -13,7 +13,7 @@ use hd_lifted::{Leaf, NumericEffect, Schema};
 use hd_task::Expr;
 use std::alloc::Global;
 
-/// The value of a number, or of a fluent at first, if it has one.
+/// Returns the value of a number, or of a fluent at first, if it has one.
 pub(crate) fn first_value(
     alloc: Global,
     lookups: &Lookups<'_>,
@@ -29,7 +29,7 @@ pub(crate) fn first_value(
     }
 }
 
-/// An amount: a constant one is put in as its number, every other keeps its fluents.
+/// Returns an amount: a constant one is put in as its number, every other keeps its fluents.
 fn amount_of(
     alloc: Global,
     lookups: &Lookups<'_>,
@@ -48,7 +48,7 @@ fn amount_of(
     }
 }
 
-/// How many of these effects are parts of the cost.
+/// Returns how many of these effects are parts of the cost.
 pub fn count_costs(effects: &[NumericEffect]) -> usize
     ensures { result ≡ length (filter is_paid effects.now) }
 {
@@ -61,11 +61,11 @@ pub fn count_costs(effects: &[NumericEffect]) -> usize
     count
 }
 
-/// The amounts that a schema with objects adds to the cost, in the text's order: those that are the
-/// same in each state as numbers.
+/// Returns the amounts that a schema with objects adds to the cost, in the text's order: those that
+/// are the same in each state as numbers.
 ///
 /// # Errors
-/// Want of memory.
+/// Lack of memory.
 pub fn costs_of(
     alloc: Global,
     lookups: &Lookups<'_>,

@@ -15,7 +15,7 @@ use hd_task::{Change, Effect, Expr, Term};
 use std::alloc::Global;
 use std::collections::BTreeMap;
 
-/// A part of a sum.
+/// Returns a part of a sum.
 fn term_by(change: hd_lifted::Change, amount: Expr) -> Term
     ensures { result ≡ term_by change amount }
 {
@@ -37,7 +37,7 @@ fn with_term(terms: Sequence<Term>, term: Term) -> Result<Sequence<Term>, NoMemo
     Ok(Sequence::from_vec(terms))
 }
 
-/// The change of a fluent by one effect more: an assignment or a scaling stands alone, and
+/// Returns the change of a fluent by one effect more: an assignment or a scaling stands alone, and
 /// increases and decreases add up.
 fn change_with(
     alloc: Global,
@@ -106,7 +106,7 @@ fn gather(
     }
 }
 
-/// The effects that these changes are.
+/// Returns the effects that these changes are.
 fn effects_from(alloc: Global, changes: BTreeMap<u32, Change>) -> Result<Sequence<Effect>, NoMemory>
     ensures effects { IfOk result (λ s. s ≡ map effect_from changes.entries) }
     ensures ordered { IsOrdered nat_cmp changes }
@@ -118,7 +118,7 @@ fn effects_from(alloc: Global, changes: BTreeMap<u32, Change>) -> Result<Sequenc
     Ok(Sequence::from_vec(effects))
 }
 
-/// The changes by number that these effects make.
+/// Returns the changes by number that these effects make.
 fn changes_of(
     alloc: Global,
     fluents: &Numbers,
@@ -135,10 +135,11 @@ fn changes_of(
     Ok(changes)
 }
 
-/// What a schema with objects does to each fluent that has a number, in the order of the numbers.
+/// Returns what a schema with objects does to each fluent that has a number, in the order of the
+/// numbers.
 ///
 /// # Errors
-/// Want of memory.
+/// Lack of memory.
 pub fn effects_of(
     alloc: Global,
     fluents: &Numbers,

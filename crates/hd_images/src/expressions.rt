@@ -8,7 +8,7 @@ use hd_lifted::Leaf;
 use hd_task::Expr;
 use std::alloc::Global;
 
-/// A number, or a fluent by its number.
+/// Returns a number, or a fluent by its number.
 fn operand_of(
     alloc: Global,
     fluents: &Numbers,
@@ -26,10 +26,10 @@ fn operand_of(
     }
 }
 
-/// An expression, each fluent by its number: one without a number is read as the first.
+/// Returns an expression, each fluent by its number: one without a number is read as the first.
 ///
 /// # Errors
-/// Want of memory.
+/// Lack of memory.
 pub fn expression_of(
     alloc: Global,
     fluents: &Numbers,

@@ -32,7 +32,7 @@ impl Model for Forms {
 }
 
 impl Forms {
-    /// No forms, in a table that hashes by the seed.
+    /// Returns no forms, in a table that hashes by the seed.
     pub fn none(alloc: Global, seed: Seed) -> Forms
         ensures { result ≡ [] }
     {
@@ -41,7 +41,7 @@ impl Forms {
         }
     }
 
-    /// How many there are, no two of them the same.
+    /// Returns how many there are, no two of them the same.
     pub fn len(&self) -> usize
         ensures len { result ≡ length self.now }
         ensures distinct { AllPairs (λ g h. g ≢ h) self.now }
@@ -49,7 +49,7 @@ impl Forms {
         self.keys.len()
     }
 
-    /// The keys of the forms, in their order.
+    /// Returns the keys of the forms, in their order.
     pub(crate) fn keys(&self) -> &[Key]
         ensures forms { forms_of result.now ≡ self.now }
         ensures have_symbols { All HasSymbol result.now }
@@ -57,7 +57,7 @@ impl Forms {
         self.keys.as_slice()
     }
 
-    /// One form more, by its key, if it is none of them yet.
+    /// Adds one form more, by its key, if it is none of them yet.
     fn put(&mut self, key: Key) -> Result<(), NoMemory>
         requires { HasSymbol key }
         ensures { IfOk result (λ _. self.new ≡ with_form self.old (form_by key.items)) }
@@ -66,10 +66,10 @@ impl Forms {
         Ok(())
     }
 
-    /// One form more, if it is none of them yet.
+    /// Adds one form more, if it is none of them yet.
     ///
     /// # Errors
-    /// Want of memory.
+    /// Lack of memory.
     pub fn add(&mut self, alloc: Global, form: &Ground) -> Result<(), NoMemory>
         ensures { IfOk result (λ _. self.new ≡ with_form self.old form.now) }
     {
@@ -77,10 +77,10 @@ impl Forms {
         self.put(key)
     }
 
-    /// One form more, with objects in the place of its arguments, if it is none of them yet.
+    /// Adds one form more, with objects in the place of its arguments, if it is none of them yet.
     ///
     /// # Errors
-    /// Want of memory.
+    /// Lack of memory.
     pub fn add_at(
         &mut self,
         alloc: Global,

@@ -8,11 +8,11 @@ use hd_lifted::{Applied, Ground, object_of};
 use smallvec::SmallVec;
 use std::alloc::Global;
 
-/// The symbol of a ground form, and then its objects: up to four objects take no memory of their
+/// The symbol of a ground form, and then its objects: up to four objects do not allocate of their
 /// own.
 pub(crate) type Key = SmallVec<usize, 5>;
 
-/// The key of a ground form.
+/// Returns the key of a ground form.
 pub(crate) fn key_of(alloc: Global, form: &Ground) -> Result<Key, NoMemory>
     ensures { IfOk result (λ key. key.items ≡ form_key form.now) }
 {
@@ -24,7 +24,7 @@ pub(crate) fn key_of(alloc: Global, form: &Ground) -> Result<Key, NoMemory>
     Ok(key)
 }
 
-/// The key of what arguments are applied to, with objects in their place.
+/// Returns the key of what arguments are applied to, with objects in their place.
 pub(crate) fn key_at(alloc: Global, objects: &[usize], said: &Applied) -> Result<Key, NoMemory>
     ensures { IfOk result (λ key. key.items ≡ form_key (ground_form_of objects.now said.now)) }
 {

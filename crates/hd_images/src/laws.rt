@@ -10,8 +10,8 @@ ghost use Rattle.hd_kept.specs.Numbering.{form_key, HasExactly, NumbersInstances
 ghost use Rattle.hd_grounding.specs.Faults.{met_by_all, is_undefined, undefined_in, IsTooLarge};
 ghost use Rattle.hd_images.specs.Meeting.{IsMet, with_forms, goal_atoms};
 
-/// Where the kept instances and the goal meet no more fluents than a task may have, those that they
-/// meet are the task's, in its order.
+/// Law: where the kept instances and the goal meet no more fluents than a task may have, those that
+/// they meet are the task's, in its order.
 pub fn met_fluents_are_numbered()
     ensures { (t : LiftedTask) (instances : List Instance) (met numbers : List Ground)
         → NumbersInstances t instances → IsMet MAX_FLUENTS (met_by_all t instances) met
@@ -19,22 +19,22 @@ pub fn met_fluents_are_numbered()
         → NumbersFluents t numbers }
 {}
 
-/// Where they meet more, the task is too large.
+/// Law: where they meet more, the task is too large.
 pub fn many_fluents_are_too_many()
     ensures { (t : LiftedTask) (instances : List Instance) (met : List Ground)
         → NumbersInstances t instances → IsMet MAX_FLUENTS (met_by_all t instances) met
         → AllPairs (λ g h. g ≢ h) met → MAX_FLUENTS < length met → IsTooLarge t }
 {}
 
-/// Where they do not, the first fluent without a first value is the first of those that are met,
-/// each once.
+/// Law: where they do not, the first fluent without a first value is the first of those that are
+/// met, each once.
 pub fn first_undefined_is_found()
     ensures { (t : LiftedTask) (instances : List Instance) (met : List Ground)
         → IsMet MAX_FLUENTS (met_by_all t instances) met → length met ≤ MAX_FLUENTS
         → find (is_undefined t) met ≡ undefined_in t instances }
 {}
 
-/// The atoms that are reached and those that the goal names, each once, are the task's, in its
+/// Law: the atoms that are reached and those that the goal names, each once, are the task's, in its
 /// order.
 pub fn gathered_atoms_are_numbered()
     ensures { (t : LiftedTask) (atoms numbers : List Ground)
@@ -43,7 +43,7 @@ pub fn gathered_atoms_are_numbered()
         → NumbersAtoms t numbers }
 {}
 
-/// Where there are more of them than a task may have, the task is too large.
+/// Law: where there are more of them than a task may have, the task is too large.
 pub fn many_atoms_are_too_many()
     ensures { (t : LiftedTask) (atoms : List Ground)
         → ((g : Ground) → IsReachable t g ↔ Contains atoms g)

@@ -1,10 +1,14 @@
-//! What stands for the parts of a lifted task in a task of numbers: atoms and fluents by number,
-//! and the images of conditions, effects and costs.
+//! Computes the parts of a ground task from a lifted task: atoms and fluents by number, and the
+//! images of conditions, effects and costs.
 //!
-//! [`Forms`] gathers ground forms, each once, and [`Numbers`] numbers them. Each function that has
-//! the name of a definition of hd_grounding's `specs/` computes it; [`met_by_all`],
-//! [`first_undefined`] and [`first_negative`] find what the faults there speak of. Ground forms are
-//! found by hash, as keys: their symbol and then their objects.
+//! A function named like a definition in hd_grounding's `specs/Grounding` or `specs/Images` returns
+//! exactly its value. [`action_of`] and [`effects_of`] meet `IsActionOf` and `HasEffectsOf`.
+//! [`first_undefined`] and [`first_negative`] find what the errors name.
+//!
+//! [`Forms`] gathers ground forms, each once; [`Numbers`] numbers them by symbol, then by objects.
+//! Both are hash sets of keys, and a key of up to four objects needs no memory of its own.
+//! [`Lookups`] has the first values and the functions that change. Start reading at [`action_of`],
+//! then at [`Numbers`].
 #![tactic(auto)]
 
 mod actions;

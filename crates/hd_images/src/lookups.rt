@@ -39,10 +39,10 @@ impl<'a> Model for Lookups<'a> {
 }
 
 impl<'a> Lookups<'a> {
-    /// The tables of a lifted task, which hash by the seed.
+    /// Returns the tables of a lifted task, which hash by the seed.
     ///
     /// # Errors
-    /// Want of memory.
+    /// Lack of memory.
     #[tactic(auto, unfolding(hd_kept::specs::Amounts::is_changed))]
     pub fn of(alloc: Global, seed: Seed, task: &'a LiftedTask) -> Result<Lookups<'a>, NoMemory>
         ensures { IfOk result (λ l. l ≡ task.now) }
@@ -61,14 +61,14 @@ impl<'a> Lookups<'a> {
         }
     }
 
-    /// The lifted task.
+    /// Returns the lifted task.
     pub fn task(&self) -> &LiftedTask
         ensures { result.now ≡ self.now }
     {
         self.task
     }
 
-    /// Whether an amount is the same in each state.
+    /// Reports whether an amount is the same in each state.
     pub fn is_constant(&self, amount: &Expr) -> bool
         ensures { result ≡ is_constant self.now amount.now }
     {
@@ -79,7 +79,7 @@ impl<'a> Lookups<'a> {
         }
     }
 
-    /// The first value of the fluent with this key, if it has one.
+    /// Returns the first value of the fluent with this key, if it has one.
     pub(crate) fn value_by_key(&self, key: &Key) -> Option<i64>
         ensures { (g : Ground) → key.now.items ≡ form_key g
             → result ≡ first_value self.now.values g }
@@ -87,10 +87,11 @@ impl<'a> Lookups<'a> {
         self.values.by_key(key)
     }
 
-    /// The first value of a fluent with objects in the place of its arguments, if it has one.
+    /// Returns the first value of a fluent with objects in the place of its arguments, if it has
+    /// one.
     ///
     /// # Errors
-    /// Want of memory, where the fluent has more than four objects.
+    /// Lack of memory, where the fluent has more than four objects.
     pub fn first_value(
         &self,
         alloc: Global,

@@ -200,7 +200,7 @@ fn meet_goal_too(alloc: Global, forms: &mut Forms, task: &LiftedTask) -> Result<
     meet_goal(alloc, forms, task)
 }
 
-/// The fluents that the instances meet: all of them, or more than a task may have.
+/// Returns the fluents that the instances meet: all of them, or more than a task may have.
 fn met_by_instances(
     alloc: Global,
     seed: Seed,
@@ -216,11 +216,11 @@ fn met_by_instances(
     Ok(forms)
 }
 
-/// The fluents that the instances meet and then those that the goal meets, in the order in which
-/// they are met first: all of them, or more than a task may have.
+/// Returns the fluents that the instances meet and then those that the goal meets, in the order in
+/// which they are met first: all of them, or more than a task may have.
 ///
 /// # Errors
-/// Want of memory.
+/// Lack of memory.
 pub fn met_by_all(
     alloc: Global,
     seed: Seed,

@@ -10,10 +10,10 @@ use hd_lifted::{Instance, LiftedTask, Object, Schema, Signature};
 use hd_task::{GroundForm, Names};
 use std::alloc::Global;
 
-/// The form of an instance: its schema and its objects.
+/// Returns the form of an instance: its schema and its objects.
 ///
 /// # Errors
-/// Want of memory.
+/// Lack of memory.
 pub fn form_of_instance(alloc: Global, instance: &Instance) -> Result<GroundForm, NoMemory>
     ensures { IfOk result (λ f. f ≡ form_of_instance instance.now) }
 {
@@ -24,7 +24,7 @@ pub fn form_of_instance(alloc: Global, instance: &Instance) -> Result<GroundForm
     })
 }
 
-/// The form with this key.
+/// Returns the form with this key.
 fn form_by(alloc: Global, key: &Key) -> Result<GroundForm, NoMemory>
     ensures { IfOk result (λ f. f ≡ form_of (form_by key.now.items)) }
 {
@@ -43,10 +43,10 @@ fn form_by(alloc: Global, key: &Key) -> Result<GroundForm, NoMemory>
     }
 }
 
-/// What atoms or fluents are printed as, in the order of their numbers.
+/// Returns what atoms or fluents are printed as, in the order of their numbers.
 ///
 /// # Errors
-/// Want of memory.
+/// Lack of memory.
 pub fn forms_of(alloc: Global, numbers: &Numbers) -> Result<Sequence<GroundForm>, NoMemory>
     ensures { IfOk result (λ s. s ≡ map form_of numbers.now) }
 {
@@ -129,7 +129,7 @@ fn predicates_and_functions(
 /// The names that ground forms are printed with.
 ///
 /// # Errors
-/// Want of memory.
+/// Lack of memory.
 pub fn names_in(alloc: Global, task: &LiftedTask) -> Result<Names, NoMemory>
     ensures { IfOk result (λ n. n ≡ names_in task.now) }
 {

@@ -14,7 +14,7 @@ use hd_base::{ExprParts, NoMemory};
 use hd_lifted::{Expr, Instance, NumericEffect, Schema};
 use std::alloc::Global;
 
-/// The value of an amount at first, if it is the same in each state.
+/// Returns the value of an amount at first, if it is the same in each state.
 fn constant_value(
     alloc: Global,
     lookups: &Lookups<'_>,
@@ -32,7 +32,7 @@ fn constant_value(
     }
 }
 
-/// A sum of constant amounts with that of one more effect, if it has one.
+/// Returns a sum of constant amounts with that of one more effect, if it has one.
 fn with_cost(
     alloc: Global,
     lookups: &Lookups<'_>,
@@ -55,7 +55,7 @@ fn with_cost(
     }
 }
 
-/// Whether a schema with objects costs the same in each state, and less than 0.
+/// Reports whether a schema with objects costs the same in each state, and less than 0.
 fn costs_negative(
     alloc: Global,
     lookups: &Lookups<'_>,
@@ -74,7 +74,7 @@ fn costs_negative(
     Ok(sum < 0)
 }
 
-/// Whether an instance costs the same in each state, and less than 0.
+/// Reports whether an instance costs the same in each state, and less than 0.
 fn is_negative_instance(
     alloc: Global,
     lookups: &Lookups<'_>,
@@ -88,10 +88,10 @@ fn is_negative_instance(
     }
 }
 
-/// The first instance that costs less than 0 in each state, if there is one.
+/// Returns the first instance that costs less than 0 in each state, if there is one.
 ///
 /// # Errors
-/// Want of memory.
+/// Lack of memory.
 pub fn first_negative<'a>(
     alloc: Global,
     lookups: &Lookups<'_>,

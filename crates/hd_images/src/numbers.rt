@@ -34,10 +34,10 @@ impl Model for Numbers {
 }
 
 impl Numbers {
-    /// These forms by number.
+    /// Returns these forms by number.
     ///
     /// # Errors
-    /// Want of memory.
+    /// Lack of memory.
     pub fn of(forms: Forms) -> Result<Numbers, NoMemory>
         requires { length forms ≤ 2 ^ 32 }
         ensures exactly { IfOk result (HasExactly (Contains forms) form_key) }
@@ -56,14 +56,14 @@ impl Numbers {
         let _keys = self.keys.len();
     }
 
-    /// How many there are.
+    /// Returns how many there are.
     pub fn len(&self) -> usize
         ensures { result ≡ length self.now }
     {
         self.keys.len()
     }
 
-    /// The keys of the forms, in their order.
+    /// Returns the keys of the forms, in their order.
     pub(crate) fn keys(&self) -> &[Key]
         ensures forms { forms_of result.now ≡ self.now }
         ensures have_symbols { All HasSymbol result.now }
@@ -71,7 +71,7 @@ impl Numbers {
         self.keys.as_slice()
     }
 
-    /// The number of the form with this key.
+    /// Returns the number of the form with this key.
     fn number_by(&self, key: &Key) -> Option<u32>
         ensures { (g : Ground) → key.now.items ≡ form_key g → result ≡ number_of self.now g }
     {
@@ -81,10 +81,10 @@ impl Numbers {
         }
     }
 
-    /// The number of a form, if it has one.
+    /// Returns the number of a form, if it has one.
     ///
     /// # Errors
-    /// Want of memory, where the form has more than four objects.
+    /// Lack of memory, where the form has more than four objects.
     pub fn number_of(
         &self,
         alloc: Global,
@@ -96,10 +96,10 @@ impl Numbers {
         Ok(self.number_by(&key))
     }
 
-    /// The number of a form with objects in the place of its arguments, if it has one.
+    /// Returns the number of a form with objects in the place of its arguments, if it has one.
     ///
     /// # Errors
-    /// Want of memory, where the form has more than four objects.
+    /// Lack of memory, where the form has more than four objects.
     pub fn number_at(
         &self,
         alloc: Global,

@@ -23,7 +23,7 @@ fn bits_of(alloc: Global, atoms: &Numbers, listed: &[Ground]) -> Result<Sequence
     Ok(Sequence::from_vec(bits))
 }
 
-/// The first values of fluents: 0 for one that has none.
+/// Returns the first values of fluents: 0 for one that has none.
 fn values_of(
     alloc: Global,
     lookups: &Lookups<'_>,
@@ -39,10 +39,10 @@ fn values_of(
     Ok(Sequence::from_vec(values))
 }
 
-/// The atoms that are true at first, and the first values: 0 for a fluent that has none.
+/// Returns the atoms that are true at first, and the first values: 0 for a fluent that has none.
 ///
 /// # Errors
-/// Want of memory.
+/// Lack of memory.
 pub fn start_in(
     alloc: Global,
     lookups: &Lookups<'_>,

@@ -10,7 +10,7 @@ use hd_lifted::Ground;
 use smallvec::SmallVec;
 use std::alloc::Global;
 
-/// The form with this key.
+/// Returns the form with this key.
 fn ground_by(alloc: Global, key: &Key) -> Result<Ground, NoMemory>
     ensures { IfOk result (λ g. g ≡ form_by key.now.items) }
 {
@@ -29,7 +29,7 @@ fn ground_by(alloc: Global, key: &Key) -> Result<Ground, NoMemory>
     }
 }
 
-/// Whether the fluent with this key has no first value.
+/// Reports whether the fluent with this key has no first value.
 fn is_undefined(lookups: &Lookups<'_>, key: &Key) -> bool
     requires { HasSymbol key.now }
     ensures { result ≡ is_undefined lookups.now (form_by key.now.items) }
@@ -37,10 +37,10 @@ fn is_undefined(lookups: &Lookups<'_>, key: &Key) -> bool
     lookups.value_by_key(key).is_none()
 }
 
-/// The first of these fluents that has no first value, if there is one.
+/// Returns the first of these fluents that has no first value, if there is one.
 ///
 /// # Errors
-/// Want of memory.
+/// Lack of memory.
 pub fn first_undefined(
     alloc: Global,
     lookups: &Lookups<'_>,

@@ -18,7 +18,8 @@ pub(crate) struct FirstValues {
 }
 
 impl FirstValues {
-    /// The first of the values that are listed for each fluent, in a table that hashes by the seed.
+    /// Returns the first of the values that are listed for each fluent, in a table that hashes by
+    /// the seed.
     pub(crate) fn of(
         alloc: Global,
         seed: Seed,
@@ -38,7 +39,7 @@ impl FirstValues {
         Ok(FirstValues { values })
     }
 
-    /// The first value of the fluent with this key, if it has one.
+    /// Returns the first value of the fluent with this key, if it has one.
     pub(crate) fn by_key(&self, key: &Key) -> Option<i64>
         ensures { result ≡ value_at self.now key.now.items }
     {

@@ -19,7 +19,7 @@ use Rattle.hd_inspect.specs.Groups.{follows, groups_by}
 use Rattle.hd_inspect.specs.declared.inspected.Summary.{Summary}
 use Rattle.hd_inspect.specs.Inspecting.{IsSummary, IsRefused}
 
--- the entries of a group behind its first one, and what comes behind them
+-- the entries of a group after its first one, and what comes after them
 in_group : (v : Version) (kids : List Kid) (last : ℕ) (rest : List Entry) (n : ℕ)
     → ((end : ℕ) → end ≡ last + entry_width v * length kids → groups_by (entry_width v) (Some end) rest ≡ n)
     → groups_by (entry_width v) (Some last) (entries_of v (last + entry_width v) kids ++ rest) ≡ n
@@ -59,7 +59,7 @@ no_other content digest reads other =
     let bytes = head_bytes content other.head other.v other.other other.body other.headed in
     other.differs (sym (reads bytes.long ∙ bytes.digest_is))
 
--- what is told of a journal is so
+-- what is reported of a journal is so
 pub summed : (content digest : List ℕ) (found : Contents) (s : Summary) → IsJournal digest content found → s.version ≡ found.version → s.digest ≡ digest → s.entries ≡ length found.entries
     → s.groups ≡ groups_by (entry_width found.version) None found.entries → s.behind ≡ found.behind → IsSummary content s
 summed content digest found s journal version digest_is entries groups behind =

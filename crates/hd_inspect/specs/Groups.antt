@@ -2,7 +2,7 @@
 use Rattle.std.specs.Prelude.{ℕ, ◌+◌, ◌==◌, Bool, false, if◌then◌else◌, List, [], ◌∷◌, Option, Some, None}
 use Rattle.hd_image.specs.declared.entry.Entry.{Entry}
 
--- an entry stands at once behind the one before it, if there is one
+-- an entry stands at once after the one before it, if there is one
 abbrev pub follows : ℕ → Option ℕ → ℕ → Bool
 follows width None at = false
 follows width (Some last) at = at == last + width

@@ -1,4 +1,4 @@
--- What is told of a file's bytes without the texts of a task. (Our own.)
+-- What is reported of a file's bytes without the texts of a task. (Our own.)
 use Rattle.std.specs.Prelude.{◌≡◌, ℕ, ◌≤◌, List, length}
 use Rattle.hd_image.specs.declared.contents.Contents.{Contents}
 use Rattle.hd_image.specs.declared.error.ImageError.{ImageError}
@@ -8,8 +8,8 @@ use Rattle.hd_inspect.specs.declared.inspected.Summary.{Summary}
 use Rattle.hd_inspect.specs.declared.inspected.Inspected.{Inspected}
 use Rattle.hd_inspect.specs.declared.inspected.Inspected.TheVariants.{Unmade, HalfMade, Journal}
 
--- the bytes are a journal of some digest, and just this is told of it: its version, the digest, how
--- many entries and groups it has, and how many bytes stand behind its last gate
+-- the bytes are a journal of some digest, and just this is reported of it: its version, the digest,
+-- how many entries and groups it has, and how many bytes stand after its last gate
 pub record IsSummary (content : List ℕ) (s : Summary) : Type 0 where
   pub digest : List ℕ
   pub found : Contents
@@ -26,7 +26,7 @@ IsInspected content Unmade = length content ≤ 1
 IsInspected content HalfMade = IsHalfMade content
 IsInspected content (Journal s) = IsSummary content s
 
--- why they are no journal of any task, or a damaged one; want of memory says nothing of them
+-- why they are no journal of any task, or a damaged one; lack of memory says nothing of them
 abbrev pub IsRefused : List ℕ → ImageError → Type 0
 IsRefused content NotAJournal = IsNoJournal content
 IsRefused content OtherTask = ⊥

@@ -4,8 +4,8 @@ ghost use Rattle.hd_inspect.specs.Groups.{follows, groups_by};
 
 use hd_image::Entry;
 
-/// Whether an entry stands at once behind the one before it, if there is one: between two groups
-/// are a gate and a count.
+/// Reports whether an entry stands at once after the one before it, if there is one: between two
+/// groups are a gate and a count.
 fn follows(width: u64, last: Option<u64>, at: u64) -> bool
     ensures { result ≡ follows width last at }
 {
@@ -15,7 +15,7 @@ fn follows(width: u64, last: Option<u64>, at: u64) -> bool
     }
 }
 
-/// How many groups entries of this width stand in, by their places.
+/// Returns how many groups entries of this width stand in, by their places.
 pub(crate) fn groups_of(entries: &[Entry], width: u64) -> u64
     ensures { result ≡ groups_by width None entries.now }
 {

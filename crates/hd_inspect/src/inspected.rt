@@ -1,7 +1,7 @@
-//! What is told of a journal.
+//! What is reported of a journal.
 use hd_image::{DIGEST_LEN, Version};
 
-/// What is told of a journal.
+/// What is reported of a journal.
 #[derive(Clone, Copy, Debug, PartialEq, Eq)]
 pub struct Summary {
     /// The version of its format.
@@ -12,7 +12,7 @@ pub struct Summary {
     pub entries: u64,
     /// How many groups it has.
     pub groups: u64,
-    /// How many bytes stand behind the last gate: a group that is not whole, or that was not sure
+    /// How many bytes stand after the last gate: a group that is not whole, or that was not sure
     /// to be when it was written. They are no part of the journal.
     pub behind: u64,
 }

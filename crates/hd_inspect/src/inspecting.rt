@@ -12,7 +12,7 @@ use hd_base::NoMemory;
 use hd_image::{Contents, DIGEST_LEN, FIRST_GATE, Found, ImageError, read};
 use std::alloc::Global;
 
-/// The bytes where a header has its digest, or zeros where there are too few.
+/// Returns the bytes where a header has its digest, or zeros where there are too few.
 fn digest_in(content: &[u8]) -> [u8; DIGEST_LEN]
     ensures { FIRST_GATE < length content.now → result ≡ slice_range content.now 6 FIRST_GATE }
 {
@@ -23,7 +23,7 @@ fn digest_in(content: &[u8]) -> [u8; DIGEST_LEN]
     digest
 }
 
-/// What is told of a journal of this digest.
+/// Returns what is reported of a journal of this digest.
 fn summary_of(digest: [u8; DIGEST_LEN], found: &Contents) -> Summary
     ensures version { result.version ≡ found.now.version }
     ensures digest { result.digest ≡ digest }
@@ -42,11 +42,11 @@ fn summary_of(digest: [u8; DIGEST_LEN], found: &Contents) -> Summary
     }
 }
 
-/// What the bytes of a file tell of the journal in them, whatever its task.
+/// Returns what the bytes of a file tell of the journal in them, whatever its task.
 ///
 /// # Errors
 /// `NotAJournal` where no header stands at the front, and none was being made; `Damaged` with the
-/// place of the first open gate that has no whole group and next gate behind it; `NoMemory`.
+/// place of the first open gate that has no whole group and next gate after it; `NoMemory`.
 /// `OtherTask` is never told.
 pub fn inspect(alloc: Global, content: &[u8]) -> Result<Inspected, ImageError>
     ensures inspected { IfOk result (IsInspected content.now) }
@@ -61,7 +61,7 @@ pub fn inspect(alloc: Global, content: &[u8]) -> Result<Inspected, ImageError>
     }
 }
 
-/// A digest in hexadecimal, in lower case.
+/// Returns a digest in hexadecimal, in lower case.
 ///
 /// # Errors
 /// `NoMemory` where there is no room for the text.

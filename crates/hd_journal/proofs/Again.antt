@@ -55,7 +55,7 @@ cut_moments : (v : Version) (digest : List ℕ) (groups : List (List Kid)) (next
 cut_moments v digest groups next old new behind at result place settled is ran =
     cut_moments_by v digest groups next old new behind at (length behind == 0) result place settled is ran
 
--- the gate that was being opened, or closed again, is closed, and the group behind it cut off
+-- the gate that was being opened, or closed again, is closed, and the group after it cut off
 shut_moments : (v : Version) (digest : List ℕ) (groups : List (List Kid)) (next : List Kid) (old new : Device) (gate at : ℕ) (is_closed : Bool)
     (result : Result (Unit {0}) StoreError) → (gate == 0) ≡ is_closed → at ≡ length (front v digest groups) → IsSettled old
     → content_of old ≡ front v digest groups ++ gate ∷ (counted v next ++ 0 ∷ [])

@@ -16,7 +16,7 @@ use Rattle.hd_journal.proofs.Bytes.{over_end, over_one, part_end, part_one}
 use Rattle.hd_journal.proofs.Running.{led_on}
 use Rattle.hd_journal.proofs.Passing.{sure_then, no_more}
 
--- bytes are written behind a gate, which is opened then
+-- bytes are written after a gate, which is opened then
 abbrev pub behind_calls : ℕ → List ℕ → List Call
 behind_calls gate bytes = surely (Writing (gate + 1) bytes) ++ surely (Writing gate (1 ∷ []))
 

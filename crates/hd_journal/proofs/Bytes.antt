@@ -52,7 +52,7 @@ beside at place other true e =
     let above : at + 1 ≤ place = omega (arith, other, leb_true at place e) in
     ap₂ (λ a b. a && b) e (le-ltb place (at + 1) above)
 
--- a list that begins like another one is that one and something behind it
+-- a list that begins like another one is that one and something after it
 starts : (old found : List ℕ) → length old ≤ length found → ((place : ℕ) → place < length old → get_or found place 0 ≡ get_or old place 0)
     → (behind : List ℕ) × (found ≡ old ++ behind)
 starts [] found long same = (found, refl)
@@ -66,7 +66,7 @@ pub part_end : (old : List ℕ) (at count : ℕ) (found : List ℕ) → at ≡ l
 part_end old at count found e part =
     starts old found part.no_shorter (λ place below. part.others place below (in_front at count place (omega (arith, e, below))))
 
--- behind a first byte that stays
+-- after a first byte that stays
 pub part_rest : (rest : List ℕ) (count : ℕ) (found : List ℕ) → length rest ≤ count → IsPartOfWrite (0 ∷ rest) 1 count found
     → (behind : List ℕ) × (found ≡ 0 ∷ behind) × (length behind ≤ count)
 part_rest rest count [] short part = absurd (lt_zero (length rest) part.no_shorter)

@@ -77,7 +77,7 @@ cut_mended : (old new : Device) (f behind : List ℕ) (at : ℕ) → content_of 
     → RanThrough old (cut_calls (length behind) at) new → content_of new ≡ f ++ 0 ∷ []
 cut_mended old new f behind at is place ran = cut_mended_by old new f behind at (length behind == 0) refl is place ran
 
--- the header's gate is open, the last gate closed, and nothing stands behind it
+-- the header's gate is open, the last gate closed, and nothing stands after it
 pub mend_content : (v : Version) (digest : List ℕ) (groups : List (List Kid)) (head gate : ℕ) (behind : List ℕ) (old new : Device)
     → length digest ≡ DIGEST_LEN → content_of old ≡ head ∷ header v digest ++ (flat_map (opened v) groups ++ gate ∷ behind)
     → RanThrough old (mend_calls (contents_of v head groups gate behind)) new → content_of new ≡ image v digest groups

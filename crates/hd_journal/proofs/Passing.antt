@@ -20,7 +20,7 @@ IsPart (Writing at bytes) content found = IsPartOfWrite content at (length bytes
 IsPart (Cutting len) content found = IsPartOfCut content len found
 IsPart Syncing content found = found ≡ content
 
--- ---- moments one behind the other
+-- ---- moments one after the other
 
 along : (P : List ℕ → Type 0) (start : List ℕ) (later since before : List Step)
     → LeavesAlong P start later (since ++ before) → LeavesAlong P start since before → LeavesAlong P start (later ++ since) before
@@ -62,7 +62,7 @@ IsStroke (Writing at bytes) = Unit {0}
 IsStroke (Cutting len) = Unit {0}
 IsStroke Syncing = ⊥
 
--- behind a write or a cut that was begun, whatever a read gives since then
+-- after a write or a cut that was begun, whatever a read gives since then
 leaves_torn : (P : List ℕ → Type 0) (device : Device) (call : Call) (now : List ℕ) → IsStroke call → IsSettled device
     → ((found : List ℕ) → IsPart call (content_of device) found → P found) → Leaves P device.start (step (change_of call) now ∷ device.steps)
 leaves_torn P device (Writing at bytes) now is settled part = λ found left.

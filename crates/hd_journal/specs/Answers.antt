@@ -101,8 +101,8 @@ pub record IsOpened {S : Type 0} {G : Ghosts S} (digest : List ℕ) (old : Devic
   pub gate : journal.last_gate ≡ gate_in found
   pub running : journal.failed ≡ false
 
--- these groups stand in a content, each behind its open gate, and then a gate that is not open,
--- with anything behind it
+-- these groups stand in a content, each after its open gate, and then a gate that is not open,
+-- with anything after it
 pub record StandsIn (v : Version) (digest : List ℕ) (groups : List (List Kid)) (content : List ℕ) : Type 0 where
   pub gate : ℕ
   pub behind : List ℕ

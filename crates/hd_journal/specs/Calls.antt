@@ -22,17 +22,17 @@ change_of (Writing at bytes) = Write at (length bytes)
 change_of (Cutting len) = Cut len
 change_of Syncing = Sync
 
--- what a read gives behind it
+-- what a read gives after it
 abbrev pub content_by : Call → List ℕ → List ℕ
 content_by (Writing at bytes) content = written_over content at bytes
 content_by (Cutting len) content = take len content
 content_by Syncing content = content
 
--- the device behind a call that was done
+-- the device after a call that was done
 abbrev pub after_call : Device → Call → Device
 after_call device call = done device (change_of call) (content_by call (content_of device))
 
--- the device behind calls that were all done, in order
+-- the device after calls that were all done, in order
 abbrev pub after_calls : Device → List Call → Device
 after_calls device [] = device
 after_calls device (call ∷ calls) = after_calls (after_call device call) calls
@@ -66,7 +66,7 @@ abbrev pub IsThrough : Result (Unit {0}) StoreError → Type 0
 IsThrough (Ok done) = Unit {0}
 IsThrough (Err error) = ⊥
 
--- calls were made one after the other: all were done; or one was not, and none behind it was made
+-- calls were made one after the other: all were done; or one was not, and none after it was made
 abbrev pub Ran : Device → List Call → Result (Unit {0}) StoreError → Device → Type 0
 Ran old [] result new = IsThrough result × (new ≡ old)
 Ran old (call ∷ calls) result new = (MayEnd old (Ok tt) × Ran (after_call old call) calls result new) ⊎ Ends old call result new

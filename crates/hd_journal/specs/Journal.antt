@@ -50,12 +50,12 @@ pub record IsSame {S : Type 0} {G : Ghosts S} (old new : of.Journal S G) : Type 
 
 -- ---- the calls, each list in order
 
--- a group is appended behind the last gate: its count, its entries and the next gate are written,
+-- a group is appended after the last gate: its count, its entries and the next gate are written,
 -- closed, and made sure of; then its gate is opened
 abbrev pub append_calls : Version → ℕ → List Kid → List Call
 append_calls v gate kids = surely (Writing (gate + 1) (counted v kids ++ 0 ∷ [])) ++ surely (Writing gate (1 ∷ []))
 
--- a header is made behind its closed gate: it is written with the first group's gate, closed, and
+-- a header is made after its closed gate: it is written with the first group's gate, closed, and
 -- made sure of; then its gate is opened
 abbrev pub fill_calls : List ℕ → List Call
 fill_calls digest = surely (Writing 1 (header Two digest ++ 0 ∷ [])) ++ surely (Writing 0 (1 ∷ []))
@@ -74,7 +74,7 @@ abbrev pub gate_calls : Bool → ℕ → List Call
 gate_calls true gate = []
 gate_calls false gate = surely (Writing gate (0 ∷ []))
 
--- what stands behind the last gate is cut off, if anything does
+-- what stands after the last gate is cut off, if anything does
 abbrev pub cut_calls : ℕ → ℕ → List Call
 cut_calls behind gate = if behind == 0 then [] else surely (Cutting (gate + 1))
 
@@ -89,7 +89,7 @@ open_calls digest Unmade = create_calls digest
 open_calls digest HalfMade = fill_calls digest
 open_calls digest (Journal found) = mend_calls found
 
--- ---- what is told then
+-- ---- what is reported then
 
 -- the version: that of a header that stands there, else the second
 abbrev pub version_in : Found → Version

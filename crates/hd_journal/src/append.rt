@@ -20,7 +20,7 @@ use crate::strokes::write_surely;
 use hd_image::{Entry, Kid, OPEN, Version, closed_group, fits};
 use hd_store::{Store, StoreError};
 
-/// Writes bytes behind a closed gate that is the last byte, makes sure of them, and opens the gate.
+/// Writes bytes after a closed gate that is the last byte, makes sure of them, and opens the gate.
 fn write_behind<S: Store>(store: &mut S, gate: u64, bytes: &[u8]) -> Result<(), StoreError>
     requires { gate + 1 ≡ length (content_of (S.device store.old)) }
     ensures ran { Ran (S.device store.old)
@@ -64,7 +64,7 @@ fn push_entries(entries: &mut Vec<Entry>, version: Version, first: u64, kids: &[
 }
 
 impl<S: Store> Journal<S> {
-    /// Whether a group may be appended.
+    /// Reports whether a group may be appended.
     fn is_next(&self, group: &Group) -> bool
         ensures next { result ≡ is_next self.now group.now }
         ensures told { result ≡ true → AllByRecursion
@@ -73,7 +73,8 @@ impl<S: Store> Journal<S> {
         group.first() == self.entries.len() as u64 && fits(self.version, group.kids())
     }
 
-    /// The bytes that are to be written to append a group; there is room for its entries then.
+    /// Returns the bytes that are to be written to append a group; there is room for its entries
+    /// then.
     fn prepare(&mut self, group: &Group) -> Result<Vec<u8>, JournalError>
         ensures running { OnOk result (self.old.failed ≡ false) }
         ensures next { OnOk result (is_next self.old group.now ≡ true) }
@@ -99,7 +100,7 @@ impl<S: Store> Journal<S> {
         Ok(bytes)
     }
 
-    /// Writes a group behind the last gate, and opens that; the entries are kept then.
+    /// Writes a group after the last gate, and opens that; the entries are kept then.
     fn put(&mut self, group: &Group) -> Result<(), JournalError>
         ensures appended { OnOk result (IsAppended self.old group.now self.new) }
         ensures group { OnOk result (IsGroup self.old.version group.now.kids) }
@@ -128,7 +129,7 @@ impl<S: Store> Journal<S> {
         }
     }
 
-    /// Appends a group: it is written behind the last gate, made sure of, and then its gate is
+    /// Appends a group: it is written after the last gate, made sure of, and then its gate is
     /// opened. At `Ok` it stays, whatever happens.
     ///
     /// # Errors

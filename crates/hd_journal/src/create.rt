@@ -16,7 +16,7 @@ use hd_image::{CLOSED, DIGEST_LEN, FIRST_GATE, OPEN, Version, header_bytes};
 use hd_store::{Store, StoreError};
 use std::alloc::Global;
 
-/// Makes a header behind its closed gate, and opens that.
+/// Makes a header after its closed gate, and opens that.
 pub(crate) fn fill<S: Store>(store: &mut S, digest: &[u8; DIGEST_LEN]) -> Result<(), StoreError>
     requires some { 1 ≤ length (content_of (S.device store.old)) }
     requires short { length (content_of (S.device store.old)) ≤ FIRST_GATE + 1 }
@@ -27,7 +27,7 @@ pub(crate) fn fill<S: Store>(store: &mut S, digest: &[u8; DIGEST_LEN]) -> Result
     write_surely(store, 0, &[OPEN])
 }
 
-/// Closes a header's gate, makes the header behind it, and opens that.
+/// Closes a header's gate, makes the header after it, and opens that.
 pub(crate) fn make<S: Store>(store: &mut S, digest: &[u8; DIGEST_LEN]) -> Result<(), StoreError>
     requires { length (content_of (S.device store.old)) ≤ FIRST_GATE + 1 }
     ensures ran { Ran (S.device store.old) (create_calls digest.now) result (S.device store.new) }

@@ -16,7 +16,7 @@ pub enum JournalError {
     NotAJournal,
     /// The file is the journal of another task.
     OtherTask,
-    /// No whole group stands behind the open gate at this place.
+    /// No whole group stands after the open gate at this place.
     Damaged(u64),
     /// The device failed, and counted the failure.
     Device,

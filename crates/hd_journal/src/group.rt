@@ -1,4 +1,4 @@
-//! Groups of entries, and what tells that one was appended.
+//! Groups of entries, and what reports that one was appended.
 ghost use Rattle.std.specs.Prelude.{◌≡◌, ◌≤◌, length};
 ghost use Rattle.hd_image.specs.declared.entry.TheConstants.{MAX_GROUP};
 
@@ -28,7 +28,7 @@ impl Model for Group {
 }
 
 impl Group {
-    /// The group of these pairs, whose numbers are those from `first` on.
+    /// Returns the group of these pairs, whose numbers are those from `first` on.
     pub fn of(first: u64, kids: Vec<Kid>) -> Group
         requires some { 1 ≤ length kids.items }
         requires most { length kids.items ≤ MAX_GROUP }
@@ -37,7 +37,7 @@ impl Group {
         Group { first, kids }
     }
 
-    /// The number of the first entry, and the pairs; the group is spent.
+    /// Returns the number of the first entry, and the pairs; the group is spent.
     pub fn parts(self) -> (u64, Vec<Kid>)
         ensures first { result.0 ≡ self.first }
         ensures kids { result.1.items ≡ self.kids }
@@ -48,14 +48,14 @@ impl Group {
         (first, kids)
     }
 
-    /// The number of the first entry.
+    /// Returns the number of the first entry.
     pub(crate) fn first(&self) -> u64
         ensures { result ≡ self.now.first }
     {
         self.first
     }
 
-    /// The pairs.
+    /// Returns the pairs.
     pub(crate) fn kids(&self) -> &[Kid]
         ensures kids { result.now ≡ self.now.kids }
         ensures some { 1 ≤ length self.now.kids }
@@ -92,7 +92,7 @@ impl Flushed {
         Flushed { first, kids }
     }
 
-    /// The number of the first entry, and the pairs; what said so is spent.
+    /// Returns the number of the first entry, and the pairs; what said so is spent.
     pub fn parts(self) -> (u64, Vec<Kid>)
         ensures first { result.0 ≡ self.first }
         ensures kids { result.1.items ≡ self.kids }

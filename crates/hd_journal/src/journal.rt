@@ -19,7 +19,7 @@ pub struct Journal<S: Store> {
 }
 
 impl<S: Store> Journal<S> {
-    /// A journal of these entries on a store, whose last byte is its last gate.
+    /// Returns a journal of these entries on a store, whose last byte is its last gate.
     pub(crate) fn of(store: S, version: Version, entries: Vec<Entry>, last_gate: u64) -> Journal<S>
         requires { last_gate + 1 ≡ length (content_of (S.device store)) }
         ensures device { S.device result.store ≡ S.device store }
@@ -37,22 +37,22 @@ impl<S: Store> Journal<S> {
         }
     }
 
-    /// All entries, in order, with their places. They are kept once: what was read when the journal
-    /// was opened, and what was appended since then.
+    /// Returns all entries, in order, with their places. They are kept once: what was read when the
+    /// journal was opened, and what was appended since then.
     pub fn entries(&self) -> &[Entry]
         ensures { result.now ≡ self.now.entries.items }
     {
         self.entries.as_slice()
     }
 
-    /// How many entries the journal may have at most: their numbers are below this.
+    /// Returns how many entries the journal may have at most: their numbers are below this.
     pub fn most(&self) -> u64
         ensures { result ≡ most_of self.now.version }
     {
         self.version.most()
     }
 
-    /// The store, as the journal left it.
+    /// Returns the store, as the journal left it.
     pub fn into_store(self) -> S
         ensures { S.device result ≡ S.device self.store }
     {

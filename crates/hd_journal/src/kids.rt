@@ -8,7 +8,7 @@ use hd_image::{Entry, Kid};
 use hd_store::Store;
 use std::alloc::Global;
 
-/// The pair of an entry.
+/// Returns the pair of an entry.
 fn kid_of(entry: &Entry) -> Kid
     ensures { result ≡ kid_of entry.now }
 {
@@ -19,7 +19,7 @@ fn kid_of(entry: &Entry) -> Kid
 }
 
 impl<S: Store> Journal<S> {
-    /// The pairs of all entries, in order: a list of its own, of 16 bytes a pair.
+    /// Returns the pairs of all entries, in order: a list of its own, of 16 bytes a pair.
     ///
     /// # Errors
     /// `NoMemory` where there is no room for it.

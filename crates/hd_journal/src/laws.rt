@@ -17,20 +17,20 @@ ghost use Rattle.hd_journal.specs.Answers.{StandsIn};
 ghost use Rattle.hd_journal.specs.Calls.{Call, Ran, RanThrough, after_calls};
 ghost use Rattle.hd_journal.specs.Journal.{mend_calls};
 
-/// Calls that were all done leave the device that they lead to.
+/// Law: calls that were all done leave the device that they lead to.
 pub fn calls_that_were_done_lead_on()
     ensures { (old new : Device) (calls : List Call)
         → RanThrough old calls new → new ≡ after_calls old calls }
 {}
 
-/// Calls of which one failed leave one failure more counted, up to the greatest count.
+/// Law: calls of which one failed leave one failure more counted, up to the greatest count.
 pub fn a_call_that_fails_is_counted()
     ensures { (old new : Device) (calls : List Call)
         → Ran old calls (Err store.Failed) new → new.failures ≡ one_more old.failures }
 {}
 
-/// What a stop leaves while a group is appended holds the groups before, or these and the whole new
-/// one.
+/// Law: what a stop leaves while a group is appended holds the groups before, or these and the
+/// whole new one.
 pub fn what_a_stop_leaves_holds_groups()
     ensures { (v : Version) (digest : List ℕ) (groups : List (List Kid)) (next : List Kid)
         (content : List ℕ) → AllByRecursion (IsGroup v) groups → IsGroup v next
@@ -38,8 +38,8 @@ pub fn what_a_stop_leaves_holds_groups()
         → StandsIn v digest groups content ⊎ StandsIn v digest (groups ++ next ∷ []) content }
 {}
 
-/// Nothing is said against a content in which groups stand, nor against what a stop leaves while a
-/// header is made.
+/// Law: nothing is said against a content in which groups stand, nor against what a stop leaves
+/// while a header is made.
 pub fn what_a_stop_leaves_is_not_refused()
     ensures groups { (v : Version) (digest : List ℕ) (groups : List (List Kid))
         (content : List ℕ) (error : ImageError) → length digest ≡ DIGEST_LEN
@@ -49,7 +49,7 @@ pub fn what_a_stop_leaves_is_not_refused()
         → IsRefused digest content error → error ≡ NoMemory }
 {}
 
-/// Mending a journal that is found wants no memory: each write lies within the length.
+/// Law: mending a journal that is found wants no memory: each write lies within the length.
 pub fn mending_wants_no_memory()
     ensures { (digest : List ℕ) (old new : Device) (found : Contents)
         → IsFound digest (content_of old) (Journal found)

@@ -1,9 +1,13 @@
-//! Journals on a store: made, opened, and lengthened by whole groups.
+//! Creates and opens journals on a store, and appends whole groups of entries to them.
 //!
-//! A group is written behind a closed gate, made sure of, and only then its gate is opened. So what
-//! a stop leaves at any moment holds the groups before, or these and the whole new one, and
-//! [`Journal::open`] gives just those. Contracts say which calls on the device were made, in order,
-//! how each ended, and what a stop may leave at each moment.
+//! [`Journal::append`] adds exactly its group, or returns it with an error. After `Device`, only a
+//! later [`Journal::open`] shows if the group stays. If nothing was pending, a stop at any moment
+//! leaves the groups before, or these and the whole new one, and `open` finds exactly these.
+//!
+//! A group is written after a closed gate and synced; only then is the gate opened, and synced too.
+//! `open` closes the last gate if it is not closed, and cuts off what follows. Contracts list the
+//! device calls, in order. A [`Group`] is linear, and only `append` makes a [`Flushed`]. Start
+//! reading at [`Journal::append`], then at `specs/Moments`.
 #![tactic(auto)]
 
 mod append;

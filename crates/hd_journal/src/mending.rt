@@ -35,7 +35,7 @@ fn close_gate<S: Store>(store: &mut S, is_closed: bool, gate: u64) -> Result<(),
     write_surely(store, gate, &[CLOSED])
 }
 
-/// Cuts off what stands behind the last gate, if anything does.
+/// Cuts off what stands after the last gate, if anything does.
 fn cut_behind<S: Store>(store: &mut S, behind: u64, gate: u64) -> Result<(), StoreError>
     requires { gate + behind + 1 ≡ length (content_of (S.device store.old)) }
     ensures ran { Ran (S.device store.old) (cut_calls behind gate) result (S.device store.new) }
@@ -47,7 +47,7 @@ fn cut_behind<S: Store>(store: &mut S, behind: u64, gate: u64) -> Result<(), Sto
     cut_surely(store, gate + 1)
 }
 
-/// Opens the header's gate, closes the last gate, and cuts off what stands behind it, each where it
+/// Opens the header's gate, closes the last gate, and cuts off what stands after it, each where it
 /// is wanted.
 pub(crate) fn mend<S: Store>(store: &mut S, found: &Contents) -> Result<(), StoreError>
     requires { found.now.last_gate + found.now.behind + 1

@@ -21,7 +21,7 @@ use hd_image::{DIGEST_LEN, FIRST_GATE, Found, Version, read};
 use hd_store::{Store, StoreError};
 use std::alloc::Global;
 
-/// All bytes of a store.
+/// Returns all bytes of a store.
 fn whole<S: Store>(alloc: Global, store: &mut S) -> Result<Vec<u8>, JournalError>
     ensures bytes { IfOk result (λ bytes. bytes.items ≡ content_of (S.device store.old)) }
     ensures seen { OnOk result (IsSeen (S.device store.old) (S.device store.new)) }
@@ -35,7 +35,7 @@ fn whole<S: Store>(alloc: Global, store: &mut S) -> Result<Vec<u8>, JournalError
     Ok(bytes)
 }
 
-/// What stands in a store.
+/// Returns what stands in a store.
 fn find<S: Store>(
     alloc: Global,
     store: &mut S,
@@ -93,7 +93,7 @@ fn recover<S: Store>(
 }
 
 impl<S: Store> Journal<S> {
-    /// The journal on a store where this was found and mended.
+    /// Returns the journal on a store where this was found and mended.
     fn of_found(alloc: Global, store: S, found: Found) -> Journal<S>
         requires { gate_in found + 1 ≡ length (content_of (S.device store)) }
         ensures device { device_of result ≡ S.device store }

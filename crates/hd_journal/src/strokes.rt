@@ -16,7 +16,7 @@ pub(crate) fn write_surely<S: Store>(store: &mut S, at: u64, bytes: &[u8]) -> Re
     store.sync()
 }
 
-/// Cuts all behind a length off and makes sure of that.
+/// Cuts all after a length off and makes sure of that.
 pub(crate) fn cut_surely<S: Store>(store: &mut S, len: u64) -> Result<(), StoreError>
     requires { len ≤ length (content_of (S.device store.old)) }
     ensures { Ran (S.device store.old) (surely (Cutting len)) result (S.device store.new) }

@@ -1,4 +1,4 @@
--- A plan is validated exactly where no question tells a fault.
+-- A plan is validated exactly where no question reports a fault.
 use Rattle.std.proofs.Common.{◌≡◌, ℕ, ◌+◌, Bool, true, false, not, ◌&&◌, List, [], ◌∷◌, ◌++◌, All, Contains, Option, Some, None, is_some, IsTrue, slice_get, pos, negsuc, inl, inr, refl, sym, ap, ap₂, ◌∙◌, subst, true≢false}
 use Rattle.std.specs.Prelude.{if◌then◌else◌, ℤ, ◌+ℤ◌, flat_map}
 use Rattle.std.proofs.lemmas.Bool.{and_parts, not-true}

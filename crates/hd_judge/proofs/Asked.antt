@@ -1,4 +1,4 @@
--- What it says that no question about a step or the goal tells a fault, and when none does.
+-- What it says that no question about a step or the goal reports a fault, and when none does.
 use Rattle.std.proofs.Common.{◌≡◌, ℕ, Bool, true, false, not, ◌&&◌, ◌||◌, List, [], Contains, Option, Some, None, refl, sym, ap, ap₂, ◌∙◌, true≢false}
 use Rattle.std.specs.Prelude.{option_map}
 use Rattle.std.specs.Option.{option_or}
@@ -42,7 +42,7 @@ mapped-none : (o : Option Ground) → option_map (λ g. Undefined g) o ≡ None 
 mapped-none None e = refl
 mapped-none (Some g) e = absurd (none-some (Undefined g) (sym e))
 
--- fluents of which none is told are defined, and the other way round
+-- fluents of which none is reported are defined, and the other way round
 not-false : (b : Bool) → not b ≡ false → b ≡ true
 not-false true e = refl
 not-false false e = absurd (true≢false e)
@@ -85,7 +85,7 @@ met-from s objects c h d =
 
 -- ---- a step
 
--- what no question about a step tells
+-- what no question about a step reports
 pub record IsTaken (t : LiftedTask) (r : Reached) (i : Instance) (a : Schema) : Type 0 where
   pub met : IsMetBy r.state i.objects a.condition
   pub defined : first_undefined t (met_by i.objects a) ≡ None
@@ -93,7 +93,7 @@ pub record IsTaken (t : LiftedTask) (r : Reached) (i : Instance) (a : Schema) : 
   pub stays : effects_stay r.state.values a i.objects ≡ true
   pub cost_stays : cost_stays (step t r a i.objects) ≡ true
 
--- what no question before a step tells
+-- what no question before a step reports
 pub record IsBefore (t : LiftedTask) (r : Reached) (i : Instance) (a : Schema) : Type 0 where
   pub met : IsMetBy r.state i.objects a.condition
   pub defined : first_undefined t (met_by i.objects a) ≡ None

@@ -12,7 +12,7 @@ use Rattle.hd_judge.specs.Asking.{asked_of_step, asked_of_goal}
 use Rattle.hd_judge.specs.Validity.{Passes, TellsStep, no_instance, fails, TellsFrom, ClearsFrom}
 use Rattle.hd_judge.proofs.Asked.{taken-from_unasked, taken-leads}
 
--- a step that passes tells nothing
+-- a step that passes reports nothing
 pub passes_tells : (t : LiftedTask) (r : Reached) (n : ℕ) (i : Instance) (to : Reached) (e : Fault) → Passes t r n i to → TellsStep t r n i e → ⊥
 passes_tells t r n i to e p (no_instance not is) = not p.instance
 passes_tells t r n i to e p (fails is tells) = none-some e (sym p.unasked ∙ tells)
@@ -32,7 +32,7 @@ clears_tells t r n (i ∷ p) end e clears tells =
           (subst (λ (r : Reached). ClearsFrom t r (n + 1) p end) (passes_once t r n n i clears.0 later.0 clears.1 later.1) clears.2) later.2
     ]
 
--- one step tells one fault
+-- one step reports one fault
 step_tells_once : (t : LiftedTask) (r : Reached) (n : ℕ) (i : Instance) (d e : Fault) → TellsStep t r n i d → TellsStep t r n i e → d ≡ e
 step_tells_once t r n i d e (no_instance not is) (no_instance also other) = is ∙ sym other
 step_tells_once t r n i d e (no_instance not is) (fails one other) = absurd (not one)

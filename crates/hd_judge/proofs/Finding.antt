@@ -19,7 +19,7 @@ flat_more f xs k x lt at =
     ap (flat_map f) (take_more xs k x lt ∙ ap (λ y. take k xs ++ y ∷ []) (sym at))
     ∙ (flat_map-append f (take k xs) (x ∷ []) ∙ ap (λ ys. flat_map f (take k xs) ++ ys) (append-nil (f x)))
 
--- what the elements so far meet is defined, and what the next one meets tells
+-- what the elements so far meet is defined, and what the next one meets reports
 pub undefined_with : {X : Type 0} (t : LiftedTask) (f : X → List Ground) (xs : List X) (k : ℕ) (x : X) → k < length xs → x ≡ get_or xs k x
     → first_undefined t (flat_map f (take k xs)) ≡ None → first_undefined t (flat_map f (take (k + 1) xs)) ≡ first_undefined t (f x)
 undefined_with t f xs k x lt at none =

@@ -37,7 +37,7 @@ pub compatible_by : (t : LiftedTask) (i : Instance) (a : Schema) → IsInstance 
 compatible_by t i a is at =
     ap (λ (b : Schema). effects_clash i.objects b.effects) (same_Some a is.schema (sym at ∙ is.is_schema)) ∙ is.compatible
 
--- ---- what is told
+-- ---- what is reported
 
 -- all questions about a step, by its schema
 asked_schema : (t : LiftedTask) (r : Reached) (n : ℕ) (i : Instance) (a : Schema) → slice_get t.schemas i.schema ≡ Some a

@@ -1,5 +1,5 @@
 -- What is asked of a plan's steps and of its end, in this order: the first question that fails
--- tells a fault. (The order is our own.)
+-- reports a fault. (The order is our own.)
 use Rattle.std.specs.Prelude.{ℕ, not, ◌&&◌, List, [], Option, Some, None, slice_get, option_map}
 use Rattle.hd_base.specs.Options.{◌or◌}
 use Rattle.hd_lifted.specs.declared.schema.Ground.{Ground}

@@ -8,17 +8,17 @@ use Rattle.hd_judge.specs.declared.fault.Stop.TheVariants as stops
 abbrev pub unless : Bool → Fault → Option Fault
 unless test fault = if test then None else Some fault
 
--- the stop tells this fault; want of memory tells nothing
+-- the stop reports this fault; lack of memory reports nothing
 abbrev pub StopsAt : Stop → Option Fault → Type 0
 StopsAt (stops.At f) fault = fault ≡ Some f
 StopsAt stops.NoMemory fault = Unit {0}
 
--- the answer is there where there is no fault, and otherwise the stop tells the fault
+-- the answer is there where there is no fault, and otherwise the stop reports the fault
 abbrev pub Asks : {X : Type 0} → Result X Stop → Option Fault → Type 0
 Asks (Ok x) fault = fault ≡ None
 Asks (Err e) fault = StopsAt e fault
 
--- the stop is one at a fault of this kind, or for want of memory
+-- the stop is one at a fault of this kind, or for lack of memory
 abbrev pub StopsBy : (Fault → Type 0) → Stop → Type 0
 StopsBy Tells (stops.At f) = Tells f
 StopsBy Tells stops.NoMemory = Unit {0}

@@ -48,25 +48,25 @@ pub record IsValidated (t : LiftedTask) (p : List Instance) (cost : ℕ) : Type 
 
 -- ---- the first fault, by the order of the questions
 
--- the n-th step is one of an instance, no question about it tells a fault, and it leads here
+-- the n-th step is one of an instance, no question about it reports a fault, and it leads here
 pub record Passes (t : LiftedTask) (r : Reached) (n : ℕ) (i : Instance) (to : Reached) : Type 0 where
   pub instance : IsInstance t i
   pub unasked : asked_of_step t r n i ≡ None
   pub leads : step_by t r i ≡ Some to
 
 -- the n-th step is one of no instance, or else it is the fault that the first failing question
--- about it tells
+-- about it reports
 pub data TellsStep (t : LiftedTask) (r : Reached) (n : ℕ) (i : Instance) (fault : Fault) : Type 0 where
   no_instance : (IsInstance t i → ⊥) → fault ≡ NoSuchAction n → TellsStep t r n i fault
   fails : IsInstance t i → asked_of_step t r n i ≡ Some fault → TellsStep t r n i fault
 
 -- of a list of steps, the first of which is the n-th, and then of the goal, the first failing
--- question tells this fault
+-- question reports this fault
 abbrev pub TellsFrom : LiftedTask → Reached → ℕ → List Instance → Fault → Type 0
 TellsFrom t r n [] fault = asked_of_goal t r n ≡ Some fault
 TellsFrom t r n (i ∷ p) fault = TellsStep t r n i fault ⊎ ((to : Reached) × Passes t r n i to × TellsFrom t to (n + 1) p fault)
 
--- no question about them tells a fault, and they lead here
+-- no question about them reports a fault, and they lead here
 abbrev pub ClearsFrom : LiftedTask → Reached → ℕ → List Instance → Reached → Type 0
 ClearsFrom t r n [] end = (r ≡ end) × (asked_of_goal t r n ≡ None)
 ClearsFrom t r n (i ∷ p) end = (to : Reached) × Passes t r n i to × ClearsFrom t to (n + 1) p end

@@ -20,7 +20,7 @@ use crate::undefined::{undefined_goal, undefined_schema};
 use hd_lifted::{Condition, Instance, Schema};
 use std::alloc::Global;
 
-/// Do the conditions on atoms and objects hold? If not, this fault is told.
+/// Do the conditions on atoms and objects hold? If not, this fault is reported.
 fn ask_literals(
     alloc: Global,
     place: &Place,
@@ -80,7 +80,7 @@ fn ask_cost(
 }
 
 /// Do the comparisons stay in the range, and then, do they hold? If not, the one or the other fault
-/// is told.
+/// is reported.
 fn ask_comparisons(
     alloc: Global,
     place: &Place,

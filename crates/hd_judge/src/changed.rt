@@ -16,7 +16,7 @@ pub(crate) struct Changed {
     pub(crate) functions: IndexSet<usize, Seed>,
 }
 
-/// Whether an effect is a part of the cost.
+/// Reports whether an effect is a part of the cost.
 pub(crate) fn is_cost(change: Change) -> bool
     ensures { result ≡ is_cost change }
 {
@@ -49,7 +49,7 @@ impl Changed {
         Ok(())
     }
 
-    /// The functions that these schemas change, in a table that hashes by the seed.
+    /// Returns the functions that these schemas change, in a table that hashes by the seed.
     pub(crate) fn of(alloc: Global, seed: Seed, schemas: &[Schema]) -> Result<Changed, NoMemory>
         ensures { IfOk result (λ c. (f : ℕ)
             → has_function c f ≡ list_any (is_changed_by f) schemas.now) }
@@ -63,7 +63,7 @@ impl Changed {
         Ok(changed)
     }
 
-    /// Whether some schema changes fluents of the function.
+    /// Reports whether some schema changes fluents of the function.
     pub(crate) fn has(&self, function: usize) -> bool
         ensures { result ≡ has_function self.now function }
     {

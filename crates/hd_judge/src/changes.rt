@@ -18,7 +18,7 @@ pub struct Changes {
 }
 
 impl Changes {
-    /// No new values and no costs, in a table that hashes as that of the old values.
+    /// Returns no new values and no costs, in a table that hashes as that of the old values.
     pub(crate) fn beside(alloc: Global, numbers: &Numbers) -> Changes
         ensures values { (g : Ground) → new_value_in result g ≡ None }
         ensures cost { result.cost ≡ pos 0 }
@@ -30,7 +30,7 @@ impl Changes {
         }
     }
 
-    /// The new value of a fluent, if it has one.
+    /// Returns the new value of a fluent, if it has one.
     pub fn get(&self, fluent: &Ground) -> Option<i128>
         ensures { result ≡ new_value_in self.now fluent.now }
     {

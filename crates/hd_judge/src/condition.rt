@@ -11,7 +11,7 @@ use hd_base::{NoMemory, Relation};
 use hd_lifted::{Comparison, Condition, Literal, equalities_hold, ground_form_of};
 use std::alloc::Global;
 
-/// Whether a literal holds.
+/// Reports whether a literal holds.
 fn literal_holds(
     alloc: Global,
     truths: &Truths,
@@ -24,7 +24,7 @@ fn literal_holds(
     Ok(truths.get(&atom) == said.positive)
 }
 
-/// Whether all literals hold.
+/// Reports whether all literals hold.
 fn all_hold(
     alloc: Global,
     truths: &Truths,
@@ -44,7 +44,7 @@ fn all_hold(
     Ok(true)
 }
 
-/// Whether the conditions on atoms and objects hold.
+/// Reports whether the conditions on atoms and objects hold.
 pub(crate) fn literals_hold(
     alloc: Global,
     place: &Place,
@@ -60,7 +60,7 @@ pub(crate) fn literals_hold(
     Ok(equalities_hold(objects, said.equalities.as_slice()))
 }
 
-/// Whether two values compare in this way: where one is missing, they don't.
+/// Reports whether two values compare in this way: where one is missing, they don't.
 fn relation_holds(relation: Relation, left: Option<i64>, right: Option<i64>) -> bool
     ensures { result ≡ relation_holds_if relation left right }
 {
@@ -70,7 +70,7 @@ fn relation_holds(relation: Relation, left: Option<i64>, right: Option<i64>) -> 
     }
 }
 
-/// Whether a comparison holds, unless a subexpression leaves the range.
+/// Reports whether a comparison holds, unless a subexpression leaves the range.
 fn comparison_holds(
     alloc: Global,
     numbers: &Numbers,
@@ -88,7 +88,7 @@ fn comparison_holds(
     Ok(Some(relation_holds(said.relation, left, right)))
 }
 
-/// Whether all comparisons hold, unless a subexpression of one leaves the range.
+/// Reports whether all comparisons hold, unless a subexpression of one leaves the range.
 pub(crate) fn comparisons_hold(
     alloc: Global,
     numbers: &Numbers,

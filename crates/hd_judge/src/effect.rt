@@ -25,7 +25,8 @@ use std::alloc::Global;
 
 // ---- one effect
 
-/// An effect's amount by the values before the step, unless a subexpression leaves the range.
+/// Returns an effect's amount by the values before the step, unless a subexpression leaves the
+/// range.
 #[tactic(auto, using(crate::proofs::Changing::amount_judged))]
 fn amount_of(
     alloc: Global,
@@ -43,7 +44,7 @@ fn amount_of(
     }
 }
 
-/// A sum and one more amount.
+/// Returns a sum and one more amount.
 fn plus(sum: i128, amount: i64) -> i128
     requires near { IsNear (2 ^ 126) (pos 0) sum }
     requires in_range { in_range amount ≡ true }
@@ -53,7 +54,7 @@ fn plus(sum: i128, amount: i64) -> i128
     sum + i128::from(amount)
 }
 
-/// A sum less one more amount.
+/// Returns a sum less one more amount.
 fn minus(sum: i128, amount: i64) -> i128
     requires near { IsNear (2 ^ 126) (pos 0) sum }
     requires in_range { in_range amount ≡ true }
@@ -63,7 +64,7 @@ fn minus(sum: i128, amount: i64) -> i128
     sum - i128::from(amount)
 }
 
-/// A value times an amount.
+/// Returns a value times an amount.
 fn times(value: i64, amount: i64) -> i128
     requires in_range { in_range amount ≡ true }
     ensures product { result ≡ value *ℤ amount }
@@ -72,8 +73,8 @@ fn times(value: i64, amount: i64) -> i128
     i128::from(value) * i128::from(amount)
 }
 
-/// The value that a change makes of the one so far, where a scaling has changed nothing so far. The
-/// value is not judged.
+/// Returns the value that a change makes of the one so far, where a scaling has changed nothing so
+/// far. The value is not judged.
 #[tactic(auto, using(crate::proofs::Changing::near_more))]
 fn value_by_change(change: Change, old: i64, so_far: i128, amount: i64) -> i128
     requires near { IsNear (2 ^ 126) (pos 0) so_far }
@@ -92,7 +93,7 @@ fn value_by_change(change: Change, old: i64, so_far: i128, amount: i64) -> i128
     }
 }
 
-/// The value of a fluent after the changes so far, by its value before the step.
+/// Returns the value of a fluent after the changes so far, by its value before the step.
 #[tactic(auto, using(crate::proofs::Changing::near_wider))]
 fn value_so_far(changes: &Changes, fluent: &Ground, old: i64) -> i128
     ensures value { option_or (new_value_in changes.now fluent.now) (Some old) ≡ Some result }
@@ -169,8 +170,8 @@ fn add_effect(
 
 // ---- all effects
 
-/// What effects change, each by the values before the step, unless a subexpression of an amount
-/// leaves the range.
+/// Returns what effects change, each by the values before the step, unless a subexpression of an
+/// amount leaves the range.
 pub(crate) fn changes_of(
     alloc: Global,
     numbers: &Numbers,
@@ -195,7 +196,7 @@ pub(crate) fn changes_of(
 
 // ---- putting the new values in
 
-/// A value, if it is in the range.
+/// Returns a value, if it is in the range.
 fn narrow(value: i128) -> Option<i64>
     ensures { Judges result (in_range value) value }
 {

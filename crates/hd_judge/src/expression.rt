@@ -11,7 +11,7 @@ use hd_base::{ExprParts, NoMemory, Operand, Operation, if_in_range, in_range};
 use hd_lifted::{Expr, Leaf, ground_form_of};
 use std::alloc::Global;
 
-/// The value of a leaf, if it has one, unless that is out of the range.
+/// Returns the value of a leaf, if it has one, unless that is out of the range.
 fn leaf_value(
     alloc: Global,
     numbers: &Numbers,
@@ -33,7 +33,7 @@ fn leaf_value(
     }
 }
 
-/// A value with its sign turned, unless that is out of the range.
+/// Returns a value with its sign turned, unless that is out of the range.
 fn negated(value: Option<i64>) -> Option<Option<i64>>
     ensures { JudgesNegated value result }
 {
@@ -46,7 +46,7 @@ fn negated(value: Option<i64>) -> Option<Option<i64>>
     }
 }
 
-/// What an operation makes of two values, unless that is out of the range.
+/// Returns what an operation makes of two values, unless that is out of the range.
 fn combined(operation: Operation, left: Option<i64>, right: Option<i64>) -> Option<Option<i64>>
     ensures { JudgesBinary operation left right result }
 {
@@ -59,7 +59,7 @@ fn combined(operation: Operation, left: Option<i64>, right: Option<i64>) -> Opti
     }
 }
 
-/// The value of an expression, if it has one, unless a subexpression leaves the range.
+/// Returns the value of an expression, if it has one, unless a subexpression leaves the range.
 pub(crate) fn value_of(
     alloc: Global,
     numbers: &Numbers,

@@ -1,4 +1,4 @@
-//! What a validation tells.
+//! What a validation reports.
 ghost use Rattle.std.specs.Prelude.{◌≡◌};
 ghost use Rattle.hd_judge.specs.declared.fault.Stop.TheVariants.{NoMemory};
 

@@ -7,7 +7,7 @@ use hd_lifted::{Instance, LiftedTask, Schema, are_of_types, effects_clash};
 use smallvec::SmallVec;
 use std::alloc::Global;
 
-/// The same instance in memory of its own.
+/// Returns the same instance in memory of its own.
 pub(crate) fn copy_of(alloc: Global, instance: &Instance) -> Result<Instance, NoMemory>
     ensures { IfOk result (λ i. i ≡ instance.now) }
 {
@@ -18,7 +18,7 @@ pub(crate) fn copy_of(alloc: Global, instance: &Instance) -> Result<Instance, No
     })
 }
 
-/// The schema of an instance, if it is one of the task.
+/// Returns the schema of an instance, if it is one of the task.
 #[tactic(auto, using(crate::proofs::Schemas::is_instance, crate::proofs::Schemas::no_schema, crate::proofs::Schemas::not_typed, crate::proofs::Schemas::not_compatible))]
 pub fn schema_of<'a>(task: &'a LiftedTask, instance: &Instance) -> Option<&'a Schema>
     ensures schema { IfSome result (λ a. slice_get task.now.schemas instance.now.schema

@@ -17,9 +17,9 @@ use hd_base::{NoMemory, Seed};
 use hd_lifted::{Instance, LiftedTask};
 use std::alloc::Global;
 
-/// The place at which every plan of a lifted task begins, in tables that hash by the seed.
+/// Returns the place at which every plan of a lifted task begins, in tables that hash by the seed.
 ///
-/// Fails only for want of memory.
+/// Fails only for lack of memory.
 #[tactic(auto, using(crate::proofs::Beginning::is_start, crate::proofs::Beginning::on_way_at))]
 pub fn begin(alloc: Global, seed: Seed, task: &LiftedTask) -> Result<Place, NoMemory>
     ensures start { IfOk result (λ p. reached_in p ≡ start task.now) }
@@ -42,7 +42,7 @@ pub fn begin(alloc: Global, seed: Seed, task: &LiftedTask) -> Result<Place, NoMe
 /// Judges the step of a plan that has this number, counted from 1, and takes it: the place is then
 /// the one after it.
 ///
-/// It stops at the first fault of the step, or for want of memory. After an error the place is of
+/// It stops at the first fault of the step, or for lack of memory. After an error the place is of
 /// no use.
 #[tactic(auto, using(crate::proofs::Judged::holds_before, crate::proofs::Judged::defined_before, crate::proofs::Judged::compatible_by, crate::proofs::Judged::told_before, crate::proofs::Judged::departs_then, crate::proofs::Judged::passes_then, crate::proofs::Judged::on_way_then))]
 pub fn judge_step(
@@ -73,7 +73,7 @@ pub fn judge_step(
 /// Judges the end of a plan that leads to this place: the number is one more than that of its
 /// steps.
 ///
-/// It stops at the first fault of the goal, or for want of memory.
+/// It stops at the first fault of the goal, or for lack of memory.
 pub fn judge_goal(
     alloc: Global,
     lookups: &Lookups<'_>,

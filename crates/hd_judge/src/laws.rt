@@ -7,11 +7,11 @@ ghost use Rattle.hd_judge.specs.declared.fault.Fault.{Fault};
 ghost use Rattle.hd_lifted.specs.Steps.{Reached};
 ghost use Rattle.hd_judge.specs.Validity.{IsValidated, IsFirstFault, IsFaultless};
 
-/// A plan is validated or it has a first fault: never both, and never neither. It has no two first
-/// faults.
+/// Law: a plan is validated or it has a first fault: never both, and never neither. It has no two
+/// first faults.
 ///
-/// So the order of the questions decides only which fault is told, and no plan that is valid by the
-/// meaning alone is refused.
+/// So the order of the questions decides only which fault is reported, and no plan that is valid by
+/// the meaning alone is refused.
 pub fn plans_are_judged()
     ensures never_both { (t : LiftedTask) (p : List Instance) (cost : ℕ) (fault : Fault)
         → IsValidated t p cost → IsFirstFault t p fault → ⊥ }
@@ -22,8 +22,8 @@ pub fn plans_are_judged()
         → IsFirstFault t p fault → IsFirstFault t p other → fault ≡ other }
 {}
 
-/// A plan is validated exactly where no question about its steps and its end tells a fault: at the
-/// cost that is then reached.
+/// Law: a plan is validated exactly where no question about its steps and its end reports a fault:
+/// at the cost that is then reached.
 pub fn faultless_plans_are_validated()
     ensures validated { (t : LiftedTask) (p : List Instance) (end : Reached) (cost : ℕ)
         → IsFaultless t p end → end.cost ≡ Some (pos cost) → IsValidated t p cost }

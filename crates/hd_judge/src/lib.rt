@@ -1,9 +1,14 @@
-//! The judge of plans: which lists of instances of a lifted task are validated, at what cost, and
-//! otherwise which fault is the first.
+//! Judges plans of a lifted task step by step: their cost, or their first error.
 //!
-//! A caller begins at `begin`, judges step after step by `judge_step`, and then the end by
-//! `judge_goal`; the place then has the cost. It stands on the meaning of lifted tasks alone, and
-//! on nothing that a grounder does.
+//! [`begin`] returns the place where each plan begins. [`judge_step`] takes a step and moves the
+//! place exactly as the step does, or reports the first error of the step. [`judge_goal`] reports
+//! the first error of the goal, if it has one. A plan is valid by these questions or has one first
+//! error, and never both ([`laws::plans_are_judged`]). The judge uses the meaning of the task
+//! alone, and no grounder.
+//!
+//! A [`Place`] has hash tables of true atoms and of values, by ground form, and needs no grounding.
+//! [`Lookups`] computes once which functions change, and the first values. New values are computed
+//! beside the old ones, in 128 bits. Start reading at [`judge_step`], then `specs/Validity`.
 #![tactic(auto)]
 
 mod asking;

@@ -38,7 +38,7 @@ impl<'a> Model for Lookups<'a> {
 }
 
 impl<'a> Lookups<'a> {
-    /// The tables of a lifted task, which hash by the seed.
+    /// Returns the tables of a lifted task, which hash by the seed.
     #[tactic(auto, unfolding(hd_kept::specs::Amounts::is_changed))]
     pub fn of(alloc: Global, seed: Seed, task: &'a LiftedTask) -> Result<Lookups<'a>, NoMemory>
         ensures { IfOk result (λ l. l ≡ task.now) }
@@ -57,21 +57,21 @@ impl<'a> Lookups<'a> {
         }
     }
 
-    /// The lifted task.
+    /// Returns the lifted task.
     pub fn task(&self) -> &LiftedTask
         ensures { result.now ≡ self.now }
     {
         self.task
     }
 
-    /// The first values.
+    /// Returns the first values.
     pub(crate) fn first_values(&self) -> &Numbers
         ensures { (g : Ground) → value_in result.now g ≡ first_value self.now.values g }
     {
         &self.values
     }
 
-    /// Whether an amount is the same in each state.
+    /// Reports whether an amount is the same in each state.
     pub(crate) fn is_constant(&self, amount: &Expr) -> bool
         ensures { result ≡ is_constant self.now amount.now }
     {
@@ -82,7 +82,8 @@ impl<'a> Lookups<'a> {
         }
     }
 
-    /// The first value of a fluent with objects in the place of its arguments, if it has one.
+    /// Returns the first value of a fluent with objects in the place of its arguments, if it has
+    /// one.
     pub(crate) fn first_value(
         &self,
         alloc: Global,

@@ -14,7 +14,7 @@ use hd_base::{ExprParts, NoMemory, Operand};
 use hd_lifted::{Expr, Leaf, NumericEffect, Schema};
 use std::alloc::Global;
 
-/// The value of a number, or of a fluent at first, if it has one.
+/// Returns the value of a number, or of a fluent at first, if it has one.
 fn first_value(
     alloc: Global,
     lookups: &Lookups<'_>,
@@ -30,7 +30,7 @@ fn first_value(
     }
 }
 
-/// The value of an amount at first, if it is the same in each state.
+/// Returns the value of an amount at first, if it is the same in each state.
 fn constant_value(
     alloc: Global,
     lookups: &Lookups<'_>,
@@ -48,7 +48,7 @@ fn constant_value(
     }
 }
 
-/// A sum of constant amounts with that of one more effect, if it has one.
+/// Returns a sum of constant amounts with that of one more effect, if it has one.
 fn with_cost(
     alloc: Global,
     lookups: &Lookups<'_>,
@@ -71,9 +71,9 @@ fn with_cost(
     }
 }
 
-/// Whether a schema with objects costs the same in each state, and less than 0.
+/// Reports whether a schema with objects costs the same in each state, and less than 0.
 ///
-/// Fails only for want of memory.
+/// Fails only for lack of memory.
 pub fn costs_negative(
     alloc: Global,
     lookups: &Lookups<'_>,

@@ -13,31 +13,31 @@ use hd_lifted::{Ground, NumericEffect};
 use std::alloc::Global;
 
 impl Place {
-    /// Whether an atom is true here.
+    /// Reports whether an atom is true here.
     pub fn is_true(&self, atom: &Ground) -> bool
         ensures { result ≡ (reached_in self.now).state.atoms atom.now }
     {
         self.truths.get(atom)
     }
 
-    /// The value of a fluent here, if it has one.
+    /// Returns the value of a fluent here, if it has one.
     pub fn value(&self, fluent: &Ground) -> Option<i64>
         ensures { result ≡ (reached_in self.now).state.values fluent.now }
     {
         self.numbers.get(fluent)
     }
 
-    /// What the plan has cost so far.
+    /// Returns what the plan has cost so far.
     pub fn cost(&self) -> u64
         ensures { (reached_in self.now).cost ≡ Some (pos result) }
     {
         self.cost
     }
 
-    /// What effects change here, each by the values before the step, unless a subexpression of an
-    /// amount leaves the range. The new values are not judged.
+    /// Returns what effects change here, each by the values before the step, unless a subexpression
+    /// of an amount leaves the range. The new values are not judged.
     ///
-    /// Fails only for want of memory.
+    /// Fails only for lack of memory.
     pub fn changes_of(
         &self,
         alloc: Global,

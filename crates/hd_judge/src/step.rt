@@ -20,7 +20,7 @@ use hd_base::NoMemory;
 use hd_lifted::{LiftedTask, Schema};
 use std::alloc::Global;
 
-/// What a step costs, by the sum of its effects' costs: 1 without a metric.
+/// Returns what a step costs, by the sum of its effects' costs: 1 without a metric.
 #[tactic(auto, unfolding(hd_lifted::specs::Effects::step_cost))]
 fn step_cost(task: &LiftedTask, sum: i128) -> i128
     ensures { (v : Values) (a : Schema) (objects : List ℕ) → sum_of_costs v a objects ≡ Some sum

@@ -31,7 +31,7 @@ pub struct Place {
     pub(crate) cost: u64,
 }
 
-/// The same ground form in memory of its own.
+/// Returns the same ground form in memory of its own.
 fn copy_of(alloc: Global, form: &Ground) -> Result<Ground, NoMemory>
     ensures { IfOk result (λ g. g ≡ form.now) }
 {
@@ -43,7 +43,7 @@ fn copy_of(alloc: Global, form: &Ground) -> Result<Ground, NoMemory>
 }
 
 impl Truths {
-    /// Whether an atom is true.
+    /// Reports whether an atom is true.
     pub(crate) fn get(&self, atom: &Ground) -> bool
         ensures { result ≡ truth_in self.now atom.now }
     {
@@ -74,7 +74,7 @@ impl Truths {
 }
 
 impl Numbers {
-    /// The value of a fluent, if it has one.
+    /// Returns the value of a fluent, if it has one.
     pub(crate) fn get(&self, fluent: &Ground) -> Option<i64>
         ensures { result ≡ value_in self.now fluent.now }
     {
@@ -90,7 +90,8 @@ impl Numbers {
         Ok(())
     }
 
-    /// The first of the values that are listed for each fluent, in a table that hashes by the seed.
+    /// Returns the first of the values that are listed for each fluent, in a table that hashes by
+    /// the seed.
     pub(crate) fn listed(
         alloc: Global,
         seed: Seed,

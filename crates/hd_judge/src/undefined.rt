@@ -11,7 +11,7 @@ use hd_base::{ExprParts, NoMemory, Operand};
 use hd_lifted::{Applied, Comparison, Expr, Ground, Leaf, NumericEffect, Schema, ground_form_of};
 use std::alloc::Global;
 
-/// A fluent, if it has no first value.
+/// Returns a fluent, if it has no first value.
 fn if_undefined(
     alloc: Global,
     lookups: &Lookups<'_>,
@@ -28,7 +28,7 @@ fn if_undefined(
     }
 }
 
-/// The fluent that a leaf reads, if it has no first value.
+/// Returns the fluent that a leaf reads, if it has no first value.
 fn undefined_leaf(
     alloc: Global,
     lookups: &Lookups<'_>,
@@ -44,7 +44,7 @@ fn undefined_leaf(
     }
 }
 
-/// The first fluent without a first value that an expression reads.
+/// Returns the first fluent without a first value that an expression reads.
 #[tactic(auto, using(crate::proofs::Finding::undefined_append))]
 fn undefined_in(
     alloc: Global,
@@ -67,7 +67,7 @@ fn undefined_in(
     }
 }
 
-/// The first fluent without a first value that a comparison reads.
+/// Returns the first fluent without a first value that a comparison reads.
 #[tactic(auto, using(crate::proofs::Finding::undefined_append))]
 fn undefined_comparison(
     alloc: Global,
@@ -84,7 +84,7 @@ fn undefined_comparison(
     }
 }
 
-/// The first fluent without a first value that comparisons read.
+/// Returns the first fluent without a first value that comparisons read.
 #[tactic(auto, using(crate::proofs::Finding::undefined_next, crate::proofs::Finding::undefined_found))]
 pub(crate) fn undefined_comparisons(
     alloc: Global,
@@ -103,7 +103,7 @@ pub(crate) fn undefined_comparisons(
     Ok(None)
 }
 
-/// The fluent that an effect changes, if it changes one and that has no first value.
+/// Returns the fluent that an effect changes, if it changes one and that has no first value.
 fn undefined_target(
     alloc: Global,
     lookups: &Lookups<'_>,
@@ -119,8 +119,8 @@ fn undefined_target(
     if_undefined(alloc, lookups, objects, &effect.fluent)
 }
 
-/// The first fluent without a first value that an effect meets: the one that it changes, and then
-/// those that its amount reads.
+/// Returns the first fluent without a first value that an effect meets: the one that it changes,
+/// and then those that its amount reads.
 #[tactic(auto, using(crate::proofs::Finding::undefined_append))]
 fn undefined_effect(
     alloc: Global,
@@ -137,7 +137,7 @@ fn undefined_effect(
     }
 }
 
-/// The first fluent without a first value that effects meet.
+/// Returns the first fluent without a first value that effects meet.
 #[tactic(auto, using(crate::proofs::Finding::undefined_next, crate::proofs::Finding::undefined_found))]
 fn undefined_effects(
     alloc: Global,
@@ -156,8 +156,8 @@ fn undefined_effects(
     Ok(None)
 }
 
-/// The first fluent without a first value that a schema with objects meets: in its comparisons, and
-/// then in its effects.
+/// Returns the first fluent without a first value that a schema with objects meets: in its
+/// comparisons, and then in its effects.
 #[tactic(auto, using(crate::proofs::Finding::undefined_append))]
 pub fn undefined_schema(
     alloc: Global,
@@ -174,7 +174,7 @@ pub fn undefined_schema(
     }
 }
 
-/// The first fluent without a first value that the goal meets.
+/// Returns the first fluent without a first value that the goal meets.
 pub(crate) fn undefined_goal(
     alloc: Global,
     lookups: &Lookups<'_>,

@@ -9,8 +9,8 @@ ghost use Rattle.hd_kept.specs.Met.{met_by, met_by_goal};
 ghost use Rattle.hd_kept.specs.Amounts.{is_changed};
 ghost use Rattle.hd_kept.specs.Example.{with_fuel, need, need_bc, at_a, at_b, at_c, road_ab, road_bc, lamp, the_one, marks, marking, gate, locked, hearth, kindling, striking, the_match, the_fire, cold_hearth, circle, pairs, pairing, numbered_instance, numbered_form};
 
-/// The definitions on small tasks: of hd_lifted's journey the predicates are `at` and `road`, and
-/// the functions the fuel, what a road needs, and the cost.
+/// Law: the definitions on small tasks: of hd_lifted's journey the predicates are `at` and `road`,
+/// and the functions the fuel, what a road needs, and the cost.
 pub fn examples_compute()
     // Roads stay; where one is changes.
     ensures at_changes { is_static with_fuel 0 ≡ false }
@@ -33,8 +33,8 @@ pub fn examples_compute()
     ensures lights { IsKept lamp the_one }
 {}
 
-/// What is kept and what is not: where effects clash, where an atom has to be false, and where one
-/// action needs another.
+/// Law: what is kept and what is not: where effects clash, where an atom has to be false, and where
+/// one action needs another.
 pub fn kept_instances_compute()
     // Two assignments to one fluent clash: `mark` with one object twice is no instance. The two
     // others are kept.
@@ -58,7 +58,7 @@ pub fn kept_instances_compute()
     ensures second_round { IsReachable hearth the_fire }
 {}
 
-/// What needs another action that is not there is not kept, and of actions that only feed one
+/// Law: what needs another action that is not there is not kept, and of actions that only feed one
 /// another none is.
 pub fn unfed_instances_compute()
     // What an action deletes changes, though nothing adds it: so it is no static condition that
@@ -70,8 +70,8 @@ pub fn unfed_instances_compute()
     ensures neither { (i : Instance) → IsKept circle i → ⊥ }
 {}
 
-/// Equalities leave instances out, and instances and forms are sorted by what they are of before
-/// their objects.
+/// Law: equalities leave instances out, and instances and forms are sorted by what they are of
+/// before their objects.
 pub fn equalities_compute()
     // Of the four pairs of two objects those of one object twice are kept where both are to be the
     // same, and the others else.
@@ -85,7 +85,7 @@ pub fn equalities_compute()
         (form_key (numbered_form 1 0)) }
 {}
 
-/// What hd_lifted's journey at fuel 9 has, in the order in which it is numbered.
+/// Law: what hd_lifted's journey at fuel 9 has, in the order in which it is numbered.
 pub fn journey_is_numbered()
     // Of nine ways to go from place to place there is a road on two.
     ensures instances { NumbersInstances with_fuel (a_to_b ∷ b_to_c ∷ []) }

@@ -12,15 +12,15 @@ ghost use Rattle.hd_kept.specs.Kept.{IsKept, IsClosed};
 ghost use Rattle.hd_kept.specs.Numbering.{NumbersInstances, NumbersAtoms, NumbersFluents};
 ghost use Rattle.hd_kept.specs.Amounts.{is_changed};
 
-/// A plan whose steps are all defined uses kept instances alone, so that nothing is lost where the
-/// others are left out.
+/// Law: a plan whose steps are all defined uses kept instances alone, so that nothing is lost where
+/// the others are left out.
 pub fn plans_are_kept()
     ensures { (t : LiftedTask) (p : List Instance) (r : Reached)
         → All (IsInstance t) p → exec t p ≡ Some r → All (IsKept t) p }
 {}
 
-/// An instance whose conditions on atoms and objects hold where a plan leads is kept, whatever its
-/// comparisons say: so one that is left out can neither be used there nor leave the range.
+/// Law: an instance whose conditions on atoms and objects hold where a plan leads is kept, whatever
+/// its comparisons say: so one that is left out can neither be used there nor leave the range.
 pub fn instances_that_hold_are_kept()
     ensures { (t : LiftedTask) (p : List Instance) (r : Reached)
         (i : Instance) (is : IsInstance t i)
@@ -28,14 +28,14 @@ pub fn instances_that_hold_are_kept()
         → literals_hold r.state i.objects is.schema.condition ≡ true → IsKept t i }
 {}
 
-/// The kept instances are the least set of their kind: each closed list of instances has all of
-/// them.
+/// Law: the kept instances are the least set of their kind: each closed list of instances has all
+/// of them.
 pub fn kept_instances_are_least()
     ensures { (t : LiftedTask) (instances : List Instance)
         → IsClosed t instances → (i : Instance) → IsKept t i → Contains instances i }
 {}
 
-/// There is one list of the kept instances in their order, one of the atoms, and one of the
+/// Law: there is one list of the kept instances in their order, one of the atoms, and one of the
 /// fluents: so the same texts are numbered alike each time.
 pub fn numberings_are_one()
     ensures instances { (t : LiftedTask) (xs ys : List Instance)
@@ -46,15 +46,15 @@ pub fn numberings_are_one()
         → NumbersFluents t xs → NumbersFluents t ys → xs ≡ ys }
 {}
 
-/// Where no schema changes a function, its fluents keep their first values along each plan: so what
-/// is constant at first is constant.
+/// Law: where no schema changes a function, its fluents keep their first values along each plan: so
+/// what is constant at first is constant.
 pub fn unchanged_functions_keep_their_values()
     ensures { (t : LiftedTask) (p : List Instance) (r : Reached) (g : Ground)
         → All (IsInstance t) p → exec t p ≡ Some r → is_changed t g.symbol ≡ false
         → r.state.values g ≡ first_value t.values g }
 {}
 
-/// `same`, by which ground forms are compared, is equality.
+/// Law: `same`, by which ground forms are compared, is equality.
 pub fn same_is_equality()
     ensures { (g h : Ground) → same g h ≡ true ↔ g ≡ h }
 {}

@@ -1,8 +1,14 @@
-//! The kept instances of a lifted task: no plan can use another. Definitions and laws, and no code.
+//! The kept instances (reachable ground actions) of a lifted task: definitions and laws, no code.
 //!
-//! They are a least set, by what actions add: conditions on what no action changes, and equalities,
-//! have to hold at first, and each atom that has to be true is true at first or added by another
-//! such instance. Numbers are not looked at.
+//! A plan whose steps are all defined uses kept instances only ([`laws::plans_are_kept`]). If the
+//! literals and equalities of an instance hold after such a plan, it is kept, whatever its
+//! comparisons say. Each closed list of instances has all kept ones. Instances, atoms and fluents
+//! each have at most one numbering ([`laws::numberings_are_one`]).
+//!
+//! The kept instances are a least set. An instance is kept if its equalities hold, its static
+//! conditions hold at first, and each atom that it wants is reachable. An atom is reachable if it
+//! is true at first, or a kept instance adds it. Numbers are ignored. Start reading at
+//! `specs/Kept`, then [`laws`].
 #![tactic(auto)]
 
 pub mod examples;

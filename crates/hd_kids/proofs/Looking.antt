@@ -1,4 +1,4 @@
--- Kids that are looked for.
+-- Successors that are looked for.
 use Rattle.std.proofs.Common.{◌≡◌, ◌≢◌, ℕ, zero, suc, ◌+◌, ◌-◌, ◌<◌, ◌≤◌, Bool, true, false, cond, List, [], ◌∷◌, length, get_or, Option, Some, None, inl, inr, refl, sym, ap, ap₂, ◌∙◌, subst, arith}
 use Rattle.std.specs.Prelude.{◌==◌, ◌&&◌, nat_lt, MatchOption, IfSome}
 use Rattle.std.specs.List.{position, position_or_len}
@@ -29,12 +29,12 @@ other_parent k q ne = and_left (k.parent == q.parent) (k.action == q.action) (ne
 other_action : (k q : Kid) → k.action ≢ q.action → same_kid k q ≡ false
 other_action k q ne = and_right (k.parent == q.parent) (k.action == q.action) (ne_eqb k.action q.action ne)
 
--- a kid that has the parent n is one of entry n
+-- a successor that has the parent n is one of entry n
 entry_of : (begun_there n : ℕ) → n ≢ ROOT_PARENT → parent_after begun_there ≡ n → begun_there ≡ suc n
 entry_of zero n other is = absurd (other (sym is))
 entry_of (suc m) n other is = ap suc is
 
--- a kid at a place that has another parent, or another action, is another one
+-- a successor at a place that has another parent, or another action, is another one
 other_at : (firsts actions : List ℕ) (k : Kid) (j : ℕ) → j < length actions → (parent_after (begun firsts j) ≡ k.parent → get_or actions j 0 ≢ k.action)
     → same_kid k (get_or (kids_by firsts actions) j root) ≡ false
 other_at firsts actions k j lt h =
@@ -44,7 +44,7 @@ other_at firsts actions k j lt h =
       | inr differs ↦ other_parent k (kid_at firsts actions j) differs
     ])
 
--- where the search finds an action among those of a kid's parent, the kid is there
+-- where the search finds an action among those of a successor's parent, the successor is there
 pub kid_found : (firsts actions : List ℕ) (marks : List Bool) (settled low high i : ℕ) (k : Kid) → AreKids firsts actions marks settled
     → k.parent ≢ ROOT_PARENT → IsRow firsts actions k.parent low high → low ≤ i → i < high → get_or actions i 0 ≡ k.action
     → position (same_kid k) (kids_by firsts actions) ≡ Some i
@@ -62,7 +62,7 @@ kid_found firsts actions marks settled low high i k h other row from below is =
     (eq-eqb k.parent (parent_after (begun firsts i)) (sym (ap parent_after (row.inside i from below))))
     (eq-eqb k.action (get_or actions i 0) (sym is))))
 
--- where it finds none, the kid is not posted
+-- where it finds none, the successor is not posted
 pub kid_missing : (firsts actions : List ℕ) (marks : List Bool) (settled low high : ℕ) (k : Kid) → AreKids firsts actions marks settled
     → k.parent ≢ ROOT_PARENT → IsRow firsts actions k.parent low high → ((i : ℕ) → low ≤ i → i < high → get_or actions i 0 ≢ k.action)
     → position (same_kid k) (kids_by firsts actions) ≡ None
@@ -75,7 +75,7 @@ kid_missing firsts actions marks settled low high k h other row none =
     let at = row.outside j among (entry_of (begun firsts j) k.parent other same) in
     none j at.0 at.1))
 
--- what is no entry has no kids
+-- what is no entry has no successors
 pub kid_unknown : (firsts actions : List ℕ) (marks : List Bool) (settled : ℕ) (k : Kid) → AreKids firsts actions marks settled
     → k.parent ≢ ROOT_PARENT → length firsts ≤ k.parent → position (same_kid k) (kids_by firsts actions) ≡ None
 kid_unknown firsts actions marks settled k h other far =
@@ -105,7 +105,7 @@ none_begun : (b few : ℕ) → b ≤ few → few ≤ ROOT_PARENT → parent_afte
 none_begun zero few le most is = refl
 none_begun (suc n) few le most is = absurd (omega (arith, le, most, is))
 
--- no other kid has the root's parent
+-- no other successor has the root's parent
 pub root_alone : (firsts actions : List ℕ) (marks : List Bool) (settled : ℕ) (k : Kid) → AreKids firsts actions marks settled
     → k.parent ≡ ROOT_PARENT → k.action ≢ ROOT_ACTION → k.action ≤ ROOT_ACTION → position (same_kid k) (kids_by firsts actions) ≡ None
 root_alone firsts actions marks settled k h parent action fits =
@@ -127,7 +127,7 @@ root_alone firsts actions marks settled k h parent action fits =
 abbrev last_of : List ℕ → ℕ
 last_of firsts = length firsts - 1
 
--- a kid of the last entry
+-- a successor of the last entry
 of_last : (firsts actions : List ℕ) (marks : List Bool) (settled i : ℕ) (d : Kid) → AreKids firsts actions marks settled → 0 < length firsts
     → i < length actions → (get_or (kids_by firsts actions) i d).parent ≡ last_of firsts → begun firsts i ≡ length firsts
 of_last firsts actions marks settled i d h some lt is =
@@ -138,7 +138,7 @@ of_last firsts actions marks settled i d h some lt is =
     in
     omega (arith, there, some)
 
--- where the last entry has no kids, each action comes after them
+-- where the last entry has no successors, each action comes after them
 pub after_none : (firsts actions : List ℕ) (marks : List Bool) (settled a : ℕ) → AreKids firsts actions marks settled → 0 < length firsts
     → get_or firsts (last_of firsts) 0 ≡ length actions → ComesAfter (kids_by firsts actions) (last_of firsts) a
 after_none firsts actions marks settled a h some none = λ i d lt is.
@@ -147,7 +147,7 @@ after_none firsts actions marks settled a h some none = λ i d lt is.
     let before = begun_before firsts i (last_of firsts) (omega (arith, all, some)) in
     absurd (omega (arith, before, none, within))
 
--- else the action of the last kid decides
+-- else the action of the last successor decides
 last_begun : (firsts actions : List ℕ) (marks : List Bool) (settled : ℕ) → AreKids firsts actions marks settled → 0 < length firsts
     → get_or firsts (last_of firsts) 0 < length actions → begun firsts (length actions - 1) ≡ length firsts
 last_begun firsts actions marks settled h some before =
@@ -187,7 +187,7 @@ last_before firsts actions marks settled a h some before after =
 
 -- ---- a search
 
--- the kids of an entry, between the places that are looked up
+-- the successors of an entry, between the places that are looked up
 pub entry_row :
     (firsts actions : List ℕ) (marks : List Bool) (settled n low high posted : ℕ) → AreKids firsts actions marks settled → n < length firsts → low ≡ get_or firsts n 0 → posted ≡ length actions
     → (n + 1 < length firsts → high ≡ get_or firsts (n + 1) 0) → (length firsts ≤ n + 1 → high ≡ posted) → IsRow firsts actions n low high
@@ -202,7 +202,7 @@ entry_row firsts actions marks settled n low high posted h lt is all next last =
     (λ more. next (omega (arith, more)) ∙ ap (λ (m : ℕ). get_or firsts m 0) one)
     (λ end. last (omega (arith, end)) ∙ all))
 
--- what a search among the kids of an entry finds
+-- what a search among the successors of an entry finds
 abbrev IsFound : List ℕ → ℕ → ℕ → ℕ → Option ℕ → Type 0
 IsFound actions low high a r =
     MatchOption r ((i : ℕ) → low ≤ i → i < high → get_or actions i 0 ≢ a) (λ i. (low ≤ i) × (i < high) × (get_or actions i 0 ≡ a))

@@ -1,4 +1,4 @@
--- Where the kids of entries stand.
+-- Where the successors of entries stand.
 use Rattle.std.proofs.Common.{◌≡◌, ◌≢◌, ℕ, zero, suc, ◌+◌, ◌-◌, ◌<◌, ◌≤◌, Bool, true, false, cond, List, [], ◌∷◌, ◌++◌, length, get_or, map, inl, inr, refl, sym, ap, ap₂, ◌∙◌, subst, arith}
 use Rattle.std.specs.Prelude.{nat_lt, count_by}
 use Rattle.std.specs.List.{position_or_len, range_with_len}
@@ -12,10 +12,10 @@ use Rattle.hd_task.specs.declared.plan.TheConstants.{ROOT_PARENT, ROOT_ACTION}
 use Rattle.hd_kids.specs.Kids.{kid_from, ComesAfter, HasNone, root}
 use Rattle.hd_kids.specs.Places.{begun, parent_after, kid_at, kids_by, IsRow, AreKids}
 
--- ---- how many entries' kids have begun
+-- ---- how many entries' successors have begun
 
--- the kids of so many entries have begun at a place where these begin there or before, and the next
--- ones behind
+-- the successors of so many entries have begun at a place where these begin there or before, and
+-- the next ones after
 pub begun_is : (firsts : List ℕ) (j n : ℕ) → n ≤ length firsts → ((m : ℕ) → m < n → get_or firsts m 0 ≤ j)
     → (n < length firsts → j < get_or firsts n 0) → begun firsts j ≡ n
 unfolding begun
@@ -36,7 +36,7 @@ pub begun_behind : (firsts : List ℕ) (j : ℕ) → begun firsts j < length fir
 unfolding begun
 begun_behind firsts j lt = ltb-true j _ (passes_at_first (nat_lt j) firsts 0 lt)
 
--- an entry whose kids begin behind a place changes nothing there
+-- an entry whose successors begin after a place changes nothing there
 pub begun_pushed : (firsts : List ℕ) (first j : ℕ) → j < first → begun (firsts ++ first ∷ []) j ≡ begun firsts j
 begun_pushed firsts first j lt =
     let few = begun_few firsts j in
@@ -50,11 +50,11 @@ begun_pushed firsts first j lt =
           subst (λ (f : ℕ). j < f) (sym (get_or_append_left firsts (first ∷ []) 0 (begun firsts j) inside)) (begun_behind firsts j inside)
     ])
 
--- behind all places, the kids of all entries have begun
+-- after all places, the successors of all entries have begun
 pub begun_all : (firsts : List ℕ) (j : ℕ) → ((n : ℕ) → n < length firsts → get_or firsts n 0 ≤ j) → begun firsts j ≡ length firsts
 begun_all firsts j ends = begun_is firsts j (length firsts) (omega arith) ends (λ lt. absurd (omega (arith, lt)))
 
--- ---- kids by their places
+-- ---- successors by their places
 
 pub length-kids_by : (firsts actions : List ℕ) → length (kids_by firsts actions) ≡ length actions
 unfolding kids_by
@@ -64,7 +64,7 @@ pub get_or-kids_by : (firsts actions : List ℕ) (j : ℕ) (d : Kid) → j < len
 unfolding kids_by
 get_or-kids_by firsts actions j d lt = get_or-map-range_with_len (kid_at firsts actions) 0 (length actions) j j d lt (omega arith)
 
--- an entry without kids adds none
+-- an entry without successors adds none
 pub kids_entered : (firsts actions : List ℕ) → kids_by (firsts ++ length actions ∷ []) actions ≡ kids_by firsts actions
 unfolding kids_by
 kids_entered firsts actions =
@@ -77,7 +77,7 @@ pub last_parent : (n : ℕ) → 0 < n → parent_after n ≡ n - 1
 last_parent zero lt = absurd (omega (arith, lt))
 last_parent (suc n) lt = omega arith
 
--- an action more is a kid of the last entry
+-- an action more is a successor of the last entry
 pub kids_posted : (firsts actions : List ℕ) (a : ℕ) → 0 < length firsts → ((n : ℕ) → n < length firsts → get_or firsts n 0 ≤ length actions)
     → kids_by firsts (actions ++ a ∷ []) ≡ kids_by firsts actions ++ kid_from (length firsts - 1) a ∷ []
 unfolding kids_by
@@ -193,7 +193,7 @@ posted_kept firsts actions marks settled a h entered after =
       settled_is = h.settled_is ∙ sym (let e = count_by-append (λ m. m) marks (false ∷ []) in e ∙ omega arith);
     }
 
--- ---- an entry's kids
+-- ---- an entry's successors
 
 behind_all : (b n : ℕ) → b ≤ n → n < ROOT_PARENT → parent_after b ≢ n
 behind_all zero n le few is = omega (arith, few, is)
@@ -206,8 +206,8 @@ none_yet firsts actions few = λ i d lt is.
     behind_all (begun firsts i) (length firsts) (begun_few firsts i) few
     (sym (ap (λ (k : Kid). k.parent) (get_or-kids_by firsts actions i d within)) ∙ is)
 
--- the kids of an entry stand from its first place up to the first one of the next entry, or up to
--- the end
+-- the successors of an entry stand from its first place up to the first one of the next entry, or
+-- up to the end
 pub row_is : (firsts actions : List ℕ) (marks : List Bool) (settled n high : ℕ) → AreKids firsts actions marks settled → n < length firsts
     → high ≤ length actions → (suc n < length firsts → high ≡ get_or firsts (suc n) 0) → (length firsts ≤ suc n → high ≡ length actions)
     → IsRow firsts actions n (get_or firsts n 0) high

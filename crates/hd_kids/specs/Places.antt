@@ -1,5 +1,5 @@
--- How the parts of a table show its kids: those of an entry stand side by side, from its first
--- place up to that of the next entry. (Our own.)
+-- How the parts of a table show its successors: those of an entry stand side by side, from its
+-- first place up to that of the next entry. (Our own.)
 use Rattle.std.specs.Prelude.{◌≡◌, ℕ, zero, suc, ◌<◌, ◌≤◌, Bool, nat_lt, List, length, get_or, map, min}
 use Rattle.std.specs.List.{count_by, position_or_len, range_with_len}
 use Rattle.hd_chunks.specs.Chunks.{ChunksView}
@@ -8,21 +8,21 @@ use Rattle.hd_task.specs.declared.plan.Kid.{Kid}
 use Rattle.hd_task.specs.declared.plan.TheConstants.{ROOT_PARENT, ROOT_ACTION}
 use Rattle.hd_kids.specs.Kids.{KidsView}
 
--- how many entries' kids begin at a place or before it
+-- how many entries' successors begin at a place or before it
 unfoldable pub begun : List ℕ → ℕ → ℕ
 begun firsts j = position_or_len (nat_lt j) firsts
 
--- the parent of a kid where so many entries' kids have begun: the last of them; where there is
--- none, it is the root
+-- the parent of a successor where so many entries' successors have begun: the last of them; where
+-- there is none, it is the root
 abbrev pub parent_after : ℕ → ℕ
 parent_after zero = ROOT_PARENT
 parent_after (suc n) = n
 
--- the kid at a place
+-- the successor at a place
 abbrev pub kid_at : List ℕ → List ℕ → ℕ → Kid
 kid_at firsts actions j = record { parent = parent_after (begun firsts j); action = get_or actions j 0 }
 
--- the kids at all places
+-- the successors at all places
 unfoldable pub kids_by : List ℕ → List ℕ → List Kid
 kids_by firsts actions = map (kid_at firsts actions) (range_with_len 0 (length actions))
 
@@ -36,7 +36,7 @@ shown firsts actions marks = record {
   kid_room = min actions.room marks.room;
 }
 
--- the kids of entry n stand from a place up to another
+-- the successors of entry n stand from a place up to another
 pub record IsRow (firsts actions : List ℕ) (n low high : ℕ) : Type 0 where
   pub within : high ≤ length actions
   pub inside : (j : ℕ) → low ≤ j → j < high → begun firsts j ≡ suc n

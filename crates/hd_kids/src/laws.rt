@@ -2,7 +2,7 @@
 ghost use Rattle.std.specs.Prelude.{◌≡◌, ℕ, Bool, true, false, List, slice_set, slice_index_or};
 ghost use Rattle.std.specs.List.{AllByRecursion, fold};
 
-/// Marks that were set where none was are taken back, in any order: what is left are the marks
+/// Law: marks that were set where none was are taken back, in any order: what is left are the marks
 /// before.
 pub fn marks_are_taken_back()
     ensures { (marks : List Bool) (places : List ℕ)

@@ -1,10 +1,10 @@
-//! The kids of an entry, and binary search among them.
+//! The successors of an entry, and binary search among them.
 ghost use Rattle.std.specs.Prelude.{◌≡◌, ◌≢◌, ℕ, ◌+◌, ◌<◌, ◌≤◌, length, get_or, MatchOption};
 
 use hd_chunks::Chunks;
 
-/// The place behind an entry's kids, where these are the first places of all entries' kids: there
-/// the next entry's begin, or there are no more.
+/// Returns the place after an entry's successors, where these are the first places of all entries'
+/// successors: there the next entry's begin, or there are no more.
 pub(crate) fn end_of(firsts: &Chunks<usize>, posted: usize, entry: usize) -> usize
     requires { entry < length firsts.now.items }
     ensures next { entry + 1 < length firsts.now.items
@@ -20,7 +20,7 @@ pub(crate) fn end_of(firsts: &Chunks<usize>, posted: usize, entry: usize) -> usi
     }
 }
 
-/// The place of an action, among those from `low` up to `high`, which rise.
+/// Returns the place of an action, among those from `low` up to `high`, which rise.
 pub(crate) fn place_in(actions: &Chunks<u32>, low: usize, high: usize, action: u32) -> Option<usize>
     requires within { high ≤ length actions.now.items }
     requires rises { (i j : ℕ) → low ≤ i → i < j → j < high

@@ -1,4 +1,4 @@
-//! The table of kids.
+//! The table of successors.
 use crate::search::{end_of, place_in};
 use hd_base::NoMemory;
 use hd_chunks::{Bits, Chunks};
@@ -6,13 +6,13 @@ use hd_task::{Kid, ROOT_ACTION, ROOT_PARENT};
 use std::alloc::Global;
 use std::marker::Model;
 
-/// The kids that entries have posted, in posting order, each with a mark: whether it is settled.
-/// The root comes first.
+/// The successors that entries have posted, in posting order, each with a mark: whether it is
+/// settled. The root comes first.
 #[derive(Debug, Drop)]
 pub struct KidTable {
-    /// By entry: the place of its first kid.
+    /// By entry: the place of its first successor.
     firsts: Chunks<usize>,
-    /// By place. An entry's kids stand side by side, and their actions rise.
+    /// By place. An entry's successors stand side by side, and their actions rise.
     actions: Chunks<u32>,
     /// By place.
     marks: Bits,
@@ -38,7 +38,7 @@ impl KidTable {
     ghost use Rattle.hd_chunks.specs.declared.chunks.TheConstants.{MOST_ITEMS};
     ghost use Rattle.hd_kids.specs.Kids.{root, same_kid, settled_count, IsSame, ComesAfter, HasNone, with_mark, with_entry, with_kid};
 
-    /// The table of a search that has not begun: the root is posted.
+    /// Returns the table of a search that has not begun: the root is posted.
     ///
     /// # Errors
     /// `NoMemory` where there is no room for it.
@@ -61,7 +61,7 @@ impl KidTable {
         })
     }
 
-    /// Makes room for so many entries more, and for so many kids of theirs.
+    /// Makes room for so many entries more, and for so many successors of theirs.
     ///
     /// # Errors
     /// `NoMemory`: the table is as it was, and so is the room that there was.
@@ -78,7 +78,7 @@ impl KidTable {
         self.marks.reserve(kids)
     }
 
-    /// Adds an entry, which has no kids yet. It takes no memory.
+    /// Adds an entry, which has no successors yet. It does not allocate.
     pub fn enter(&mut self)
         requires room { 0 < self.old.entry_room }
         requires few { self.old.entries < ROOT_PARENT }
@@ -89,7 +89,7 @@ impl KidTable {
         self.firsts.push(first);
     }
 
-    /// Posts a kid of the last entry, which is not settled. It takes no memory.
+    /// Posts a successor of the last entry, which is not settled. It does not allocate.
     pub fn post(&mut self, action: u32)
         requires room { 0 < self.old.kid_room }
         requires entered { 0 < self.old.entries }
@@ -100,7 +100,7 @@ impl KidTable {
         self.marks.push(false);
     }
 
-    /// Whether an action comes after those of the last entry's kids.
+    /// Reports whether an action comes after those of the last entry's successors.
     pub fn comes_next(&self, action: u32) -> bool
         requires { 0 < self.now.entries }
         ensures { IsTrue result ↔ ComesAfter self.now.kids (self.now.entries - 1) action }
@@ -110,28 +110,28 @@ impl KidTable {
         first == posted || *self.actions.at(posted - 1) < action
     }
 
-    /// How many entries more there is room for.
+    /// Returns how many entries more there is room for.
     pub fn entry_room(&self) -> usize
         ensures { result ≡ self.now.entry_room }
     {
         self.firsts.room()
     }
 
-    /// How many kids more there is room for.
+    /// Returns how many successors more there is room for.
     pub fn kid_room(&self) -> usize
         ensures { result ≡ self.now.kid_room }
     {
         self.actions.room().min(self.marks.room())
     }
 
-    /// How many entries there are.
+    /// Returns how many entries there are.
     pub fn entries(&self) -> usize
         ensures { result ≡ self.now.entries }
     {
         self.firsts.len()
     }
 
-    /// How many kids are posted.
+    /// Returns how many successors are posted.
     pub fn posted(&self) -> u64
         ensures posted { result ≡ length self.now.kids }
         ensures marks { result ≡ length self.now.marks }
@@ -140,7 +140,7 @@ impl KidTable {
         self.actions.len() as u64
     }
 
-    /// How many kids are settled.
+    /// Returns how many successors are settled.
     pub fn settled(&self) -> u64
         ensures settled { result ≡ settled_count self.now }
         ensures few { result ≤ length self.now.kids }
@@ -148,7 +148,7 @@ impl KidTable {
         self.settled
     }
 
-    /// The place of a kid, if it is posted.
+    /// Returns the place of a successor, if it is posted.
     pub fn place_of(&self, kid: Kid) -> Option<usize>
         ensures place { result ≡ position (same_kid kid) self.now.kids }
         ensures within { IfSome result (λ k. k < length self.now.kids) }
@@ -169,7 +169,7 @@ impl KidTable {
         place_in(&self.actions, *self.firsts.at(entry), end, kid.action)
     }
 
-    /// Whether the kid at a place is settled.
+    /// Reports whether the successor at a place is settled.
     pub fn is_settled(&self, place: usize) -> bool
         requires { place < length self.now.kids }
         ensures { result ≡ slice_index_or self.now.marks place true }
@@ -177,7 +177,7 @@ impl KidTable {
         self.marks.at(place)
     }
 
-    /// Settles the kid at a place. It takes no memory.
+    /// Settles the successor at a place. It does not allocate.
     pub fn settle(&mut self, place: usize)
         requires within { place < length self.old.kids }
         requires unsettled { slice_index_or self.old.marks place true ≡ false }
@@ -187,7 +187,7 @@ impl KidTable {
         self.settled += 1;
     }
 
-    /// Takes back that the kid at a place is settled. It takes no memory.
+    /// Takes back that the successor at a place is settled. It does not allocate.
     pub fn reopen(&mut self, place: usize)
         requires within { place < length self.old.kids }
         requires settled { slice_index_or self.old.marks place false ≡ true }

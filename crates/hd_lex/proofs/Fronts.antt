@@ -37,7 +37,7 @@ front-read at text (Some token) to rest begins =
 rest_whole : (n : ℕ) (xs : List ℕ) → take (length xs - n) (drop n xs) ≡ drop n xs
 rest_whole n xs = ap (λ (k : ℕ). take k (drop n xs)) (sym (length-drop n xs)) ∙ take-length (drop n xs)
 
--- what stands first in the rest is what was read of the text, and then the rest behind it
+-- what stands first in the rest is what was read of the text, and then the rest after it
 pub front_more : (start : ℕ) (text : List ℕ) (front all : List Token) (at : ℕ) (rest : List ℕ) (token : Option Token) (len : ℕ)
     → all ≡ front ++ listed token → BeginsWith at rest token (at + len) (drop len rest) → IsReadTo start text front at rest
     → IsReadTo start text all (at + len) (take (length rest - len) (drop len rest))

@@ -7,7 +7,7 @@ use Rattle.std.proofs.lemmas.Bool.{and_parts}
 use Rattle.hd_base.proofs.Tests.{list_all-take_while}
 use Rattle.hd_lex.specs.Text.{IsEnd, IsRun}
 
--- behind the longest front that passes the test fails
+-- after the longest front that passes the test fails
 front-ends_one : (test : ℕ → Bool) (x : ℕ) (xs : List ℕ) (b : Bool) → test x ≡ b
     → IsEnd test (drop (prefix_len test xs) xs)
     → IsEnd test (drop (prefix_len test (x ∷ xs)) (x ∷ xs))

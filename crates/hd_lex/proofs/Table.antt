@@ -224,7 +224,7 @@ word-read at (table.IsWord.keyword {bytes =
 word-read at (table.number {bytes = bytes} is) = number-read at bytes is
 word-read at (table.signed_number {bytes = bytes} is) = signed_number-read at bytes is
 
--- a name that is too long is told
+-- a name that is too long is reported
 pub long_name-told : (at : ℕ) {bytes : List ℕ} → IsLongName bytes → word_of at bytes ≡ Err (NameTooLong at)
 long_name-told at (table.IsLongName.name {bytes =
     bytes} spelled long) = by_letter at bytes spelled ∙ ap (word_by words.Name) (long-read at bytes spelled long)
@@ -233,9 +233,9 @@ long_name-told at (table.IsLongName.variable {bytes =
 long_name-told at (table.IsLongName.keyword {bytes =
     bytes} spelled long) = by_colon at bytes ∙ ap (word_by words.Keyword) (long-read at bytes spelled long)
 
--- ---- what is read is in the table, and what is told is so
+-- ---- what is read is in the table, and what is reported is so
 
--- why a fault is told
+-- why a fault is reported
 data IsWhy : ℕ → List ℕ → LexError → Type 0 where
   too_long : {at : ℕ} {bytes : List ℕ} → IsLongName bytes → IsWhy at bytes (NameTooLong at)
   as_number : {at : ℕ} {bytes : List ℕ} → begins_as_number bytes ≡ true → IsWhy at bytes (BadNumber at)
@@ -246,7 +246,7 @@ abbrev IsSo : ℕ → List ℕ → Result Word LexError → Type 0
 IsSo at bytes (Ok word) = IsWord bytes word
 IsSo at bytes (Err error) = IsWhy at bytes error
 
--- the bytes behind a mark, or all of them, as a name
+-- the bytes after a mark, or all of them, as a name
 named-so : (at : ℕ) (bytes whole : List ℕ) (make : List ℕ → Word) (spelled short : Bool)
     → is_name bytes ≡ spelled → nat_le (length bytes) LONGEST_NAME ≡ short
     → begins_as_number whole ≡ false
@@ -292,7 +292,7 @@ letter-no_number x xs e =
 
 -- ---- the tests of the first byte, one after the other
 
--- what is said behind the test for a digit, for ':', for '?' and for a letter
+-- what is said after the test for a digit, for ':', for '?' and for a letter
 abbrev behind_digit : ℕ → ℕ → List ℕ → Result Word LexError
 behind_digit at x xs =
     if (x == 45) && begins_with_digit xs then word_by words.SignedNumber (negative_of at xs)
@@ -361,7 +361,7 @@ why-bad _ _ _ (as_number {at = at} first) told = table.bad_number first (λ word
 why-bad _ _ _ (as_other {at = at} first) told =
     table.bad_byte first (λ word is. let read = word-read at is in cc) (λ long. let also = long_name-told at long in cc)
 
--- what is told is a fault of the word
+-- what is reported is a fault of the word
 pub bad-is : (at : ℕ) {bytes : List ℕ} {error : LexError} → word_of at bytes ≡ Err error → IsBad at bytes error
 bad-is at {bytes =
     bytes} {error = error} told = why-bad at bytes error (subst (IsSo at bytes) told (word-so at bytes)) told
@@ -388,7 +388,7 @@ bad_byte-read _ _ (Err _) (too_long long) first never short = absurd (short long
 bad_byte-read _ _ (Err _) (as_number also) first never short = cc
 bad_byte-read _ _ (Err _) (as_other other) first never short = refl
 
--- a fault of the word is told
+-- a fault of the word is reported
 pub bad-read : {at : ℕ} {bytes : List ℕ} {error : LexError} → IsBad at bytes error → word_of at bytes ≡ Err error
 bad-read (table.name_too_long {at = at} long) = long_name-told at long
 bad-read (table.bad_number {at =

@@ -35,7 +35,7 @@ first_of_tokens w words tokens e =
     let word = bind-ok (word_of w.at w.bytes) _ _ one.1 in
     record { word = word.0; rest = more.0; is = word.1; are = more.1; all = cc (word.2, more.2) }
 
--- a chain that fails failed at its first step or behind it
+-- a chain that fails failed at its first step or after it
 bind-err : {A B : Type 0} (r : Result A LexError) (f : A → Result B LexError) (error : LexError) → (r >>= f) ≡ Err error
     → (r ≡ Err error) ⊎ ((x : A) × (r ≡ Ok x) × (f x ≡ Err error))
 bind-err (Ok x) f error e = inr (x, refl, e)
@@ -89,7 +89,7 @@ later_bad w ws error good more = record {
   fault = more.fault;
 }
 
--- a fault that is told is that of the first bad word
+-- a fault that is reported is that of the first bad word
 pub first_fault : (words : List Placed) (error : LexError) → tokens_of words ≡ Err error → IsFirstFault words error
 unfolding tokens_of
 first_fault [] error e = absurd cc
@@ -107,7 +107,7 @@ first_fault (w ∷ ws) error e =
           ]
     ]
 
--- the fault of the first bad word is told
+-- the fault of the first bad word is reported
 fault_behind : (before : List Placed) (bad : Placed) (behind : List Placed) (error : LexError)
     → AllByRecursion IsGood before → IsBad bad.at bad.bytes error
     → tokens_of (before ++ (bad ∷ behind)) ≡ Err error
@@ -144,7 +144,7 @@ pub said_unique : {at : ℕ} {text : List ℕ} {a b : Result (List Token) LexErr
     → Says at text b → a ≡ b
 said_unique a b = sym a.tokens ∙ ap tokens_of (words_unique a.are_words b.are_words) ∙ b.tokens
 
--- a refusal is want of memory or the fault of the text
+-- a refusal is lack of memory or the fault of the text
 pub refusal-is : (at : ℕ) (text : List ℕ) (error : LexError) → IsRefusal at text error
     → (error ≡ errors.NoMemory) ⊎ IsFaultFrom at text error
 refusal-is at text errors.NoMemory refused = inl refl
@@ -162,7 +162,7 @@ is-refusal at text (errors.BadNumber place) (inr is) = fault-says is
 is-refusal at text (errors.NameTooLong place) (inl e) = absurd cc
 is-refusal at text (errors.NameTooLong place) (inr is) = fault-says is
 
--- a text with tokens is refused for want of memory alone
+-- a text with tokens is refused for lack of memory alone
 pub good-refused : (text : List ℕ) (error : LexError) (tokens : List Token) → AreTokens text tokens
     → IsRefusal 0 text error → error ≡ errors.NoMemory
 good-refused text errors.NoMemory tokens are refused = refl

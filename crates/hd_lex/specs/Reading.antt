@@ -15,7 +15,7 @@ use Rattle.hd_lex.specs.declared.token.Word.TheVariants.{OpenParenthesis, CloseP
 use Rattle.hd_lex.specs.declared.token.Word.TheVariants as words
 use Rattle.hd_lex.specs.declared.token.Operator.TheVariants.{Plus, Minus, Times, Divide, Less, LessOrEqual, Equal, GreaterOrEqual, Greater}
 
--- the error is want of memory, which may befall any call, or the one that the meaning is
+-- the error is lack of memory, which may befall any call, or the one that the meaning is
 abbrev pub IsFailure : {A : Type 0} → LexError → Result A LexError → Type 0
 IsFailure NoMemory meaning = Unit {0}
 IsFailure (BadByte at) meaning = meaning ≡ Err (BadByte at)
@@ -78,7 +78,7 @@ word_of at (x ∷ xs) =
     else (if (x == 45) && begins_with_digit xs then word_by SignedNumber (negative_of at xs)
     else sign_or_fault at (sign_of (x ∷ xs))))))
 
--- the token of a word: its place, the place behind it, and what it is
+-- the token of a word: its place, the place after it, and what it is
 abbrev pub token_of : Placed → Result Token LexError
 token_of w = word_of w.at w.bytes >>= λ word. Ok (record { from = w.at; to = w.at + length w.bytes; word = word })
 
@@ -94,7 +94,7 @@ pub record Says (at : ℕ) (text : List ℕ) (said : Result (List Token) LexErro
   pub are_words : AreWords at text words
   pub tokens : tokens_of words ≡ said
 
--- an error that a call may tell of the text from this place on: want of memory, or the fault of the
+-- an error that a call may tell of the text from this place on: lack of memory, or the fault of the
 -- first bad word
 abbrev pub IsRefusal : ℕ → List ℕ → LexError → Type 0
 IsRefusal at text NoMemory = Unit {0}

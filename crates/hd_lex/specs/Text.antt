@@ -54,7 +54,7 @@ pub data AreWords : ℕ → List ℕ → List Placed → Type 0 where
       → AreWords (at + length bytes) rest words
       → AreWords at text (record { at = at; bytes = bytes } ∷ words)
 
--- the token of a word: its place, the place behind it, and what it is by the table (own)
+-- the token of a word: its place, the place after it, and what it is by the table (own)
 pub record IsTokenOf (placed : Placed) (token : Token) : Type 0 where
   pub from : token.from ≡ placed.at
   pub to : token.to ≡ placed.at + length placed.bytes

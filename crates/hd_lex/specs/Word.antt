@@ -68,7 +68,7 @@ pub data IsWord : List ℕ → Word → Type 0 where
   signed_number : {bytes : List ℕ} → is_number bytes ≡ true
       → IsWord (45 ∷ bytes) (words.SignedNumber (neg_ℤ (pos (digits_value 10 bytes))))
 
--- these bytes are a name of more than 255 bytes, alone or behind '?' or ':' (own)
+-- these bytes are a name of more than 255 bytes, alone or after '?' or ':' (own)
 pub data IsLongName : List ℕ → Type 0 where
   name : {bytes : List ℕ} → is_name bytes ≡ true → LONGEST_NAME < length bytes → IsLongName bytes
   variable : {bytes : List ℕ} → is_name bytes ≡ true → LONGEST_NAME < length bytes → IsLongName (63 ∷ bytes)

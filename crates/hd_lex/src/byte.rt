@@ -17,7 +17,7 @@ pub enum Class {
     Word,
 }
 
-/// What this byte does.
+/// Returns what this byte does.
 pub fn class_of(byte: u8) -> Class
     ensures { result ≡ class_of byte }
 {
@@ -29,28 +29,28 @@ pub fn class_of(byte: u8) -> Class
     }
 }
 
-/// Whether the byte is part of a word.
+/// Reports whether the byte is part of a word.
 fn is_word_byte(byte: u8) -> bool
     ensures { result ≡ is_word_byte byte }
 {
     matches!(class_of(byte), Class::Word)
 }
 
-/// Whether the byte may stand in a name behind its first letter.
+/// Reports whether the byte may stand in a name after its first letter.
 pub fn is_name_byte(byte: u8) -> bool
     ensures { result ≡ is_name_byte byte }
 {
     byte.is_ascii_alphanumeric() || byte == b'-' || byte == b'_'
 }
 
-/// How many bytes at the front go on with a word.
+/// Returns how many bytes at the front go on with a word.
 pub fn word_len(text: &[u8]) -> usize
     ensures { result ≡ prefix_len is_word_byte text.now }
 {
     text.iter().take_while(|byte| is_word_byte(**byte)).count()
 }
 
-/// How many bytes at the front stand before the end of the line.
+/// Returns how many bytes at the front stand before the end of the line.
 pub fn line_len(text: &[u8]) -> usize
     ensures { result ≡ prefix_len is_line_byte text.now }
 {

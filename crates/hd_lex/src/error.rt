@@ -15,7 +15,7 @@ pub enum LexError {
     BadByte(usize),
     /// A word that begins as a number, and is none of 1 to 18 digits.
     BadNumber(usize),
-    /// A name of more than 255 bytes, alone or behind `?` or `:`.
+    /// A name of more than 255 bytes, alone or after `?` or `:`.
     NameTooLong(usize),
     /// Memory ran out; no word is to blame.
     NoMemory,

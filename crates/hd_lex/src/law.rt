@@ -8,7 +8,7 @@ ghost use Rattle.hd_lex.specs.declared.token.Token.{Token};
 ghost use Rattle.hd_lex.specs.declared.token.Word.{Word};
 ghost use Rattle.hd_lex.specs.declared.word.TheConstants.{LONGEST_NAME, MOST_DIGITS};
 
-/// Any bytes are one word of the table or have one fault, and never both.
+/// Law: any bytes are one word of the table or have one fault, and never both.
 pub fn each_word_is_good_or_bad()
     ensures good_or_bad { (at : ℕ) (bytes : List ℕ)
         → ((word : Word) × IsWord bytes word) ⊎ ((fault : LexError) × IsBad at bytes fault) }
@@ -19,15 +19,15 @@ pub fn each_word_is_good_or_bad()
         → IsWord bytes word → IsBad at bytes fault → ⊥ }
 {}
 
-/// Every text has exactly one list of words.
+/// Law: every text has exactly one list of words.
 pub fn each_text_has_its_words()
     ensures words { (at : ℕ) (text : List ℕ) → (words : List Placed) × AreWords at text words }
     ensures no_others { (at : ℕ) (text : List ℕ) (a b : List Placed)
         → AreWords at text a → AreWords at text b → a ≡ b }
 {}
 
-/// Every text has its tokens, just these, or the fault of its first bad word, just this, and never
-/// both.
+/// Law: every text has its tokens, just these, or the fault of its first bad word, just this, and
+/// never both.
 pub fn each_text_is_good_or_bad()
     ensures good_or_bad { (text : List ℕ)
         → ((tokens : List Token) × AreTokens text tokens)
@@ -39,7 +39,7 @@ pub fn each_text_is_good_or_bad()
         → AreTokens text tokens → IsFault text fault → ⊥ }
 {}
 
-/// The longest name has 255 bytes, and the longest number 18 digits.
+/// Law: the longest name has 255 bytes, and the longest number 18 digits.
 pub fn words_are_short()
     ensures name { LONGEST_NAME ≡ 255 }
     ensures number { MOST_DIGITS ≡ 18 }

@@ -1,10 +1,13 @@
-//! The words of a text: parentheses, names, variables, keywords, numbers and operators, each with
-//! its place.
+//! Cuts a text of any bytes into tokens: parentheses, names, variables, numbers and the like.
 //!
-//! A text is any bytes. Blanks are space, tab, carriage return and line feed. A semicolon begins a
-//! comment, which ends before the next line feed or with the text and may hold any bytes. Each
-//! parenthesis is a word, and so is each longest run of other bytes. Letters are folded to lower
-//! case.
+//! [`tokens`] returns exactly the tokens of the text, in order and with their places. If the text
+//! has a bad word, it reports the first one. Each text has tokens or an error, and never both
+//! ([`each_text_is_good_or_bad`]). [`front_of`] reads one token, blank or comment, so a caller need
+//! not store them all.
+//!
+//! Blanks are space, tab, carriage return and line feed. A semicolon starts a comment, up to the
+//! line feed. Each parenthesis is a word, and so is each longest run of other bytes. Letters are
+//! folded to lower case. Start reading at [`tokens`], then `specs/Text`.
 #![tactic(auto)]
 
 mod byte;

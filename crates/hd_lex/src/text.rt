@@ -13,7 +13,7 @@ use crate::token::{Front, Token};
 use crate::word::word_of;
 use std::alloc::Global;
 
-/// The token of the first `len` bytes, of which the first stands at this place.
+/// Returns the token of the first `len` bytes, of which the first stands at this place.
 fn token_of(alloc: Global, text: &[u8], at: usize, len: usize) -> Result<Token, LexError>
     requires within { len ≤ length text.now }
     requires place { at + len < 2 ^ 64 }
@@ -27,8 +27,8 @@ fn token_of(alloc: Global, text: &[u8], at: usize, len: usize) -> Result<Token, 
     })
 }
 
-/// What stands at the front of a text whose first byte stands at this place: a token, or a blank or
-/// a comment.
+/// Returns what stands at the front of a text whose first byte stands at this place: a token, or a
+/// blank or a comment.
 ///
 /// Any bytes may come. So a text is read token by token, and no more of them are kept than are
 /// wanted.
@@ -41,7 +41,8 @@ pub fn front_of(alloc: Global, text: &[u8], at: usize) -> Result<Front, LexError
         BeginsWith at text.now front.token (at + front.len) (drop front.len text.now)) }
     ensures progress { IfOk result (λ front. (0 < front.len) × (front.len ≤ length text.now)) }
 
-    // What is told: the fault of the text's first bad word, which stands first, or want of memory.
+    // What is reported: the fault of the text's first bad word, which stands first, or lack of
+    // memory.
     ensures refusal { IfErr result (λ error.
         (error ≡ LexError.NoMemory) ⊎ IsFaultFrom at text.now error) }
 {
@@ -83,16 +84,16 @@ fn push_front(tokens: &mut Vec<Token>, token: Option<Token>) -> Result<(), LexEr
     Ok(())
 }
 
-/// The tokens of a text in order, or the fault of its first bad word.
+/// Returns the tokens of a text in order, or the fault of its first bad word.
 ///
-/// Any bytes may come. The only error that a good text meets is want of memory.
+/// Any bytes may come. The only error that a good text meets is lack of memory.
 pub fn tokens(alloc: Global, text: &[u8]) -> Result<Vec<Token>, LexError>
     // What is answered: the tokens of the text's words, one each, in order, and where they stand.
     ensures answer { IfOk result (λ found. AreTokens text.now found.items) }
     ensures spans_in_order { IfOk result (λ found. AreInOrder 0 found.items (length text.now)) }
     ensures spans_at_words { IfOk result (λ found. All (IsAtItsBytes text.now) found.items) }
 
-    // What is told: the fault of the text's first bad word, or want of memory.
+    // What is reported: the fault of the text's first bad word, or lack of memory.
     ensures refusal { IfErr result (λ error. (error ≡ LexError.NoMemory) ⊎ IsFault text.now error) }
 
     // A text with no bad word is answered, and one with a bad word is refused, unless memory ran

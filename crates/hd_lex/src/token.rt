@@ -23,9 +23,9 @@ pub enum Word {
     CloseParenthesis,
     /// A letter, then letters, digits, `-` and `_`.
     Name(Name),
-    /// A name behind `?`.
+    /// A name after `?`.
     Variable(Name),
-    /// A name behind `:`.
+    /// A name after `:`.
     Keyword(Name),
     /// 1 to 18 digits.
     Number(i64),

@@ -29,7 +29,7 @@ fn are_name_bytes(text: &[u8]) -> bool
     text.iter().all(|byte| is_name_byte(*byte))
 }
 
-/// Whether the text is a name of any length.
+/// Reports whether the text is a name of any length.
 fn is_name(text: &[u8]) -> bool
     ensures { result ≡ is_name text.now }
 {
@@ -39,7 +39,7 @@ fn is_name(text: &[u8]) -> bool
     }
 }
 
-/// The name with its letters folded.
+/// Returns the name with its letters folded.
 fn lower_case(alloc: Global, text: &[u8]) -> Result<Name, LexError>
     requires { IsAscii text.now }
     ensures { Means IsFailure result (Ok (map to_ascii_lowercase text.now)) }
@@ -50,7 +50,7 @@ fn lower_case(alloc: Global, text: &[u8]) -> Result<Name, LexError>
     Ok(Name::folded(alloc, text)?)
 }
 
-/// The name that these bytes of the word at this place spell.
+/// Returns the name that these bytes of the word at this place spell.
 #[tactic(auto, unfolding(crate::specs::Reading::name_of))]
 fn name_of(alloc: Global, text: &[u8], at: usize) -> Result<Name, LexError>
     ensures { Means IsFailure result (name_of at text.now) }
@@ -79,14 +79,14 @@ fn are_digits(text: &[u8]) -> bool
     text.iter().all(|byte| byte.is_ascii_digit())
 }
 
-/// Whether the text is a number.
+/// Reports whether the text is a number.
 fn is_number(text: &[u8]) -> bool
     ensures { result ≡ is_number text.now }
 {
     !text.is_empty() && text.len() <= MOST_DIGITS && are_digits(text)
 }
 
-/// The number that the digits write.
+/// Returns the number that the digits write.
 fn value_of(digits: &[u8]) -> u64
     requires { is_number digits.now ≡ true }
     ensures value { result ≡ digits_value 10 digits.now }
@@ -101,7 +101,7 @@ fn value_of(digits: &[u8]) -> u64
     value
 }
 
-/// The number that these bytes of the word at this place write.
+/// Returns the number that these bytes of the word at this place write.
 #[tactic(auto, unfolding(crate::specs::Reading::number_of))]
 fn number_of(digits: &[u8], at: usize) -> Result<i64, LexError>
     ensures { Means IsFailure result (number_of at digits.now) }
@@ -113,7 +113,7 @@ fn number_of(digits: &[u8], at: usize) -> Result<i64, LexError>
     }
 }
 
-/// The number behind a minus sign that these bytes of the word at this place write.
+/// Returns the number after a minus sign that these bytes of the word at this place write.
 #[tactic(auto, unfolding(crate::specs::Reading::negative_of))]
 fn negative_of(digits: &[u8], at: usize) -> Result<i64, LexError>
     ensures { Means IsFailure result (negative_of at digits.now) }
@@ -125,7 +125,7 @@ fn negative_of(digits: &[u8], at: usize) -> Result<i64, LexError>
     }
 }
 
-/// The word without letters and digits, if the text is one.
+/// Returns the word without letters and digits, if the text is one.
 fn sign_of(text: &[u8]) -> Option<Word>
     ensures { result ≡ sign_of text.now }
 {
@@ -145,7 +145,7 @@ fn sign_of(text: &[u8]) -> Option<Word>
     }
 }
 
-/// What the word at this place is.
+/// Returns what the word at this place is.
 #[tactic(auto, unfolding(crate::specs::Reading::word_of))]
 pub fn word_of(alloc: Global, text: &[u8], at: usize) -> Result<Word, LexError>
     ensures { Means IsFailure result (word_of at text.now) }

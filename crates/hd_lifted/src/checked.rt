@@ -30,7 +30,7 @@ impl Model for Checked {
 }
 
 impl Checked {
-    /// A task that keeps what a check asks.
+    /// Returns a task that keeps what a check asks.
     pub fn new(task: LiftedTask) -> Checked
         requires { IsChecked task }
         ensures { result ≡ task }
@@ -38,7 +38,7 @@ impl Checked {
         Checked { task }
     }
 
-    /// The task.
+    /// Returns the task.
     pub fn task(&self) -> &LiftedTask
         ensures task { result.now ≡ self.now }
         ensures well_formed { IsWellFormed result.now }

@@ -8,7 +8,7 @@ ghost use Rattle.hd_lifted.specs.Conditions.{literal_holds, equality_holds};
 ghost use Rattle.hd_lifted.specs.Plans.{IsInstance, exec, IsValidAt};
 ghost use Rattle.hd_lifted.specs.Example.{value_at, is_true_at, cost_at, journey, a_to_b, a_to_c, way_by_b, the_fuel, the_start, only, the_x, the_y, the_atom, swapping, up_and_down, one_up, missing_amount, first_assignment, delete_and_add, cheaper, unpriced, twice, thrice, departs_behind, mixing, p_with_p, p_with_q, scaling, not_the_atom, parameters_are, first_is_q, compares, compares_in_range, action_departs, departs_at_first, squared, three_types};
 
-/// The definitions on the small tasks of `specs/Example.antt`.
+/// Law: the definitions on the small tasks of `specs/Example.antt`.
 pub fn examples_compute()
     // From a to b and on to c: the goal holds there, and the plan costs the fuel that it uses up.
     ensures arrives { IsValidAt (journey (pos 9)) way_by_b (pos 9) }
@@ -60,7 +60,7 @@ pub fn examples_compute()
     ensures reaches_end { action_departs (one_up (pos (RANGE_END - 1))) ≡ false }
 {}
 
-/// Conditions, departures of the goal and types, on the same tasks.
+/// Law: conditions, departures of the goal and types, on the same tasks.
 pub fn conditions_compute()
     // A negative literal holds where its atom is not true.
     ensures is_false { literal_holds (initial_state swapping).atoms [] not_the_atom ≡ true }

@@ -33,13 +33,13 @@ impl Model for Hierarchy {
 }
 
 impl Hierarchy {
-    /// The hierarchy of these parents, or a type that lies on a cycle, in time linear in the number
-    /// of parents. Of several such types the first listed one is told, which is tested and not
-    /// proved.
+    /// Returns the hierarchy of these parents, or a type that lies on a cycle, in time linear in
+    /// the number of parents. Of several such types the first listed one is reported, which is
+    /// tested and not proved.
     ///
     /// # Errors
     ///
-    /// Want of memory.
+    /// Lack of memory.
     pub fn new(alloc: Global, parents: Vec<usize>) -> Result<Result<Hierarchy, usize>, NoMemory>
         ensures made { IfOk result (λ answer. IfOk answer (λ types. types ≡ parents.items)) }
         ensures acyclic { IfOk result (λ answer. IfOk answer (λ _. IsAcyclic parents.items)) }
@@ -54,7 +54,7 @@ impl Hierarchy {
         }
     }
 
-    /// The parents of the types 1, 2, ..
+    /// Returns the parents of the types 1, 2, ..
     pub fn parents(&self) -> &[usize]
         ensures value { result.now ≡ self.now }
 
@@ -64,8 +64,8 @@ impl Hierarchy {
         &self.parents
     }
 
-    /// Whether each object of the type `lower` is one of the type `upper`, in time logarithmic in
-    /// the depth of `lower`.
+    /// Reports whether each object of the type `lower` is one of the type `upper`, in time
+    /// logarithmic in the depth of `lower`.
     pub fn is_subtype(&self, lower: usize, upper: usize) -> bool
         ensures yes { IsTrue result → IsSubtype self.now lower upper }
         ensures no { IsSubtype self.now lower upper → IsTrue result }
@@ -75,8 +75,8 @@ impl Hierarchy {
     }
 }
 
-/// Whether steps from a type to its parent lead from `lower` to `upper`. A jump is taken where it
-/// leads no higher than `upper`.
+/// Reports whether steps from a type to its parent lead from `lower` to `upper`. A jump is taken
+/// where it leads no higher than `upper`.
 fn leads_to(parents: &[usize], shortcuts: &Shortcuts, lower: usize, upper: usize) -> bool
     requires rooted { IsRooted parents.now }
     requires shortcuts { HasShortcuts parents.now shortcuts.now }
@@ -98,7 +98,7 @@ fn leads_to(parents: &[usize], shortcuts: &Shortcuts, lower: usize, upper: usize
     kind == upper
 }
 
-/// The least type that lies on a cycle, if there is one.
+/// Returns the least type that lies on a cycle, if there is one.
 fn least_on_cycles(alloc: Global, parents: &[usize]) -> Result<Option<usize>, NoMemory>
     ensures { IfOk result (IsRootedUnless parents.now) }
 {
@@ -106,7 +106,7 @@ fn least_on_cycles(alloc: Global, parents: &[usize]) -> Result<Option<usize>, No
     Ok(walk_all(parents, stamps.as_mut_slice()))
 }
 
-/// Walks up from each type, and tells the least type on a cycle, if there is one. At first there
+/// Walks up from each type, and reports the least type on a cycle, if there is one. At first there
 /// are no stamps.
 fn walk_all(parents: &[usize], stamps: &mut [usize]) -> Option<usize>
     requires { stamps.old ≡ replicate (length parents.now) 0 }
@@ -119,7 +119,7 @@ fn walk_all(parents: &[usize], stamps: &mut [usize]) -> Option<usize>
     found
 }
 
-/// Walks up from a type. Where that closes a cycle, tells the lesser of the type found so far and
+/// Walks up from a type. Where that closes a cycle, reports the lesser of the type found so far and
 /// the least of the cycle.
 fn visit(
     parents: &[usize],
@@ -160,14 +160,14 @@ fn walk(parents: &[usize], stamps: &mut [usize], start: usize) -> Option<usize>
     }
 }
 
-/// Whether a type other than `object` stands in the list and no walk came to it.
+/// Reports whether a type other than `object` stands in the list and no walk came to it.
 fn is_unvisited(stamps: &[usize], kind: usize) -> bool
     ensures { IsTrue result ↔ IsUnvisited stamps.now kind }
 {
     kind > 0 && kind <= stamps.len() && stamps[kind - 1] == 0
 }
 
-/// The least type of the cycle on which `first` lies.
+/// Returns the least type of the cycle on which `first` lies.
 fn least_of_cycle(parents: &[usize], first: usize) -> usize
     requires { IsOnCycle parents.now first }
     ensures { IsOnCycle parents.now result }
@@ -185,7 +185,7 @@ fn least_of_cycle(parents: &[usize], first: usize) -> usize
     least
 }
 
-/// The lesser of two types, of which the first may be missing.
+/// Returns the lesser of two types, of which the first may be missing.
 fn lesser(found: Option<usize>, other: usize) -> usize
     ensures { MatchOption found (result ≡ other) (λ t. result ≡ min t other) }
 {

@@ -1,10 +1,14 @@
-//! Lifted tasks: a domain and a problem after their names were resolved, everything by number, and
-//! what they mean.
+//! Lifted tasks: a domain and a problem with each name as a number, and what their plans mean.
 //!
-//! Objects, predicates, functions and actions are numbered from 0 in the order of the text. Type 0
-//! is `object`; then come the types as listed, then those that are only named as a supertype. The
-//! definitions in `specs/` say what a plan of such a task is (PDDL 2.1, level 2, Fox and Long
-//! 2003), over the task as it stands here.
+//! `specs/` defines which plans are valid, at which cost, and which are optimal (PDDL 2.1, level 2;
+//! Fox and Long 2003). A [`Checked`] task is well formed, with distinct names, at most one first
+//! value a fluent, and a metric that is a cost. [`Hierarchy`] refuses types on a cycle. Its
+//! `is_subtype` decides the least reflexive and transitive relation in which each type is below its
+//! parent, and all are below `object`.
+//!
+//! Objects, predicates, functions and actions have numbers in the order of the text; type 0 is
+//! `object`. A type has its depth and a jump to a type above it, so `is_subtype` takes time
+//! logarithmic in the depth. Start reading at [`LiftedTask`], then `specs/Plans`.
 #![tactic(auto)]
 
 mod checked;

@@ -20,11 +20,11 @@ pub struct Shortcuts {
 }
 
 impl Shortcuts {
-    /// The shortcuts up the types of these parents, in time linear in their number.
+    /// Returns the shortcuts up the types of these parents, in time linear in their number.
     ///
     /// # Errors
     ///
-    /// Want of memory.
+    /// Lack of memory.
     pub fn new(alloc: Global, parents: &[usize]) -> Result<Shortcuts, NoMemory>
         requires { IsRooted parents.now }
         ensures { IfOk result (HasShortcuts parents.now) }
@@ -44,7 +44,7 @@ impl Shortcuts {
     }
 }
 
-/// What a list with an entry for each of the types 1, 2, .. has for a type, or 0.
+/// Returns what a list with an entry for each of the types 1, 2, .. has for a type, or 0.
 pub fn entry_of(entries: &[usize], kind: usize) -> usize
     ensures { result ≡ entry_of entries.now kind }
 {
@@ -55,7 +55,7 @@ pub fn entry_of(entries: &[usize], kind: usize) -> usize
     }
 }
 
-/// The depth of a type: 0 for `object`, and 1 for a number beyond the list.
+/// Returns the depth of a type: 0 for `object`, and 1 for a number beyond the list.
 pub fn depth_of(depths: &[usize], kind: usize) -> usize
     ensures { result ≡ depth_of depths.now kind }
 {

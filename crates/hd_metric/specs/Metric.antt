@@ -45,7 +45,8 @@ abbrev pub read_by_condition : List ℕ → List Condition → Option ℕ
 read_by_condition f [] = None
 read_by_condition f (c ∷ cs) = read_by_part f c or read_by_condition f cs
 
--- a change of it has to be an increase, else its name is told, by an amount that does not read it
+-- a change of it has to be an increase, else its name is reported, by an amount that does not read
+-- it
 abbrev pub change_of_metric : List ℕ → FluentChange → Change → Option ℕ
 change_of_metric f c Increase = read_in f c.amount
 change_of_metric f c Assign = Some c.fluent.name.at

@@ -10,7 +10,7 @@ use hd_forms::{Change, NameAt};
 use hd_pddl::{Action, DomainAst, Init, ProblemAst};
 use hd_terms::{Condition, Effect, Expr, ExprParts, FluentChange, Leaf};
 
-/// The first place where an expression reads a function.
+/// Returns the first place where an expression reads a function.
 fn read_in(function: &Name, expression: &Expr) -> Option<usize>
     ensures { result ≡ read_in function.now expression.now }
 {
@@ -32,7 +32,7 @@ fn read_in(function: &Name, expression: &Expr) -> Option<usize>
     }
 }
 
-/// The first place where a part of a condition reads a function.
+/// Returns the first place where a part of a condition reads a function.
 fn read_by_part(function: &Name, part: &Condition) -> Option<usize>
     ensures { result ≡ read_by_part function.now part.now }
 {
@@ -50,7 +50,7 @@ fn read_by_part(function: &Name, part: &Condition) -> Option<usize>
     }
 }
 
-/// The first place where a condition reads a function.
+/// Returns the first place where a condition reads a function.
 fn read_by_condition(function: &Name, condition: &[Condition]) -> Option<usize>
     ensures { result ≡ read_by_condition function.now condition.now }
 {
@@ -64,7 +64,7 @@ fn read_by_condition(function: &Name, condition: &[Condition]) -> Option<usize>
     None
 }
 
-/// The place where a change of the metric's function is none that it may have, or reads it.
+/// Returns the place where a change of the metric's function is none that it may have, or reads it.
 fn change_of_metric(function: &Name, change: &FluentChange) -> Option<usize>
     ensures { result ≡ change_of_metric function.now change.now change.now.change }
 {
@@ -76,7 +76,7 @@ fn change_of_metric(function: &Name, change: &FluentChange) -> Option<usize>
     }
 }
 
-/// The place where a part of an effect misuses the metric's function.
+/// Returns the place where a part of an effect misuses the metric's function.
 fn misused_by_part(function: &Name, part: &Effect) -> Option<usize>
     ensures { result ≡ misused_by_part function.now part.now }
 {
@@ -94,7 +94,7 @@ fn misused_by_part(function: &Name, part: &Effect) -> Option<usize>
     }
 }
 
-/// The first place where an effect misuses the metric's function.
+/// Returns the first place where an effect misuses the metric's function.
 fn misused_by_effect(function: &Name, effect: &[Effect]) -> Option<usize>
     ensures { result ≡ misused_by_effect function.now effect.now }
 {
@@ -108,7 +108,7 @@ fn misused_by_effect(function: &Name, effect: &[Effect]) -> Option<usize>
     None
 }
 
-/// The place where an action misuses the metric's function.
+/// Returns the place where an action misuses the metric's function.
 fn misused_by_action(function: &Name, action: &Action) -> Option<usize>
     ensures { result ≡ misused_by_action function.now action.now }
 {
@@ -118,7 +118,7 @@ fn misused_by_action(function: &Name, action: &Action) -> Option<usize>
     }
 }
 
-/// The first place where actions misuse the metric's function.
+/// Returns the first place where actions misuse the metric's function.
 fn misused_by_actions(function: &Name, actions: &[Action]) -> Option<usize>
     ensures { result ≡ misused_by_actions function.now actions.now }
 {
@@ -132,7 +132,7 @@ fn misused_by_actions(function: &Name, actions: &[Action]) -> Option<usize>
     None
 }
 
-/// Whether this is the function's first value.
+/// Reports whether this is the function's first value.
 fn is_value_of(function: &Name, said: &Init) -> bool
     ensures { result ≡ is_value_of function.now said.now }
 {
@@ -143,7 +143,7 @@ fn is_value_of(function: &Name, said: &Init) -> bool
     }
 }
 
-/// The place of the function's first value, if that is not 0.
+/// Returns the place of the function's first value, if that is not 0.
 fn nonzero_at(function: &Name, said: &Init) -> Option<usize>
     ensures { result ≡ nonzero_at function.now said.now }
 {
@@ -160,7 +160,7 @@ fn nonzero_at(function: &Name, said: &Init) -> Option<usize>
     }
 }
 
-/// The first such place.
+/// Returns the first such place.
 fn nonzero_in(function: &Name, init: &[Init]) -> Option<usize>
     ensures { result ≡ nonzero_in function.now init.now }
 {
@@ -174,7 +174,7 @@ fn nonzero_in(function: &Name, init: &[Init]) -> Option<usize>
     None
 }
 
-/// Whether the function has a first value.
+/// Reports whether the function has a first value.
 fn has_value(function: &Name, init: &[Init]) -> bool
     ensures { result ≡ list_any (is_value_of function.now) init.now }
 {
@@ -188,7 +188,7 @@ fn has_value(function: &Name, init: &[Init]) -> bool
     false
 }
 
-/// The place of the metric's name, where its function has no first value.
+/// Returns the place of the metric's name, where its function has no first value.
 fn missing_in(metric: &NameAt, init: &[Init]) -> Option<usize>
     ensures { result ≡ missing_in metric.now init.now }
 {
@@ -199,7 +199,7 @@ fn missing_in(metric: &NameAt, init: &[Init]) -> Option<usize>
     }
 }
 
-/// The first place in a problem where the metric's function is misused.
+/// Returns the first place in a problem where the metric's function is misused.
 fn misused_by_problem(metric: &NameAt, problem: &ProblemAst) -> Option<usize>
     ensures { result ≡ misused_by_problem metric.now problem.now }
 {
@@ -213,7 +213,7 @@ fn misused_by_problem(metric: &NameAt, problem: &ProblemAst) -> Option<usize>
     missing_in(metric, init)
 }
 
-/// The misuse that is at this place, if there is one.
+/// Returns the misuse that is at this place, if there is one.
 fn bad_metric(place: Option<usize>) -> Option<BadMetric>
     ensures { result ≡ option_map bad_metric place }
 {
@@ -223,7 +223,7 @@ fn bad_metric(place: Option<usize>) -> Option<BadMetric>
     }
 }
 
-/// The first misuse of the metric's function in a domain.
+/// Returns the first misuse of the metric's function in a domain.
 pub fn misused_in_domain(metric: &Option<NameAt>, domain: &DomainAst) -> Option<BadMetric>
     ensures { result ≡ misused_in_domain metric.now domain.now }
 {
@@ -233,7 +233,7 @@ pub fn misused_in_domain(metric: &Option<NameAt>, domain: &DomainAst) -> Option<
     bad_metric(misused_by_actions(&name.name, domain.actions.as_slice()))
 }
 
-/// The first such misuse in a problem.
+/// Returns the first such misuse in a problem.
 pub fn misused_in_problem(metric: &Option<NameAt>, problem: &ProblemAst) -> Option<BadMetric>
     ensures { result ≡ misused_in_problem metric.now problem.now }
 {

@@ -1,4 +1,4 @@
--- What stands before the damage of a content, with a closed gate behind it, is a journal of just
+-- What stands before the damage of a content, with a closed gate after it, is a journal of just
 -- the groups there.
 use Rattle.std.proofs.Common.{◌≡◌, ◌≢◌, inl, inr, ℕ, ◌+◌, ◌<◌, List, [], ◌∷◌, ◌++◌, length, take, Some, Ok, Err, refl, sym, ap, ◌∙◌, subst, append_assoc, arith}
 use Rattle.std.specs.Prelude.{Result, IfOk, IfErr}

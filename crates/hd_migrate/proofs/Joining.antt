@@ -76,7 +76,7 @@ first_of v digest groups kids rest content sound group left =
       }
     ]
 
--- the entries behind a group are those behind it and the others
+-- the entries after a group are those after it and the others
 behind : (before : List (List Kid)) (kids after all rest : List Kid) → kids ++ after ≡ all
     → kids_in (before ++ kids ∷ []) ++ (after ++ rest) ≡ kids_in before ++ (all ++ rest)
 behind before kids after all rest e =
@@ -97,7 +97,7 @@ groups_have v [] [] sound = tt
 groups_have v [] (g ∷ more) sound = (sound.0.some, groups_have v [] more sound.1)
 groups_have v (b ∷ before) more sound = groups_have v before more sound.1
 
--- the entries behind a group fit where all do
+-- the entries after a group fit where all do
 pub fit_behind : (v w : Version) (kids after all : List Kid) → kids ++ after ≡ all → w ≡ v
     → list_all (λ (kid : Kid). fits_parent v kid.parent) all ≡ true → list_all (λ (kid : Kid). fits_parent w kid.parent) after ≡ true
 fit_behind v w kids after all e same fit =
@@ -125,7 +125,7 @@ pub is_group : (v : Version) (kids : List Kid) → 1 ≤ length kids → length 
     → list_all (λ (kid : Kid). fits_parent v kid.parent) kids ≡ true → AllByRecursion (λ (kid : Kid). kid.action < 2 ^ 32) kids → IsGroup v kids
 is_group v kids some most fit actions = record { some = some; most = most; held = held_by v kids (all_told v kids fit) actions }
 
--- a group of entries is as large as may be, or nothing is behind it
+-- a group of entries is as large as may be, or nothing is after it
 pub full_or_last : (mid most : ℕ) (all kids after : List Kid) → kids ≡ take mid all → after ≡ drop mid all → mid ≡ min (length all) most
     → (length kids ≡ most) ⊎ (after ≡ [])
 full_or_last mid most all kids after front back is =
@@ -365,7 +365,7 @@ pub failures_by : {S : Type 0} {G : Ghosts S} (kids : List Kid) (first : Device)
 failures_by kids first old new left (Ok done) same made a = ap (λ (d : Device). d.failures) same ∙ (a.failures ∙ made)
 failures_by kids first old new left (Err error) same made a = tt
 
--- all entries, and nothing behind them
+-- all entries, and nothing after them
 alone : (v : Version) (digest : List ℕ) (kids : List Kid) (content : List ℕ) → v ≡ Two
     → HasFirstOf v digest (kids_in [] ++ (kids ++ [])) content → HasFirstOf Two digest kids content
 alone v digest kids content two has =
@@ -445,7 +445,7 @@ not_made_kept digest old new JournalExists some not = ap content_of not.2
 not_made_kept digest old new NotOut some not = absurd not
 not_made_kept digest old new NoMemory some not = absurd (some not.1)
 
--- calls that end for want of memory count no failure
+-- calls that end for lack of memory count no failure
 ends_for_memory : (old : Device) (calls : List Call) (new : Device) → Ran old calls (Err store.NoMemory) new → new.failures ≡ old.failures
 ends_for_memory old [] new ran = absurd ran.0
 ends_for_memory old (call ∷ calls) new ran =

@@ -11,7 +11,7 @@ use Rattle.hd_journal.specs.Moments.{IsSettled, LeavesSince}
 use Rattle.hd_migrate.specs.Copy.{kids_in, AreFull, HasFirstOf}
 
 -- a stop leaves at each moment, from when a journal was the old one until it is the new one,
--- groups with the first of these entries behind those that were there, of which others may follow
+-- groups with the first of these entries after those that were there, of which others may follow
 abbrev pub LeavesFirst : {S : Type 0} {G : Ghosts S} → Journal S G → List Kid → Journal S G → Type 0
 LeavesFirst old kids new =
     (digest : List ℕ) (before : List (List Kid)) (rest : List Kid) → IsOf digest before old → IsSettled (device_of old)

@@ -1,4 +1,4 @@
--- What entries are written as anew, what is there while they are, and why it ends before. (Our
+-- What entries are written as again, what is there while they are, and why it ends before. (Our
 -- own.)
 use Rattle.std.specs.Prelude.{◌≡◌, ◌≢◌, ◌⊎◌, ℕ, List, [], ◌∷◌, ◌++◌, length}
 use Rattle.std.specs.List.{flat_map, AllByRecursion}

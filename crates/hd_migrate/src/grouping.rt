@@ -80,7 +80,7 @@ fn append_group<S: Store>(
     }
 }
 
-/// The first entries, as many as a group may have, and the others.
+/// Returns the first entries, as many as a group may have, and the others.
 fn first_group(kids: &[Kid]) -> (&[Kid], &[Kid])
     requires { 1 ≤ length kids.now }
     ensures joined { result.0.now ++ result.1.now ≡ kids.now }

@@ -1,10 +1,14 @@
-//! Entries written anew: a new journal, of version two, that has just these entries, in groups as
-//! large as may be. [`copy`] writes it.
+//! Writes given entries to a new journal of version two, and reads damaged journals up to the
+//! damage.
 //!
-//! One group is appended after the other. So what a stop leaves at any moment is a header that is
-//! still to be made, or a journal of the first of the entries.
+//! If [`copy`] succeeds, the store has a journal of exactly these entries. After an error, or a
+//! stop if nothing was pending, it has a header to be made, or a journal of a prefix. A store that
+//! is not empty keeps its content. [`salvage`] returns what the bytes are, or exactly the groups
+//! before the damage.
 //!
-//! [`salvage`] reads a damaged journal up to the open gate that has no whole group behind it.
+//! `copy` appends one group after another; each but the last has [`MAX_GROUP`] entries. `salvage`
+//! closes the damaged gate, cuts off the rest, and reads the bytes again. It allocates for the
+//! entries only. Start reading at [`copy`], then at `specs/Copy` and `specs/Salvage`.
 #![tactic(auto)]
 
 mod copying;

@@ -15,7 +15,7 @@ pub struct Salvaged {
     pub dropped: Option<u64>,
 }
 
-/// Closes the gate at a place, and cuts off what stands behind it.
+/// Closes the gate at a place, and cuts off what stands after it.
 fn close_at(content: &mut Vec<u8>, at: usize)
     requires { at < length content.old.items }
     ensures { content.new.items ≡ take at content.old.items ++ 0 ∷ [] }
@@ -24,7 +24,7 @@ fn close_at(content: &mut Vec<u8>, at: usize)
     content.truncate(at + 1);
 }
 
-/// What the bytes before the damage are read as, with a closed gate behind them.
+/// Returns what the bytes before the damage are read as, with a closed gate after them.
 fn read_before(
     alloc: Global,
     content: Vec<u8>,
@@ -43,7 +43,7 @@ fn read_before(
     found
 }
 
-/// What is kept of bytes that are damaged at a place.
+/// Returns what is kept of bytes that are damaged at a place.
 fn salvage_before(
     alloc: Global,
     content: Vec<u8>,
@@ -64,8 +64,8 @@ fn salvage_before(
     }
 }
 
-/// What the bytes of a file are, for the task of this digest; those of a damaged journal up to
-/// the open gate that has no whole group and next gate behind it. No memory is taken but for the
+/// Returns what the bytes of a file are, for the task of this digest; those of a damaged journal up
+/// to the open gate that has no whole group and next gate after it. No memory is taken but for the
 /// entries.
 ///
 /// # Errors

@@ -12,7 +12,7 @@ text_of (UnknownName name at) = codes "8 UnknownName(" ++ name ++ codes ", " ++ 
 text_of (Duplicate name at) = codes "9 Duplicate(" ++ name ++ codes ", " ++ decimal at ++ codes ")"
 text_of (TypeCycle name at) = codes "12 TypeCycle(" ++ name ++ codes ", " ++ decimal at ++ codes ")"
 
--- the stop is at the first fault; want of memory says nothing
+-- the stop is at the first fault; lack of memory says nothing
 abbrev pub StopsAt : NameStop → Option NameFault → Type 0
 StopsAt (stops.At f) fault = fault ≡ Some f
 StopsAt stops.NoMemory fault = Unit {0}

@@ -50,7 +50,7 @@ abbrev pub type_number : List (List ℕ) → Option NameAt → ℕ
 type_number types None = 0
 type_number types (Some n) = number_in types n.name
 
--- the first fault of declared names behind others: of each its name comes before its type
+-- the first fault of declared names after others: of each its name comes before its type
 abbrev pub declared_fault : ItemKind → List (List ℕ) → List (List ℕ) → List Typed → Option NameFault
 declared_fault k types names [] = None
 declared_fault k types names (t ∷ ts) =
@@ -74,11 +74,11 @@ Knows result k names n = Checks StopsAt result (unknown_in k names n) (number_in
 abbrev pub KnowsType : Result ℕ NameStop → List (List ℕ) → Option NameAt → Type 0
 KnowsType result types n = Checks StopsAt result (unknown_type types n) (type_number types n)
 
--- one name more is declared behind the old ones, and leaves the new ones
+-- one name more is declared after the old ones, and leaves the new ones
 abbrev pub Declares : {R : Type 0} → Result R NameStop → List (List ℕ) → ItemKind → List (List ℕ) → NameAt → Type 0
 Declares result new k old n = ChecksInto StopsAt result new (duplicate_in k old n) (old ++ n.name ∷ [])
 
--- names with their types are declared behind the old ones, and leave the new ones
+-- names with their types are declared after the old ones, and leave the new ones
 abbrev pub DeclaresNames
     : {R : Type 0} → Result R NameStop → List (List ℕ) → ItemKind → List (List ℕ) → List (List ℕ) → List Typed → Type 0
 DeclaresNames result new k types old ts = ChecksInto StopsAt result new (declared_fault k types old ts) (old ++ names_of ts)

@@ -28,7 +28,7 @@ abbrev pub with_supertype : List (List ℕ) → Option NameAt → List (List ℕ
 with_supertype names None = names
 with_supertype names (Some n) = with_name names n.name
 
--- the supertypes, behind the names that are there
+-- the supertypes, after the names that are there
 abbrev pub with_supertypes : List (List ℕ) → List Typed → List (List ℕ)
 with_supertypes names [] = names
 with_supertypes names (t ∷ ts) = with_supertypes (with_supertype names t.of) ts
@@ -54,12 +54,12 @@ pub record TellsCycle (ts : List Typed) (f : NameFault) : Type 0 where
   pub cycle : IsOnCycle (parents_of ts) (suc place)
   pub fault : f ≡ TypeCycle listed.name.name listed.name.at
 
--- the stop is at a type on a cycle; want of memory says nothing
+-- the stop is at a type on a cycle; lack of memory says nothing
 abbrev pub StopsOnCycle : NameStop → List Typed → Type 0
 StopsOnCycle (stops.At f) ts = TellsCycle ts f
 StopsOnCycle stops.NoMemory ts = Unit {0}
 
--- the hierarchy of the types, or a type on a cycle; want of memory says nothing
+-- the hierarchy of the types, or a type on a cycle; lack of memory says nothing
 abbrev pub Climbs : Result (List ℕ) NameStop → List Typed → Type 0
 Climbs (Ok h) ts = (h ≡ parents_of ts) × IsAcyclic (parents_of ts)
 Climbs (Err stop) ts = StopsOnCycle stop ts
@@ -82,7 +82,7 @@ signature_table types ss = record {
   items = map (λ s. types_of types s.parameters) ss;
 }
 
--- the first fault of predicates, or of functions, behind others of these names: of each its name,
+-- the first fault of predicates, or of functions, after others of these names: of each its name,
 -- then its parameters
 abbrev pub signatures_fault : List (List ℕ) → List (List ℕ) → List Signature → Option NameFault
 signatures_fault types names [] = None
@@ -109,7 +109,7 @@ scope_of types parents d metric = record {
   metric = metric_in (map (λ s. s.name.name) d.functions) metric;
 }
 
--- the same with objects behind the constants: what names stand for in a problem
+-- the same with objects after the constants: what names stand for in a problem
 unfoldable pub with_objects : Scope → List Typed → Scope
 with_objects s os = record {
   types = s.types;
@@ -128,7 +128,7 @@ scope_fault types d =
 
 -- ---- what calls answer: a value where there is no fault, else a stop at the fault
 
--- listed types are declared behind the old names, and leave the new ones
+-- listed types are declared after the old names, and leave the new ones
 abbrev pub DeclaresListed : {R : Type 0} → Result R NameStop → List (List ℕ) → List (List ℕ) → List Typed → Type 0
 DeclaresListed result new old ts = ChecksInto StopsAt result new (types_fault old ts) (old ++ names_of ts)
 
@@ -143,7 +143,7 @@ ChecksTable result k types ts = Checks StopsAt result (declared_fault k types []
 abbrev pub ChecksSignatures : Result (Table (List ℕ)) NameStop → List (List ℕ) → List Signature → Type 0
 ChecksSignatures result types ss = Checks StopsAt result (signatures_fault types [] ss) (signature_table types ss)
 
--- the scope of a domain, and that scope with objects behind its constants
+-- the scope of a domain, and that scope with objects after its constants
 abbrev pub ChecksScope : Result Scope NameStop → List (List ℕ) → List ℕ → DomainAst → Option NameAt → Type 0
 ChecksScope result types parents d metric = Checks StopsAt result (scope_fault types d) (scope_of types parents d metric)
 

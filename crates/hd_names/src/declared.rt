@@ -12,7 +12,7 @@ use hd_pddl::Signature;
 use hd_terms::{ItemKind, Typed};
 use std::alloc::Global;
 
-/// Declares names behind others, and gives the numbers of their types.
+/// Declares names after others, and gives the numbers of their types.
 pub fn declare_all(
     alloc: Global,
     kind: ItemKind,
@@ -47,7 +47,7 @@ pub fn table_of(
     Ok(Table { names, items })
 }
 
-/// The numbers of the types of a signature's parameters.
+/// Returns the numbers of the types of a signature's parameters.
 fn parameter_types(
     alloc: Global,
     types: &Names,
@@ -59,7 +59,7 @@ fn parameter_types(
     declare_all(alloc, ItemKind::Variable, types, &mut names, declared)
 }
 
-/// The table of predicates, or of functions, with the types of their parameters.
+/// Returns the table of predicates, or of functions, with the types of their parameters.
 pub fn signatures_of(
     alloc: Global,
     types: &Names,

@@ -1,5 +1,13 @@
-//! What the names of a domain and a problem stand for: types, objects, predicates and functions by
-//! number; and the faults of names.
+//! Resolves the names of a domain and a problem to numbers: types, objects, predicates, functions.
+//!
+//! [`types_of`], [`scope_of`] and [`with_objects`] return exactly what the declarations define, or
+//! their first error: an unknown name, or one that is declared twice. [`hierarchy_of`] returns the
+//! hierarchy of the types, or reports a type on a cycle. [`known`] returns the number of a used
+//! name, or reports it as unknown. Contracts see [`Names`] as the list of its names.
+//!
+//! [`Names`] is a hash table that keeps the order of insertion, and the number of a name is its
+//! place. A [`Table`] adds what is declared of each name. All tables of a scope hash by the same
+//! seed. Start reading at [`scope_of`], then `specs/Scope`.
 #![tactic(auto)]
 
 mod declared;

@@ -30,7 +30,7 @@ impl Model for Names {
 }
 
 impl Names {
-    /// No names, in a table that hashes by this seed.
+    /// Returns no names, in a table that hashes by this seed.
     pub fn none(alloc: Global, seed: Seed) -> Names
         ensures { result ≡ [] }
     {
@@ -39,40 +39,40 @@ impl Names {
         }
     }
 
-    /// No names, in a table that hashes as this one does.
+    /// Returns no names, in a table that hashes as this one does.
     pub fn none_alike(&self, alloc: Global) -> Names
         ensures { result ≡ [] }
     {
         Names::none(alloc, self.seed())
     }
 
-    /// What the table hashes by, which contracts do not see.
+    /// Returns what the table hashes by, which contracts do not see.
     pub fn seed(&self) -> Seed {
         *self.names.hasher()
     }
 
-    /// How many names there are.
+    /// Returns how many names there are.
     pub(crate) fn len(&self) -> usize
         ensures { result ≡ length self.now }
     {
         self.names.len()
     }
 
-    /// Whether a name is one of them.
+    /// Reports whether a name is one of them.
     pub fn has(&self, name: &Name) -> bool
         ensures { result ≡ is_named self.now name.now }
     {
         self.names.contains(name.as_str())
     }
 
-    /// The number of a name, if it is one of them.
+    /// Returns the number of a name, if it is one of them.
     pub fn place_of(&self, name: &Name) -> Option<usize>
         ensures { result ≡ position (bytes_eq name.now) self.now }
     {
         self.names.get_index_of(name.as_str())
     }
 
-    /// The number of a name, 0 if it is none of them.
+    /// Returns the number of a name, 0 if it is none of them.
     pub fn number_of(&self, name: &Name) -> usize
         ensures { result ≡ number_in self.now name.now }
     {
@@ -82,7 +82,7 @@ impl Names {
         }
     }
 
-    /// One name more, if it is none of them yet: whether it was none.
+    /// Returns one name more, if it is none of them yet: whether it was none.
     pub fn add(&mut self, alloc: Global, name: &Name) -> Result<bool, AllocError>
         ensures new { IfOk result (λ new. new ≡ not (is_named self.old name.now)) }
         ensures names { OnOk result (self.new ≡ with_name self.old name.now) }
@@ -92,7 +92,7 @@ impl Names {
     }
 }
 
-/// A name as it is written, in memory of its own: a variable's has its `?`.
+/// Returns a name as it is written, in memory of its own: a variable's has its `?`.
 pub fn spelled(alloc: Global, kind: ItemKind, name: &Name) -> Result<Name, AllocError>
     ensures { IfOk result (λ n. n ≡ spelled kind name.now) }
 {
@@ -106,7 +106,7 @@ pub fn spelled(alloc: Global, kind: ItemKind, name: &Name) -> Result<Name, Alloc
     }
 }
 
-/// Tells that a name is not declared.
+/// Reports that a name is not declared.
 fn unknown(alloc: Global, kind: ItemKind, name: &NameAt) -> NameStop
     ensures { StopsAt result (Some (UnknownName (spelled kind name.now.name) name.now.at)) }
 {
@@ -116,7 +116,7 @@ fn unknown(alloc: Global, kind: ItemKind, name: &NameAt) -> NameStop
     }
 }
 
-/// Tells that a name is declared twice.
+/// Reports that a name is declared twice.
 pub fn duplicate(alloc: Global, kind: ItemKind, name: &NameAt) -> NameStop
     ensures { StopsAt result (Some (Duplicate (spelled kind name.now.name) name.now.at)) }
 {
@@ -126,7 +126,7 @@ pub fn duplicate(alloc: Global, kind: ItemKind, name: &NameAt) -> NameStop
     }
 }
 
-/// The number of a name that is used.
+/// Returns the number of a name that is used.
 pub fn known(alloc: Global, kind: ItemKind, names: &Names, name: &NameAt) -> Result<usize, NameStop>
     ensures { Knows result kind names.now name.now }
 {
@@ -136,7 +136,7 @@ pub fn known(alloc: Global, kind: ItemKind, names: &Names, name: &NameAt) -> Res
     }
 }
 
-/// One name more, which can't be one of them yet.
+/// Adds one name more, which can't be one of them yet.
 pub fn declare(
     alloc: Global,
     kind: ItemKind,
@@ -152,7 +152,7 @@ pub fn declare(
     }
 }
 
-/// The number of a type that is named: `object`, which is 0, where none is.
+/// Returns the number of a type that is named: `object`, which is 0, where none is.
 pub fn type_of(alloc: Global, types: &Names, of: &Option<TypeName>) -> Result<usize, NameStop>
     ensures { KnowsType result types.now of.now }
 {

@@ -31,7 +31,7 @@ pub struct Scope {
     pub metric: Option<usize>,
 }
 
-/// The number of the metric's function.
+/// Returns the number of the metric's function.
 fn metric_of(functions: &Names, metric: &Option<NameAt>) -> Option<usize>
     ensures { result ≡ metric_in functions.now metric.now }
 {
@@ -41,8 +41,8 @@ fn metric_of(functions: &Names, metric: &Option<NameAt>) -> Option<usize>
     }
 }
 
-/// What names stand for in a domain whose types have these names and this hierarchy, by the metric
-/// of its problem.
+/// Returns what names stand for in a domain whose types have these names and this hierarchy, by the
+/// metric of its problem.
 ///
 /// # Errors
 /// The first fault of its constants, predicates and functions.
@@ -70,7 +70,7 @@ pub fn scope_of(
     })
 }
 
-/// A scope with objects behind those that are there.
+/// Returns a scope with objects after those that are there.
 ///
 /// # Errors
 /// The first fault of these objects.

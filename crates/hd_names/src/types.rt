@@ -38,7 +38,7 @@ fn add_supertype(alloc: Global, names: &mut Names, of: &Option<TypeName>) -> Res
     Ok(())
 }
 
-/// The supertypes, behind the names that are there.
+/// The supertypes, after the names that are there.
 fn add_supertypes(alloc: Global, names: &mut Names, listed: &[Typed]) -> Result<(), AllocError>
     ensures { IfOk result (λ _. names.new ≡ with_supertypes names.old listed.now) }
 {
@@ -50,7 +50,7 @@ fn add_supertypes(alloc: Global, names: &mut Names, listed: &[Typed]) -> Result<
     Ok(())
 }
 
-/// The types that are listed, behind those that are there.
+/// The types that are listed, after those that are there.
 fn declare_types(alloc: Global, names: &mut Names, listed: &[Typed]) -> Result<(), NameStop>
     ensures { DeclaresListed result names.new names.old listed.now }
 {
@@ -72,7 +72,7 @@ pub fn types_of(alloc: Global, seed: Seed, listed: &[Typed]) -> Result<Names, Na
     Ok(names)
 }
 
-/// The number of a type: `object`, which is 0, where none is named.
+/// Returns the number of a type: `object`, which is 0, where none is named.
 pub fn number_of_type(types: &Names, of: &Option<TypeName>) -> usize
     ensures { result ≡ type_number types.now of.now }
 {
@@ -97,7 +97,7 @@ pub fn numbers_of_types(
     Ok(Sequence::from_vec(numbers))
 }
 
-/// Tells that a type lies on a cycle.
+/// Reports that a type lies on a cycle.
 fn cycle_at(alloc: Global, name: &NameAt) -> NameStop
     ensures { StopsAt result (Some (TypeCycle name.now.name name.now.at)) }
 {
@@ -107,7 +107,7 @@ fn cycle_at(alloc: Global, name: &NameAt) -> NameStop
     }
 }
 
-/// Tells that a listed type lies on a cycle, by its number.
+/// Reports that a listed type lies on a cycle, by its number.
 fn cycle_among(alloc: Global, listed: &[Typed], number: usize) -> NameStop
     requires on_cycle { IsOnCycle (parents_of listed.now) number }
     requires listed { (0 < number) × (number ≤ length listed.now) }
@@ -117,7 +117,7 @@ fn cycle_among(alloc: Global, listed: &[Typed], number: usize) -> NameStop
     cycle_at(alloc, &item.name)
 }
 
-/// The numbers of the types above each type but `object`.
+/// Returns the numbers of the types above each type but `object`.
 fn parents_of(alloc: Global, types: &Names, listed: &[Typed]) -> Result<Vec<usize>, AllocError>
     requires { types.now ≡ type_names listed.now }
     ensures { IfOk result (λ v. v.items ≡ parents_of listed.now) }
@@ -129,7 +129,7 @@ fn parents_of(alloc: Global, types: &Names, listed: &[Typed]) -> Result<Vec<usiz
     Ok(parents)
 }
 
-/// The hierarchy of the types, of which none may lie on a cycle.
+/// Returns the hierarchy of the types, of which none may lie on a cycle.
 pub fn hierarchy_of(alloc: Global, types: &Names, listed: &[Typed]) -> Result<Hierarchy, NameStop>
     requires { types.now ≡ type_names listed.now }
     ensures { Climbs result listed.now }

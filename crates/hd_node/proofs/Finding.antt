@@ -34,7 +34,7 @@ stays t r n e = cond-false (action_departs t r n) (Action n ∷ []) [] e
 leaves : (t : Task) (r : Node) (n : ℕ) → action_departs t r n ≡ true → departing_by t r n ≡ Action n ∷ []
 leaves t r n e = cond-true (action_departs t r n) (Action n ∷ []) [] e
 
--- the child and the departures that an answer of `step` tells
+-- the child and the departures that an answer of `step` reports
 abbrev pub child_of : ℕ → Reached → Option ChildView
 child_of n No = None
 child_of n (Next s cost) = Some (record { action = n; state = s; cost = cost })

@@ -10,8 +10,8 @@ use Rattle.hd_task.specs.Applying.{goal_of}
 use Rattle.hd_task.specs.Expansions.{departing_at}
 use Rattle.hd_node.specs.Children.{ChildView, children_at}
 
--- an expansion: its task, the kid that names the plan, where that is said to lead, and what is
--- found there
+-- an expansion: its task, the successor that names the plan, where that is said to lead, and what
+-- is found there
 pub record ExpansionView : Type 0 where
   pub task : Task
   pub kid : Kid

@@ -5,8 +5,8 @@ use Rattle.hd_task.specs.declared.task.Task.{Task}
 use Rattle.hd_task.specs.declared.plan.Kid.{Kid}
 use Rattle.hd_task.specs.Plans.{IsStateOf}
 
--- a parcel: its task, the kid that names a plan, and the state and cost that the plan is said to
--- lead to
+-- a parcel: its task, the successor that names a plan, and the state and cost that the plan is said
+-- to lead to
 pub record ParcelView : Type 0 where
   pub task : Task
   pub kid : Kid

@@ -11,7 +11,7 @@ use hd_task::Kid;
 /// The greatest number of outcomes in a batch.
 pub const MAX_OUTCOMES: usize = 1024;
 
-/// What has a kid's state at no greater cost.
+/// What has a successor's state at no greater cost.
 #[derive(Clone, Copy, Debug, PartialEq, Eq, Hash)]
 pub enum By {
     /// The entry of this number.
@@ -20,7 +20,7 @@ pub enum By {
     Here(usize),
 }
 
-/// How a kid is settled.
+/// How a successor is settled.
 #[derive(Debug, Drop)]
 pub enum Outcome<'t> {
     /// It is expanded.
@@ -32,7 +32,7 @@ pub enum Outcome<'t> {
 }
 
 impl<'t> Outcome<'t> {
-    /// The kid that it settles.
+    /// Returns the successor that it settles.
     pub fn kid(&self) -> Kid
         ensures { result ≡ kid_of self.now }
     {
@@ -55,7 +55,7 @@ pub struct Batch<'t> {
 }
 
 impl<'t> Batch<'t> {
-    /// The batch of these outcomes, in their order.
+    /// Returns the batch of these outcomes, in their order.
     pub fn of(outcomes: Vec<Outcome<'t>>) -> Batch<'t>
         requires some { 1 ≤ length outcomes.items }
         requires few { length outcomes.items ≤ MAX_OUTCOMES }

@@ -23,7 +23,7 @@ impl Child {
     ghost use Rattle.std.specs.Prelude.{◌≡◌};
     ghost use Rattle.hd_zobrist.specs.Hash.{state_hash};
 
-    /// The child of an action that leads to a state, at the cost of the plan with it.
+    /// Returns the child of an action that leads to a state, at the cost of the plan with it.
     pub(crate) fn of(action: u32, state: Hashed, cost: u64) -> Child
         ensures { result ≡ record { action = action; state = state; cost = cost } }
     {
@@ -34,35 +34,35 @@ impl Child {
         }
     }
 
-    /// The action's number.
+    /// Returns the action's number.
     pub fn action(&self) -> u32
         ensures { result ≡ self.now.action }
     {
         self.action
     }
 
-    /// The state after it.
+    /// Returns the state after it.
     pub fn state(&self) -> &Packed
         ensures { result.now ≡ self.now.state }
     {
         self.state.state()
     }
 
-    /// The hash of the state after it.
+    /// Returns the hash of the state after it.
     pub fn hash(&self) -> u64
         ensures { result ≡ state_hash self.now.state }
     {
         self.state.hash()
     }
 
-    /// The cost of the plan with it.
+    /// Returns the cost of the plan with it.
     pub fn cost(&self) -> u64
         ensures { result ≡ self.now.cost }
     {
         self.cost
     }
 
-    /// The action, the state and the cost.
+    /// Returns the action, the state and the cost.
     pub(crate) fn into_parts(self) -> (u32, Hashed, u64)
         ensures action { result.0 ≡ self.action }
         ensures state { result.1 ≡ self.state }

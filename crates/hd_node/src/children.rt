@@ -26,7 +26,7 @@ impl Model for Children {
 }
 
 impl Children {
-    /// No children.
+    /// Returns no children.
     pub(crate) fn none(alloc: Global) -> Children
         ensures { result ≡ [] }
     {
@@ -35,7 +35,7 @@ impl Children {
         }
     }
 
-    /// Whether the next child takes memory.
+    /// Reports whether the next child takes memory.
     pub(crate) fn is_full(&self) -> bool {
         self.items.len() == self.items.capacity()
     }
@@ -52,7 +52,7 @@ impl Children {
         Ok(())
     }
 
-    /// One child more.
+    /// Adds one child more.
     ///
     /// # Errors
     /// `NoMemory` where there is no room for it.
@@ -63,21 +63,21 @@ impl Children {
         Ok(())
     }
 
-    /// The children as a slice.
+    /// Returns the children as a slice.
     pub fn as_slice(&self) -> &[Child]
         ensures { result.now ≡ self.now }
     {
         self.items.as_slice()
     }
 
-    /// How many there are.
+    /// Returns how many there are.
     pub fn len(&self) -> usize
         ensures { result ≡ length self.now }
     {
         self.items.len()
     }
 
-    /// The children in a list of their own, in order.
+    /// Returns the children in a list of their own, in order.
     pub fn into_vec(self) -> Vec<Child>
         ensures { result.items ≡ self }
     {

@@ -75,10 +75,10 @@ pub struct ExpansionParts {
 }
 
 impl<'t> Expansion<'t> {
-    /// The expansion of a parcel of a task: tries the actions that may apply, by an index of the
-    /// task, and tests the goal, at the parcel's state and cost. It takes memory once for the
-    /// children's list, where there are any, for the packed states that don't stand in place, and
-    /// for the departures, where there are any.
+    /// Returns the expansion of a parcel of a task: tries the actions that may apply, by an index
+    /// of the task, and tests the goal, at the parcel's state and cost. It takes memory once for
+    /// the children's list, where there are any, for the packed states that don't stand in place,
+    /// and for the departures, where there are any.
     ///
     /// # Errors
     /// The parcel and `NoMemory` where there is no room for them.
@@ -127,21 +127,21 @@ impl<'t> Expansion<'t> {
         }
     }
 
-    /// The kid that names the plan.
+    /// Returns the successor that names the plan.
     pub fn kid(&self) -> Kid
         ensures { result ≡ self.now.kid }
     {
         self.kid
     }
 
-    /// The state that the plan leads to.
+    /// Returns the state that the plan leads to.
     pub fn state(&self) -> &Packed
         ensures { result.now ≡ self.now.state }
     {
         self.state.state()
     }
 
-    /// The hash of that state.
+    /// Returns the hash of that state.
     pub fn hash(&self) -> u64
         ensures { result ≡ state_hash self.now.state }
     {
@@ -155,7 +155,7 @@ impl<'t> Expansion<'t> {
         &self.state
     }
 
-    /// What the plan costs.
+    /// Returns what the plan costs.
     pub fn cost(&self) -> u64
         ensures { result ≡ self.now.cost }
     {
@@ -169,21 +169,21 @@ impl<'t> Expansion<'t> {
         self.children.as_slice()
     }
 
-    /// What departs, the goal first, then actions in order.
+    /// Returns what departs, the goal first, then actions in order.
     pub fn departures(&self) -> &[DepartsBy]
         ensures { result.now ≡ self.now.departures }
     {
         self.departures.as_slice()
     }
 
-    /// Whether the goal holds at the state, or departs there.
+    /// Reports whether the goal holds at the state, or departs there.
     pub fn goal(&self) -> GoalTest
         ensures { result ≡ self.now.goal }
     {
         self.goal
     }
 
-    /// The parts with which a search goes on.
+    /// Returns the parts with which a search goes on.
     pub fn into_parts(self) -> ExpansionParts
         ensures kid { result.kid ≡ self.entry.kid }
         ensures state { result.state ≡ self.entry.state }

@@ -14,7 +14,7 @@ use hd_task::{ActionId, DepartsBy, GoalTest, Task};
 use hd_zobrist::Words;
 use std::alloc::Global;
 
-/// What departs at a node before any action: the goal, if its test says so.
+/// Returns what departs at a node before any action: the goal, if its test says so.
 #[tactic(auto, unfolding(hd_task::specs::Applying::test_of))]
 fn goal_departure(
     alloc: Global,
@@ -47,8 +47,8 @@ fn push_child(
     children.push(child)
 }
 
-/// What departs at a node, and into a list what it leads to, where the goal's test is known and the
-/// candidates at its state are marked.
+/// Returns what departs at a node, and into a list what it leads to, where the goal's test is known
+/// and the candidates at its state are marked.
 fn walk(
     alloc: Global,
     task: &Task,
@@ -94,8 +94,8 @@ fn walk(
     Ok(Sequence::from_vec(departures))
 }
 
-/// What departs at a node, and into a list what it leads to, where the goal's test is known. The
-/// index marks the candidates at its state.
+/// Returns what departs at a node, and into a list what it leads to, where the goal's test is
+/// known. The index marks the candidates at its state.
 pub(crate) fn explore<'t>(
     alloc: Global,
     task: &'t Task,

@@ -15,7 +15,7 @@ use std::marker::Model;
 
 /// A packed state with its hash, which contracts see as the state.
 ///
-/// As the key of a map it gives its hash, and hashes nothing anew.
+/// As the key of a map it gives its hash, and hashes nothing again.
 #[derive(Debug, Drop)]
 pub struct Hashed {
     state: Packed,
@@ -35,7 +35,7 @@ impl Model for Hashed {
 }
 
 impl Hashed {
-    /// A state of a task, packed, with its hash.
+    /// Returns a state of a task, packed, with its hash.
     ///
     /// # Errors
     /// `NoMemory` where there is no room for the packing.
@@ -48,7 +48,7 @@ impl Hashed {
         })
     }
 
-    /// A packed state whose hash is known.
+    /// Returns a packed state whose hash is known.
     pub fn known(state: Packed, hash: u64) -> Hashed
         requires { hash ≡ state_hash state }
         ensures { result ≡ state }
@@ -56,7 +56,7 @@ impl Hashed {
         Hashed { state, hash }
     }
 
-    /// A copy, with the same hash.
+    /// Returns a copy, with the same hash.
     ///
     /// # Errors
     /// `NoMemory` where there is no room for the bytes.
@@ -69,14 +69,14 @@ impl Hashed {
         })
     }
 
-    /// The packed state.
+    /// Returns the packed state.
     pub fn state(&self) -> &Packed
         ensures { result.now ≡ self.now }
     {
         &self.state
     }
 
-    /// The packed state, without its hash.
+    /// Returns the packed state, without its hash.
     pub fn into_state(self) -> Packed
         ensures { result ≡ self }
     {
@@ -84,7 +84,7 @@ impl Hashed {
         state
     }
 
-    /// The state's hash.
+    /// Returns the state's hash.
     pub fn hash(&self) -> u64
         ensures { result ≡ state_hash self.now }
     {

@@ -7,8 +7,8 @@ ghost use Rattle.hd_task.specs.Expansions.{applicable_at};
 ghost use Rattle.hd_node.specs.declared.batch.TheConstants.{MAX_OUTCOMES};
 ghost use Rattle.hd_node.specs.Children.{ChildView, children_at};
 
-/// The children of a node are those of its applicable actions, in order; each stands where its step
-/// leads, at a cost in the range.
+/// Law: the children of a node are those of its applicable actions, in order; each stands where its
+/// step leads, at a cost in the range.
 pub fn children_are_the_steps()
     ensures actions { (t : Task) (r : Node)
         → map (λ (c : ChildView). c.action) (children_at t r) ≡ applicable_at t (Some r) }
@@ -18,7 +18,7 @@ pub fn children_are_the_steps()
         → Contains (children_at t r) c → c.cost ≤ RANGE_END }
 {}
 
-/// A batch has 1,024 outcomes at most.
+/// Law: a batch has 1,024 outcomes at most.
 pub fn batches_are_small()
     ensures { MAX_OUTCOMES ≡ 1024 }
 {}

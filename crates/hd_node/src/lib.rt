@@ -1,5 +1,14 @@
-//! What travels between the parts of a search: parcels that wait to be expanded, expansions, and
-//! the outcomes that a worker hands to the book in a batch.
+//! Defines what the parts of a search exchange: parcels, expansions, and batches of outcomes.
+//!
+//! An [`Expansion`] has exactly the children of its state and cost, in order, exactly the
+//! departures there, and the goal's test. A [`Parcel`] only claims that its node leads to its
+//! state: the book checks it. A [`Batch`] has 1 to [`MAX_OUTCOMES`] outcomes.
+//!
+//! An expansion tries only the candidates of hd_successors, and allocates its list of children
+//! once. A state travels packed, with its hash ([`Hashed`]). [`Parcel::of_child`] moves a child,
+//! and does not allocate.
+//!
+//! Start reading at [`Expansion::of`], then `src/exploring.rt`.
 #![tactic(auto)]
 
 mod batch;

@@ -11,9 +11,9 @@ use hd_zobrist::Words;
 use std::alloc::Global;
 use std::marker::Model;
 
-/// A generated plan that waits to be expanded: the kid that names it, and where it leads.
+/// A generated plan that waits to be expanded: the successor that names it, and where it leads.
 ///
-/// The state is one of the task. That the kid names a plan which leads there is the claim of
+/// The state is one of the task. That the successor names a plan which leads there is the claim of
 /// whoever made the parcel; the book tests it.
 #[derive(Debug, Drop)]
 pub struct Parcel<'t> {
@@ -44,7 +44,7 @@ impl<'t> Model for Parcel<'t> {
 }
 
 impl<'t> Parcel<'t> {
-    /// The parcel that says of a kid where it leads. The state is packed and hashed.
+    /// Returns the parcel that says of a successor where it leads. The state is packed and hashed.
     ///
     /// # Errors
     /// `NoMemory` where there is no room for the packed state.
@@ -70,7 +70,7 @@ impl<'t> Parcel<'t> {
         })
     }
 
-    /// The parcel of a state that is packed and hashed. It takes no memory.
+    /// Returns the parcel of a state that is packed and hashed. It does not allocate.
     pub fn known(task: &'t Task, kid: Kid, state: Hashed, cost: u64) -> Parcel<'t>
         requires { IsStateOf task.now state }
         ensures task { result.task ≡ task.now }
@@ -86,7 +86,7 @@ impl<'t> Parcel<'t> {
         }
     }
 
-    /// The parcel of an entry's child. It takes no memory, since the child has all that a parcel
+    /// The parcel of an entry's child. It does not allocate, since the child has all that a parcel
     /// has; so what a batch releases can be made where nothing may fail any more.
     pub fn of_child(task: &'t Task, parent: u64, child: Child) -> Parcel<'t>
         requires { IsStateOf task.now child.state }
@@ -104,14 +104,14 @@ impl<'t> Parcel<'t> {
         }
     }
 
-    /// The kid that names the plan.
+    /// Returns the successor that names the plan.
     pub fn kid(&self) -> Kid
         ensures { result ≡ self.now.kid }
     {
         self.kid
     }
 
-    /// The state that the plan leads to.
+    /// Returns the state that the plan leads to.
     pub fn state(&self) -> &Packed
         ensures state { result.now ≡ self.now.state }
         ensures of_task { IsStateOf self.now.task result.now }
@@ -119,7 +119,7 @@ impl<'t> Parcel<'t> {
         self.state.state()
     }
 
-    /// The hash of that state.
+    /// Returns the hash of that state.
     pub fn hash(&self) -> u64
         ensures { result ≡ state_hash self.now.state }
     {
@@ -133,14 +133,14 @@ impl<'t> Parcel<'t> {
         &self.state
     }
 
-    /// What the plan costs.
+    /// Returns what the plan costs.
     pub fn cost(&self) -> u64
         ensures { result ≡ self.now.cost }
     {
         self.cost
     }
 
-    /// The kid, the state with its hash, and the cost.
+    /// Returns the successor, the state with its hash, and the cost.
     pub fn into_parts(self) -> (Kid, Hashed, u64)
         ensures kid { result.0 ≡ self.entry.kid }
         ensures state { result.1 ≡ self.entry.state }

@@ -197,7 +197,7 @@ module _ {A : Type 0} where
       default_zero : get_or c.parts.items (end - 1) part ≡ get_or c.parts.items (end - 1) 0
       default_zero = get_or_default_zero c.parts.items (end - 1) part (omega arith)
 
-  -- a group farther, behind one at which a part starts
+  -- a group farther, after one at which a part starts
   pub group_more :
       (slots : List (Option A)) (c : Counts) (end start part left place : ℕ) → AreCounts slots c → 0 < end → end ≤ length c.parts.items
       → start ≡ start_of end → part ≡ get_or c.parts.items (end - 1) part → part ≤ left → place_at slots (64 * start) + left ≡ place

@@ -169,7 +169,7 @@ module _ {A : Type 0} where
         | inr other ↦ elim other [ inl lt ↦ omega arith | inr gt ↦ absurd (omega arith) ]
       ]
 
-  -- the same, as the test of a bit tells
+  -- the same, as the test of a bit reports
   pub place_tested :
       (slots : List (Option A)) (words ws : List ℕ) (i : ℕ) (r : Bool) → AreMarks slots words → ws ≡ words → (r ≡ true ↔ (mark_at ws i ≡ 1)) → r ≡ true
       → place_at slots (i + 1) ≡ place_at slots i + 1

@@ -25,7 +25,7 @@ use Rattle.hd_open.proofs.Queueing.{queued_push, single_added, below_added}
 words_len : (words : List ℕ) (n : ℕ) → words ≡ replicate (n / 64) 18446744073709551615 → length words ≡ n / 64
 words_len words n full = ap length full ∙ length-replicate (n / 64) 18446744073709551615
 
--- the words before the last one, that one, and none behind it
+-- the words before the last one, that one, and none after it
 word_before :
     (words more : List ℕ) (n v g : ℕ) → words ≡ replicate (n / 64) 18446744073709551615 → more ≡ words ++ v ∷ [] → g < n / 64
     → get_or more g 0 ≡ 18446744073709551615
@@ -184,7 +184,7 @@ module _ {A : Type 0} where
       ∙ (ap (λ (os : List (Option A)). get_or os (length after) None) (sym is ∙ was)
       ∙ (get_or-take (length before) slots (length after) None (omega arith) ∙ empty (length after) (omega arith)))
 
-  -- slots behind those of the nodes are empty, also after a node has changed places with one
+  -- slots after those of the nodes are empty, also after a node has changed places with one
   pub empty_swapped :
       (before after : List (Option A)) (to from : ℕ) → SwappedAt before after to from → to ≤ from
       → ((i : ℕ) → to ≤ i → i < from → get_or before i None ≡ None) → (i : ℕ) → to + 1 ≤ i → i < from + 1 → get_or after i None ≡ None

@@ -7,7 +7,7 @@ use Rattle.std.proofs.lemmas.Option.{none-some, same_Some, slice_get_within}
 use Rattle.hd_open.specs.Totals.{IsBest}
 use Rattle.hd_open.specs.Live.{live, place_at, IsBestArrival}
 
--- after a node has come to a slot, there is one more behind it
+-- after a node has come to a slot, there is one more after it
 pub record IsPlaced {A : Type 0} (before after : List (Option A)) (arrival : ℕ) : Type 0 where
   pub up_to : (m : ℕ) → m ≤ arrival → place_at after m ≡ place_at before m
   pub behind : (m : ℕ) → arrival < m → place_at after m ≡ place_at before m + 1
@@ -74,7 +74,7 @@ module _ {A : Type 0} where
   place_at-le-arrival (Some x ∷ slots) (suc m) = let rest = place_at-le-arrival slots m in omega arith
   place_at-le-arrival (None ∷ slots) (suc m) = let rest = place_at-le-arrival slots m in omega arith
 
-  -- where nodes stand behind an arrival, it is among the slots
+  -- where nodes stand after an arrival, it is among the slots
   pub place_less : (slots : List (Option A)) (m : ℕ) → place_at slots m < length (live slots) → m < length slots
   place_less slots m less =
       elim (cases_lt m (length slots)) [

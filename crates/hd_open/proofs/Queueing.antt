@@ -74,7 +74,7 @@ covered q r o same few least large dead = record {
         (λ in_large. inr (ap (λ (l : BTreeSet (ℕ × ℕ)). contains entry_cmp l (t, k)) (sym large) ∙ in_large)) has
     only None k has = subst (λ (xs : List ℕ). IsAmong xs k) dead has
 
--- an arrival comes behind the others of its bucket
+-- an arrival comes after the others of its bucket
 pub added_small :
     (q r : Queue) (small : List (List ℕ)) (total arrival : ℕ) → IsOrderly q → IsBelow q arrival
     → ((t : ℕ) → bucket small t ≡ bucket q.small.items t) → length small ≤ 65536 → total < length small
@@ -397,7 +397,7 @@ module _ {A : Type 0} (total : A → Option ℕ) where
       (slots : List (Option A)) (words : List ℕ) (q r : Queue) → AreMarks slots words → IsQueued total slots q → IsCleared words q r → IsQueued total slots r
   queued_cleared slots words q r m queued c k x at = c.stays (total x) k (filled_is_marked slots words k x m at) (queued k x at)
 
-  -- a node comes behind the others
+  -- a node comes after the others
   pub queued_push :
       (slots : List (Option A)) (q : Queue) (x : A)
       → IsQueued total slots q → Has q (total x) (length slots)

@@ -18,7 +18,7 @@ use Rattle.hd_open.proofs.Places.{live-append, live_get, live-set-none, emptied,
 use Rattle.hd_open.proofs.Queueing.{queued_push, queued_left, queued_back, single_added, below_added}
 
 module _ {A : Type 0} where
-  -- a node comes behind the others
+  -- a node comes after the others
   pub nodes_push : (slots after : List (Option A)) (nodes : List A) (x : A) → live slots ≡ nodes → after ≡ slots ++ Some x ∷ [] → live after ≡ nodes ++ x ∷ []
   nodes_push slots after nodes x is pushed =
       ap live pushed ∙ (live-append slots (Some x ∷ []) ∙ ap (λ (ns : List A). ns ++ x ∷ []) is)
@@ -89,7 +89,7 @@ module _ {A : Type 0} where
       hinted = _;
     }
 
-    -- a node has come behind the others
+    -- a node has come after the others
     pub kept_push :
         (slots after : List (Option A)) (q r : Queue) (d : Counts) (x : A) (t : Option ℕ) (n : ℕ) → t ≡ total x → n ≡ length slots
         → after ≡ slots ++ Some x ∷ [] → IsQueued total slots q → IsSingle q → IsBelow q (length slots) → IsOrderly r → Has r t n

@@ -9,7 +9,7 @@ is_less (Some a) None = true
 is_less None b = false
 
 -- a node of this total at this place comes no later than one of that total at that place: its total
--- is less, or the same and its place is not behind the other's
+-- is less, or the same and its place is not after the other's
 abbrev pub IsNotAfter : Option ℕ → ℕ → Option ℕ → ℕ → Type 0
 IsNotAfter total place other_total other_place = (is_less total other_total ≡ true) ⊎ ((total ≡ other_total) × (place ≤ other_place))
 

@@ -21,7 +21,7 @@ impl Model for Arrivals {
 }
 
 impl Arrivals {
-    /// No arrivals.
+    /// Returns no arrivals.
     pub(crate) fn none(alloc: Global) -> Arrivals
         ensures { result ≡ [] }
     {
@@ -30,7 +30,7 @@ impl Arrivals {
         }
     }
 
-    /// One arrival more, behind the others.
+    /// Adds one arrival more, after the others.
     ///
     /// # Errors
     /// `NoMemory` where there is no room for it.
@@ -42,7 +42,7 @@ impl Arrivals {
         Ok(())
     }
 
-    /// The first one.
+    /// Returns the first one.
     pub(crate) fn first(&self) -> Option<usize>
         ensures { result ≡ slice_get self.now 0 }
     {

@@ -14,7 +14,7 @@ use crate::waits::Waits;
 use hd_base::NoMemory;
 use std::alloc::Global;
 
-/// The marks of so many slots that all hold a node.
+/// Returns the marks of so many slots that all hold a node.
 fn full_marks(alloc: Global, count: usize) -> Result<Vec<u64>, NoMemory>
     ensures marked { IfOk result (λ w. (i : ℕ) → i < count → mark_at w.items i ≡ 1) }
     ensures unmarked { IfOk result (λ w. (i : ℕ) → count ≤ i → mark_at w.items i ≡ 0) }
@@ -25,7 +25,7 @@ fn full_marks(alloc: Global, count: usize) -> Result<Vec<u64>, NoMemory>
     Ok(words)
 }
 
-/// The parts that count so many slots which all hold a node.
+/// Returns the parts that count so many slots which all hold a node.
 fn full_parts(alloc: Global, count: usize) -> Result<Vec<usize>, NoMemory>
     ensures parts { IfOk result (λ p. (end : ℕ) → 0 < end → end ≤ length p.items
         → GROUP * start_of end + part_at p.items end ≡ min (GROUP * end) count) }
@@ -41,7 +41,7 @@ fn full_parts(alloc: Global, count: usize) -> Result<Vec<usize>, NoMemory>
     Ok(parts)
 }
 
-/// What counts the nodes of these slots, once they are moved together.
+/// Returns what counts the nodes of these slots, once they are moved together.
 fn packed_counts<T>(slots: &[Option<T>], alloc: Global, count: usize) -> Result<Counts, NoMemory>
     requires { count ≡ length (live slots.now) }
     ensures marked { IfOk result (λ c. AreMarks (packed slots.now) c.marks.items) }
@@ -56,7 +56,7 @@ fn packed_counts<T>(slots: &[Option<T>], alloc: Global, count: usize) -> Result<
     })
 }
 
-/// A queue of the nodes of these slots, by the arrivals that they have once they are moved
+/// Returns a queue of the nodes of these slots, by the arrivals that they have once they are moved
 /// together.
 fn packed_queue<T: Waits>(slots: &[Option<T>], alloc: Global) -> Result<Queue, NoMemory>
     ensures queued { IfOk result (IsQueued T.total (packed slots.now)) }
@@ -75,7 +75,7 @@ fn packed_queue<T: Waits>(slots: &[Option<T>], alloc: Global) -> Result<Queue, N
     Ok(queue)
 }
 
-/// Moves the nodes to the first slots, in their order, and tells how many they are.
+/// Moves the nodes to the first slots, in their order, and reports how many they are.
 fn gather<T>(slots: &mut Vec<Option<T>>) -> usize
     ensures within { result ≤ length slots.new.items }
     ensures first { take result slots.new.items ≡ packed slots.old.items }
@@ -91,7 +91,7 @@ fn gather<T>(slots: &mut Vec<Option<T>>) -> usize
     to
 }
 
-/// Leaves so many slots; those behind them are empty.
+/// Leaves so many slots; those after them are empty.
 fn cut<T>(slots: &mut Vec<Option<T>>, count: usize)
     requires within { count ≤ length slots.old.items }
     requires empty { (i : ℕ) → count ≤ i → slice_index_or slots.old.items i None ≡ None }

@@ -19,8 +19,8 @@ pub(crate) struct Counts {
     pub(crate) all: usize,
 }
 
-/// The first group that is counted in the part which ends before this one: the number without its
-/// lowest one bit.
+/// Returns the first group that is counted in the part which ends before this one: the number
+/// without its lowest one bit.
 pub(crate) fn start_of(end: usize) -> usize
     requires { 0 < end }
     ensures value { result ≡ start_of end }

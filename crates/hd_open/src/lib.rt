@@ -1,10 +1,13 @@
-//! The open list of a worker: the nodes that wait to be expanded, in the order in which they came.
+//! Keeps the open list of a worker: the nodes that wait to be expanded, in the order of arrival.
 //!
-//! A node may be asked for by its place in that order, or as the best one: that of the least cost
-//! plus estimate, the earliest of equal ones. The nodes lie by their arrivals, and a slot that a
-//! node has left stays empty until no slot is left and fewer than half of them hold a node: then
-//! the nodes are moved together. A sorted queue finds the best one, and counts of groups of slots
-//! find places.
+//! Contracts see a list. [`OpenList::best`] returns the place of the least total (cost plus
+//! estimate), the oldest first; nodes without a total come last. [`OpenList::push`] adds at the
+//! end, or gives the node back. [`OpenList::remove`] and [`OpenList::take_best`] take out one node.
+//!
+//! Nodes lie in slots by arrival, and a taken node leaves an empty slot. If no slot is left and
+//! fewer than half hold a node, the nodes are moved together. Small totals have a bucket each,
+//! larger ones are in a sorted set; stale entries are dropped when met. A binary indexed tree over
+//! groups of 64 slots finds places. Start reading at [`OpenList`], then at `specs/Open`.
 #![tactic(auto)]
 
 mod arrivals;

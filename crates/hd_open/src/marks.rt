@@ -5,7 +5,7 @@ ghost use Rattle.hd_open.specs.declared.counts.TheConstants.{GROUP};
 
 use crate::counts::GROUP;
 
-/// Whether a slot is marked.
+/// Reports whether a slot is marked.
 pub(crate) fn is_marked(words: &[u64], at: usize) -> bool
     ensures { IsTrue result ↔ (mark_at words.now at ≡ 1) }
 {
@@ -35,7 +35,7 @@ pub(crate) fn unmark(words: &mut Vec<u64>, at: usize)
     words[at / GROUP] &= !(1 << (at % GROUP));
 }
 
-/// How many slots are marked that come before this one in its group.
+/// Returns how many slots are marked that come before this one in its group.
 pub(crate) fn marked_before(words: &[u64], at: usize) -> usize
     ensures { result ≡ count_ones (slice_index words.now (at / GROUP) % 2 ^ (at % GROUP)) }
 {

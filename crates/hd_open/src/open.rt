@@ -41,7 +41,7 @@ impl<T: Waits> Model for OpenList<T> {
 }
 
 impl<T: Waits> OpenList<T> {
-    /// No nodes.
+    /// Returns no nodes.
     pub fn empty(alloc: Global) -> OpenList<T>
         ensures nodes { result.nodes ≡ [] }
         ensures gap { result.gap ≡ None }
@@ -55,14 +55,14 @@ impl<T: Waits> OpenList<T> {
         }
     }
 
-    /// How many nodes there are.
+    /// Returns how many nodes there are.
     pub fn len(&self) -> usize
         ensures { result ≡ length self.now.nodes }
     {
         self.counts.all
     }
 
-    /// A node more, behind the others.
+    /// A node more, after the others.
     ///
     /// # Errors
     /// The node, where there is no room for it; no other node has come or gone.
@@ -89,8 +89,8 @@ impl<T: Waits> OpenList<T> {
         Ok(())
     }
 
-    /// The place of the best node: that of the least total, the earliest of equal ones. Nodes
-    /// without a total come last.
+    /// Returns the place of the best node: that of the least total, the earliest of equal ones.
+    /// Nodes without a total come last.
     pub fn best(&mut self) -> Option<usize>
         ensures best { IfSome result (λ k. IsBest T.total self.old.nodes k) }
         ensures none { IfNone result (self.old.nodes ≡ []) }
@@ -118,7 +118,7 @@ impl<T: Waits> OpenList<T> {
         Some(node)
     }
 
-    /// The node at a place in the order of arrival.
+    /// Returns the node at a place in the order of arrival.
     pub fn get(&self, place: usize) -> Option<&T>
         ensures { option_copied result ≡ slice_get self.now.nodes place }
     {
@@ -147,7 +147,7 @@ impl<T: Waits> OpenList<T> {
 }
 
 impl<T: Waits + Drop> OpenList<T> {
-    /// Puts a node back where one of the same total was taken out last. It takes no memory.
+    /// Puts a node back where one of the same total was taken out last. It does not allocate.
     pub fn put_back(&mut self, node: T)
         requires { IsGapOf (T.total node) self.old.gap }
         ensures nodes { IfSome self.old.gap (λ g. self.new.nodes

@@ -40,7 +40,7 @@ fn cover(alloc: Global, small: &mut Vec<Arrivals>, total: usize) -> Result<(), N
     Ok(())
 }
 
-/// The first arrival whose slot is marked. Those before it are dropped.
+/// Returns the first arrival whose slot is marked. Those before it are dropped.
 fn first_waiting(arrivals: &mut Arrivals, words: &[u64]) -> Option<usize>
     ensures cleared { AreCleared words.now arrivals.old arrivals.new }
     ensures first { IfSome result (λ a. slice_get arrivals.new 0 ≡ Some a) }
@@ -76,7 +76,7 @@ fn first_small(small: &mut Vec<Arrivals>, from: usize, words: &[u64]) -> Option<
     None
 }
 
-/// The first entry of those that are sorted.
+/// Returns the first entry of those that are sorted.
 fn first_of(large: &BTreeSet<(u128, usize)>) -> Option<(u128, usize)>
     ensures first { IfSome result (λ r. slice_get large.now.keys 0 ≡ Some r) }
     ensures member { IfSome result (λ r. contains entry_cmp large.now r ≡ true) }
@@ -89,7 +89,8 @@ fn first_of(large: &BTreeSet<(u128, usize)>) -> Option<(u128, usize)>
     }
 }
 
-/// The first entry of those that are sorted whose slot is marked. Those before it are dropped.
+/// Returns the first entry of those that are sorted whose slot is marked. Those before it are
+/// dropped.
 fn first_large(large: &mut BTreeSet<(u128, usize)>, words: &[u64]) -> Option<(u128, usize)>
     ensures stays { (t k : ℕ) → mark_at words.now k ≡ 1 → contains entry_cmp large.old (t, k) ≡ true
         → contains entry_cmp large.new (t, k) ≡ true }
@@ -110,7 +111,7 @@ fn first_large(large: &mut BTreeSet<(u128, usize)>, words: &[u64]) -> Option<(u1
 }
 
 impl Queue {
-    /// No arrivals.
+    /// Returns no arrivals.
     pub(crate) fn empty(alloc: Global) -> Queue
         ensures orderly { IsOrderly result }
         ensures none { (g : Option ℕ) (k : ℕ) → Has result g k → ⊥ }
@@ -124,7 +125,7 @@ impl Queue {
         }
     }
 
-    /// One arrival more, of a total that has a bucket.
+    /// Adds one arrival more, of a total that has a bucket.
     #[inline(always)]
     fn add_small(&mut self, total: usize, arrival: u32) -> Result<(), NoMemory>
         requires bucket { total < BUCKETS }
@@ -145,7 +146,7 @@ impl Queue {
         Ok(())
     }
 
-    /// One arrival more, of a total that has no bucket.
+    /// Adds one arrival more, of a total that has no bucket.
     fn add_large(&mut self, total: u128, arrival: usize) -> Result<(), NoMemory>
         requires no_bucket { BUCKETS ≤ total }
         requires orderly { IsOrderly self.old }
@@ -160,7 +161,7 @@ impl Queue {
         Ok(())
     }
 
-    /// One arrival more, of no total.
+    /// Adds one arrival more, of no total.
     fn add_dead(&mut self, arrival: u32) -> Result<(), NoMemory>
         requires orderly { IsOrderly self.old }
         requires latest { IsBelow self.old arrival }
@@ -208,7 +209,7 @@ impl Queue {
         }
     }
 
-    /// The arrival of the first entry whose slot is marked. Those before it are dropped.
+    /// Returns the arrival of the first entry whose slot is marked. Those before it are dropped.
     pub(crate) fn first(&mut self, words: &[u64]) -> Option<usize>
         requires orderly { IsOrderly self.old }
         ensures cleared { IsCleared words.now self.old self.new }

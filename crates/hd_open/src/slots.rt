@@ -48,7 +48,7 @@ fn filled_after<T>(slots: &[Option<T>], counts: &Counts, from: usize, more: usiz
     unreachable!()
 }
 
-/// How many nodes stand before a group.
+/// Returns how many nodes stand before a group.
 fn counted_before<T>(slots: &[Option<T>], counts: &Counts, group: usize) -> usize
     requires counted { AreCounts slots.now counts.now }
     requires within { group ≤ length counts.now.parts.items }
@@ -65,7 +65,7 @@ fn counted_before<T>(slots: &[Option<T>], counts: &Counts, group: usize) -> usiz
     place
 }
 
-/// How many nodes stand before an arrival.
+/// Returns how many nodes stand before an arrival.
 pub(crate) fn place_of<T>(slots: &[Option<T>], counts: &Counts, arrival: usize) -> usize
     requires marked { AreMarks slots.now counts.now.marks.items }
     requires counted { AreCounts slots.now counts.now }
@@ -78,7 +78,7 @@ pub(crate) fn place_of<T>(slots: &[Option<T>], counts: &Counts, arrival: usize) 
     before + marked_before(counts.marks.as_slice(), arrival)
 }
 
-/// A power of two, with which the search for a place among so many groups begins.
+/// Returns a power of two, with which the search for a place among so many groups begins.
 fn greatest_step(groups: usize) -> usize {
     let mut step = 1usize;
     while step <= groups / 2 {
@@ -87,7 +87,8 @@ fn greatest_step(groups: usize) -> usize {
     step
 }
 
-/// A group before which there are no more than so many nodes, and how many more are left behind it.
+/// Returns a group before which there are no more than so many nodes, and how many more are left
+/// after it.
 fn group_of<T>(slots: &[Option<T>], counts: &Counts, place: usize) -> (usize, usize)
     requires counted { AreCounts slots.now counts.now }
     ensures { place_at slots.now (GROUP * result.0) + result.1 ≡ place }
@@ -109,7 +110,7 @@ fn group_of<T>(slots: &[Option<T>], counts: &Counts, place: usize) -> (usize, us
     (group, left)
 }
 
-/// The arrival of the node at a place.
+/// Returns the arrival of the node at a place.
 pub(crate) fn arrival_of<T>(slots: &[Option<T>], counts: &Counts, place: usize) -> usize
     requires marked { AreMarks slots.now counts.now.marks.items }
     requires counted { AreCounts slots.now counts.now }
@@ -121,7 +122,7 @@ pub(crate) fn arrival_of<T>(slots: &[Option<T>], counts: &Counts, place: usize) 
     filled_after(slots, counts, GROUP * group, left)
 }
 
-/// The same, where the arrival of the node at one place may be known.
+/// Returns the same, where the arrival of the node at one place may be known.
 pub(crate) fn arrival_by<T>(
     slots: &[Option<T>],
     counts: &Counts,
@@ -179,7 +180,8 @@ pub(crate) fn cover<T>(slots: &[Option<T>], counts: &mut Counts) -> Result<(), N
     Ok(())
 }
 
-/// The arrival of the best node. Entries of the queue whose nodes have left are dropped on the way.
+/// Returns the arrival of the best node. Entries of the queue whose nodes have left are dropped on
+/// the way.
 pub(crate) fn best_arrival<T: Waits>(
     slots: &[Option<T>],
     counts: &Counts,
@@ -200,7 +202,7 @@ pub(crate) fn best_arrival<T: Waits>(
     queue.first(counts.marks.as_slice())
 }
 
-/// Puts a node into a slot of its own, behind the others. There is room for it.
+/// Puts a node into a slot of its own, after the others. There is room for it.
 pub(crate) fn append<T>(slots: &mut Vec<Option<T>>, counts: &mut Counts, node: T)
     requires free { vec_len slots.old < vec_capacity slots.old }
     requires marked { AreMarks slots.old.items counts.old.marks.items }

@@ -6,7 +6,7 @@ pub trait Waits {
     // Its cost plus its estimate; none where the estimate is infinite.
     ghost total: { Self → Option ℕ };
 
-    /// The cost plus the estimate; none where the estimate is infinite.
+    /// Returns the cost plus the estimate; none where the estimate is infinite.
     fn total(&self) -> Option<u128>
         ensures { result ≡ total self.now };
 }

@@ -241,7 +241,7 @@ flipped_atom (a ∷ b ∷ c ∷ d ∷ e ∷ f ∷ g ∷ h ∷ bs) (suc (suc (suc
     ∙ (flipped_later (byte_of (a ∷ b ∷ c ∷ d ∷ e ∷ f ∷ g ∷ h ∷ [])) (atom_bytes bs) j
     ∙ ap (λ (ns : List ℕ). byte_of (a ∷ b ∷ c ∷ d ∷ e ∷ f ∷ g ∷ h ∷ []) ∷ ns) (flipped_atom bs j (omega (arith, lt))))
 
--- with more bytes behind those of the atoms
+-- with more bytes after those of the atoms
 pub flipped_before : (bs : List Bool) (more : List ℕ) (i : ℕ) → i < length bs
     → flipped (atom_bytes bs ++ more) i ≡ atom_bytes (set bs i (not (get_or bs i false))) ++ more
 flipped_before bs more i lt =

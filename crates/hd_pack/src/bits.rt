@@ -31,14 +31,14 @@ pub(crate) fn copy_of(alloc: Global, bytes: &[u8]) -> Result<Bytes, NoMemory>
     Ok(SmallVec::from_vec(block))
 }
 
-/// How many bytes so many atoms take.
+/// Returns how many bytes so many atoms take.
 pub(crate) fn bytes_for(atoms: usize) -> usize
     ensures { result ≡ bytes_for atoms }
 {
     atoms.div_ceil(8)
 }
 
-/// The byte of at most eight bits, the least first.
+/// Returns the byte of at most eight bits, the least first.
 #[tactic(auto, using(crate::proofs::AtomBits::byte_fits))]
 fn byte_of(bits: &[bool]) -> u8
     requires { length bits.now ≤ 8 }
@@ -67,7 +67,7 @@ pub(crate) fn push_atoms(bytes: &mut Bytes, atoms: &[bool]) -> Result<(), NoMemo
     Ok(())
 }
 
-/// The atom of this number.
+/// Returns the atom of this number.
 pub(crate) fn atom_in(bytes: &[u8], atom: usize) -> bool
     requires { atom / 8 < length bytes.now }
     ensures { result ≡ atom_in bytes.now atom }
@@ -83,7 +83,7 @@ pub(crate) fn flip_atom(bytes: &mut Bytes, atom: usize)
     bytes.as_mut_slice()[atom / 8] ^= 1 << (atom % 8);
 }
 
-/// The first atoms, as many as asked, in a vector with room for as many as said.
+/// Returns the first atoms, as many as asked, in a vector with room for as many as said.
 #[tactic(auto, using(crate::proofs::AtomBits::atoms_more))]
 pub(crate) fn atoms_in(
     alloc: Global,

@@ -5,13 +5,13 @@ ghost use Rattle.std.specs.List.{AllByRecursion};
 ghost use Rattle.hd_task.specs.declared.state.State.{State};
 ghost use Rattle.hd_pack.specs.Packing.{packed_bytes, unpacked};
 
-/// A state is unpacked from its bytes and its number of atoms.
+/// Law: a state is unpacked from its bytes and its number of atoms.
 pub fn packings_are_unpacked()
     ensures { (s : State) → AllByRecursion (FitsSigned w64) s.fluents
         → unpacked (length s.atoms) (packed_bytes s) ≡ s }
 {}
 
-/// Equal packings are of equal states: no two states with as many atoms have the same bytes.
+/// Law: equal packings are of equal states: no two states with as many atoms have the same bytes.
 pub fn equal_packings_are_of_equal_states()
     ensures { (s t : State) → AllByRecursion (FitsSigned w64) s.fluents
         → AllByRecursion (FitsSigned w64) t.fluents → length s.atoms ≡ length t.atoms

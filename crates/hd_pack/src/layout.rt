@@ -17,7 +17,7 @@ pub struct Layout {
 }
 
 impl Layout {
-    /// The layout of a task's states. It takes no memory.
+    /// The layout of a task's states. It does not allocate.
     pub fn new(task: &Task) -> Layout
         ensures atoms { result.atoms ≡ length task.now.initial.atoms }
         ensures fluents { result.fluents ≡ length task.now.initial.fluents }
@@ -28,21 +28,21 @@ impl Layout {
         }
     }
 
-    /// How many atoms there are.
+    /// Returns how many atoms there are.
     pub fn atoms(&self) -> usize
         ensures { result ≡ self.now.atoms }
     {
         self.atoms
     }
 
-    /// How many fluents there are.
+    /// Returns how many fluents there are.
     pub fn fluents(&self) -> usize
         ensures { result ≡ self.now.fluents }
     {
         self.fluents
     }
 
-    /// How many bytes a packed state has.
+    /// Returns how many bytes a packed state has.
     pub fn bytes(&self) -> usize
         ensures { result ≡ bytes_for self.now.atoms + 8 * self.now.fluents }
     {

@@ -1,10 +1,14 @@
-//! States in few bytes: a bit for each atom, then eight bytes for each fluent.
+//! Stores states in few bytes, and applies actions to them in this form.
 //!
-//! Atom i is bit `i mod 8`, the least first, of byte `i div 8`, and unused bits are 0. A fluent's
-//! value is in two's complement, its least byte first. So two states are the same exactly where
-//! their packings are.
+//! Contracts see a [`Packed`] as the state. [`leads`] returns exactly what `hd_task::step` returns
+//! for the state, with the hash of the successor. [`pack`] and [`unpack`] keep the state.
 //!
-//! [`leads`] is a step over packed states, with the hash of the state that it leads to.
+//! Atom i is bit `i mod 8`, least significant first, of byte `i div 8`; unused bits are 0. Eight
+//! bytes for each fluent follow, in two's complement, least significant byte first. So two states
+//! of one task are equal exactly if their bytes are. Up to 16 bytes stand in the value itself,
+//! without an allocation. `leads` copies the bytes once, and updates the hash by what changes.
+//!
+//! Start reading at [`leads`], then `specs/Packing.antt`.
 #![tactic(auto)]
 
 mod bits;

@@ -40,7 +40,7 @@ impl Model for Packed {
 }
 
 impl Packed {
-    /// A copy of a packing of so many atoms that stands elsewhere.
+    /// Returns a copy of a packing of so many atoms that stands elsewhere.
     ///
     /// # Errors
     /// `NoMemory` where there is no room for the bytes.
@@ -52,7 +52,7 @@ impl Packed {
         Ok(Packed { atoms, bytes })
     }
 
-    /// The bytes of the packing; each value in them has 64 bits.
+    /// Returns the bytes of the packing; each value in them has 64 bits.
     pub fn bytes(&self) -> &[u8]
         ensures bytes { result.now ≡ packed_bytes self.now }
         ensures fit { AllByRecursion (FitsSigned w64) self.now.fluents }
@@ -60,14 +60,14 @@ impl Packed {
         self.bytes.as_slice()
     }
 
-    /// How many atoms the state has.
+    /// Returns how many atoms the state has.
     pub fn atoms(&self) -> usize
         ensures { result ≡ length self.now.atoms }
     {
         self.atoms
     }
 
-    /// A copy of the packing.
+    /// Returns a copy of the packing.
     ///
     /// # Errors
     /// `NoMemory` where there is no room for the bytes.
@@ -81,7 +81,7 @@ impl Packed {
         })
     }
 
-    /// Whether the atom of this number is true, if the state has it. It reads one byte.
+    /// Reports whether the atom of this number is true, if the state has it. It reads one byte.
     pub fn atom(&self, atom: u32) -> Option<bool>
         ensures { result ≡ slice_get self.now.atoms atom }
     {
@@ -93,7 +93,7 @@ impl Packed {
         }
     }
 
-    /// The value of the fluent of this number, if the state has it. It reads eight bytes.
+    /// Returns the value of the fluent of this number, if the state has it. It reads eight bytes.
     pub fn fluent(&self, fluent: u32) -> Option<i64>
         ensures { result ≡ slice_get self.now.fluents fluent }
     {
@@ -118,7 +118,7 @@ impl Packed {
         put_value(bytes, bytes_for(self.atoms) + 8 * fluent, value);
     }
 
-    /// Makes a change. It takes no memory.
+    /// Makes a change. It does not allocate.
     #[inline(always)]
     pub fn change(&mut self, change: Change)
         requires fits { IsChangeOf self.old change }
@@ -143,8 +143,8 @@ impl Reads for Packed {
     }
 }
 
-/// A state in few bytes. A layout of the state's numbers of atoms and fluents lets it take memory
-/// once.
+/// Returns a state in few bytes. A layout of the state's numbers of atoms and fluents lets it take
+/// memory once.
 ///
 /// # Errors
 /// `NoMemory` where there is no room for the bytes.
@@ -160,8 +160,8 @@ pub fn pack(alloc: Global, layout: &Layout, state: &State) -> Result<Packed, NoM
     })
 }
 
-/// The state of a packing. A layout of the state's numbers of atoms and fluents lets it take memory
-/// once for each.
+/// Returns the state of a packing. A layout of the state's numbers of atoms and fluents lets it
+/// take memory once for each.
 ///
 /// # Errors
 /// `NoMemory` where there is no room for the state.

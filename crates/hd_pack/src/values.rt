@@ -8,7 +8,7 @@ use crate::bits::Bytes;
 use hd_base::NoMemory;
 use std::alloc::Global;
 
-/// The bytes of a value.
+/// Returns the bytes of a value.
 fn value_bytes(value: &i64) -> [u8; 8]
     ensures bytes { result ≡ value_bytes value.now }
     ensures fits { FitsSigned w64 value.now }
@@ -30,7 +30,7 @@ pub(crate) fn push_values(bytes: &mut Bytes, values: &[i64]) -> Result<(), NoMem
     Ok(())
 }
 
-/// The value that stands in eight bytes.
+/// Returns the value that stands in eight bytes.
 fn value_in(bytes: &[u8]) -> i64
     requires { length bytes.now ≡ 8 }
     ensures { result ≡ cast_signed w64 (from_le_bytes w64 bytes.now) }
@@ -40,7 +40,7 @@ fn value_in(bytes: &[u8]) -> i64
     u64::from_le_bytes(eight).cast_signed()
 }
 
-/// The values that stand in bytes, in a vector with room for as many as said.
+/// Returns the values that stand in bytes, in a vector with room for as many as said.
 #[tactic(auto, using(crate::proofs::Trips::values_next, crate::proofs::Trips::values_none))]
 pub(crate) fn values_in(alloc: Global, bytes: &[u8], room: usize) -> Result<Vec<i64>, NoMemory>
     ensures { IfOk result (λ v. v.items ≡ values_in bytes.now) }
@@ -55,7 +55,7 @@ pub(crate) fn values_in(alloc: Global, bytes: &[u8], room: usize) -> Result<Vec<
     Ok(values)
 }
 
-/// The value of this number that stands in bytes, if there are so many.
+/// Returns the value of this number that stands in bytes, if there are so many.
 pub(crate) fn value_at(bytes: &[u8], number: u32) -> Option<i64>
     ensures { result ≡ slice_get (values_in bytes.now) number }
 {

@@ -1,4 +1,4 @@
--- What is told where a search by threads stops.
+-- What is reported where a search by threads stops.
 use Rattle.std.proofs.Common.{◌≡◌, inl, inr, ℕ, Option, Some, List, [], Result, Ok, Err, refl, sym, subst, ◌∙◌, append-nil}
 use Rattle.std.specs.Prelude.{IfErr, IfSome, OnOk}
 use Rattle.hd_task.specs.declared.task.Task.{Task}
@@ -45,13 +45,13 @@ module _ {S : Type 0} {G : Ghosts S} (old new : Journal S G) where
   threads_stop (Run NotOut) grows told = grows
   threads_stop (Run NoMemory) grows told = grows
 
-  -- what is told first stands
+  -- what is reported first stands
   pub first_stops : (done : Result (Unit {0}) RunFault) (joined : Result (Unit {0}) ThreadsFault) → OnOk done (Grows old new) → IfErr done (StopsLater old new) → IfErr joined IsOfThreads → IfErr (first_of done joined) (Stops old new)
   first_stops (Ok d) (Ok j) grows told threads = tt
   first_stops (Ok d) (Err fault) grows told threads = threads_stop fault grows threads
   first_stops (Err fault) joined grows told threads = committer_stops fault told
 
-  -- where nothing is told the committer has ended without a fault
+  -- where nothing is reported the committer has ended without a fault
   pub first_grows : (done : Result (Unit {0}) RunFault) (joined : Result (Unit {0}) ThreadsFault) → OnOk done (Grows old new) → OnOk (first_of done joined) (Grows old new)
   first_grows (Ok d) (Ok j) grows = grows
   first_grows (Ok d) (Err fault) grows = tt
@@ -63,7 +63,7 @@ module _ {S : Type 0} {G : Ghosts S} (old new : Journal S G) where
   first_settled (Ok d) (Err fault) settles settled = tt
   first_settled (Err fault) joined settles settled = tt
 
-  -- a book has no answer, behind threads that ended without a fault
+  -- a book has no answer, after threads that ended without a fault
   pub answer_stops : (fault : RunFault) → Grows old new → IsOfAnswer fault → StopsRunning old new fault
   answer_stops Full grows told = absurd told
   answer_stops (Damaged at) grows told = told

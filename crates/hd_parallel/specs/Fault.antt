@@ -36,15 +36,15 @@ abbrev pub IsOfThreads : ThreadsFault → Type 0
 IsOfThreads (Run fault) = IsOfWorker fault
 IsOfThreads NoThread = Unit {0}
 
--- what is told of how the committer ended and of how the threads of workers did: the committer's
--- fault, if it ended by one
+-- what is reported of how the committer ended and of how the threads of workers did: the
+-- committer's fault, if it ended by one
 abbrev pub first_of : Result (Unit {0}) RunFault → Result (Unit {0}) ThreadsFault → Result (Unit {0}) ThreadsFault
 first_of (Ok done) threads = threads
 first_of (Err fault) threads = Err (Run fault)
 
--- what a fault tells by which a search stops whose threads run, of the journal before it and of
+-- what a fault reports by which a search stops whose threads run, of the journal before it and of
 -- the journal afterwards. Where the device did not fail, the journal has the entries that it had,
--- and maybe more behind them, in whole groups
+-- and maybe more after them, in whole groups
 abbrev pub StopsRunning : {S : Type 0} {G : Ghosts S} → Journal S G → Journal S G → RunFault → Type 0
 StopsRunning old new Full = Grows old new
 StopsRunning old new (Damaged at) = ⊥
@@ -58,7 +58,7 @@ abbrev pub Stops : {S : Type 0} {G : Ghosts S} → Journal S G → Journal S G �
 Stops old new (Run fault) = StopsRunning old new fault
 Stops old new NoThread = Grows old new
 
--- what a fault tells of a search by threads over a journal: it can't go on from the journal's
+-- what a fault reports of a search by threads over a journal: it can't go on from the journal's
 -- entries, and nothing is written; or it stops later
 abbrev pub Tells : {S : Type 0} {G : Ghosts S} → Task → Journal S G → Journal S G → ThreadsFault → Type 0
 Tells t old new (Run fault) = ((new ≡ old) × IsFaulty t (most_of old.version) old.entries.items fault) ⊎ StopsRunning old new fault

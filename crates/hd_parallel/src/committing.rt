@@ -21,7 +21,7 @@ pub(crate) trait Beside {
     /// What it gives.
     ghost run_gives: { Self → Self.Output → Type 0 };
 
-    /// What is done, where all threads were started; or what is done where they were not.
+    /// Returns what is done, where all threads were started; or what is done where they were not.
     fn run(self, started: bool) -> Self::Output
         requires { can_run self }
         ensures { run_gives self result };

@@ -41,7 +41,7 @@ impl From<AllocError> for ThreadsFault {
     }
 }
 
-/// What is told of why no search goes on from entries.
+/// Returns what is reported of why no search goes on from entries.
 pub(crate) fn of_recovery(fault: RecoverError) -> RunFault
     ensures { (t : Task) (most : ℕ) (entries : List Entry) → IsRefusal t most entries fault
         → IsFaulty t most entries result }
@@ -53,8 +53,8 @@ pub(crate) fn of_recovery(fault: RecoverError) -> RunFault
     }
 }
 
-/// What is told first, of how the committer ended and of how the workers' threads did: the
-/// committer's fault.
+/// Returns what is reported first, of how the committer ended and of how the workers' threads did:
+/// the committer's fault.
 pub(crate) fn first_of(
     committer: Result<(), RunFault>,
     threads: Result<(), ThreadsFault>,

@@ -55,7 +55,7 @@ pub(crate) struct Opened<'t, L: Ledger, A: Ledger> {
     pub(crate) places: Vec<Workplace<'t, L, A>>,
 }
 
-/// A letter of a task: that of the root.
+/// Returns a letter of a task: that of the root.
 ///
 /// # Errors
 /// `NoMemory` where there is no room for it.
@@ -71,8 +71,8 @@ fn letter_of<'t>(alloc: Global, task: &'t Task) -> Result<Letter<'t>, NoMemory>
     Ok(Letter::of(Parcel::of(alloc, task, &words, root, initial, 0)?))
 }
 
-/// What threads share of a book, with so many mailboxes; the whole of what a book's committer
-/// has; and the rest.
+/// Returns what threads share of a book, with so many mailboxes; the whole of what a book's
+/// committer has; and the rest.
 ///
 /// # Errors
 /// `NoMemory` where there is no room for it.
@@ -113,7 +113,7 @@ fn desk_of<'t, L: Ledger, A: Ledger, R: Wait>(
     Ok((desk, rest, all))
 }
 
-/// The place of a worker, for which a part of all is given.
+/// Returns the place of a worker, for which a part of all is given.
 ///
 /// # Errors
 /// `NoMemory` where there is no room for it.
@@ -146,7 +146,7 @@ fn place_of<'t, L: Ledger, A: Ledger>(
     })
 }
 
-/// The places of workers, in their order.
+/// Returns the places of workers, in their order.
 ///
 /// # Errors
 /// `NoMemory` where there is no room for one.
@@ -183,8 +183,8 @@ impl<'g, G: Gate> Listener for ByGate<'g, G> {
     }
 }
 
-/// The search with the entries of a journal, opened for so many workers. The gate hears how many
-/// entries are made again.
+/// Returns the search with the entries of a journal, opened for so many workers. The gate hears how
+/// many entries are made again.
 ///
 /// # Errors
 /// `Full` where there are more entries than the journal may have; `Damaged` of the first that
@@ -230,7 +230,7 @@ pub(crate) fn open_search<'t, L: Ledger, A: Ledger, S: Store, G: Gate, R: Wait>(
     }
 }
 
-/// A search that goes on, opened for its workers.
+/// Returns a search that goes on, opened for its workers.
 ///
 /// # Errors
 /// `NoMemory` where there is no room for what they share.

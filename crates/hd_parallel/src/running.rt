@@ -28,14 +28,15 @@ use std::sync::Wait;
 use std::sync::ledger::{Blank, Ledger};
 use std::thread::Threads;
 
-/// Does nothing. With it, what is written through a reference that came back is known of the one
-/// that was lent.
+/// Law: does nothing. With it, what is written through a reference that came back is known of the
+/// one that was lent.
 fn take_back<T>(_journal: &mut T)
     ensures { _journal.new ≡ _journal.old }
 {}
 
 /// Runs an opened search until all its threads have ended: a thread for each place, and the
-/// committer in this one. With the committer's place comes what is told first of how they ended.
+/// committer in this one. With the committer's place comes what is reported first of how they
+/// ended.
 ///
 /// # Errors
 /// The committer's fault, else that of the least worker; `NoThread` where a thread does not start.
@@ -213,10 +214,10 @@ fn run_as<
 ///
 /// # Errors
 /// `Damaged` of the first entry of the journal that makes no legal list with those before it, and
-/// nothing is written then; `Full` where there are more entries than the journal may have, or
-/// would be; `NoThread` where the system starts no thread; the journal's own faults; `NoMemory`.
-/// The committer's fault is told before those of workers, and that of the least worker first. The
-/// journal has the entries that it had, and maybe more behind them: a later search goes on from
+/// nothing is written then; `Full` where there are more entries than the journal may have, or would
+/// be; `NoThread` where the system starts no thread; the journal's own faults; `NoMemory`. The
+/// committer's fault is reported before those of workers, and that of the least worker first. The
+/// journal has the entries that it had, and maybe more after them: a later search goes on from
 /// there.
 pub fn run<S: Store, G: Gate + Sync, R: Threads + Wait + Sync>(
     rt: &R,
@@ -240,7 +241,7 @@ pub fn run<S: Store, G: Gate + Sync, R: Threads + Wait + Sync>(
     // Where the journal has not failed, and nothing is pending on its device: whatever a stop
     // leaves there, at any moment from the call to its end, has all the entries that the journal
     // had, and maybe more, in whole groups, which with them name a legal list. What a read gives
-    // in the end has all that the journal lists, also behind a fault.
+    // in the end has all that the journal lists, also after a fault.
     ensures survives { Survives task.now journal.old journal.new }
     ensures settled { IsSettled (device_of journal.old)
         → OnOk result (IsSettled (device_of journal.new)) }

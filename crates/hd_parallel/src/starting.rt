@@ -37,7 +37,7 @@ struct Job<'s, 't, L: Ledger, A: Ledger, G: Gate, R: Wait> {
     gate: &'s G,
 }
 
-/// What the thread of a worker does.
+/// Runs the thread of a worker.
 fn work_by<'s, 't, L: Ledger, A: Ledger, G: Gate, R: Wait>(
     job: Job<'s, 't, L, A, G, R>,
 ) -> Option<RunFault>

@@ -67,7 +67,7 @@ unfolding predicates_at
 HasItems-predicates_at f y e =
     HasItems-items_or signatures_of AreSignatures-signatures_of (codes "predicates") f y (section_at (codes "predicates") f) refl e
 
--- more functions, behind `- number` where it may stand
+-- more functions, after `- number` where it may stand
 data AreMore : Bool → Forms → List Signature → Type 0 where
   plain : {behind : Bool} {f : Forms} {ts : List Signature} → AreFunctions f ts → AreMore behind f ts
   numbers : {c d : ℕ} {rest : Forms} {ts : List Signature}
@@ -89,7 +89,7 @@ record ReadsMore (behind : Bool) (f : Forms) (found ts : List Signature) : Type 
   are : AreMore behind f own
   all : ts ≡ found ++ own
 
--- from what is read behind `- number`
+-- from what is read after `- number`
 ReadsMore-numbers : (at b : ℕ) (w v : Word) (rest : Forms) (found ts : List Signature) (n : List ℕ)
     → w ≡ Operator Minus → v ≡ Name n → n ≡ codes "number" → ReadsMore false rest found ts
     → ReadsMore true (word at w (word b v rest)) found ts
@@ -185,7 +185,7 @@ HasPart-action_effect_at : (f : Forms) (y : List Effect × Forms) → action_eff
 unfolding action_effect_at
 HasPart-action_effect_at f y e = HasPart-effect_or f (behind_keyword (codes "effect") f) y refl e
 
--- an action's forms, up to what stands behind its parameters
+-- an action's forms, up to what stands after its parameters
 abbrev action_forms : ℕ → NameAt → ℕ → ℕ → Forms → ℕ → Forms → Forms
 action_forms a n b c parameters d more =
     word a (Keyword (codes "action")) (word n.at (Name n.name) (word b (Keyword (codes "parameters")) (list c parameters d more)))

@@ -34,7 +34,7 @@ head_at kind forms = do
   _ ← end_at n.1
   Some (n.0, title.1)
 
--- what stands behind a keyword in a form, and what follows
+-- what stands after a keyword in a form, and what follows
 unfoldable pub section_at : List ℕ → Forms → Option (Forms × Forms)
 section_at text forms = do
   g ← group_at forms
@@ -96,7 +96,7 @@ unfoldable mutual
   functions_after behind (list a inside b rest) found =
       signature_of inside >>= λ s. functions_after true rest (found ++ s ∷ [])
 
-  -- the same behind `-`
+  -- the same after `-`
   pub numbers_after : Forms → List Signature → Option (List Signature)
   numbers_after none found = None
   numbers_after (word at w rest) found =

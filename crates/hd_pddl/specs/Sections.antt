@@ -7,7 +7,7 @@ use Rattle.hd_forms.specs.declared.word.Word.TheVariants.{Name, Keyword}
 use Rattle.hd_forms.specs.Forms.{Forms, none, word, list}
 use Rattle.hd_forms.specs.Reading.{placed_name}
 
--- ( :KEYWORD .. ), and more: what stands behind the keyword (BNF)
+-- ( :KEYWORD .. ), and more: what stands after the keyword (BNF)
 pub data IsSection (k : List ℕ) : Forms → Forms → Forms → Type 0 where
   section : {a b at : ℕ} {inside more : Forms}
       → IsSection k (list a (word at (Keyword k) inside) b more) inside more
@@ -46,7 +46,7 @@ pub data SkipsRequirements : Forms → Forms → Type 0 where
       → IsSection (codes "requirements") f inside more → AreRequirements inside
       → SkipsRequirements f more
 
--- ( define ( KIND NAME ) .. ), alone: its name, and the forms behind its head (BNF)
+-- ( define ( KIND NAME ) .. ), alone: its name, and the forms after its head (BNF)
 pub data IsDefinition : List ℕ → Forms → NameAt → Forms → Type 0 where
   define : {kind : List ℕ} {a b c d e f at : ℕ} {n : List ℕ} {sections : Forms}
       → IsDefinition kind

@@ -14,8 +14,8 @@ use hd_forms::{
 use hd_terms::{Condition, Effect, ItemKind, Typed, condition_at, effect_at, typed_of};
 use std::alloc::Global;
 
-/// The parts of the precondition, none where it is absent, and what follows. The place `end` is
-/// that behind the forms.
+/// Returns the parts of the precondition, none where it is absent, and what follows. The place
+/// `end` is that after the forms.
 #[tactic(auto, unfolding(crate::specs::Reading::precondition_at))]
 fn precondition_at(
     alloc: Global,
@@ -31,8 +31,8 @@ fn precondition_at(
     }
 }
 
-/// The parts of the effect, none where it is absent, and what follows. The place `end` is that
-/// behind the forms.
+/// Returns the parts of the effect, none where it is absent, and what follows. The place `end` is
+/// that after the forms.
 #[tactic(auto, unfolding(crate::specs::Reading::action_effect_at))]
 fn action_effect_at(
     alloc: Global,
@@ -48,8 +48,8 @@ fn action_effect_at(
     }
 }
 
-/// The name and the parameters of the action in a form which ends at the place `to`, and what
-/// follows them.
+/// Returns the name and the parameters of the action in a form which ends at the place `to`, and
+/// what follows them.
 #[tactic(auto, unfolding(crate::specs::Reading::action_head_at))]
 fn action_head_at(
     alloc: Global,
@@ -67,7 +67,7 @@ fn action_head_at(
     Ok((name, parameters, rest))
 }
 
-/// The action that stands in a form which ends at the place `to`.
+/// Returns the action that stands in a form which ends at the place `to`.
 #[tactic(auto, unfolding(crate::specs::Reading::action_of))]
 fn action_of(alloc: Global, inside: &[Form], to: usize) -> Result<Action, ReadError>
     ensures { Gives Refuses (λ x. x) result (action_of (forms_view inside.now)) }
@@ -84,7 +84,7 @@ fn action_of(alloc: Global, inside: &[Form], to: usize) -> Result<Action, ReadEr
     })
 }
 
-/// The actions that these forms are, one each.
+/// Returns the actions that these forms are, one each.
 #[tactic(auto, unfolding(crate::specs::Reading::actions_after))]
 pub fn actions_of(alloc: Global, forms: &[Form]) -> Result<Sequence<Action>, ReadError>
     ensures { Gives Refuses (λ x. x) result (actions_after (forms_view forms.now) []) }

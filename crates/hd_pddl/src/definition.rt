@@ -13,8 +13,8 @@ use hd_forms::{
 };
 use std::alloc::Global;
 
-/// The name in the head of a definition of this kind, which ends at the place `to`, and what
-/// follows the head.
+/// Returns the name in the head of a definition of this kind, which ends at the place `to`, and
+/// what follows the head.
 #[tactic(auto, unfolding(crate::specs::Reading::head_at))]
 pub fn head_at<'a>(
     alloc: Global,
@@ -33,8 +33,8 @@ pub fn head_at<'a>(
     Ok((name, rest))
 }
 
-/// What stands behind this keyword in the first form, the place of the form's closing parenthesis,
-/// and what follows it.
+/// Returns what stands after this keyword in the first form, the place of the form's closing
+/// parenthesis, and what follows it.
 #[tactic(auto, unfolding(crate::specs::Reading::section_at))]
 pub fn section_at<'a>(
     alloc: Global,
@@ -50,7 +50,7 @@ pub fn section_at<'a>(
     Ok((inside, to, rest))
 }
 
-/// The same, if such a section stands first.
+/// Returns the same, if such a section stands first.
 #[tactic(auto, unfolding(crate::specs::Reading::section_at))]
 pub fn find_section<'a>(keyword: &str, forms: &'a [Form]) -> Option<(&'a [Form], usize, &'a [Form])>
     ensures { MatchOption result
@@ -67,7 +67,7 @@ pub fn find_section<'a>(keyword: &str, forms: &'a [Form]) -> Option<(&'a [Form],
     }
 }
 
-/// Whether the keyword, without its `:`, is one of the seven requirements.
+/// Reports whether the keyword, without its `:`, is one of the seven requirements.
 fn is_requirement(keyword: &str) -> bool
     ensures { result ≡ is_requirement keyword.now }
 {
@@ -119,7 +119,7 @@ fn requirements_of(alloc: Global, forms: &[Form]) -> Result<(), ReadError>
     Ok(())
 }
 
-/// What follows the list of requirements, if it stands first.
+/// Returns what follows the list of requirements, if it stands first.
 #[tactic(auto, unfolding(crate::specs::Reading::behind_requirements))]
 pub fn behind_requirements(alloc: Global, forms: &[Form]) -> Result<&[Form], ReadError>
     ensures { Gives Refuses (λ x. forms_view x.now) result

@@ -20,7 +20,7 @@ use crate::tree::DomainAst;
 use hd_forms::{Form, ReadError, end_at, group_at, text_forms};
 use std::alloc::Global;
 
-/// The domain that stands in a form which ends at the place `to`.
+/// Returns the domain that stands in a form which ends at the place `to`.
 #[tactic(auto, unfolding(crate::specs::Reading::domain_in))]
 fn domain_in(alloc: Global, inside: &[Form], to: usize) -> Result<DomainAst, ReadError>
     ensures { Gives Refuses (λ x. x) result (domain_in (forms_view inside.now)) }
@@ -42,7 +42,7 @@ fn domain_in(alloc: Global, inside: &[Form], to: usize) -> Result<DomainAst, Rea
     })
 }
 
-/// The domain that these forms, all of a text of this length in bytes, are.
+/// Returns the domain that these forms, all of a text of this length in bytes, are.
 #[tactic(auto, unfolding(crate::specs::Reading::domain_of))]
 fn domain_of(alloc: Global, forms: &[Form], end: usize) -> Result<DomainAst, ReadError>
     ensures { Gives Refuses (λ x. x) result (domain_of (forms_view forms.now)) }
@@ -53,9 +53,9 @@ fn domain_of(alloc: Global, forms: &[Form], end: usize) -> Result<DomainAst, Rea
     Ok(domain)
 }
 
-/// The domain that a text is, or why it is none.
+/// Returns the domain that a text is, or why it is none.
 ///
-/// Any bytes may come. The only error that the text of a domain meets is want of memory. Errors
+/// Any bytes may come. The only error that the text of a domain meets is lack of memory. Errors
 /// name places in bytes from
 /// 0. The time and the memory that are taken grow with the text's length alone.
 pub fn read_domain(alloc: Global, text: &[u8]) -> Result<DomainAst, ReadError>
@@ -64,12 +64,12 @@ pub fn read_domain(alloc: Global, text: &[u8]) -> Result<DomainAst, ReadError>
     ensures only { (tree : DomainAst) → IsDomainText text.now tree
         → MatchResult result (λ answer. answer ≡ tree) (λ error. error ≡ ReadError.NoMemory) }
 
-    // What is told: the first bad word, the first fault of the parentheses, or that the text is
+    // What is reported: the first bad word, the first fault of the parentheses, or that the text is
     // outside of the grammar.
     ensures refusal { IfErr result (Explains IsDomain text.now) }
 
-    // A bad word is told, and in a text without one a fault of the parentheses, unless memory ran
-    // out.
+    // A bad word is reported, and in a text without one a fault of the parentheses, unless memory
+    // ran out.
     ensures bad_word { (fault : LexError) → IsFault text.now fault
         → MatchResult result (λ _. ⊥)
         (λ error. (error ≡ ReadError.NoMemory) ⊎ (error ≡ ReadError.Lex fault)) }

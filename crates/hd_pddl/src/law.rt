@@ -5,13 +5,13 @@ ghost use Rattle.hd_pddl.specs.Text.{IsDomainText, IsProblemText};
 ghost use Rattle.hd_pddl.specs.declared.tree.DomainAst.{DomainAst};
 ghost use Rattle.hd_pddl.specs.declared.tree.ProblemAst.{ProblemAst};
 
-/// No text is two domains.
+/// Law: no text is two domains.
 pub fn each_text_says_one_domain()
     ensures { (text : List ℕ) (a b : DomainAst)
         → IsDomainText text a → IsDomainText text b → a ≡ b }
 {}
 
-/// No text is two problems.
+/// Law: no text is two problems.
 pub fn each_text_says_one_problem()
     ensures { (text : List ℕ) (a b : ProblemAst)
         → IsProblemText text a → IsProblemText text b → a ≡ b }

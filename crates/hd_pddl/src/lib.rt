@@ -1,9 +1,14 @@
-//! Reads tasks written in PDDL: a domain and a problem, each a text of its own.
+//! Reads tasks in PDDL: a domain and a problem, each from a text of its own.
 //!
-//! A text is cut into words (hd_lex), the words are nested by their parentheses (hd_forms), and the
-//! grammar is read over the nested forms: terms, expressions, conditions and effects in hd_terms,
-//! domains and problems here. The language is PDDL 2.1, level 2 (Fox and Long, JAIR 20, 2003), with
-//! whole numbers and without quantifiers, disjunctions, conditional effects and division.
+//! [`read_domain`] and [`read_problem`] return a tree exactly if the text is in the grammar, memory
+//! aside, and then exactly that tree. No text has two trees ([`each_text_says_one_domain`]).
+//! Otherwise they report the first bad word, else the first error of the parentheses, else that the
+//! text is outside of the grammar.
+//!
+//! hd_lex cuts tokens, hd_forms nests them, and hd_terms reads conditions and effects. The sections
+//! are read here, each from the left in a fixed order. The language is PDDL 2.1, level 2, with
+//! whole numbers and without quantifiers, disjunctions, conditional effects and division. Start
+//! reading at [`read_domain`], then `specs/Domain`.
 #![tactic(auto)]
 
 mod actions;

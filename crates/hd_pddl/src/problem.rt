@@ -24,7 +24,8 @@ use hd_forms::{
 use hd_terms::{Condition, atom_of, condition_at, is_equal, negated_atom_of};
 use std::alloc::Global;
 
-/// The name of the problem's domain, and what follows. The place `end` is that behind the forms.
+/// Returns the name of the problem's domain, and what follows. The place `end` is that after the
+/// forms.
 #[tactic(auto, unfolding(crate::specs::Reading::problem_domain_at))]
 fn problem_domain_at(
     alloc: Global,
@@ -40,7 +41,7 @@ fn problem_domain_at(
     Ok((name, rest))
 }
 
-/// A fluent and its first value, in a form that ends at the place `to`.
+/// Returns a fluent and its first value, in a form that ends at the place `to`.
 #[tactic(auto, unfolding(crate::specs::Reading::value_of))]
 fn value_of(alloc: Global, rest: &[Form], to: usize) -> Result<Init, ReadError>
     ensures { Gives Refuses (λ x. x) result (value_of (forms_view rest.now)) }
@@ -53,7 +54,7 @@ fn value_of(alloc: Global, rest: &[Form], to: usize) -> Result<Init, ReadError>
     Ok(Init::Value(InitialValue { fluent, value, at }))
 }
 
-/// The initial fact that stands in a form which ends at the place `to`.
+/// Returns the initial fact that stands in a form which ends at the place `to`.
 #[tactic(auto, unfolding(crate::specs::Reading::initial_of))]
 fn initial_of(alloc: Global, inside: &[Form], to: usize) -> Result<Init, ReadError>
     ensures { Gives Refuses (λ x. x) result (initial_of (forms_view inside.now)) }
@@ -83,7 +84,7 @@ fn initial_of(alloc: Global, inside: &[Form], to: usize) -> Result<Init, ReadErr
     }
 }
 
-/// The initial facts that these forms are, one each.
+/// Returns the initial facts that these forms are, one each.
 #[tactic(auto, unfolding(crate::specs::Reading::initial_after))]
 fn initial_in(alloc: Global, forms: &[Form]) -> Result<Sequence<Init>, ReadError>
     ensures { Gives Refuses (λ x. x) result (initial_after (forms_view forms.now) []) }
@@ -100,7 +101,7 @@ fn initial_in(alloc: Global, forms: &[Form]) -> Result<Sequence<Init>, ReadError
     Ok(Sequence::from_vec(facts))
 }
 
-/// The initial facts, and what follows. The place `end` is that behind the forms.
+/// Returns the initial facts, and what follows. The place `end` is that after the forms.
 #[tactic(auto, unfolding(crate::specs::Reading::init_at))]
 fn init_at(
     alloc: Global,
@@ -115,7 +116,7 @@ fn init_at(
     Ok((facts, rest))
 }
 
-/// The parts of the goal, and what follows. The place `end` is that behind the forms.
+/// Returns the parts of the goal, and what follows. The place `end` is that after the forms.
 #[tactic(auto, unfolding(crate::specs::Reading::goal_at))]
 fn goal_at(
     alloc: Global,
@@ -131,7 +132,7 @@ fn goal_at(
     Ok((goal, rest))
 }
 
-/// The function of the metric that stands in a form which ends at the place `to`.
+/// Returns the function of the metric that stands in a form which ends at the place `to`.
 #[tactic(auto, unfolding(crate::specs::Reading::metric_in))]
 fn metric_in(alloc: Global, inside: &[Form], to: usize) -> Result<NameAt, ReadError>
     ensures { Gives Refuses (λ x. x) result (metric_in (forms_view inside.now)) }
@@ -145,7 +146,7 @@ fn metric_in(alloc: Global, inside: &[Form], to: usize) -> Result<NameAt, ReadEr
     Ok(name)
 }
 
-/// The function of the metric, if these forms are one and not none.
+/// Returns the function of the metric, if these forms are one and not none.
 #[tactic(auto, unfolding(crate::specs::Reading::metric_of))]
 fn metric_of(alloc: Global, forms: &[Form]) -> Result<Option<NameAt>, ReadError>
     ensures { Gives Refuses (λ x. x) result (metric_of (forms_view forms.now)) }
@@ -161,7 +162,7 @@ fn metric_of(alloc: Global, forms: &[Form]) -> Result<Option<NameAt>, ReadError>
     }
 }
 
-/// The problem that stands in a form which ends at the place `to`.
+/// Returns the problem that stands in a form which ends at the place `to`.
 #[tactic(auto, unfolding(crate::specs::Reading::problem_in))]
 fn problem_in(alloc: Global, inside: &[Form], to: usize) -> Result<ProblemAst, ReadError>
     ensures { Gives Refuses (λ x. x) result (problem_in (forms_view inside.now)) }
@@ -183,7 +184,7 @@ fn problem_in(alloc: Global, inside: &[Form], to: usize) -> Result<ProblemAst, R
     })
 }
 
-/// The problem that these forms, all of a text of this length in bytes, are.
+/// Returns the problem that these forms, all of a text of this length in bytes, are.
 #[tactic(auto, unfolding(crate::specs::Reading::problem_of))]
 fn problem_of(alloc: Global, forms: &[Form], end: usize) -> Result<ProblemAst, ReadError>
     ensures { Gives Refuses (λ x. x) result (problem_of (forms_view forms.now)) }
@@ -194,9 +195,9 @@ fn problem_of(alloc: Global, forms: &[Form], end: usize) -> Result<ProblemAst, R
     Ok(problem)
 }
 
-/// The problem that a text is, or why it is none.
+/// Returns the problem that a text is, or why it is none.
 ///
-/// Any bytes may come. The only error that the text of a problem meets is want of memory. Errors
+/// Any bytes may come. The only error that the text of a problem meets is lack of memory. Errors
 /// name places in bytes from
 /// 0. The time and the memory that are taken grow with the text's length alone.
 pub fn read_problem(alloc: Global, text: &[u8]) -> Result<ProblemAst, ReadError>
@@ -205,12 +206,12 @@ pub fn read_problem(alloc: Global, text: &[u8]) -> Result<ProblemAst, ReadError>
     ensures only { (tree : ProblemAst) → IsProblemText text.now tree
         → MatchResult result (λ answer. answer ≡ tree) (λ error. error ≡ ReadError.NoMemory) }
 
-    // What is told: the first bad word, the first fault of the parentheses, or that the text is
+    // What is reported: the first bad word, the first fault of the parentheses, or that the text is
     // outside of the grammar.
     ensures refusal { IfErr result (Explains IsProblem text.now) }
 
-    // A bad word is told, and in a text without one a fault of the parentheses, unless memory ran
-    // out.
+    // A bad word is reported, and in a text without one a fault of the parentheses, unless memory
+    // ran out.
     ensures bad_word { (fault : LexError) → IsFault text.now fault
         → MatchResult result (λ _. ⊥)
         (λ error. (error ≡ ReadError.NoMemory) ⊎ (error ≡ ReadError.Lex fault)) }

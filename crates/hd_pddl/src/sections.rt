@@ -13,7 +13,7 @@ use hd_forms::{Form, ReadError, Word, first_refusal, form_refusal, name_at};
 use hd_terms::{ItemKind, Typed, is_minus, typed_of};
 use std::alloc::Global;
 
-/// The names with their types behind this keyword, none where that section is absent, and what
+/// The names with their types after this keyword, none where that section is absent, and what
 /// follows.
 #[tactic(auto, unfolding(crate::specs::Reading::names_at, crate::specs::Reading::names_of))]
 pub fn names_at<'a>(
@@ -33,7 +33,7 @@ pub fn names_at<'a>(
     }
 }
 
-/// The signature that stands in a form which ends at the place `to`.
+/// Returns the signature that stands in a form which ends at the place `to`.
 #[tactic(auto, unfolding(crate::specs::Reading::signature_of))]
 fn signature_of(alloc: Global, inside: &[Form], to: usize) -> Result<Signature, ReadError>
     ensures { Gives Refuses (λ x. x) result (signature_of (forms_view inside.now)) }
@@ -43,7 +43,7 @@ fn signature_of(alloc: Global, inside: &[Form], to: usize) -> Result<Signature, 
     Ok(Signature { name, parameters })
 }
 
-/// The signatures that these forms are, one each.
+/// Returns the signatures that these forms are, one each.
 #[tactic(auto, unfolding(crate::specs::Reading::signatures_of, crate::specs::Reading::signatures_after))]
 fn signatures_of(alloc: Global, forms: &[Form]) -> Result<Sequence<Signature>, ReadError>
     ensures { Gives Refuses (λ x. x) result (signatures_of (forms_view forms.now)) }
@@ -64,7 +64,7 @@ fn signatures_of(alloc: Global, forms: &[Form]) -> Result<Sequence<Signature>, R
     Ok(Sequence::from_vec(signatures))
 }
 
-/// The predicates, none where their section is absent, and what follows.
+/// Returns the predicates, none where their section is absent, and what follows.
 #[tactic(auto, unfolding(crate::specs::Reading::predicates_at))]
 pub fn predicates_at(
     alloc: Global,
@@ -82,8 +82,8 @@ pub fn predicates_at(
     }
 }
 
-/// The functions that these forms are, each with `- number` behind it or not. The place `end` is
-/// that behind the forms.
+/// Returns the functions that these forms are, each with `- number` after it or not. The place
+/// `end` is that after the forms.
 #[tactic(auto, unfolding(crate::specs::Reading::functions_of, crate::specs::Reading::functions_after))]
 fn functions_of(alloc: Global, forms: &[Form], end: usize) -> Result<Sequence<Signature>, ReadError>
     ensures { Gives Refuses (λ x. x) result (functions_of (forms_view forms.now)) }
@@ -123,7 +123,7 @@ fn functions_of(alloc: Global, forms: &[Form], end: usize) -> Result<Sequence<Si
     Ok(Sequence::from_vec(functions))
 }
 
-/// The functions, none where their section is absent, and what follows.
+/// Returns the functions, none where their section is absent, and what follows.
 #[tactic(auto, unfolding(crate::specs::Reading::functions_at))]
 pub fn functions_at(
     alloc: Global,

@@ -62,7 +62,7 @@ bad_unique (texts.later f good more) (texts.later {n = n} g well also) =
 pub record IsEither (text : List ℕ) : Type 0 where
   pub one : ((steps : List Step) × ReadsAs text steps) ⊎ ((n : ℕ) × IsFirstBadLine text n)
 
--- behind a silent line
+-- after a silent line
 silent_first : {text line rest : List ℕ} → IsFirstLine text line rest → IsSilent line → IsEither rest → IsEither text
 silent_first f s more =
     elim more.one [
@@ -70,7 +70,7 @@ silent_first f s more =
       | inr bad ↦ record { one = inr (1 + bad.0, texts.later f (inl s) bad.1) }
     ]
 
--- behind a step
+-- after a step
 step_first : {text line rest : List ℕ} (s : Step) → IsFirstLine text line rest → IsStepLine line s → IsEither rest → IsEither text
 step_first s f is more =
     elim more.one [
@@ -88,7 +88,7 @@ line_first {line = line} f more =
       ]
     ]
 
--- behind the first line less is left
+-- after the first line less is left
 rest_shorter : (text : List ℕ) (n k : ℕ) → 0 < length text → length text ≤ suc k → length (drop 1 (drop n text)) ≤ k
 rest_shorter text n k some few = omega (arith, length-drop n text, length-drop 1 (drop n text))
 
@@ -173,9 +173,9 @@ read_less rest len some =
     let left : length (take (length rest - len) (drop len rest)) ≡ length (drop len rest) = ap length (take_rest rest len) in
     omega (arith, length-drop 1 (take (length rest - len) (drop len rest)), length-drop len rest, left)
 
--- ---- what is answered, and what is told
+-- ---- what is answered, and what is reported
 
--- a text that reads as steps is refused for want of memory alone
+-- a text that reads as steps is refused for lack of memory alone
 pub good_refused : (text : List ℕ) (error : PlanTextError) (steps : List Step) → ReadsAs text steps
     → (error ≡ errors.NoMemory) ⊎ IsFault text error → error ≡ errors.NoMemory
 good_refused text errors.NoMemory steps reads told = refl

@@ -93,7 +93,7 @@ pub first-some : {text line rest : List ℕ} → IsFirstLine text line rest → 
 first-some (texts.ended {line = line} {rest = rest} plain) = omega (arith, length-append line (10 ∷ rest))
 first-some (texts.last plain some) = some
 
--- a text has one first line, with one rest behind it
+-- a text has one first line, with one rest after it
 pub same_line : {text line rest also others : List ℕ} → IsFirstLine text line rest → IsFirstLine text also others → line ≡ also
 same_line f g =
     let a = first-run f in

@@ -8,7 +8,7 @@ use Rattle.hd_plan.specs.declared.step.Step.{Step}
 use Rattle.hd_plan.specs.Output.{AppendsShort}
 use Rattle.hd_plan.specs.PlanText.{step_line, cost_line, plan_text}
 
--- a part of the rest, behind those that were written before
+-- a part of the rest, after those that were written before
 pub part_appended : (old mid new : Option (List ℕ)) (bytes : List ℕ) (done n : ℕ)
     → Appends old mid (take done bytes) → Appends mid new (take n (take (length bytes - done) (drop done bytes)))
     → Appends old new (take (done + n) bytes)

@@ -179,7 +179,7 @@ step-one_line s is =
 numerals : IsNumeralModel (λ ds. list_all is_ascii_digit ds ≡ true) (digits_value 10)
 numerals = numerals_by_value _ (search rules)
 
--- what stands behind the semicolon
+-- what stands after the semicolon
 abbrev cost_words : ℕ → List ℕ
 cost_words cost = codes " cost = " ++ decimal cost
 

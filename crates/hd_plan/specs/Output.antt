@@ -17,7 +17,7 @@ AppendsShort old new bytes = (n : ℕ) × (n < length bytes) × Appends old new 
 abbrev pub IsPartOf : List ℕ → ℕ → Type 0
 IsPartOf bytes n = (0 < n) × (n ≤ length bytes)
 
--- what is noted of a writer is the error that is told, and stays as it was where none is
+-- what is noted of a writer is the error that is reported, and stays as it was where none is
 abbrev pub NotesFault : {X Kind : Type 0} → Option Kind → Option Kind → Result X Kind → Type 0
 NotesFault old new result = MatchResult result (λ _. new ≡ old) (λ kind. new ≡ Some kind)
 
@@ -26,12 +26,12 @@ abbrev pub KeepsFor : Option (List ℕ) → Option (List ℕ) → WriteError →
 KeepsFor old new NoMemory = Keeps old new
 KeepsFor old new (Device kind) = Unit {0}
 
--- the error that is told is the one that is noted of the writer; want of memory is none of the
+-- the error that is reported is the one that is noted of the writer; lack of memory is none of the
 -- writer's
 abbrev pub IsNoted : Option ErrorKind → Option ErrorKind → WriteError → Type 0
 IsNoted old new NoMemory = new ≡ old
 IsNoted old new (Device kind) = new ≡ Some kind
 
--- the writer has answered the error that is told of it, and none where none is told
+-- the writer has answered the error that is reported of it, and none where none is reported
 abbrev pub NotesError : {X : Type 0} → Option ErrorKind → Option ErrorKind → Result X WriteError → Type 0
 NotesError old new result = MatchResult result (λ _. new ≡ old) (IsNoted old new)

@@ -6,7 +6,7 @@ use Rattle.hd_plan.specs.declared.step.Step.{Step}
 abbrev pub line_end : List ℕ
 line_end = 10 ∷ []
 
--- an object behind a space
+-- an object after a space
 abbrev pub arg_text : List ℕ → List ℕ
 arg_text arg = codes " " ++ arg
 

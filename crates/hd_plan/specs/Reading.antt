@@ -100,7 +100,7 @@ abbrev pub IsLineFault : List ℕ → ℕ → PlanTextError → Type 0
 IsLineFault line number NoMemory = Unit {0}
 IsLineFault line number (BadLine n) = (n ≡ number) × (¬ IsGood line)
 
--- a text was read up to where the rest begins: however the rest reads, so does the text, behind
+-- a text was read up to where the rest begins: however the rest reads, so does the text, after
 -- these steps and these many lines
 pub record IsReadTo (text : List ℕ) (steps : List Step) (number : ℕ) (rest : List ℕ) : Type 0 where
   pub good : (more : List Step) → ReadsAs rest more → ReadsAs text (steps ++ more)

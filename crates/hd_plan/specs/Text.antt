@@ -41,7 +41,7 @@ IsGood line = IsSilent line ⊎ ((step : Step) × IsStepLine line step)
 
 -- ---- a whole text
 
--- the first line of a text, and what stands behind it
+-- the first line of a text, and what stands after it
 pub data IsFirstLine : List ℕ → List ℕ → List ℕ → Type 0 where
   -- it ends with a line feed (10)
   ended : {line rest : List ℕ} → list_all is_line_byte line ≡ true → IsFirstLine (line ++ (10 ∷ rest)) line rest
@@ -52,10 +52,10 @@ pub data IsFirstLine : List ℕ → List ℕ → List ℕ → Type 0 where
 pub data ReadsAs : List ℕ → List Step → Type 0 where
   -- the text ends
   nothing : ReadsAs [] []
-  -- a silent line, and what stands behind it
+  -- a silent line, and what stands after it
   silent : {text line rest : List ℕ} {steps : List Step} → IsFirstLine text line rest → IsSilent line
       → ReadsAs rest steps → ReadsAs text steps
-  -- a step, and what stands behind it
+  -- a step, and what stands after it
   step : {text line rest : List ℕ} {first : Step} {steps : List Step} → IsFirstLine text line rest
       → IsStepLine line first → ReadsAs rest steps → ReadsAs text (first ∷ steps)
 
@@ -63,11 +63,11 @@ pub data ReadsAs : List ℕ → List Step → Type 0 where
 pub data IsFirstBadLine : List ℕ → ℕ → Type 0 where
   -- the first line is bad
   here : {text line rest : List ℕ} → IsFirstLine text line rest → ¬ IsGood line → IsFirstBadLine text 1
-  -- the first line is good, and a line behind it is the first bad one
+  -- the first line is good, and a line after it is the first bad one
   later : {text line rest : List ℕ} {n : ℕ} → IsFirstLine text line rest → IsGood line
       → IsFirstBadLine rest n → IsFirstBadLine text (1 + n)
 
--- the fault of a text: its first bad line; want of memory is none
+-- the fault of a text: its first bad line; lack of memory is none
 abbrev pub IsFault : List ℕ → PlanTextError → Type 0
 IsFault text (BadLine n) = IsFirstBadLine text n
 IsFault text NoMemory = ⊥

@@ -7,7 +7,7 @@ ghost use Rattle.hd_plan.specs.PlanText.{plan_text};
 ghost use Rattle.hd_plan.specs.Text.{IsStep, ReadsAs, IsFirstBadLine};
 ghost use Rattle.hd_plan.specs.declared.step.Step.{Step};
 
-/// Every text reads as steps, just these, or has a first bad line, just this, and never both.
+/// Law: every text reads as steps, just these, or has a first bad line, just this, and never both.
 pub fn each_text_reads_or_has_a_bad_line()
     ensures reads_or_bad { (text : List ℕ)
         → ((steps : List Step) × ReadsAs text steps) ⊎ ((n : ℕ) × IsFirstBadLine text n) }
@@ -19,7 +19,7 @@ pub fn each_text_reads_or_has_a_bad_line()
         → ReadsAs text steps → IsFirstBadLine text n → ⊥ }
 {}
 
-/// The text of a plan reads as the steps of that plan, whatever it costs.
+/// Law: the text of a plan reads as the steps of that plan, whatever it costs.
 pub fn what_is_written_is_read_back()
     ensures read_back { (steps : List Step) (cost : ℕ) → cost < 2 ^ 64
         → AllByRecursion IsStep steps → ReadsAs (plan_text steps cost) steps }

@@ -18,14 +18,14 @@ pub enum Line {
     Bad,
 }
 
-/// Whether no comment stands in the line.
+/// Reports whether no comment stands in the line.
 fn is_plain(line: &[u8]) -> bool
     ensures { result ≡ list_all is_plain_byte line.now }
 {
     line.iter().all(|byte| *byte != b';')
 }
 
-/// What this line says.
+/// Returns what this line says.
 #[tactic(auto, using(crate::proofs::Lines::line_is_silent, crate::proofs::Lines::line_is_step, crate::proofs::Lines::commented_bad, crate::proofs::Lines::misshaped_bad, crate::proofs::Lines::faulty_bad))]
 pub fn line_of(alloc: Global, line: &[u8]) -> Result<Line, PlanTextError>
     ensures said { IfOk result (IsSaid line.now) }

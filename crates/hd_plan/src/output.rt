@@ -35,7 +35,7 @@ impl<T: Drop> From<AllocFailed<T>> for WriteError {
 /// A writer, with the kind of the error that it answered last, if it has answered one.
 ///
 /// No contract over `std::io::Write` alone can say that a writer failed. This one notes each error
-/// that its writer answers, so that what is told of the writer can be held against it.
+/// that its writer answers, so that what is reported of the writer can be held against it.
 #[derive(Drop)]
 pub struct Watched<'w, W> {
     writer: &'w mut W,
@@ -43,7 +43,7 @@ pub struct Watched<'w, W> {
 }
 
 impl<'w, W: Write> Watched<'w, W> {
-    /// A writer that has answered no error yet.
+    /// Returns a writer that has answered no error yet.
     pub fn of(writer: &'w mut W) -> Watched<'w, W>
         ensures no_fault { result.fault ≡ None }
         ensures held { W.contents result.writer.now ≡ W.contents writer.old }
@@ -54,7 +54,7 @@ impl<'w, W: Write> Watched<'w, W> {
         }
     }
 
-    /// The kind of the error that the writer answered last, if it has answered one.
+    /// Returns the kind of the error that the writer answered last, if it has answered one.
     pub fn fault(&self) -> Option<io::ErrorKind>
         ensures { result ≡ self.now.fault }
     {
@@ -96,7 +96,7 @@ impl<'w, W: Write> Watched<'w, W> {
         ensures short { OnErr result (AppendsShort (W.contents self.old.writer.now)
             (W.contents self.new.writer.now) bytes.now) }
 
-        // An error is told only where the writer has answered it.
+        // An error is reported only where the writer has answered it.
         ensures fault { NotesFault self.old.fault self.new.fault result }
     {
         let mut done = 0;

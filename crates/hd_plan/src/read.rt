@@ -14,14 +14,14 @@ use crate::step::Step;
 use hd_base::Sequence;
 use std::alloc::Global;
 
-/// How many bytes at the front stand before the end of the line.
+/// Returns how many bytes at the front stand before the end of the line.
 fn line_len(text: &[u8]) -> usize
     ensures { result ≡ prefix_len is_line_byte text.now }
 {
     text.iter().take_while(|byte| **byte != b'\n').count()
 }
 
-/// What stands behind the first byte, which is a line feed if there is one.
+/// Returns what stands after the first byte, which is a line feed if there is one.
 fn behind_line_feed(text: &[u8]) -> &[u8]
     ensures { result.now ≡ drop 1 text.now }
 {
@@ -52,7 +52,7 @@ fn add_line(
     }
 }
 
-/// The steps of a plan file in order, or the fault of its first bad line.
+/// Returns the steps of a plan file in order, or the fault of its first bad line.
 #[tactic(auto, using(crate::proofs::Files::read_start, crate::proofs::Files::read_turn, crate::proofs::Files::read_refused, crate::proofs::Files::read_less, crate::proofs::Files::read_all))]
 fn steps_of(alloc: Global, text: &[u8]) -> Result<Vec<Step>, PlanTextError>
     ensures answer { IfOk result (λ found. ReadsAs text.now found.items) }
@@ -74,12 +74,12 @@ fn steps_of(alloc: Global, text: &[u8]) -> Result<Vec<Step>, PlanTextError>
     Ok(steps)
 }
 
-/// The steps of a plan file in order, or the fault of its first bad line.
+/// Returns the steps of a plan file in order, or the fault of its first bad line.
 ///
-/// Any bytes may come. The only error that a good text meets is want of memory.
+/// Any bytes may come. The only error that a good text meets is lack of memory.
 ///
 /// # Errors
-/// `BadLine` with the number of the first bad line, counted from 1, and want of memory.
+/// `BadLine` with the number of the first bad line, counted from 1, and lack of memory.
 #[tactic(auto, using(crate::proofs::Lowered::reads_names, crate::proofs::Files::reads_unique, crate::proofs::Files::good_refused, crate::proofs::Files::bad_answered, crate::proofs::Files::bad_refused))]
 pub fn read_plan(alloc: Global, text: &[u8]) -> Result<Sequence<Step>, PlanTextError>
     // What is answered: the steps of the text's lines, in order, whose names are those of texts, in
@@ -87,7 +87,7 @@ pub fn read_plan(alloc: Global, text: &[u8]) -> Result<Sequence<Step>, PlanTextE
     ensures answer { IfOk result (λ steps. ReadsAs text.now steps) }
     ensures names { IfOk result (λ steps. All IsStep steps) }
 
-    // What is told: the first bad line, or want of memory.
+    // What is reported: the first bad line, or lack of memory.
     ensures refusal { IfErr result (λ error.
         (error ≡ PlanTextError.NoMemory) ⊎ IsFault text.now error) }
 

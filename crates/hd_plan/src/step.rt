@@ -59,7 +59,7 @@ fn args_of(alloc: Global, tokens: &[Token]) -> Result<Option<Sequence<Name>>, No
     Ok(None)
 }
 
-/// The step that the tokens are, if they are one.
+/// Returns the step that the tokens are, if they are one.
 pub fn step_of(alloc: Global, tokens: &[Token]) -> Result<Option<Step>, NoMemory>
     ensures { IfOk result (λ found. found ≡ step_of (words_of tokens.now)) }
 {

@@ -11,7 +11,7 @@ use hd_base::{Name, NoMemory};
 use std::alloc::Global;
 use std::io::Write;
 
-/// An object behind a space, behind a text.
+/// Appends an object after a space to a text.
 fn push_arg(text: &mut Vec<u8>, arg: &Name) -> Result<(), NoMemory>
     ensures { OnOk result (text.new.items ≡ text.old.items ++ arg_text arg.now) }
 {
@@ -19,7 +19,7 @@ fn push_arg(text: &mut Vec<u8>, arg: &Name) -> Result<(), NoMemory>
     text.extend_from_slice(arg.as_str().as_bytes())
 }
 
-/// Objects, each behind a space, behind a text.
+/// Objects, each after a space, after a text.
 fn push_args(text: &mut Vec<u8>, args: &[Name]) -> Result<(), NoMemory>
     ensures { OnOk result (text.new.items ≡ text.old.items ++ flat_map arg_text args.now) }
 {
@@ -29,7 +29,7 @@ fn push_args(text: &mut Vec<u8>, args: &[Name]) -> Result<(), NoMemory>
     Ok(())
 }
 
-/// A step behind a text.
+/// Appends a step to a text.
 fn push_step(text: &mut Vec<u8>, step: &Step) -> Result<(), NoMemory>
     ensures { OnOk result (text.new.items ≡ text.old.items ++ step_text step.now) }
 {
@@ -40,7 +40,7 @@ fn push_step(text: &mut Vec<u8>, step: &Step) -> Result<(), NoMemory>
     Ok(())
 }
 
-/// The line of a step behind a text.
+/// Appends the line of a step to a text.
 fn push_line(text: &mut Vec<u8>, step: &Step) -> Result<(), NoMemory>
     ensures { OnOk result (text.new.items ≡ text.old.items ++ step_line step.now) }
 {
@@ -49,7 +49,7 @@ fn push_line(text: &mut Vec<u8>, step: &Step) -> Result<(), NoMemory>
     Ok(())
 }
 
-/// The text of a plan at a cost.
+/// Returns the text of a plan at a cost.
 fn plan_text(alloc: Global, steps: &[Step], cost: u64) -> Result<Vec<u8>, NoMemory>
     ensures { IfOk result (λ text. text.items ≡ plan_text steps.now cost) }
 {
@@ -67,7 +67,7 @@ fn plan_text(alloc: Global, steps: &[Step], cost: u64) -> Result<Vec<u8>, NoMemo
 /// = N`.
 ///
 /// # Errors
-/// Want of memory, before anything is written; and the writer's fault, which it has then answered
+/// Lack of memory, before anything is written; and the writer's fault, which it has then answered
 /// and which is noted of it. A beginning of the text has then been written, and not all of it.
 #[tactic(auto, using(crate::proofs::Parts::nothing_appended))]
 pub fn write_plan<W: Write>(
@@ -87,8 +87,8 @@ pub fn write_plan<W: Write>(
     ensures no_memory { IfErr result (KeepsFor (W.contents out.old.writer.now)
         (W.contents out.new.writer.now)) }
 
-    // A fault of the writer is told only where it has answered that error, and none that it answers
-    // is passed over.
+    // A fault of the writer is reported only where it has answered that error, and none that it
+    // answers is passed over.
     ensures fault { NotesError out.old.fault out.new.fault result }
 {
     let text = plan_text(alloc, steps, cost)?;

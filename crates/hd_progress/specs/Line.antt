@@ -1,4 +1,4 @@
--- The line that tells how a search stands. (Our own.)
+-- The line that reports how a search stands. (Our own.)
 use Rattle.std.specs.Prelude.{ℕ, ◌*◌, ◌/◌, ◌-◌, ◌^◌, max, min, List, ◌++◌, Option, Some, None, codes, decimal}
 use Rattle.hd_progress.specs.declared.line.Line.{Line}
 

@@ -1,4 +1,4 @@
-//! A line that tells how a search stands.
+//! A line that reports how a search stands.
 ghost use Rattle.std.specs.Prelude.{◌≡◌, Some};
 ghost use Rattle.hd_progress.specs.Line.{cost_text, line_text, rate};
 

@@ -1,4 +1,4 @@
-//! Who asks the threads of a search how it stands, and tells it.
+//! Who asks the threads of a search how it stands, and reports it.
 use crate::line::{Line, rate_of};
 use hd_threads::{Gate, Standing};
 use std::alloc::{AllocError, Global};
@@ -10,7 +10,7 @@ use std::time::{Clock, Instant};
 /// How long after a line the workers are asked how they stand, in milliseconds.
 const ASKED_AFTER: u64 = 900;
 
-/// How long after a line the next one is told, in milliseconds.
+/// How long after a line the next one is reported, in milliseconds.
 const TOLD_AFTER: u64 = 1000;
 
 /// What stands for no number.
@@ -35,9 +35,9 @@ struct Last {
     bound: AtomicU64,
 }
 
-/// A gate of a search that tells how it stands on standard error, a line a second: the workers
+/// A gate of a search that reports how it stands on standard error, a line a second: the workers
 /// are asked for their least cost plus estimate a tenth of a second before, and who does not
-/// answer by then is told as of the last time.
+/// answer by then is reported as of the last time.
 #[derive(Drop)]
 pub struct Watch<'r, R: Eprint + Clock> {
     rt: &'r R,
@@ -52,7 +52,7 @@ pub struct Watch<'r, R: Eprint + Clock> {
 
 impl<'r, R: Eprint + Clock> Watch<'r, R> {
     /// That of a search that begins now, by so many workers, with so many entries, which count as
-    /// none of those that it makes. Where the clock can't be read, the last line alone is told.
+    /// none of those that it makes. Where the clock can't be read, the last line alone is reported.
     ///
     /// # Errors
     /// `AllocError` where there is no room for what workers tell.
@@ -85,7 +85,7 @@ impl<'r, R: Eprint + Clock> Watch<'r, R> {
         })
     }
 
-    /// How many milliseconds ago the search began.
+    /// Returns how many milliseconds ago the search began.
     fn milliseconds(&self) -> u64 {
         match self.began {
             Some(began) => match began.elapsed(self.rt) {
@@ -96,7 +96,7 @@ impl<'r, R: Eprint + Clock> Watch<'r, R> {
         }
     }
 
-    /// The least of what the workers have told, where something is open.
+    /// Returns the least of what the workers have told, where something is open.
     fn least(&self, open: u64) -> Option<u64> {
         if open == 0 {
             return None;
@@ -128,7 +128,7 @@ impl<'r, R: Eprint + Clock> Watch<'r, R> {
         self.last.bound.store(bound, Ordering::Relaxed);
     }
 
-    /// The line of how the search stood last, so many milliseconds behind the line before.
+    /// Returns the line of how the search stood last, so many milliseconds after the line before.
     fn line(&self, since: u64) -> Line {
         let entries = self.last.entries.load(Ordering::Relaxed);
         let open = self.last.open.load(Ordering::Relaxed);
@@ -144,7 +144,7 @@ impl<'r, R: Eprint + Clock> Watch<'r, R> {
         }
     }
 
-    /// Tells how the search stood last.
+    /// Reports how the search stood last.
     fn tell(&self, now: u64, since: u64) {
         let line = self.line(since);
         // A line that can't be told is no reason to end a search.
@@ -153,7 +153,7 @@ impl<'r, R: Eprint + Clock> Watch<'r, R> {
         self.told_entries.store(line.entries, Ordering::Relaxed);
     }
 
-    /// Tells how the search stood at its end.
+    /// Reports how the search stood at its end.
     pub fn end(&self) {
         let now = self.milliseconds();
         self.tell(
@@ -186,7 +186,7 @@ impl<'r, R: Eprint + Clock> Gate for Watch<'r, R> {
         }
     }
 
-    /// Always: what the committer tells before its last round is how the search ends.
+    /// Always: what the committer reports before its last round is how the search ends.
     fn asks_committer(&self) -> bool {
         true
     }

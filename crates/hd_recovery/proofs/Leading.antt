@@ -1,4 +1,4 @@
--- Each posted kid of a book leads somewhere, and so does each of its entries.
+-- Each posted successor of a book leads somewhere, and so does each of its entries.
 use Rattle.std.proofs.Common.{◌≡◌, ℕ, zero, suc, ◌+◌, ◌<◌, ◌≤◌, not, is_some, true, Option, Some, None, List, [], ◌∷◌, ◌++◌, map, take, length, get_or, flat_map, Contains, inl, inr, refl, sym, ap, ap₂, subst, ◌∙◌, arith, true≢false}
 use Rattle.std.specs.Prelude.{option_and_then}
 use Rattle.std.specs.List.{range_with_len, AllByRecursion}
@@ -51,7 +51,7 @@ generated_runs t expanded q c =
       | inr c ↦ children_run t expanded q c
     ]
 
--- ---- kids and entries
+-- ---- successors and entries
 
 open_kid : (k : Kid) (o : Option Node) → is_some o ≡ true → map (λ (r : Released). r.kid) (open_as k o) ≡ k ∷ []
 open_kid k None e = absurd (true≢false (sym e))
@@ -69,7 +69,7 @@ module _ (b : BookState) (kept : IsKept b) where
       ap (λ (o : Option (List ℕ)). is_some (option_and_then (exec b.task) o)) at.plan
       ∙ generated_runs b.task (expansions b) (get_or all (place_of b k) []) (Contains-get_or all (place_of b k) [] at.within)
 
-  -- the kids of what is open
+  -- the successors of what is open
   pub kids_there : (kids : List Kid) → AllByRecursion (λ (k : Kid). is_posted b k ≡ true) kids → map (λ (r : Released). r.kid) (flat_map (open_at b) kids) ≡ kids
   kids_there [] posted = refl
   kids_there (k ∷ kids) posted =

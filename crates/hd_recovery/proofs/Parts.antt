@@ -22,7 +22,7 @@ set_one f g n o lt same =
       | false ↦ λ e. get_or-map-range_with_len f 0 n k k (g o) less (omega arith) ∙ same k e
     ] refl))
 
--- those that pass a test, with one more behind them
+-- those that pass a test, with one more after them
 pub filter_in : {X : Type 0} (p : X → Bool) (xs : List X) (x : X) → p x ≡ true → filter p (xs ++ x ∷ []) ≡ filter p xs ++ x ∷ []
 filter_in p xs x e = filter-append p xs (x ∷ []) ∙ ap (λ b. filter p xs ++ cond b (x ∷ []) []) e
 
@@ -54,7 +54,7 @@ module _ (o v : ℕ) where
         | false ↦ λ _. refl
       ] refl
 
-  -- a number is none of those behind it
+  -- a number is none of those after it
   missed : (a n : ℕ) → o < a → sum_by its (range_with_len a n) ≡ 0
   missed a zero lt = refl
   missed a (suc n) lt = omega (arith, sum_by-cons its a (range_with_len (a + 1) n), its_not a (λ e. omega (arith, e, lt)), missed (a + 1) n (omega (arith, lt)))

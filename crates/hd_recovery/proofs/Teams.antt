@@ -119,7 +119,7 @@ closed_more b m =
     ap (flat_map (closed_at b)) (range_with_len_more 0 m m (omega arith))
     ∙ (flat_map-append (closed_at b) (range_with_len 0 m) (m ∷ []) ∙ ap (λ cs. flat_map (closed_at b) (range_with_len 0 m) ++ cs) (append-nil (closed_at b m)))
 
--- parcels that say of their kids where these lead
+-- parcels that say of their successors where these lead
 pub all_open : (b : BookState) (parcels : List ParcelView) → AllByRecursion (LeadsThere b) parcels → map parcel_of parcels ≡ flat_map (open_at b) (map (λ (p : ParcelView). p.kid) parcels)
 all_open b [] lead = refl
 all_open b (p ∷ parcels) lead = ap₂ (λ (xs ys : List Released). xs ++ ys) (sym (ap (open_as p.kid) lead.0.leads)) (all_open b parcels lead.1)

@@ -78,7 +78,7 @@ module _ (t : Task) (entries : List Kid) (kept : IsKept (resumed_state t entries
   abbrev b : BookState
   b = resumed_state t entries
 
-  -- the kids that are no entries are posted
+  -- the successors that are no entries are posted
   all_posted : AllByRecursion (λ (k : Kid). is_posted b k ≡ true) (open_kids t entries)
   all_posted =
       let posted = posted_by t (expansions b) in
@@ -86,7 +86,7 @@ module _ (t : Task) (entries : List Kid) (kept : IsKept (resumed_state t entries
       (AllByRecursion-from_contains (λ (k : Kid). is_posted b k ≡ true) posted
       (λ k c. nat_lt-position_or_len (same_kid k) posted ∙ list_any-from_contains (same_kid k) posted k c (same_kid-refl k)))
 
-  -- the kids of what is open, and the names of what is closed
+  -- the successors of what is open, and the names of what is closed
   pub all_kids : map (λ (r : Released). r.kid) (open_in t entries) ≡ open_kids t entries
   all_kids = kids_there b kept (open_kids t entries) all_posted
 

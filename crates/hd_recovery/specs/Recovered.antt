@@ -28,7 +28,7 @@ closed_at b n = closed_as n (entry_node b n)
 abbrev pub closed_in : BookState → List Closed
 closed_in b = flat_map (closed_at b) (range_with_len 0 (length b.entries))
 
--- a kid is open with the state and the cost that its plan leads to
+-- a successor is open with the state and the cost that its plan leads to
 abbrev pub open_as : Kid → Option Node → List Released
 open_as k None = []
 open_as k (Some r) = record { kid = k; state = r.state; cost = r.cost } ∷ []
@@ -36,7 +36,7 @@ open_as k (Some r) = record { kid = k; state = r.state; cost = r.cost } ∷ []
 abbrev pub open_at : BookState → Kid → List Released
 open_at b k = open_as k (node_of b k)
 
--- the kids of entries that are no entries, in posting order
+-- the successors of entries that are no entries, in posting order
 abbrev pub open_in : Task → List Kid → List Released
 open_in t entries = flat_map (open_at (resumed_state t entries)) (open_kids t entries)
 
@@ -70,7 +70,7 @@ team t workers closed waiting = map (with_own t workers closed waiting) (range_w
 -- ---- the search that goes on
 
 -- the worker of this number, of so many, where a search goes on from entries: each entry whose
--- state it owns is closed, and each kid that is no entry and whose state it owns is open
+-- state it owns is closed, and each successor that is no entry and whose state it owns is open
 abbrev pub recovered_worker : Task → List Kid → ℕ → ℕ → WorkerView
 recovered_worker t entries id workers = with_own t workers (closed_in (resumed_state t entries)) (open_in t entries) id
 

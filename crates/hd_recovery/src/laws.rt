@@ -12,14 +12,15 @@ ghost use Rattle.hd_turns.specs.Worker.{WorkerView};
 ghost use Rattle.hd_turns.specs.Truth.{IsTrueWorker};
 ghost use Rattle.hd_recovery.specs.Recovered.{closed_in, open_in, recovered_worker, recovered_workers};
 
-/// All that each worker begins with is true of the book that has these entries.
+/// Law: all that each worker begins with is true of the book that has these entries.
 pub fn workers_are_true()
     ensures { (t : Task) (entries : List Kid) (id workers : ℕ)
         → length entries < ROOT_PARENT → AreLegal t entries
         → IsTrueWorker (resumed_state t entries) (recovered_worker t entries id workers) }
 {}
 
-/// All entries are closed, in order, and all kids that are no entries are open, in posting order.
+/// Law: all entries are closed, in order, and all successors that are no entries are open, in
+/// posting order.
 pub fn all_is_there()
     ensures closed { (t : Task) (entries : List Kid)
         → length entries < ROOT_PARENT → AreLegal t entries
@@ -30,7 +31,7 @@ pub fn all_is_there()
         → map (λ (r : Released). r.kid) (open_in t entries) ≡ open_kids t entries }
 {}
 
-/// The workers together have all that is open, and all that is closed, each as often as it is
+/// Law: the workers together have all that is open, and all that is closed, each as often as it is
 /// there: nothing is lost, and nothing is at two workers.
 pub fn nothing_is_lost()
     ensures open { (t : Task) (entries : List Kid) (workers : ℕ) (p : Released → Bool)

@@ -1,5 +1,14 @@
-//! How a search goes on from a journal's entries, shared among workers: the book with exactly
-//! these entries, and the workers, each with what it owns of what is closed and of what is open.
+//! Rebuilds the book and the workers of a search from a journal's entries, to resume it.
+//!
+//! If [`recover`] succeeds, the entries name a legal list. The book has exactly these entries, all
+//! acknowledged. Each entry is closed, and each other generated node is open, at the worker that
+//! owns its state and nowhere else ([`laws::nothing_is_lost`]). All that a worker holds is true of
+//! the book ([`laws::workers_are_true`]).
+//!
+//! hd_book expands the entries again, and returns a parcel for each other generated node. Then one
+//! pass gives each entry and parcel to the owner, which the state's hash selects.
+//!
+//! Start reading at [`recover`], then `specs/Recovered.antt`.
 #![tactic(auto)]
 
 mod handing;

@@ -59,11 +59,11 @@ fn workers_of<'t, L: Ledger>(
     Ok(workers)
 }
 
-/// The search with exactly these entries, of which there may be `most`, shared among so many
-/// workers: all entries are acknowledged, each is closed at the worker that owns its state, and
-/// so each kid that is no entry is open at one worker. With the book comes a share of the ledger
-/// that counts its commits, which is the whole of it. The listener hears how many entries are made
-/// again.
+/// Returns the search with exactly these entries, of which there may be `most`, shared among so
+/// many workers: all entries are acknowledged, each is closed at the worker that owns its state,
+/// and so each successor that is no entry is open at one worker. With the book comes a share of the
+/// ledger that counts its commits, which is the whole of it. The listener hears how many entries
+/// are made again.
 ///
 /// # Errors
 /// `Full` where there are more entries than `most`; `Damaged` with the place of the first that

@@ -17,8 +17,8 @@ use hd_task::Task;
 use std::alloc::Global;
 use std::sync::ledger::{Blank, Ledger, Share};
 
-/// The book with exactly these entries, with the share that is the whole of its ledger, and the
-/// parcels of the kids that are no entries.
+/// Returns the book with exactly these entries, with the share that is the whole of its ledger, and
+/// the parcels of the successors that are no entries.
 ///
 /// # Errors
 /// `Full` where there are more entries than `most`; `Damaged` of the first that makes no legal

@@ -133,13 +133,13 @@ none_there ms place past = drop_all place ms past
 
 -- ---- while nothing runs
 
--- a place while nothing runs, on a disk that was started anew
+-- a place while nothing runs, on a disk that was started again
 pub record IsRestingAt (t : Task) (digest first : List ℕ) (ms : List Move) (place : ℕ) (disk : MemoryDisk) : Type 0 where
   pub content : List ℕ
   pub started : IsStarted disk content
   pub at : IsAt t digest (Rests first) ms place (Rests content)
 
--- behind moves that a stop ends, or behind one that does nothing
+-- after moves that a stop ends, or after one that does nothing
 pub rests_next : (t : Task) (digest first : List ℕ) (ms rest : List Move) (place count : ℕ) (m : Move) (disk left : MemoryDisk)
     → (x : IsRestingAt t digest first ms place disk) → drop place ms ≡ m ∷ drop (place + 1) ms → rest ≡ drop (place + 1) ms
     → IsStoppedAt t digest (Rests x.content) (m ∷ rest) rest left count → IsRestingAt t digest first ms (place + (1 + count)) left
@@ -172,7 +172,7 @@ reported_now t digest first ms rest place m disk left report x is rest_is e = re
   disk = e.end.disk_is;
 }
 
--- nothing runs behind them, and a resumption with one worker follows
+-- nothing runs after them, and a resumption with one worker follows
 pub reported_last : (t : Task) (digest first : List ℕ) (ms : List Move) (place : ℕ) (disk left : MemoryDisk) (report : Report)
     → (x : IsRestingAt t digest first ms place disk) → drop place ms ≡ []
     → IsEndedBy t digest (Rests x.content) (moves.Resume 1 None ∷ []) left report → IsReported t digest first ms (content_of (device_of left)) report
@@ -248,7 +248,7 @@ turned_at t digest w ms place f r r' m journal' is at goes = (
   at_next t digest w ms place (Running f r) (Running goes.file r') m is at goes.steps,
 )
 
--- behind the last
+-- after the last
 pub plays_end : (t : Task) (digest : List ℕ) (w : World) (ms : List Move) (place : ℕ) (f : File) (r : Run) (played : Played) → drop place ms ≡ []
     → IsAt t digest w ms place (Running f r) → EndsTo t digest f r played → PlaysTo t digest w ms ms played
 plays_end t digest w ms place f r (Stopped disk count) none at e = absurd e

@@ -1,4 +1,4 @@
--- Journals on disks that were started anew.
+-- Journals on disks that were started again.
 use Rattle.std.proofs.Common.{◌≡◌, ◌≢◌, inl, inr, ℕ, suc, ◌+◌, ◌-◌, ◌≤◌, ◌<◌, Bool, true, false, Option, Some, None, List, [], ◌∷◌, ◌++◌, length, Err, Ok, refl, sym, ap, ap₂, ◌∙◌, subst, arith, true≢false, if◌then◌else◌}
 use Rattle.std.specs.Prelude.{not, ◌&&◌}
 use Rattle.std.specs.List.{AllByRecursion}
@@ -51,7 +51,7 @@ left_sure d byte content settled filled = rests_there d.start d.steps settled co
 surely : (content : List ℕ) (place : ℕ) → place < length content → is_sure content [] place ≡ true
 surely content place below = ap (λ (b : Bool). b && not false) (lt-ltb place (length content) below)
 
--- a disk that was started anew, of which a stop leaves what is on it
+-- a disk that was started again, of which a stop leaves what is on it
 pub fills_itself : (content : List ℕ) (byte : ℕ) → Filled (at_rest content) byte content
 fills_itself content byte = record {
   left = rests content [] tt;
@@ -59,7 +59,7 @@ fills_itself content byte = record {
   filled = λ place below sure. absurd (true≢false (sym (surely content place below) ∙ sure));
 }
 
--- a disk that was started anew, and whose machine will stop
+-- a disk that was started again, and whose machine will stop
 pub planned_by : (old new : Device) (content bytes : List ℕ) (n call : ℕ) → old ≡ record { start = content; steps = []; failures = 0; changes = Well; reads = Well }
     → new ≡ record old { changes = Stops (n - 1) } → content ≡ bytes → n ≡ call → new ≡ planned bytes [] (call - 1)
 planned_by old new content bytes n call is plan same number =
@@ -99,13 +99,13 @@ module _ {S : Type 0} {G : Ghosts S} (digest : List ℕ) where
     stands = stands_now journal groups is settled;
   }
 
-  -- the calls that opened it, where the machine would stop behind so many
+  -- the calls that opened it, where the machine would stop after so many
   ran_planned : (content : List ℕ) (n : ℕ) (old : Device) (journal : Journal S G) (o : IsOpened digest old journal) → old ≡ planned content [] n
       → RanThrough (planned content [] n) (open_calls digest o.found) (device_of journal)
   ran_planned content n old journal o is =
       subst (λ (d : Device). RanThrough d (open_calls digest o.found) (device_of journal)) (o.mended.looked.2 ∙ ap looked_at is) o.mended.ran
 
-  -- where a stop was foretold behind them
+  -- where a stop was foretold after them
   pub opened_before : (content : List ℕ) (at : StopAt) (old : Device) (journal : Journal S G) → 1 ≤ at.call → old ≡ planned content [] (at.call - 1)
       → IsOpened digest old journal → (groups : List (List Kid)) × IsOf digest groups journal → IsSettled (device_of journal)
       → OpensBefore digest content (Some at) journal
@@ -133,7 +133,7 @@ opens_again digest content stop first again o stands = record {
   stands = stands;
 }
 
--- ---- a journal whose disk was started anew
+-- ---- a journal whose disk was started again
 
 module _ {S : Type 0} {G : Ghosts S} (digest : List ℕ) (f : File) (journal : Journal S G) (s : StandsAs digest f journal) where
   pub holds : content_of (device_of journal) ≡ bytes_of digest f

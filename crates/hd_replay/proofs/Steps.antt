@@ -133,7 +133,7 @@ pulled_some r g e = ap (pulled_to r) e
 
 -- ---- moves
 
--- behind a step that goes on, the run is sound again
+-- after a step that goes on, the run is sound again
 pub goes_by : {S : Type 0} {G : Ghosts S} (t : Task) (digest : List ℕ) (f f' : File) (r r' : Run) (m : Move) (journal journal' : Journal S G)
     → Runs t digest f journal r → StandsAs digest f' journal' → StepsTo Filled t digest (Running f r) m (Running f' r')
     → Goes t digest f r m journal' r'

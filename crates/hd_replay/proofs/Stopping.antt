@@ -14,7 +14,7 @@ use Rattle.hd_journal.specs.Calls.{Call, change_of, content_by, Breaks, Ran, Ran
 use Rattle.hd_journal.specs.Calls.Call.{Writing, Cutting, Syncing}
 use Rattle.hd_world.specs.Stops.{within_call, stopped_in}
 
--- a device of which nothing is known that is to come; and one whose machine stops behind so many
+-- a device of which nothing is known that is to come; and one whose machine stops after so many
 -- more changes
 abbrev pub quiet : List ℕ → List Step → Device
 quiet start steps = record { start = start; steps = steps; failures = 0; changes = Unknown; reads = Unknown }
@@ -26,13 +26,13 @@ planned start steps n = record { start = start; steps = steps; failures = 0; cha
 abbrev FillsAs : Device → Device → Type 0
 FillsAs d e = (fill : ℕ) (found : List ℕ) → IsFilled d.start d.steps fill found → IsFilled e.start e.steps fill found
 
--- a stop fell within the call behind so many
+-- a stop fell within the call after so many
 pub record IsCutIn (start : List ℕ) (steps : List Step) (calls : List Call) (n : ℕ) (new : Device) : Type 0 where
   pub within : suc n ≤ length calls
   pub fills : (fill : ℕ) (found : List ℕ) → IsFilled new.start new.steps fill found
       → IsFilled (stopped_in (quiet start steps) calls (suc n)).start (stopped_in (quiet start steps) calls (suc n)).steps fill found
 
--- what a read gives behind a write or a cut does not matter for what a stop leaves; and a sync
+-- what a read gives after a write or a cut does not matter for what a stop leaves; and a sync
 -- that failed does not matter
 write_fills : (start : List ℕ) (steps : List Step) (at count : ℕ) (now now' : List ℕ) (fill : ℕ) (found : List ℕ)
     → IsFilled start (step (Write at count) now ∷ steps) fill found → IsFilled start (step (Write at count) now' ∷ steps) fill found

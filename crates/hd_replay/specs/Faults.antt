@@ -1,4 +1,4 @@
--- Why a schedule is not played to its end: what is told, and how it is printed. (Our own.)
+-- Why a schedule is not played to its end: what is reported, and how it is printed. (Our own.)
 use Rattle.std.specs.Prelude.{ℕ, List, codes}
 use Rattle.hd_journal.specs.declared.error.JournalError.{JournalError}
 use Rattle.hd_journal.specs.declared.error.JournalError.TheVariants as journal
@@ -17,7 +17,7 @@ text_of (Journal error) = journals.text_of error
 text_of Full = codes "31 Full"
 text_of NoMemory = codes "NoMemory"
 
--- what is told of a journal's error
+-- what is reported of a journal's error
 abbrev pub of_journal : JournalError → ReplayFault
 of_journal journal.NotAJournal = Journal journal.NotAJournal
 of_journal journal.OtherTask = Journal journal.OtherTask
@@ -28,7 +28,7 @@ of_journal journal.JournalExists = Journal journal.JournalExists
 of_journal journal.NotOut = Journal journal.NotOut
 of_journal journal.NoMemory = NoMemory
 
--- what is told where a search can't go on
+-- what is reported where a search can't go on
 abbrev pub of_recovery : RecoverError → ReplayFault
 of_recovery recovery.Full = Full
 of_recovery (recovery.Damaged at) = Recovery (recovery.Damaged at)

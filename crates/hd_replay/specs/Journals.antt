@@ -36,7 +36,7 @@ pub record Flushes {S : Type 0} {G : Ghosts S} (digest : List ℕ) (f : File) (r
   pub flushed : flushed_to f r r.group ≡ Running file r'
   pub stands : StandsAs digest file journal'
 
--- a move of a run that goes on behind it
+-- a move of a run that goes on after it
 pub record Goes {S : Type 0} {G : Ghosts S} (t : Task) (digest : List ℕ) (f : File) (r : Run) (m : Move) (journal' : Journal S G) (r' : Run) : Type 0 where
   pub file : File
   pub steps : StepsTo Filled t digest (Running f r) m (Running file r')
@@ -65,7 +65,7 @@ stop_in group moves.Flush = None
 stop_in group moves.Ack = None
 stop_in group (moves.Stop stop) = if nat_le stop.call (calls_in group) then Some stop else None
 
--- a journal stands as this file on a disk that was started anew, and whose machine stops in the
+-- a journal stands as this file on a disk that was started again, and whose machine stops in the
 -- call of a number, counted from 1
 pub record Stopping {S : Type 0} {G : Ghosts S} (digest : List ℕ) (f : File) (call : ℕ) (journal : Journal S G) : Type 0 where
   pub is_of : IsOf digest f.groups journal

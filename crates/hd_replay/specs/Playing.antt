@@ -19,7 +19,7 @@ use Rattle.hd_replay.specs.Reporting.{IsReportOf, IsTrueOf}
 -- ---- a schedule's end
 
 -- A schedule that is played from a world comes to this run over this journal: at its last move,
--- or, where nothing runs behind that, at a resumption with one worker.
+-- or, where nothing runs after that, at a resumption with one worker.
 pub data ComesTo (t : Task) (digest : List ℕ) (w : World) (moves : List Move) (f : File) (r : Run) : Type 0 where
   AtTheEnd : Plays Filled t digest w moves (Running f r) → ComesTo t digest w moves f r
   IsFollowed :
@@ -45,7 +45,7 @@ pub record IsEndOf (t : Task) (digest : List ℕ) (f : File) (r : Run) (disk : M
   pub truth : IsTrueOf t report.verdict
   pub disk_is : content_of (device_of disk) ≡ bytes_of digest f
 
--- moves were played up to a stop, which left this disk: what the moves behind so many of them
+-- moves were played up to a stop, which left this disk: what the moves after so many of them
 -- come to from there, all come to
 pub record IsStoppedAt (t : Task) (digest : List ℕ) (w : World) (all moves : List Move) (disk : MemoryDisk) (count : ℕ) : Type 0 where
   pub few : count ≤ length moves

@@ -17,7 +17,7 @@ use Rattle.hd_replay.specs.declared.report.Report.{Report}
 
 -- ---- the verdict
 
--- what is said for an answer: the bound is the cost of an optimal plan; a departure is told by
+-- what is said for an answer: the bound is the cost of an optimal plan; a departure is reported by
 -- its entry
 abbrev pub IsSaidFor : BookState → Verdict → Says → Type 0
 IsSaidFor b (verdicts.Optimal p) says = (cost : ℕ) × (bound_in b ≡ Some cost) × (says ≡ Optimal cost)

@@ -79,13 +79,13 @@ seat_committed b s = record s {
 abbrev pub seat_dropped : Seat → Seat
 seat_dropped s = record s { worker = after_numbering ROOT_PARENT (after_batch s.worker) }
 
--- the book and the seat behind a commit that is refused for this, or accepted; none where it ends
+-- the book and the seat after a commit that is refused for this, or accepted; none where it ends
 -- the run
 abbrev pub committed_for : BookView → Seat → Option CommitRefusal → Option (BookView × Seat)
 committed_for b s None = Some (after_commit (batch_of s.worker) b, seat_committed b s)
 committed_for b s (Some why) = if is_dropped why then Some (b, seat_dropped s) else None
 
--- the book and the seat behind a commit
+-- the book and the seat after a commit
 abbrev pub committed_in : BookView → Seat → Option (BookView × Seat)
 committed_in b s = if may_commit s then committed_for b s (refusal_to b (batch_of s.worker)) else Some (b, s)
 

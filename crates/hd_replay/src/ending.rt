@@ -57,7 +57,7 @@ pub(crate) fn end<L: Ledger>(run: Run<'_, L>) {
     drop(mailboxes);
 }
 
-/// The journal that stands on a disk, where the machine will stop in a call.
+/// Returns the journal that stands on a disk, where the machine will stop in a call.
 ///
 /// # Errors
 /// `NoMemory`, or what the journal answers.
@@ -110,7 +110,7 @@ fn append_until(
     }
 }
 
-/// A stop in a call that appends a group to a journal: what it leaves.
+/// Returns a stop in a call that appends a group to a journal: what it leaves.
 ///
 /// # Errors
 /// `NoMemory`, or what the journal answers.
@@ -135,7 +135,7 @@ fn stop_within(
     }
 }
 
-/// A stop, in a call of an append where one is named: what it leaves.
+/// Returns a stop, in a call of an append where one is named: what it leaves.
 ///
 /// # Errors
 /// `NoMemory`, or what the journal answers.

@@ -43,7 +43,7 @@ impl From<AllocError> for ReplayFault {
     }
 }
 
-/// What is told of a journal's error.
+/// Returns what is reported of a journal's error.
 pub(crate) fn told_of_journal(error: JournalError) -> ReplayFault
     ensures { result ≡ of_journal error }
 {
@@ -53,7 +53,7 @@ pub(crate) fn told_of_journal(error: JournalError) -> ReplayFault
     }
 }
 
-/// What is told where a search can't go on.
+/// Returns what is reported where a search can't go on.
 pub(crate) fn told_of_recovery(fault: RecoverError) -> ReplayFault
     ensures { result ≡ of_recovery fault }
 {

@@ -1,6 +1,14 @@
-//! Schedules played: the parts of a search - book, workers, mailboxes, journal - moved one step
-//! at a time, in any order, with stops anywhere. What is reported at the end is what the
-//! definitions of the world of schedules say (`specs/Playing`), of which the headline holds.
+//! Plays schedules in memory: moves a search step by step, in any order, with stops anywhere.
+//!
+//! [`replay`] returns only the report of the run to which the schedule leads by the definitions of
+//! hd_world (`specs/Playing`). A verdict in the [`Report`] is true. Afterwards the disk holds
+//! exactly the bytes of that run's journal. After an error no clause says what the disk holds.
+//!
+//! One thread plays all moves. It uses the program's own book, workers and journal; only the
+//! mailboxes and the shared bound are plain data. A move that is not possible changes nothing. A
+//! stop drops all but the disk, on which each byte that is not synced then reads as the schedule
+//! says.
+//! Start reading at [`replay`], then at `src/stepping.rt` and `specs/Playing`.
 #![tactic(auto)]
 
 mod ending;

@@ -126,7 +126,7 @@ impl<'t, L: Ledger> Run<'t, L> {
         Ok(())
     }
 
-    /// The worker offers the bound that the book had behind its last commit.
+    /// The worker offers the bound that the book had after its last commit.
     pub(crate) fn offer(&mut self, number: usize)
         ensures { TurnsTo self.old.book.state.task self.old (moves.Offer number) self.new }
     {

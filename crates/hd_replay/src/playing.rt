@@ -27,7 +27,7 @@ use std::sync::ledger::{Blank, Ledger};
 /// What moves come to.
 #[derive(Drop)]
 pub(crate) enum Played {
-    /// A stop fell, and left this disk, behind so many moves.
+    /// A stop fell, and left this disk, after so many moves.
     Stopped(MemoryDisk, usize),
     /// All are made, and a search runs: the disk that it leaves, and its report.
     Ended(MemoryDisk, Report),
@@ -35,7 +35,7 @@ pub(crate) enum Played {
     Failed(ReplayFault),
 }
 
-/// The report of a run, and the disk that it leaves.
+/// Returns the report of a run, and the disk that it leaves.
 ///
 /// # Errors
 /// `NoMemory` where there is no room for a plan.
@@ -65,7 +65,7 @@ fn report<L: Ledger>(
     }
 }
 
-/// What a run comes to at the end of moves.
+/// Returns what a run comes to at the end of moves.
 fn ended<L: Ledger>(run: Run<'_, L>, journal: Journal<MemoryDisk>) -> Played
     ensures { (t : Task) (digest : List ℕ) (f : File) → Runs t digest f journal run.entry
         → EndsTo t digest f run.entry result }
@@ -76,7 +76,7 @@ fn ended<L: Ledger>(run: Run<'_, L>, journal: Journal<MemoryDisk>) -> Played
     }
 }
 
-/// The move of this number.
+/// Returns the move of this number.
 pub(crate) fn move_at(moves: &[Move], number: usize) -> Move
     requires { number < length moves.now }
     ensures { drop number moves.now ≡ result ∷ drop (number + 1) moves.now }
@@ -84,7 +84,7 @@ pub(crate) fn move_at(moves: &[Move], number: usize) -> Move
     moves[number]
 }
 
-/// The moves from this number on.
+/// Returns the moves from this number on.
 pub(crate) fn moves_from(moves: &[Move], number: usize) -> &[Move]
     requires { number ≤ length moves.now }
     ensures { result.now ≡ drop number moves.now }
@@ -148,7 +148,7 @@ fn play_over<L: Ledger>(
     }
 }
 
-/// Plays a resumption with so many workers, and the moves behind it, up to a stop or to their end.
+/// Plays a resumption with so many workers, and the moves after it, up to a stop or to their end.
 pub(crate) fn play_from<L: Ledger>(
     blank: Blank,
     alloc: Global,
@@ -177,7 +177,7 @@ pub(crate) fn play_from<L: Ledger>(
     }
 }
 
-/// Plays a resumption with one worker, and nothing behind it: the report, and the disk.
+/// Plays a resumption with one worker, and nothing after it: the report, and the disk.
 ///
 /// # Errors
 /// `NoMemory`, or what the journal answers, or why no search goes on from its entries.

@@ -43,7 +43,7 @@ fn possible(workers: u32, stop: Option<StopAt>) -> Option<(u32, Option<StopAt>)>
     }
 }
 
-/// The workers of a resumption that is possible, and where it stops. None where a move does
+/// Returns the workers of a resumption that is possible, and where it stops. None where a move does
 /// nothing while nothing runs.
 fn resumption_in(next: Move) -> Option<(u32, Option<StopAt>)>
     ensures some { IfSome result (λ r. next ≡ Resume r.0 r.1) }
@@ -59,7 +59,7 @@ fn resumption_in(next: Move) -> Option<(u32, Option<StopAt>)>
     }
 }
 
-/// Plays the first of some moves while nothing runs; where it is a resumption, also those behind
+/// Plays the first of some moves while nothing runs; where it is a resumption, also those after
 /// it, up to a stop or to their end.
 fn play_next(
     alloc: Global,
@@ -88,7 +88,7 @@ fn play_next(
     }
 }
 
-/// Plays a schedule on a disk that was started anew: its report, and the disk.
+/// Plays a schedule on a disk that was started again: its report, and the disk.
 ///
 /// # Errors
 /// Those of [`replay`].

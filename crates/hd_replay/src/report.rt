@@ -58,7 +58,7 @@ impl fmt::Display for Verdict {
 impl fmt::Display for Report {
     ghost output = { λ report. Some (report_text report) };
 
-    /// Four lines, each with its end.
+    /// Returns four lines, each with its end.
     fn fmt<W: fmt::Write>(&self, f: &mut fmt::Formatter<W>) -> fmt::Result {
         writeln!(f, "expansions {}", self.expansions)?;
         writeln!(f, "acknowledged {}", self.acknowledged)?;

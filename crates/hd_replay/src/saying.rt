@@ -9,7 +9,7 @@ use hd_book::Book;
 use hd_entries::Verdict;
 use std::sync::ledger::Ledger;
 
-/// What is said for an answer of a book.
+/// Returns what is said for an answer of a book.
 fn said_for<L: Ledger>(book: &Book<'_, L>, verdict: Verdict) -> Says
     requires answer { IsAnswerOf book.now.state verdict }
     requires truth { IsTrueAnswer book.now.state.task verdict }
@@ -26,7 +26,7 @@ fn said_for<L: Ledger>(book: &Book<'_, L>, verdict: Verdict) -> Says
     }
 }
 
-/// What a book answers, if it is at its end.
+/// Returns what a book answers, if it is at its end.
 ///
 /// # Errors
 /// `NoMemory` where there is no room for a plan.

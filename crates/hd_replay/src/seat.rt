@@ -28,7 +28,7 @@ use std::marker::Model;
 use std::sync::ledger::{Ledger, Share};
 
 /// A worker, the parcel in its hand, its tickets, the oldest first, and the bound that the book
-/// had behind its last commit.
+/// had after its last commit.
 ///
 /// It must be ended: its tickets can't be let go.
 #[must_use]
@@ -67,7 +67,7 @@ impl<'t> Model for Seat<'t> {
     ghost invariant = { λ s. IfSome s.hand (λ p. p.task ≡ s.worker.task) };
 }
 
-/// The fault that a refusal ends a run with; none where the batch is dropped.
+/// Returns the fault that a refusal ends a run with; none where the batch is dropped.
 fn ends(refusal: CommitRefusal) -> Option<ReplayFault>
     ensures { result ≡ ends_with refusal }
 {
@@ -86,8 +86,8 @@ fn ends(refusal: CommitRefusal) -> Option<ReplayFault>
     }
 }
 
-/// A batch that a worker gave is committed: its ticket. None where it is refused for what it
-/// says: it is dropped.
+/// Returns a batch that a worker gave is committed: its ticket. None where it is refused for what
+/// it says: it is dropped.
 ///
 /// # Errors
 /// `Full`, where the book takes no more, or `NoMemory`.
@@ -140,7 +140,7 @@ fn enter<'t, L: Ledger>(
     }
 }
 
-/// What a ticket is redeemed for comes to its worker, but for the ticket, where that comes back.
+/// Gives a worker what its ticket is redeemed for; returns the ticket if it can't be redeemed yet.
 fn receive<'t, L: Ledger>(
     book: &Book<'t, L>,
     worker: &mut Worker<'t>,
@@ -179,7 +179,7 @@ fn spend<L: Ledger>(book: &mut Book<'_, L>, ticket: Ticket)
 }
 
 impl<'t> Seat<'t> {
-    /// The place of a worker that holds nothing yet.
+    /// Returns the place of a worker that holds nothing yet.
     pub(crate) fn of(alloc: Global, worker: Worker<'t>) -> Seat<'t>
         ensures { result ≡ seat_with worker.entry }
     {

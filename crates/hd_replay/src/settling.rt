@@ -7,8 +7,8 @@ use hd_base::NoMemory;
 use hd_store::MemoryDisk;
 use std::alloc::Global;
 
-/// What a stop leaves of a disk, where each byte that is not sure reads this one and the length
-/// is the greatest: a disk that holds it for sure, and of which nothing else is known.
+/// Returns what a stop leaves of a disk, where each byte that is not sure reads this one and the
+/// length is the greatest: a disk that holds it for sure, and of which nothing else is known.
 ///
 /// # Errors
 /// `NoMemory`.

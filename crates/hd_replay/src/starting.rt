@@ -23,7 +23,7 @@ use std::alloc::Global;
 use std::collections::VecDeque;
 use std::sync::ledger::{Blank, Ledger};
 
-/// The place of each worker.
+/// Returns the place of each worker.
 ///
 /// # Errors
 /// `NoMemory` where there is no room for them.
@@ -51,7 +51,7 @@ fn mailboxes_of<'t>(alloc: Global, workers: usize) -> Result<Vec<VecDeque<Parcel
     Ok(mailboxes)
 }
 
-/// The run of a search that was made again.
+/// Returns the run of a search that was made again.
 ///
 /// # Errors
 /// `NoMemory` where there is no room for it.
@@ -96,7 +96,7 @@ fn begun<'t, L: Ledger>(
     })
 }
 
-/// The run that begins with a journal's entries, shared among so many workers.
+/// Returns the run that begins with a journal's entries, shared among so many workers.
 ///
 /// # Errors
 /// Why a search can't go on from them: that they are too many, or that one is faulty; or

@@ -51,7 +51,7 @@ fn turn<L: Ledger>(run: &mut Run<'_, L>, next: Move) -> Result<(), ReplayFault>
     }
 }
 
-/// The stop that a move is, if it falls in one of the calls that append what was pulled, or
+/// Returns the stop that a move is, if it falls in one of the calls that append what was pulled, or
 /// before them.
 pub(crate) fn stop_in<L: Ledger>(run: &Run<'_, L>, next: Move) -> Option<StopAt>
     ensures { result ≡ stop_in run.now.group next }

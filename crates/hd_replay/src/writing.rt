@@ -14,21 +14,21 @@ use hd_store::MemoryDisk;
 use std::sync::ledger::Ledger;
 
 impl<'t, L: Ledger> Run<'t, L> {
-    /// Whether a group was pulled that is not appended yet.
+    /// Reports whether a group was pulled that is not appended yet.
     pub(crate) fn has_pulled(&self) -> bool
         ensures { result ≡ is_some self.now.group }
     {
         matches!(&self.out, Out::Pulled(_))
     }
 
-    /// Whether a group is out.
+    /// Reports whether a group is out.
     fn is_out(&self) -> bool
         ensures { result ≡ (is_some self.now.group || is_some self.now.flushed) }
     {
         !matches!(&self.out, Out::Nothing)
     }
 
-    /// What is pending is pulled out of the book, if no group is out.
+    /// Returns what is pending is pulled out of the book, if no group is out.
     ///
     /// # Errors
     /// `NoMemory` where there is no room for a group.
@@ -67,7 +67,7 @@ impl<'t, L: Ledger> Run<'t, L> {
         }
     }
 
-    /// What was pulled is appended to the journal.
+    /// Returns what was pulled is appended to the journal.
     ///
     /// # Errors
     /// Why it is not appended: it is pulled still.

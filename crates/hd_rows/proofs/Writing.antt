@@ -11,6 +11,6 @@ use Rattle.hd_rows.specs.Drafts.{IsLedTo}
 pub value_there : (s : State) (j : ℕ) (v w : ℤ) → w ≡ get_or s.fluents j v → w ≢ v → j < length s.fluents
 value_there s j v w is other = slice_get_within s.fluents j (get_or s.fluents j v) (is_there s.fluents j v (λ same. other (is ∙ same)))
 
--- what is told of one step is told of an equal one
+-- what is reported of one step is reported of an equal one
 pub led_in : {E : Type 0} (r : Result (Option ℕ) E) (u : State) (x y : Led) → x ≡ y → IfOk r (λ o. IsLedTo x o u) → IfOk r (λ o. IsLedTo y o u)
 led_in r u x y e h = subst (λ (led : Led). IfOk r (λ o. IsLedTo led o u)) e h

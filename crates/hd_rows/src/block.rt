@@ -18,7 +18,7 @@ pub(crate) struct Block {
 }
 
 impl Block {
-    /// No states, with the memory of a full block.
+    /// Returns no states, with the memory of a full block.
     ///
     /// # Errors
     /// `NoMemory` where there is none.
@@ -32,7 +32,7 @@ impl Block {
         })
     }
 
-    /// The state at a place.
+    /// Returns the state at a place.
     pub(crate) fn at(&self, layout: Layout, place: usize) -> Row<'_>
         requires block { IsBlock (widths_of layout) self.now }
         requires place { place < length (states_of (widths_of layout) self.now) }
@@ -42,7 +42,7 @@ impl Block {
         Row::of(layout.atoms(), layout.fluents(), bytes)
     }
 
-    /// Adds a state's bytes. It takes no memory.
+    /// Adds a state's bytes. It does not allocate.
     pub(crate) fn push(&mut self, bytes: &[u8])
         requires room { vec_len self.old.bytes + length bytes.now ≤ vec_capacity self.old.bytes }
         requires few { self.old.count < CHUNK }

@@ -70,7 +70,7 @@ fn add_blocks(
 }
 
 impl RowBlocks {
-    /// No states, and no memory yet.
+    /// Returns no states, and no memory yet.
     pub fn empty(alloc: Global, layout: Layout) -> RowBlocks
         ensures atoms { result.widths.atoms ≡ layout.atoms }
         ensures fluents { result.widths.fluents ≡ layout.fluents }
@@ -85,7 +85,7 @@ impl RowBlocks {
         }
     }
 
-    /// The state at a place.
+    /// Returns the state at a place.
     pub fn at(&self, place: usize) -> Row<'_>
         requires { place < length self.now.states }
         ensures { slice_get self.now.states place ≡ Some result }
@@ -93,7 +93,7 @@ impl RowBlocks {
         self.blocks[place / CHUNK].at(self.layout, place % CHUNK)
     }
 
-    /// How many more can be pushed without asking for memory.
+    /// Returns how many more can be pushed without asking for memory.
     pub fn room(&self) -> usize
         ensures { result ≡ self.now.room }
     {
@@ -118,7 +118,7 @@ impl RowBlocks {
         add_blocks(self.alloc, self.layout, &mut self.blocks, wanted)
     }
 
-    /// One state more, behind the others. It takes no memory.
+    /// Adds one state more, after the others. It does not allocate.
     pub fn push(&mut self, state: &Packed)
         requires room { 0 < self.old.room }
         requires widths { HasWidths self.old.widths state.now }

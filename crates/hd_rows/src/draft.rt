@@ -49,7 +49,7 @@ fn flip_atom(bytes: &mut Vec<u8>, atom: usize)
     bytes[atom / 8] ^= 1 << (atom % 8);
 }
 
-/// The bytes of a value.
+/// Returns the bytes of a value.
 fn value_bytes(value: &i64) -> [u8; 8]
     ensures bytes { result ≡ value_bytes value.now }
     ensures fits { FitsSigned w64 value.now }
@@ -81,7 +81,7 @@ fn copy(alloc: Global, bytes: &mut Vec<u8>, others: &[u8]) -> Result<(), NoMemor
 }
 
 impl Draft {
-    /// The state that has no atoms and no fluents. It takes no memory.
+    /// Returns the state that has no atoms and no fluents. It does not allocate.
     pub fn empty(alloc: Global) -> Draft
         ensures { result ≡ record { atoms = []; fluents = [] } }
     {
@@ -92,7 +92,7 @@ impl Draft {
         }
     }
 
-    /// The state as it is now.
+    /// Returns the state as it is now.
     pub fn row(&self) -> Row<'_>
         ensures { result ≡ self.now }
     {

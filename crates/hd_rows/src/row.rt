@@ -32,14 +32,14 @@ impl<'r> Model for Row<'r> {
     ghost invariant = { λ r. IsWhole r.atoms r.fluents r.bytes.now };
 }
 
-/// How many bytes so many atoms take.
+/// Returns how many bytes so many atoms take.
 pub(crate) fn bytes_for(atoms: usize) -> usize
     ensures { result ≡ bytes_for atoms }
 {
     atoms.div_ceil(8)
 }
 
-/// The atom of this number.
+/// Returns the atom of this number.
 fn atom_in(bytes: &[u8], atom: usize) -> bool
     requires { atom / 8 < length bytes.now }
     ensures { result ≡ atom_in bytes.now atom }
@@ -47,7 +47,7 @@ fn atom_in(bytes: &[u8], atom: usize) -> bool
     (bytes[atom / 8] >> (atom % 8)) % 2 == 1
 }
 
-/// The value that stands in eight bytes.
+/// Returns the value that stands in eight bytes.
 fn value_in(bytes: &[u8]) -> i64
     requires { length bytes.now ≡ 8 }
     ensures { result ≡ cast_signed w64 (from_le_bytes w64 bytes.now) }
@@ -57,7 +57,7 @@ fn value_in(bytes: &[u8]) -> i64
     u64::from_le_bytes(eight).cast_signed()
 }
 
-/// The value of this number that stands in bytes, if there are so many.
+/// Returns the value of this number that stands in bytes, if there are so many.
 fn value_at(bytes: &[u8], number: u32) -> Option<i64>
     ensures { result ≡ slice_get (values_in bytes.now) number }
 {
@@ -69,7 +69,7 @@ fn value_at(bytes: &[u8], number: u32) -> Option<i64>
 }
 
 impl<'r> Row<'r> {
-    /// A packed state of this layout.
+    /// Returns a packed state of this layout.
     pub fn of_packed(layout: Layout, state: &'r Packed) -> Row<'r>
         requires atoms { length state.now.atoms ≡ layout.atoms }
         requires fluents { length state.now.fluents ≡ layout.fluents }
@@ -82,7 +82,7 @@ impl<'r> Row<'r> {
         }
     }
 
-    /// The state of so many atoms and fluents that stands in bytes.
+    /// Returns the state of so many atoms and fluents that stands in bytes.
     pub(crate) fn of(atoms: usize, fluents: usize, bytes: &'r [u8]) -> Row<'r>
         requires { IsWhole atoms fluents bytes.now }
         ensures { result ≡ unpacked atoms bytes.now }
@@ -94,7 +94,7 @@ impl<'r> Row<'r> {
         }
     }
 
-    /// The bytes, with how many atoms and fluents they are of.
+    /// Returns the bytes, with how many atoms and fluents they are of.
     pub(crate) fn parts(&self) -> (usize, usize, &'r [u8])
         ensures whole { IsWhole result.0 result.1 result.2.now }
         ensures state { unpacked result.0 result.2.now ≡ self.now }
@@ -102,7 +102,7 @@ impl<'r> Row<'r> {
         (self.atoms, self.fluents, self.bytes)
     }
 
-    /// Whether another one is the same state.
+    /// Reports whether another one is the same state.
     pub fn is(&self, other: &Row<'_>) -> bool
         ensures same { result ≡ same_packing self.now other.now }
         ensures states { result ≡ true → self.now ≡ other.now }
@@ -110,7 +110,7 @@ impl<'r> Row<'r> {
         self.atoms == other.atoms && self.bytes == other.bytes
     }
 
-    /// Whether a packed state is the same.
+    /// Reports whether a packed state is the same.
     pub fn is_packed(&self, other: &Packed) -> bool
         ensures same { result ≡ same_packing self.now other.now }
         ensures states { result ≡ true → self.now ≡ other.now }
@@ -118,7 +118,7 @@ impl<'r> Row<'r> {
         self.atoms == other.atoms() && self.bytes == other.bytes()
     }
 
-    /// The state in bytes of its own.
+    /// Returns the state in bytes of its own.
     ///
     /// # Errors
     /// `NoMemory` where there is no room for them.
@@ -128,7 +128,7 @@ impl<'r> Row<'r> {
         Packed::of_bytes(alloc, self.atoms, self.bytes)
     }
 
-    /// Whether the atom of this number is true, if the state has it.
+    /// Reports whether the atom of this number is true, if the state has it.
     pub(crate) fn atom(&self, atom: u32) -> Option<bool>
         ensures { result ≡ slice_get self.now.atoms atom }
     {
@@ -140,7 +140,7 @@ impl<'r> Row<'r> {
         }
     }
 
-    /// The value of the fluent of this number, if the state has it.
+    /// Returns the value of the fluent of this number, if the state has it.
     pub(crate) fn fluent(&self, fluent: u32) -> Option<i64>
         ensures { result ≡ slice_get self.now.fluents fluent }
     {

@@ -37,7 +37,7 @@ impl Model for Rows {
     ghost invariant = { λ r. AreRows r.atoms r.fluents r.width r.bytes.items r.count };
 }
 
-/// The bytes of the row at a place.
+/// Returns the bytes of the row at a place.
 pub(crate) fn row_at(bytes: &[u8], width: usize, place: usize) -> &[u8]
     requires { place * width + width ≤ length bytes.now }
     ensures { result.now ≡ take width (drop (place * width) bytes.now) }
@@ -49,7 +49,7 @@ pub(crate) fn row_at(bytes: &[u8], width: usize, place: usize) -> &[u8]
 }
 
 impl Rows {
-    /// No states.
+    /// Returns no states.
     pub fn empty(alloc: Global, layout: Layout) -> Rows
         ensures atoms { result.atoms ≡ layout.atoms }
         ensures fluents { result.fluents ≡ layout.fluents }
@@ -64,7 +64,7 @@ impl Rows {
         }
     }
 
-    /// The state at a place.
+    /// Returns the state at a place.
     pub fn at(&self, place: usize) -> Row<'_>
         requires { place < length self.now.states }
         ensures { slice_get self.now.states place ≡ Some result }
@@ -73,7 +73,7 @@ impl Rows {
         Row::of(self.atoms, self.fluents, bytes)
     }
 
-    /// Whether this state stands at a place.
+    /// Reports whether this state stands at a place.
     pub fn is(&self, place: usize, state: &Packed) -> bool
         requires place { place < length self.now.states }
         requires of_rows { IsOfRows self.now state.now }
@@ -83,7 +83,7 @@ impl Rows {
         row_at(self.bytes.as_slice(), self.width, place) == state.bytes()
     }
 
-    /// One state more, behind the others.
+    /// Adds one state more, after the others.
     ///
     /// # Errors
     /// `NoMemory` where there is no room for it.

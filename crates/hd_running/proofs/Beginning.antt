@@ -1,4 +1,5 @@
--- What a resumption leaves is true, each kid in one place at most, and in order with the journal.
+-- What a resumption leaves is true, each successor in one place at most, and in order with the
+-- journal.
 use Rattle.std.proofs.Common.{◌≡◌, ℕ, zero, suc, ◌+◌, ◌%◌, ◌<◌, ◌≤◌, ◌==◌, nat_lt, not, ◌&&◌, ◌||◌, Bool, true, false, cond, Some, None, List, [], ◌∷◌, map, filter, length, slice_get, true≢false, refl, sym, ap, ◌∙◌, arith}
 use Rattle.std.specs.Prelude.{option_and_then, flat_map, replicate}
 use Rattle.std.specs.List.{range_with_len, AllByRecursion}
@@ -54,9 +55,9 @@ total_zero : {X : Type 0} (h : X → ℕ) (xs : List X) → ((x : X) → h x ≡
 total_zero h [] e = refl
 total_zero h (x ∷ xs) e = omega (arith, e x, total_zero h xs e)
 
--- ---- where a kid leads
+-- ---- where a successor leads
 
--- a kid whose plan leads somewhere has a known parent
+-- a successor whose plan leads somewhere has a known parent
 known_by : (b : BookState) (k : Kid) (r : Node) → length (expansions b) ≡ length b.entries → node_of b k ≡ Some r → knows_parent b k ≡ true
 known_by b k r count e =
     let E = expansions b in
@@ -143,9 +144,9 @@ module _ (h : Released → ℕ) (workers : ℕ) where
   owned_once (p ∷ parcels) =
       omega (arith, owned_more p parcels (range_with_len 0 workers), (among (h p) (owner p) 0 workers).most, owned_once parcels)
 
--- ---- kids that are no entries
+-- ---- successors that are no entries
 
--- kids are as often among parcels as they are kids, or less
+-- successors are as often among parcels as they are successors, or less
 module _ (b : BookState) (k : Kid) where
   one_open : (q : Kid) → in_parcels (only k) (open_at b q) ≤ only k q
   one_open q =
@@ -188,7 +189,7 @@ module _ (t : Task) (entries : List Kid) (kept : IsKept (resumed_state t entries
   count : length (expansions b) ≡ length entries
   count = naming.length-plans_of entries (expansions b) kept.named
 
-  -- the mark of a posted kid says whether it is an entry
+  -- the mark of a posted successor says whether it is an entry
   entry_mark : (k : Kid) → is_posted b k ≡ true → is_marked b k ≡ has entries k
   entry_mark k is =
       let lt : place_of b k < length posted = ltb-true (place_of b k) (length posted) is in

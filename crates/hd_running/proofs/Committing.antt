@@ -1,4 +1,4 @@
--- Where each kid of a run is in one place at most: no batch is refused, and a batch that is
+-- Where each successor of a run is in one place at most: no batch is refused, and a batch that is
 -- accepted leaves it so.
 use Rattle.std.proofs.Common.{◌≡◌, ℕ, ◌+◌, ◌<◌, ◌≤◌, ◌||◌, Bool, true, false, cond, not, Some, None, List, [], ◌∷◌, ◌++◌, map, length, get_or, refl, sym, ap, ap₂, ◌∙◌, subst, arith, length-append, append_assoc}
 use Rattle.std.specs.Option.{option_or}
@@ -35,11 +35,11 @@ use Rattle.hd_running.proofs.Sums.{one_if, total-append, total-map, total_some, 
 
 -- ---- rooms
 
--- room for a kid is one at most
+-- room for a successor is one at most
 pub room_few : (b : BookState) (k : Kid) → room_of b k ≤ 1
 room_few b k = elim (is_marked b k) as (λ m. cond {A = ℕ} m 0 1 ≤ 1) [ true ↦ omega arith | false ↦ omega arith ]
 
--- a kid that is somewhere is not settled
+-- a successor that is somewhere is not settled
 open_if_there : (b : BookState) (k : Kid) → 1 ≤ room_of b k → is_marked b k ≡ false
 open_if_there b k h =
     elim (is_marked b k) as (λ m. 1 ≤ cond {A = ℕ} m 0 1 → m ≡ false) [
@@ -71,7 +71,7 @@ free_from b earlier (o ∷ later) x once =
 
 -- ---- a kept book
 
--- no kid is posted twice
+-- no successor is posted twice
 pub posted_apart : (b : BookState) → IsKept b → AreApart (posted_by b.task (expansions b))
 posted_apart b kept =
     let E = expansions b in
@@ -102,7 +102,7 @@ length-released n (Expanded e ∷ outcomes) =
 length-released n (Duplicate k by ∷ outcomes) = omega (arith, length-released (n + 0) outcomes)
 length-released n (Bounded k h ∷ outcomes) = omega (arith, length-released (n + 0) outcomes)
 
--- where none of the first ones passes, the first that does is behind them
+-- where none of the first ones passes, the first that does is after them
 behind_them : (p : Kid → Bool) (xs ys : List Kid) → list_any p xs ≡ false → length xs ≤ position_or_len p (xs ++ ys)
 behind_them p [] ys e = omega arith
 behind_them p (x ∷ xs) ys e =
@@ -134,7 +134,7 @@ module _ (b : BookState) (batch : List Outcome) (kept : IsKept b) (own : AllByRe
   kept_after : IsKept after
   kept_after = accepted_kept b batch kept own free room
 
-  -- the kids that are posted then
+  -- the successors that are posted then
   posted_after : posted_by after.task (expansions after) ≡ old ++ kids_of new
   posted_after =
       ap (λ u. posted_by u (expansions after)) task_after
@@ -144,22 +144,22 @@ module _ (b : BookState) (batch : List Outcome) (kept : IsKept b) (own : AllByRe
       (kids_led b.task (length (expansions b)) batch follows.more own follows.leads
       ∙ (ap (λ n. posted_for n batch) count_old ∙ released_kids (length b.entries) batch))))
 
-  -- as many marks as kids
+  -- as many marks as successors
   marks_old : length b.marks ≡ length old
   marks_old = kept.marked.one_each ∙ sym (naming.posted_count b.task (expansions b) (omega (arith, count_old, kept.short)))
 
   marks_after : length after.marks ≡ length old + length new
   marks_after = omega (arith, follows.grown, marks_old, length-released (length b.entries) batch)
 
-  -- how often a kid is among the new ones
+  -- how often a successor is among the new ones
   new_times : (k : Kid) → total (only k) (kids_of new) ≡ in_parcels (only k) new
   new_times k = total-map (only k) (λ (p : Released). p.kid) new
 
-  -- how often a kid is posted
+  -- how often a successor is posted
   posted_times : (k : Kid) → total (only k) old + in_parcels (only k) new ≤ 1
   posted_times k = omega (arith, posted_once after k kept_after, ap (total (only k)) posted_after, total-append (only k) old (kids_of new), new_times k)
 
-  -- a kid of the old ones: its mark, and that of the batch
+  -- a successor of the old ones: its mark, and that of the batch
   old_mark : (k : Kid) → is_posted b k ≡ true → is_marked after k ≡ (is_marked b k || is_settled_by batch k)
   old_mark k posted =
       let at = stands b kept k posted in
@@ -171,7 +171,7 @@ module _ (b : BookState) (batch : List Outcome) (kept : IsKept b) (own : AllByRe
       ∙ (follows.olds (place_of b k) (omega (arith, lt, marks_old))
       ∙ ap (λ q. is_marked b k || is_settled_by batch q) at.kid)
 
-  -- a kid of the new ones is not marked
+  -- a successor of the new ones is not marked
   new_mark : (k : Kid) → list_any (same_kid k) old ≡ false → list_any (same_kid k) (kids_of new) ≡ true → is_marked after k ≡ false
   new_mark k none some =
       let place : place_of after k ≡ position_or_len (same_kid k) (old ++ kids_of new) = ap (position_or_len (same_kid k)) posted_after in
@@ -182,7 +182,7 @@ module _ (b : BookState) (batch : List Outcome) (kept : IsKept b) (own : AllByRe
       (omega (arith, place, behind_them (same_kid k) old (kids_of new) none, marks_old))
       (omega (arith, place, within, length-append old (kids_of new), length-map new (λ (p : Released). p.kid), marks_after))
 
-  -- a kid that is not posted has no room
+  -- a successor that is not posted has no room
   none_unposted : (k : Kid) → is_posted b k ≡ false → room_of b k ≡ 0
   none_unposted k none =
       let past : length old ≤ place_of b k = ltb-false (place_of b k) (length old) none in
@@ -210,7 +210,7 @@ module _ (b : BookState) (batch : List Outcome) (kept : IsKept b) (own : AllByRe
         | false ↦ λ e. omega (arith, none_unposted k none, new_times k, total_none (same_kid k) (kids_of new) e)
       ] refl
 
-  -- the room for a kid and how often it is released, before and after
+  -- the room for a successor and how often it is released, before and after
   pub commit_room_of : (k : Kid) → room_of b k + in_parcels (only k) new ≤ room_of after k + in_outcomes (only k) batch
   commit_room_of k =
       elim (is_posted b k) as (λ p. is_posted b k ≡ p → room_of b k + in_parcels (only k) new ≤ room_of after k + in_outcomes (only k) batch) [
@@ -218,9 +218,9 @@ module _ (b : BookState) (batch : List Outcome) (kept : IsKept b) (own : AllByRe
         | false ↦ λ e. new_room k e
       ] refl
 
-  -- ---- no kid is lost
+  -- ---- no successor is lost
 
-  -- a kid that is neither an old one nor a new one has no room then
+  -- a successor that is neither an old one nor a new one has no room then
   no_room_after : (k : Kid) → list_any (same_kid k) old ≡ false → list_any (same_kid k) (kids_of new) ≡ false → room_of after k ≡ 0
   no_room_after k none_old none_new =
       let none : list_any (same_kid k) (posted_by after.task (expansions after)) ≡ false =
@@ -264,7 +264,7 @@ module _ (b : BookState) (batch : List Outcome) (kept : IsKept b) (own : AllByRe
         | false ↦ λ e. omega (arith, few, none_unposted k none, new_times k, no_room_after k none_old e, total_none (same_kid k) (kids_of new) e)
       ] refl
 
-  -- the same exactly, where the batch has no kid without room
+  -- the same exactly, where the batch has no successor without room
   pub commit_room_is : (k : Kid) → in_outcomes (only k) batch ≤ room_of b k → room_of b k + in_parcels (only k) new ≡ room_of after k + in_outcomes (only k) batch
   commit_room_is k few =
       elim (is_posted b k) as (λ p. is_posted b k ≡ p → room_of b k + in_parcels (only k) new ≡ room_of after k + in_outcomes (only k) batch) [

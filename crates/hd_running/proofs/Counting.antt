@@ -1,4 +1,4 @@
--- What each move makes of the sums of what a run's kids weigh.
+-- What each move makes of the sums of what a run's successors weigh.
 use Rattle.std.proofs.Common.{◌≡◌, ℕ, ◌+◌, ◌≤◌, nat_lt, Bool, true, false, cond, not, ◌||◌, Option, Some, None, is_some, List, [], ◌∷◌, ◌++◌, map, filter, set, drop, length, slice_get, refl, sym, ap, ◌∙◌, arith, true≢false}
 use Rattle.std.specs.Prelude.{Result, Ok, Err}
 use Rattle.std.proofs.lemmas.List.{take-append-drop}
@@ -37,7 +37,7 @@ use Rattle.hd_running.proofs.Moving.{released_by_ticket, slot_of}
 module _ (h : Kid → ℕ) where
   -- ---- workers
 
-  -- an outcome is of its parcel's kid
+  -- an outcome is of its parcel's successor
   outcome_kid : (t : Task) (e : Estimate) (closed : List Closed) (seen : Option ℕ) (p : Released) (o : Outcome) → IsOutcomeOf t e closed seen p o → h (kid_of o) ≡ h p.kid
   outcome_kid t e closed seen p o (Again c for is) = ap (λ (o : Outcome). h (kid_of o)) is
   outcome_kid t e closed seen p o (Beyond x apart beyond is own state value) = ap (λ (o : Outcome). h (kid_of o)) is
@@ -210,7 +210,7 @@ module _ (h : Kid → ℕ) where
       released = released r.book batch;
     }
 
-    -- a commit takes the batch's kids from the worker, and puts those that the batch releases
+    -- a commit takes the batch's successors from the worker, and puts those that the batch releases
     -- into its ticket
     pub commit_keeps : (k : ℕ) (s : Seat) → slice_get r.seats k ≡ Some s
         → in_run h (with_commit k (batch_of s.worker) s r) + in_outcomes h (batch_of s.worker)

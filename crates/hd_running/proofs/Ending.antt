@@ -1,4 +1,4 @@
--- Where no kid is lost and none is anywhere, all is settled.
+-- Where no successor is lost and none is anywhere, all is settled.
 use Rattle.std.proofs.Common.{◌≡◌, inl, inr, ℕ, zero, suc, ◌<◌, ◌≤◌, Bool, true, false, cond, Option, Some, None, List, [], ◌∷◌, length, get_or, refl, sym, ap, ◌∙◌, arith}
 use Rattle.std.specs.List.{count_by}
 use Rattle.std.proofs.lemmas.Bool.{cases_order, ltb-true, eq-eqb}
@@ -83,7 +83,7 @@ module _ (b : BookState) (kept : IsKept b) where
   abbrev posted : List Kid
   posted = posted_by b.task (expansions b)
 
-  -- a posted kid stands where it was posted
+  -- a posted successor stands where it was posted
   at_place : (j : ℕ) → j < length posted → place_of b (get_or posted j root) ≡ j
   at_place j lt =
       let k = get_or posted j root in

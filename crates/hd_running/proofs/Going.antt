@@ -1,4 +1,4 @@
--- Each move of a run keeps what is true of it, and each kid in one place at most.
+-- Each move of a run keeps what is true of it, and each successor in one place at most.
 use Rattle.std.proofs.Common.{◌≡◌, ℕ, ◌≤◌, Bool, true, false, cond, not, Option, Some, None, List, [], slice_get, refl, sym, ap, ◌∙◌, subst, arith}
 use Rattle.std.specs.Prelude.{option_map}
 use Rattle.std.proofs.lemmas.Option.{none-some, same_Some}
@@ -47,7 +47,7 @@ module _ (t : Task) (r : Run) (x : IsTrueRun t r) (once : IsOnce r) where
   pub seat_at : (k : ℕ) (s : Seat) → slice_get r.seats k ≡ Some s → IsTrueSeat now s
   seat_at k s e = AllByRecursion-slice_get (IsTrueSeat now) r.seats k s x.seats e
 
-  -- the kids of a batch
+  -- the successors of a batch
   pub batch_once : (k : ℕ) (s : Seat) (q : Kid) → slice_get r.seats k ≡ Some s → in_outcomes (only q) (batch_of s.worker) ≤ room_of now q
   batch_once k s q e = omega (arith, once q, total_at (in_seat (only q)) r.seats k s e, batch_parts (only q) s.worker)
 
@@ -84,7 +84,7 @@ module _ (t : Task) (r : Run) (x : IsTrueRun t r) (once : IsOnce r) where
         | false ↦ λ m. subst IsOnce (same_Some r r' m) once
       ] m
 
-  -- a move that leaves each kid in as many places, or fewer, and settles none
+  -- a move that leaves each successor in as many places, or fewer, and settles none
   kept_once : (r' : Run) → r'.book.state ≡ now → ((q : Kid) → in_run (only q) r' ≤ in_run (only q) r) → IsOnce r'
   kept_once r' same fewer = λ q. let room : room_of r'.book.state q ≡ room_of now q = ap (λ (b : BookState). room_of b q) same in omega (arith, once q, fewer q, room)
 

@@ -1,4 +1,4 @@
--- No move of a sound run loses a kid.
+-- No move of a sound run loses a successor.
 use Rattle.std.proofs.Common.{◌≡◌, ℕ, Bool, true, false, cond, Option, Some, None, List, [], ◌∷◌, slice_get, true≢false, refl, sym, ap, ◌∙◌, subst, arith}
 use Rattle.std.specs.Prelude.{Result, Ok, Err}
 use Rattle.std.specs.List.{AllByRecursion}
@@ -116,7 +116,7 @@ module _ (t : Task) (f : File) (r : Run) (x : IsSound t f r) (whole : IsWhole r)
         | false ↦ λ m. subst IsWhole (same_Some r r' m) whole
       ] m
 
-  -- a move that leaves each kid in as many places, and settles none
+  -- a move that leaves each successor in as many places, and settles none
   kept_whole : (r' : Run) → r'.book.state ≡ r.book.state → ((q : Kid) → in_run (only q) r' ≡ in_run (only q) r) → IsWhole r'
   kept_whole r' same as_many = λ q. as_many q ∙ (whole q ∙ sym (ap (λ (b : BookState). room_of b q) same))
 

@@ -363,7 +363,7 @@ module _ (t : Task) (r : Run) (x : IsTrueRun t r) where
   ack_of None = x
   ack_of (Some g) = ack_by g (is_group_out r.book g)
 
-  -- a worker's batch is refused for nothing but that a kid of it is settled
+  -- a worker's batch is refused for nothing but that a successor of it is settled
   pub batch_admissible : (k : ℕ) (s : Seat) → slice_get r.seats k ≡ Some s
       → (first_refusal now [] (batch_of s.worker) ≡ None) ⊎ (first_refusal now [] (batch_of s.worker) ≡ Some SettledBefore)
   batch_admissible k s e = admissible now s.worker (seat_at k s e).worker

@@ -75,7 +75,7 @@ module _ (r : Run) (out : AreTicketsOut r) (x : HaveRoom r) where
     all_same [] outs all = tt
     all_same (s ∷ seats) outs all = (omega (arith, same_coming s.tickets outs.0, all.0), all_same seats outs.1 all.1)
 
-    -- the new ticket releases the kids of the batch
+    -- the new ticket releases the successors of the batch
     new_one : released_count (ticket_at b'.batches.tickets (length q.tickets)) ≡ kids_in batch
     new_one =
         ap released_count (newest q.tickets (record { first = (ticket_after batch r.book).first; end = (ticket_after batch r.book).end; released = released r.book batch }))

@@ -70,12 +70,12 @@ total_none p (x ∷ xs) e =
       | false ↦ λ e. omega (arith, total_none p xs e)
     ] e
 
--- ---- kids that are apart
+-- ---- successors that are apart
 
 rest_apart : {X : Type 0} (x : X) (xs : List X) → AreApart (x ∷ xs) → AreApart xs
 rest_apart x xs apart i j d lt within same = apart (suc i) (suc j) d (omega (arith, lt)) (omega (arith, within)) same
 
--- no later kid is the first one
+-- no later successor is the first one
 others : (k x : Kid) (xs : List Kid) → AreApart (x ∷ xs) → k ≡ x → list_any (same_kid k) xs ≡ false
 others k x xs apart is =
     list_any_none (same_kid k) xs

@@ -26,7 +26,8 @@ use Rattle.hd_entries.proofs.Accepting.{same_kid-true}
 use Rattle.hd_entries.proofs.Faultless.{no_faults}
 use Rattle.hd_turns.proofs.Lists.{AllByRecursion-filter}
 
--- a kid whose parent is the root's, or the number of an entry, and whose action fits four bytes
+-- a successor whose parent is the root's, or the number of an entry, and whose action fits four
+-- bytes
 pub record IsWritable (count : ℕ) (k : Kid) : Type 0 where
   pub parent : (k.parent ≡ ROOT_PARENT) ⊎ (k.parent < count)
   pub action : k.action < 2 ^ 32
@@ -37,7 +38,7 @@ below : (a n m : ℕ) → a + n ≤ m → AllByRecursion (λ k. k < m) (range_wi
 below a zero m le = tt
 below a (suc n) m le = (omega (arith, le), below (a + 1) n m (omega (arith, le)))
 
--- the kid of an action among some
+-- the successor of an action among some
 action_among : (k : Kid) (n m : ℕ) (actions : List ℕ) → AllByRecursion (λ a. a < m) actions → list_any (λ a. same_kid k (kid_from n a)) actions ≡ true → k.action < m
 action_among k n m [] all e = absurd (true≢false (sym e))
 action_among k n m (a ∷ actions) all e =

@@ -27,16 +27,16 @@ pub record AreTicketsOut (r : Run) : Type 0 where
   pub out : AllByRecursion (AreOut r.book) r.seats
   pub apart : (n : ℕ) → times_held n r.seats ≤ 1
 
--- how many kids a ticket releases that is out
+-- how many successors a ticket releases that is out
 abbrev pub released_count : Option (Outgoing ParcelsView) → ℕ
 released_count None = 0
 released_count (Some o) = length o.released.kids
 
--- how many kids some tickets release
+-- how many successors some tickets release
 abbrev pub coming : BookView → List TicketView → ℕ
 coming b held = total (λ (k : TicketView). released_count (ticket_at b.batches.tickets k.number)) held
 
--- a worker has room for all kids that its tickets release
+-- a worker has room for all successors that its tickets release
 abbrev pub HasRoom : BookView → Seat → Type 0
 HasRoom b s = coming b s.tickets ≤ s.worker.room
 
@@ -50,7 +50,7 @@ HaveRoom r = AllByRecursion (HasRoom r.book) r.seats
 abbrev pub group_in : List Kid → QueueView → GroupView
 group_in entries q = group_of entries (record { start = q.acknowledged; end = group_end q })
 
--- what stands in a journal: the acknowledged ones of a book's entries; and behind them those of
+-- what stands in a journal: the acknowledged ones of a book's entries; and after them those of
 -- the group that is out, once it is appended
 pub data Stands (f : File) (entries : List Kid) (q : QueueView) (group flushed : Option GroupView) : Type 0 where
   NoneIsOut :

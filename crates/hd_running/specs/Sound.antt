@@ -6,8 +6,9 @@ use Rattle.hd_running.specs.Truth.{IsTrueRun}
 use Rattle.hd_world.specs.Once.{IsOnce}
 use Rattle.hd_running.specs.Order.{AreTicketsOut, HaveRoom, InOrder}
 
--- all that a run holds is true of its book, each kid is in one place at most, each ticket is out,
--- the workers have room for what their tickets release, and the run is in order with its journal
+-- all that a run holds is true of its book, each successor is in one place at most, each ticket is
+-- out, the workers have room for what their tickets release, and the run is in order with its
+-- journal
 pub record IsSound (t : Task) (f : File) (r : Run) : Type 0 where
   pub truth : IsTrueRun t r
   pub once : IsOnce r

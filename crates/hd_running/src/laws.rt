@@ -23,9 +23,9 @@ ghost use Rattle.hd_world.specs.Headline.{AllIsAdmissible, MovesSearch};
 ghost use Rattle.hd_world.specs.Starting.{run_after};
 ghost use Rattle.hd_world.specs.Stops.{File, entries_of, with_group, is_next};
 
-/// Where all that a run holds is true of its book, no batch is refused for what it says, but that
-/// a kid of it is settled; and as long as none is dropped for that, all of it stays true over
-/// each move.
+/// Law: where all that a run holds is true of its book, no batch is refused for what it says, but
+/// that a successor of it is settled; and as long as none is dropped for that, all of it stays true
+/// over each move.
 pub fn runs_stay_true()
     ensures batches { (t : Task) (r : Run) (k : ℕ) (s : Seat) → IsTrueRun t r
         → slice_get r.seats k ≡ Some s
@@ -37,8 +37,8 @@ pub fn runs_stay_true()
         → TurnsTo t r m r' → IsTrueRun t r' }
 {}
 
-/// Where, besides, each kid is in one place at most, and in none once it is settled, no batch is
-/// refused for what it says, none is dropped, and all of it stays so over each move.
+/// Law: where, besides, each successor is in one place at most, and in none once it is settled, no
+/// batch is refused for what it says, none is dropped, and all of it stays so over each move.
 pub fn kids_stay_once()
     ensures batches { (t : Task) (r : Run) (k : ℕ) (s : Seat) → IsTrueRun t r → IsOnce r
         → slice_get r.seats k ≡ Some s → first_refusal r.book.state [] (batch_of s.worker) ≡ None }
@@ -51,9 +51,9 @@ pub fn kids_stay_once()
         → IsTrueRun t r → IsOnce r → TurnsTo t r m r' → IsOnce r' }
 {}
 
-/// Each ticket that a worker holds is out, none is held twice, and the worker has room for what
-/// they release: it stays so over each move. And so does the order of a run with its journal:
-/// where a group was pulled, it is whole batches behind the entries of the journal, and where one
+/// Law: each ticket that a worker holds is out, none is held twice, and the worker has room for
+/// what they release: it stays so over each move. And so does the order of a run with its journal:
+/// where a group was pulled, it is whole batches after the entries of the journal, and where one
 /// was appended, it is the one that is out.
 pub fn tickets_and_groups_stay_out()
     ensures tickets { (t : Task) (r r' : Run) (m : Move)
@@ -92,21 +92,21 @@ pub fn runs_stay_sound()
         → r.group ≡ Some g → IsGroup f.version g.kids }
 {}
 
-/// In a sound run no batch is refused for what it says, and no ticket and no group is refused.
+/// Law: in a sound run no batch is refused for what it says, and no ticket and no group is refused.
 pub fn nothing_is_refused()
     ensures { (t : Task) (f : File) (r : Run) → IsSound t f r → AllIsAdmissible f r }
 {}
 
-/// Each move of a sound run moves its search as an abstract search may be moved: a commit that is
-/// accepted lengthens it by exactly its expansions, `ack` acknowledges, and no other move changes
-/// it.
+/// Law: each move of a sound run moves its search as an abstract search may be moved: a commit that
+/// is accepted lengthens it by exactly its expansions, `ack` acknowledges, and no other move
+/// changes it.
 pub fn moves_move_the_search()
     ensures { (t : Task) (f : File) (r r' : Run) (m : Move)
         → IsSound t f r → TurnsTo t r m r' → MovesSearch t r m r' }
 {}
 
-/// No move of a sound run loses a kid: where each one that is posted and not settled is in
-/// exactly one place, it stays so.
+/// Law: no move of a sound run loses a successor: where each one that is posted and not settled is
+/// in exactly one place, it stays so.
 pub fn no_kid_is_lost()
     ensures turns { (t : Task) (f : File) (r r' : Run) (m : Move)
         → IsSound t f r → IsWhole r → TurnsTo t r m r' → IsWhole r' }

@@ -200,7 +200,7 @@ move-line (Stop stop) is = stop-line stop is
 
 -- ---- a whole text
 
--- what the lines of moves say: the moves, and nothing behind them
+-- what the lines of moves say: the moves, and nothing after them
 abbrev pub said_moves : List Move → List Said
 said_moves moves = map (λ m. said.Move m) moves ++ (said.Silent ∷ [])
 

@@ -97,7 +97,7 @@ said_of line = said_by (words_of line)
 abbrev pub is_line_feed : ℕ → Bool
 is_line_feed byte = byte == 10
 
--- what the lines of a text say, in order. Behind its last line feed stands one more, which says
+-- what the lines of a text say, in order. After its last line feed stands one more, which says
 -- nothing where it is empty
 abbrev pub all_said : List ℕ → List Said
 all_said text = map said_of (slice_split is_line_feed text)
@@ -121,7 +121,7 @@ moves_or_line (Some before) moves = Err (before + 1)
 abbrev pub schedule_of : List ℕ → Result (List Move) ℕ
 schedule_of text = moves_or_line (position is_bad (all_said text)) (filter_map move_in (all_said text))
 
--- the fault of a text: its first bad line; want of memory is none
+-- the fault of a text: its first bad line; lack of memory is none
 abbrev pub IsFault : List ℕ → ScheduleError → Type 0
 IsFault text (BadLine line) = schedule_of text ≡ Err line
 IsFault text NoMemory = ⊥

@@ -9,14 +9,14 @@ ghost use Rattle.hd_schedule.specs.Table.{IsMove};
 ghost use Rattle.hd_schedule.specs.declared.line.Said.TheVariants as said;
 ghost use Rattle.hd_schedule.specs.declared.moves.Move.{Move};
 
-/// Words are a move exactly where a row of the table says so.
+/// Law: words are a move exactly where a row of the table says so.
 pub fn moves_are_those_of_the_table()
     ensures { (words : List (List ℕ)) (move : Move)
         → (move_of words ≡ Some move) ↔ IsMove words move }
 {}
 
-/// The line that a move is printed as says this move, and the lines of moves are a schedule of just
-/// these.
+/// Law: the line that a move is printed as says this move, and the lines of moves are a schedule of
+/// just these.
 pub fn what_is_printed_is_read_back()
     ensures line { (move : Move) → IsShort move → said_of (move_text move) ≡ said.Move move }
     ensures text { (moves : List Move) → AllByRecursion IsShort moves

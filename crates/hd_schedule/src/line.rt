@@ -18,14 +18,14 @@ pub enum Said {
     Bad,
 }
 
-/// Whether the byte stands between words.
+/// Reports whether the byte stands between words.
 fn is_blank(byte: u8) -> bool
     ensures { result ≡ is_blank byte }
 {
     matches!(byte, b' ' | b'\t' | b'\r')
 }
 
-/// The words of a line, in order.
+/// Returns the words of a line, in order.
 fn words_of(alloc: Global, line: &[u8]) -> Result<Vec<&[u8]>, NoMemory>
     ensures { IfOk result (λ words. map (λ word. word.now) words.items ≡ words_of line.now) }
 {
@@ -34,14 +34,14 @@ fn words_of(alloc: Global, line: &[u8]) -> Result<Vec<&[u8]>, NoMemory>
         .collect(alloc)
 }
 
-/// Whether the word is this text.
+/// Reports whether the word is this text.
 fn is(word: &[u8], text: &str) -> bool
     ensures { result ≡ bytes_eq word.now text.now }
 {
     word == text.as_bytes()
 }
 
-/// The move that is a name alone.
+/// Returns the move that is a name alone.
 fn lone_move(name: &[u8]) -> Option<Move>
     ensures { result ≡ lone_move name.now }
 {
@@ -56,7 +56,7 @@ fn lone_move(name: &[u8]) -> Option<Move>
     }
 }
 
-/// The move of a name and a worker's number, or for `resume` the number of workers.
+/// Returns the move of a name and a worker's number, or for `resume` the number of workers.
 fn worker_move(name: &[u8], worker: u32) -> Option<Move>
     ensures { result ≡ worker_move name.now worker }
 {
@@ -84,7 +84,7 @@ fn worker_move(name: &[u8], worker: u32) -> Option<Move>
     }
 }
 
-/// The stop that a call's number and a byte say.
+/// Returns the stop that a call's number and a byte say.
 fn stop_of(call: &[u8], byte: &[u8]) -> Option<StopAt>
     ensures { result ≡ stop_of call.now byte.now }
 {
@@ -93,7 +93,7 @@ fn stop_of(call: &[u8], byte: &[u8]) -> Option<StopAt>
     Some(StopAt { call, byte })
 }
 
-/// The expansion that a worker's number and a place say.
+/// Returns the expansion that a worker's number and a place say.
 fn expand_of(worker: &[u8], place: &[u8]) -> Option<Move>
     ensures { result ≡ expand_of worker.now place.now }
 {
@@ -102,7 +102,7 @@ fn expand_of(worker: &[u8], place: &[u8]) -> Option<Move>
     Some(Move::Expand { worker, place })
 }
 
-/// The move of a name and two words.
+/// Returns the move of a name and two words.
 fn pair_move(name: &[u8], first: &[u8], second: &[u8]) -> Option<Move>
     ensures { result ≡ pair_move name.now first.now second.now }
 {
@@ -115,7 +115,7 @@ fn pair_move(name: &[u8], first: &[u8], second: &[u8]) -> Option<Move>
     }
 }
 
-/// The move of a name and three words: a resumption with a stop.
+/// Returns the move of a name and three words: a resumption with a stop.
 fn stopped_move(name: &[u8], workers: &[u8], call: &[u8], byte: &[u8]) -> Option<Move>
     ensures { result ≡ stopped_move name.now workers.now call.now byte.now }
 {
@@ -130,7 +130,7 @@ fn stopped_move(name: &[u8], workers: &[u8], call: &[u8], byte: &[u8]) -> Option
     })
 }
 
-/// The move that these words are, if they are one.
+/// Returns the move that these words are, if they are one.
 fn move_of(words: &[&[u8]]) -> Option<Move>
     ensures { result ≡ move_of (map (λ word. word.now) words.now) }
 {
@@ -143,14 +143,14 @@ fn move_of(words: &[&[u8]]) -> Option<Move>
     }
 }
 
-/// Whether the word begins a comment, which goes on to the end of the line.
+/// Reports whether the word begins a comment, which goes on to the end of the line.
 fn begins_comment(word: &[u8]) -> bool
     ensures { result ≡ begins_comment word.now }
 {
     matches!(word, [b';', ..])
 }
 
-/// What this line says.
+/// Returns what this line says.
 #[tactic(auto, unfolding(crate::specs::Schedule::said_of))]
 pub fn said_of(alloc: Global, line: &[u8]) -> Result<Said, NoMemory>
     ensures { IfOk result (λ said. said ≡ said_of line.now) }

@@ -59,7 +59,7 @@ impl fmt::Display for StopAt {
 impl fmt::Display for Move {
     ghost output = { λ said. Some (move_text said) };
 
-    /// The line that is read as this move, without its end.
+    /// Returns the line that is read as this move, without its end.
     fn fmt<W: fmt::Write>(&self, f: &mut fmt::Formatter<W>) -> fmt::Result {
         match self {
             Move::Resume {

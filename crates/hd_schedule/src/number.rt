@@ -9,21 +9,21 @@ ghost use Rattle.hd_schedule.specs.Words.{is_number, number_of, byte_of};
 /// The most digits that a number has.
 const MOST_DIGITS: usize = 9;
 
-/// Whether all bytes are decimal digits.
+/// Reports whether all bytes are decimal digits.
 fn are_digits(word: &[u8]) -> bool
     ensures { result ≡ list_all is_ascii_digit word.now }
 {
     word.iter().all(|byte| byte.is_ascii_digit())
 }
 
-/// Whether the word is a number.
+/// Reports whether the word is a number.
 fn is_number(word: &[u8]) -> bool
     ensures { result ≡ is_number word.now }
 {
     !word.is_empty() && word.len() <= MOST_DIGITS && are_digits(word)
 }
 
-/// The number that the digits write.
+/// Returns the number that the digits write.
 fn value_of(digits: &[u8]) -> u32
     requires { is_number digits.now ≡ true }
     ensures { result ≡ digits_value 10 digits.now }
@@ -37,14 +37,14 @@ fn value_of(digits: &[u8]) -> u32
     value
 }
 
-/// The number that the word writes in decimal, if it is one.
+/// Returns the number that the word writes in decimal, if it is one.
 pub fn number_of(word: &[u8]) -> Option<u32>
     ensures { result ≡ number_of word.now }
 {
     is_number(word).then(|| value_of(word))
 }
 
-/// What the hexadecimal digit is worth, if it is one.
+/// Returns what the hexadecimal digit is worth, if it is one.
 fn hex_digit(byte: u8) -> Option<u8>
     ensures { result ≡ (if is_ascii_hexdigit byte then Some (digit_value byte) else None) }
 {
@@ -56,7 +56,7 @@ fn hex_digit(byte: u8) -> Option<u8>
     }
 }
 
-/// The byte that the word writes in hexadecimal, if it is one.
+/// Returns the byte that the word writes in hexadecimal, if it is one.
 pub fn byte_of(word: &[u8]) -> Option<u8>
     ensures { result ≡ byte_of word.now }
 {

@@ -10,7 +10,7 @@ use crate::moves::Move;
 use hd_base::Sequence;
 use std::alloc::Global;
 
-/// The moves of a schedule in order, or the fault of its first bad line.
+/// Returns the moves of a schedule in order, or the fault of its first bad line.
 fn moves_of(alloc: Global, text: &[u8]) -> Result<Vec<Move>, ScheduleError>
     ensures answer { IfOk result (λ moves. schedule_of text.now ≡ Ok moves.items) }
     ensures refusal { IfErr result (λ error.
@@ -29,17 +29,17 @@ fn moves_of(alloc: Global, text: &[u8]) -> Result<Vec<Move>, ScheduleError>
     Ok(moves)
 }
 
-/// The moves of a schedule in order, or the fault of its first bad line.
+/// Returns the moves of a schedule in order, or the fault of its first bad line.
 ///
-/// Any bytes may come. The only error that a good text meets is want of memory.
+/// Any bytes may come. The only error that a good text meets is lack of memory.
 ///
 /// # Errors
-/// `BadLine` with the number of the first bad line, counted from 1, and want of memory.
+/// `BadLine` with the number of the first bad line, counted from 1, and lack of memory.
 pub fn read_schedule(alloc: Global, text: &[u8]) -> Result<Sequence<Move>, ScheduleError>
     // What is answered: the moves of the text's lines, in order.
     ensures answer { IfOk result (λ moves. schedule_of text.now ≡ Ok moves) }
 
-    // What is told: the first bad line, or want of memory.
+    // What is reported: the first bad line, or lack of memory.
     ensures refusal { IfErr result (λ error.
         (error ≡ ScheduleError.NoMemory) ⊎ IsFault text.now error) }
 

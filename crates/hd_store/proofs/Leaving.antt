@@ -1,4 +1,4 @@
--- What a stop leaves behind a sync, behind one change, and behind a failure.
+-- What a stop leaves after a sync, after one change, and after a failure.
 use Rattle.std.proofs.Common.{◌≡◌, ℕ, ◌+◌, ◌<◌, ◌≤◌, List, [], ◌∷◌, length, take, get_or, max, min, Bool, true, false, not, refl, sym, ap, ◌∙◌, arith}
 use Rattle.std.specs.Prelude.{◌&&◌, ◌||◌, nat_lt, ◌↔◌}
 use Rattle.std.proofs.lemmas.Grind.{same_number_lists}

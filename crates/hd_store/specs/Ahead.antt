@@ -6,7 +6,7 @@ use Rattle.hd_store.specs.declared.error.TheConstants.{MOST_FAILURES}
 use Rattle.hd_store.specs.declared.error.StoreError.{StoreError}
 use Rattle.hd_store.specs.declared.error.StoreError.TheVariants.{NoMemory, Failed}
 
--- what is known behind the next call
+-- what is known after the next call
 abbrev pub later : Ahead → Ahead
 later Unknown = Unknown
 later Well = Well
@@ -16,7 +16,7 @@ later (Stops zero) = Down
 later (Stops (suc n)) = Stops n
 later Down = Down
 
--- what is known behind a change that was begun and failed: a real device is not asked any more
+-- what is known after a change that was begun and failed: a real device is not asked any more
 abbrev pub behind_failure : Ahead → Ahead
 behind_failure Unknown = Down
 behind_failure Well = Well
@@ -57,7 +57,7 @@ foretold_of_length (Fails n) = Some false
 foretold_of_length (Stops n) = Some false
 foretold_of_length Down = Some true
 
--- the call fails or goes well, as it is foretold; want of memory comes before either
+-- the call fails or goes well, as it is foretold; lack of memory comes before either
 abbrev pub GoesAs : {X : Type 0} → Result X StoreError → Bool → Type 0
 GoesAs (Ok x) fails = fails ≡ false
 GoesAs (Err NoMemory) fails = Unit {0}

@@ -10,7 +10,7 @@ abbrev pub is_in_range : ℕ → ℕ → ℕ → Bool
 is_in_range at count place = nat_le at place && nat_lt place (at + count)
 
 -- any part of a write of so many bytes was done: each byte of its range may be any, all others are
--- as before, and the length lies between that before and that behind the whole write
+-- as before, and the length lies between that before and that after the whole write
 pub record IsPartOfWrite (old : List ℕ) (at count : ℕ) (new : List ℕ) : Type 0 where
   pub no_shorter : length old ≤ length new
   pub no_longer : length new ≤ max (length old) (at + count)

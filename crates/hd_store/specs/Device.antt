@@ -28,14 +28,14 @@ one_more failures = min (failures + 1) MOST_FAILURES
 abbrev pub is_closed : Device → Bool
 is_closed device = is_refused device.failures device.changes
 
--- behind a change that was done
+-- after a change that was done
 abbrev pub done : Device → Change → List ℕ → Device
 done device change now = record device {
   steps = step change now ∷ device.steps;
   changes = later device.changes;
 }
 
--- behind a change that was begun and failed
+-- after a change that was begun and failed
 abbrev pub broken : Device → Change → List ℕ → Device
 broken device change now = record device {
   steps = step change now ∷ device.steps;
@@ -44,10 +44,10 @@ broken device change now = record device {
   reads = reads_behind device.changes device.reads;
 }
 
--- behind a call that failed and began nothing
+-- after a call that failed and began nothing
 abbrev pub refused : Device → Device
 refused device = record device { failures = one_more device.failures }
 
--- behind a read that was done
+-- after a read that was done
 abbrev pub looked_at : Device → Device
 looked_at device = record device { reads = later device.reads }

@@ -4,7 +4,7 @@ use Rattle.hd_store.specs.Past.{Step, content_after, synced_after, is_written, l
 
 -- The first `len` bytes are what is read. There is a mark for each place that the last sync made
 -- sure of, which says whether it was written since; where it was not, its byte still stands there,
--- also behind a cut.
+-- also after a cut.
 pub record Holds (start : List ℕ) (steps : List Step) (bytes : List ℕ) (len : ℕ) (marks : List Bool) (least greatest : ℕ) : Type 0 where
   pub read : take len bytes ≡ content_after start steps
   pub count : length marks ≡ length (synced_after start steps)

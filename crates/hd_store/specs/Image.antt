@@ -18,7 +18,7 @@ IsStarted image bytes = (image.history.start ≡ bytes) × (image.history.steps 
 abbrev pub IsLike : Image → Image → Type 0
 IsLike old new = (new.history.start ≡ old.history.start) × (new.history.steps ≡ old.history.steps)
 
--- one step more, behind which a read gives this
+-- one step more, after which a read gives this
 abbrev pub Steps : Image → Change → List ℕ → Image → Type 0
 Steps old change now new =
     (new.history.start ≡ old.history.start) × (new.history.steps ≡ step change now ∷ old.history.steps)

@@ -20,7 +20,7 @@ abbrev pub IsStarted : MemoryDisk → List ℕ → Type 0
 IsStarted disk bytes = device_of disk ≡ record { start = bytes; steps = []; failures = 0; changes = Well; reads = Well }
 
 -- A stop left what it may leave where each byte that is not sure is this one, and the device
--- started anew: its count of failures is kept, and nothing is planned.
+-- started again: its count of failures is kept, and nothing is planned.
 pub record IsStopped (old : Device) (fill : ℕ) (new : Device) : Type 0 where
   pub left : IsFilled old.start old.steps fill new.start
   pub steps : new.steps ≡ []

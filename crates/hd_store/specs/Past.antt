@@ -11,7 +11,7 @@ pub record Step : Type 0 where
   pub change : Change
   pub now : List ℕ
 
--- this change, behind which a read gives this
+-- this change, after which a read gives this
 abbrev pub step : Change → List ℕ → Step
 step change now = record { change = change; now = now }
 
@@ -20,7 +20,7 @@ abbrev pub content_after : List ℕ → List Step → List ℕ
 content_after start [] = start
 content_after start (s ∷ before) = s.now
 
--- ---- by a change, behind which a read gives `now`, from what was so before it
+-- ---- by a change, after which a read gives `now`, from what was so before it
 
 -- what the last sync that succeeded made sure of
 abbrev pub synced_by : Change → List ℕ → List ℕ → List ℕ

@@ -9,7 +9,7 @@ pub enum Ahead {
     Unknown,
     /// Each goes well.
     Well,
-    /// So many go well, the next one fails, and behind it each goes well.
+    /// So many go well, the next one fails, and after it each goes well.
     Fails(u64),
     /// So many go well, and in the next one the machine stops.
     Stops(u64),
@@ -18,7 +18,7 @@ pub enum Ahead {
 }
 
 impl Ahead {
-    /// What is known behind the next call.
+    /// Returns what is known after the next call.
     pub(crate) fn later(self) -> Ahead
         ensures { result ≡ later self }
     {
@@ -31,7 +31,7 @@ impl Ahead {
         }
     }
 
-    /// What is known behind a change that was begun and failed.
+    /// Returns what is known after a change that was begun and failed.
     pub(crate) fn behind_failure(self) -> Ahead
         ensures { result ≡ behind_failure self }
     {
@@ -41,22 +41,22 @@ impl Ahead {
         }
     }
 
-    /// Whether the next call is one that fails although the device still runs.
+    /// Reports whether the next call is one that fails although the device still runs.
     pub(crate) fn is_next(self) -> bool
         ensures { result ≡ is_next self }
     {
         matches!(self, Ahead::Fails(0) | Ahead::Stops(0))
     }
 
-    /// Whether the machine has stopped.
+    /// Reports whether the machine has stopped.
     pub(crate) fn is_down(self) -> bool
         ensures { result ≡ is_down self }
     {
         matches!(self, Ahead::Down)
     }
 
-    /// What becomes of the reads to come where this is what is known of changes, and one is begun
-    /// and fails.
+    /// Returns what becomes of the reads to come where this is what is known of changes, and one is
+    /// begun and fails.
     pub(crate) fn reads_behind(self, reads: Ahead) -> Ahead
         ensures { result ≡ reads_behind self reads }
     {

@@ -63,7 +63,7 @@ fn off_the_streams(file: File) -> Result<File, StoreError> {
     }
 }
 
-/// Tells whether a file keeps bytes: no folder, no terminal, no pipe and no device does.
+/// Reports whether a file keeps bytes: no folder, no terminal, no pipe and no device does.
 fn is_regular(file: &File) -> bool {
     match file.metadata() {
         Ok(metadata) => metadata.is_file(),

@@ -1,4 +1,4 @@
-//! What was done to a disk, as proofs see it. It takes no memory, and its calls do nothing when
+//! What was done to a disk, as proofs see it. It does not allocate, and its calls do nothing when
 //! they run.
 ghost use Rattle.std.specs.Prelude.{◌≡◌, ℕ, List, [], ◌∷◌};
 ghost use Rattle.std.specs.Borrow.{ftrue};
@@ -28,7 +28,7 @@ impl History {
         History {}
     }
 
-    /// One step more: this change was begun, and this is held behind it.
+    /// Returns one step more: this change was begun, and this is held after it.
     pub(crate) fn and(_before: &History, _change: &Change, _held: &Platter) -> History
         ensures { (result.start ≡ _before.now.start)
             × (result.steps ≡ step _change.now (content_of _held.now) ∷ _before.now.steps) }

@@ -25,22 +25,22 @@ impl Image {
     ghost use Rattle.hd_store.specs.Platter.{IsAllSure};
     ghost use Rattle.hd_store.specs.Image.{content, CanHold, IsLike, IsStarted, Steps};
 
-    /// Nothing, and no past. It takes no memory.
+    /// Nothing, and no past. It does not allocate.
     pub(crate) fn new(alloc: Global) -> Image
         ensures { IsStarted result [] }
     {
-        Image::starting(Platter::new(alloc))
+        Image::of_synced(Platter::new(alloc))
     }
 
-    /// These bytes, and no past.
+    /// Returns these bytes, and no past.
     pub(crate) fn of(alloc: Global, bytes: Vec<u8>) -> Result<Image, NoMemory>
         ensures { IfOk result (λ image. IsStarted image bytes.items) }
     {
-        Ok(Image::starting(Platter::of(alloc, bytes)?))
+        Ok(Image::of_synced(Platter::of(alloc, bytes)?))
     }
 
-    /// What is held, where all of it is sure.
-    fn starting(held: Platter) -> Image
+    /// Returns an image of what is held, all of which is synced.
+    fn of_synced(held: Platter) -> Image
         requires { IsAllSure held }
         ensures { IsStarted result held.bytes.items }
     {
@@ -48,7 +48,7 @@ impl Image {
         Image { held, history }
     }
 
-    /// What a read gives.
+    /// Returns what a read gives.
     pub(crate) fn bytes(&self) -> &[u8]
         ensures { result.now ≡ content self.now }
     {

@@ -7,8 +7,8 @@ ghost use Rattle.hd_store.specs.Device.{one_more};
 ghost use Rattle.hd_store.specs.declared.error.TheConstants.{MOST_FAILURES};
 ghost use Rattle.hd_store.specs.Stop.{MayLeave, IsAtRest, IsSynced, IsFilled};
 
-/// At its start, and behind a sync that succeeded, a stop leaves what a read gives, and nothing
-/// else.
+/// Law: at its start, and after a sync that succeeded, a stop leaves what a read gives, and
+/// nothing else.
 pub fn a_sync_leaves_one_content()
     ensures start { (start : List ℕ) → IsAtRest start [] }
     ensures sync { (start now : List ℕ) (steps : List Step)
@@ -17,7 +17,7 @@ pub fn a_sync_leaves_one_content()
         → IsSynced steps → MayLeave start steps (content_after start steps) }
 {}
 
-/// Behind a sync and one change, a stop leaves any part of the change, and nothing else.
+/// Law: after a sync and one change, a stop leaves any part of the change, and nothing else.
 pub fn a_change_leaves_any_part_of_itself()
     ensures write { (start : List ℕ) (steps : List Step) (at count : ℕ) (now found : List ℕ)
         → IsSynced steps → MayLeave start (step (Write at count) now ∷ steps) found
@@ -27,8 +27,8 @@ pub fn a_change_leaves_any_part_of_itself()
         ↔ IsPartOfCut (content_after start steps) len found }
 {}
 
-/// What a stop may leave before a write or a cut it may leave behind it. So what a stop within the
-/// change leaves, one right behind it may leave too.
+/// Law: what a stop may leave before a write or a cut it may leave after it. So what a stop within
+/// the change leaves, one right after it may leave too.
 pub fn a_change_takes_nothing_away()
     ensures write { (start : List ℕ) (steps : List Step) (at count : ℕ) (now found : List ℕ)
         → MayLeave start steps found → MayLeave start (step (Write at count) now ∷ steps) found }
@@ -36,20 +36,20 @@ pub fn a_change_takes_nothing_away()
         → MayLeave start steps found → MayLeave start (step (Cut len) now ∷ steps) found }
 {}
 
-/// A sync that failed makes nothing sure, and takes nothing away.
+/// Law: a sync that failed makes nothing sure, and takes nothing away.
 pub fn a_failed_sync_changes_nothing()
     ensures { (start : List ℕ) (steps : List Step) (now found : List ℕ)
         → MayLeave start (step FailedSync now ∷ steps) found ↔ MayLeave start steps found }
 {}
 
-/// Of all that a stop may leave, one content alone is the longest in which each byte that is not
-/// sure is a given one.
+/// Law: of all that a stop may leave, one content alone is the longest in which each byte that is
+/// not sure is a given one.
 pub fn a_filled_content_is_one()
     ensures { (start : List ℕ) (steps : List Step) (fill : ℕ) (one other : List ℕ)
         → IsFilled start steps fill one → IsFilled start steps fill other → one ≡ other }
 {}
 
-/// A call that fails counts one failure, up to the greatest count.
+/// Law: a call that fails counts one failure, up to the greatest count.
 pub fn failures_are_counted()
     ensures below { (failures : ℕ) → failures < MOST_FAILURES → one_more failures ≡ failures + 1 }
     ensures greatest { one_more MOST_FAILURES ≡ MOST_FAILURES }

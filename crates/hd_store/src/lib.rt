@@ -1,9 +1,13 @@
-//! Disks: a trait by which a journal is written, a disk in memory, and one over a file.
+//! Provides disks on which a journal is written: a trait, a disk in memory, and a disk over a file.
 //!
-//! Contracts see a store as a device: what it held for sure at its start, and each write, cut and
-//! sync since then, in order. From these follows what a read gives, and what a stop of the machine
-//! may leave at each moment (`specs/Stop`): between two syncs that succeed, each byte of a written
-//! range may be anything afterwards, and the length any between the least and the greatest.
+//! A call of [`Store`] that succeeds has exactly its effect; one that the device fails is counted,
+//! and may have had any part of it. After a successful sync a stop leaves what a read gives. After
+//! later writes, each written byte may be anything, and the length is in a range (`specs/Stop`).
+//!
+//! Contracts see a device: its content at the start, and each write, cut and sync since.
+//! [`MemoryDisk`] fails and stops as planned, and marks the bytes that a stop may change.
+//! [`FileStore`] locks its file and keeps a copy in memory. That the file is such a disk is
+//! trusted. Start reading at [`Store`], then at `specs/Device` and `specs/Stop`.
 #![tactic(auto)]
 
 mod ahead;

@@ -17,8 +17,8 @@ const MOST_BYTES: usize = 0x7fff_ffff_ffff_ffff;
 /// A disk in memory.
 ///
 /// A write, a cut or a sync that fails as planned is begun, and what a read gives stays as it was:
-/// a stop behind it may still leave any part of it. A write that ends within the length, a cut and
-/// a sync take no memory.
+/// a stop after it may still leave any part of it. A write that ends within the length, a cut and
+/// a sync do not allocate.
 #[derive(Drop)]
 pub struct MemoryDisk {
     image: Image,
@@ -38,7 +38,7 @@ pub(crate) fn end_of(at: usize, count: usize) -> Option<usize>
 impl MemoryDisk {
     ghost use Rattle.hd_store.specs.MemoryDisk.{device_of, IsStarted, IsStopped};
 
-    /// An empty disk. It takes no memory.
+    /// An empty disk. It does not allocate.
     pub fn new(alloc: Global) -> MemoryDisk
         ensures { IsStarted result [] }
     {
@@ -48,10 +48,10 @@ impl MemoryDisk {
         }
     }
 
-    /// A disk that holds these bytes for sure.
+    /// Returns a disk that holds these bytes for sure.
     ///
     /// # Errors
-    /// Want of memory.
+    /// Lack of memory.
     pub fn of(alloc: Global, bytes: Vec<u8>) -> Result<MemoryDisk, NoMemory>
         ensures { IfOk result (λ disk. IsStarted disk bytes.items) }
     {
@@ -61,7 +61,7 @@ impl MemoryDisk {
         })
     }
 
-    /// What a read gives.
+    /// Returns what a read gives.
     pub fn bytes(&self) -> &[u8]
         ensures { result.now ≡ content_of (device_of self.now) }
     {
@@ -105,7 +105,7 @@ impl MemoryDisk {
     /// greatest that it may be. Nothing that was planned is left.
     ///
     /// # Errors
-    /// Want of memory, and then nothing is changed.
+    /// Lack of memory, and then nothing is changed.
     pub fn settle(&mut self, fill: u8) -> Result<(), NoMemory>
         ensures ok { OnOk result (IsStopped (device_of self.old) fill (device_of self.new)) }
         ensures err { OnErr result (device_of self.new ≡ device_of self.old) }

@@ -28,14 +28,14 @@ impl Plan {
         }
     }
 
-    /// One failure more.
+    /// Adds one failure more.
     pub(crate) fn count(&mut self)
         ensures { self.new ≡ record self.old { failures = one_more self.old.failures } }
     {
         self.failures = self.failures.saturating_add(1);
     }
 
-    /// Whether a change can be begun: else it fails.
+    /// Reports whether a change can be begun: else it fails.
     pub(crate) fn begin(&mut self) -> Result<(), StoreError>
         ensures begun { OnOk result (self.new ≡ self.old) }
         ensures few { OnOk result ((self.old.failures == MOST_FAILURES) ≡ false) }

@@ -12,7 +12,7 @@ const LEAST_ROOM: usize = 64;
 /// What is kept of a disk in memory.
 #[derive(Drop)]
 pub(crate) struct Platter {
-    /// What is read, and behind its length what a cut took off since the last sync.
+    /// What is read, and after its length what a cut took off since the last sync.
     pub(crate) bytes: Vec<u8>,
     pub(crate) len: usize,
     /// Of each place below the length at the last sync, whether it was written since then.
@@ -90,7 +90,7 @@ impl Platter {
         }
     }
 
-    /// These bytes, all of them sure.
+    /// Returns these bytes, all of them sure.
     pub(crate) fn of(alloc: Global, bytes: Vec<u8>) -> Result<Platter, NoMemory>
         ensures sure { IfOk result IsAllSure }
         ensures bytes { IfOk result (λ platter. platter.bytes.items ≡ bytes.items) }
@@ -227,8 +227,8 @@ impl Platter {
         self.least = self.greatest;
     }
 
-    /// What a stop leaves where each byte that is not sure is this one then, and the length is the
-    /// greatest: all of it is sure.
+    /// Returns what a stop leaves where each byte that is not sure is this one then, and the length
+    /// is the greatest: all of it is sure.
     pub(crate) fn stop(&mut self, fill: u8) -> Result<(), NoMemory>
         ensures ok { OnOk result (IsFilledUp self.old fill self.new) }
         ensures err { OnErr result (IsUnchanged self.old self.new) }

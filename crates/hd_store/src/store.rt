@@ -17,7 +17,7 @@ pub trait Store {
     /// The device that the store is.
     ghost device: { Self → Device };
 
-    /// How many bytes there are.
+    /// Returns how many bytes there are.
     ///
     /// # Errors
     /// A failure of the device.
@@ -46,7 +46,7 @@ pub trait Store {
     /// Writes these bytes from a place within the length on, over what is there and past the end.
     ///
     /// # Errors
-    /// A failure of the device. Want of memory, where the store grows: then nothing was begun.
+    /// A failure of the device. Lack of memory, where the store grows: then nothing was begun.
     fn write_at(&mut self, at: u64, bytes: &[u8]) -> Result<(), StoreError>
         requires { at ≤ length (content_of (device self.old)) }
         ensures ok { OnOk result (device self.new
@@ -88,7 +88,7 @@ pub trait Store {
         ensures foretold { GoesAsForetold result (device self.old).failures
             (foretold_by (device self.old).changes) };
 
-    /// How many calls have failed.
+    /// Returns how many calls have failed.
     fn failures(&self) -> u64
         ensures { result ≡ (device self.now).failures };
 

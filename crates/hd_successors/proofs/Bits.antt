@@ -152,7 +152,7 @@ none_left words place at end none m far =
       | inr high ↦ none_past words m (omega (arith, high, end))
     ]
 
--- the first mark behind a word's part without marks
+-- the first mark after a word's part without marks
 pub first_behind : (words : List ℕ) (from place : ℕ) (o : Option ℕ) → place ≡ from / 64 + 1 → get_or words (from / 64) 0 / 2 ^ (from % 64) ≡ 0 → FirstMark words (64 * place) o → FirstMark words from o
 first_behind words from place None next none f =
     λ m far.

@@ -1,5 +1,5 @@
 -- The actions that watch an atom first, one after the other from the last: each is found by the one
--- behind it. (Our own.)
+-- after it. (Our own.)
 use Rattle.std.specs.Prelude.{◌≡◌, ℕ, zero, suc, ◌+◌, ◌<◌, ◌==◌, Bool, true, if◌then◌else◌, List, length, get_or, set, slice_get}
 use Rattle.hd_successors.specs.declared.watching.Watch.{Watch}
 use Rattle.hd_successors.specs.declared.watching.Watch.TheVariants.{Always, Atoms}

@@ -10,8 +10,8 @@ ghost use Rattle.hd_task.specs.Expansions.{is_applicable};
 ghost use Rattle.hd_successors.specs.declared.watching.Watch.{Watch};
 ghost use Rattle.hd_successors.specs.Watching.{IsWatchedBy, is_candidate, candidates};
 
-/// Candidates suffice: an action whose conditions on atoms and objects hold is one, and what is
-/// none neither applies nor departs.
+/// Law: candidates suffice: an action whose conditions on atoms and objects hold is one, and what
+/// is none neither applies nor departs.
 pub fn candidates_suffice()
     ensures holding { (t : Task) (watched : List Watch) (s : State) (n : ℕ) (a : Action)
         → IsWatchedBy t.actions watched → slice_get t.actions n ≡ Some a
@@ -24,8 +24,8 @@ pub fn candidates_suffice()
         → action_departs t r n ≡ false }
 {}
 
-/// The first candidate from a number on: those before it are none, and where there is no first one,
-/// none follows.
+/// Law: the first candidate from a number on: those before it are none, and where there is no first
+/// one, none follows.
 pub fn first_candidates()
     ensures some { (watched : List Watch) (s : State) (from n : ℕ)
         → find (nat_le from) (candidates watched s) ≡ Some n

@@ -7,7 +7,7 @@ ghost use Rattle.hd_successors.specs.Marks.{is_marked, words_for, FirstMark};
 use hd_base::NoMemory;
 use std::alloc::Global;
 
-/// No marks, with room for as many as asked.
+/// Returns no marks, with room for as many as asked.
 #[tactic(auto, using(crate::proofs::Bits::none_marked))]
 pub(crate) fn no_marks(alloc: Global, count: usize) -> Result<Vec<u64>, NoMemory>
     ensures none { IfOk result (λ v. (i : ℕ) → is_marked v.items i ≡ false) }
@@ -26,7 +26,7 @@ pub(crate) fn set_mark(marks: &mut [u64], number: usize)
     marks[number / 64] |= 1 << (number % 64);
 }
 
-/// The first number that is marked, of those in the words from this place on.
+/// Returns the first number that is marked, of those in the words from this place on.
 fn first_mark_in(marks: &[u64], place: usize) -> Option<usize>
     requires { length marks.now ≤ MAX_ACTIONS }
     ensures { FirstMark marks.now (64 * place) result }
@@ -42,7 +42,7 @@ fn first_mark_in(marks: &[u64], place: usize) -> Option<usize>
     None
 }
 
-/// The first number that is marked, from this one on.
+/// Returns the first number that is marked, from this one on.
 pub(crate) fn first_mark(marks: &[u64], from: usize) -> Option<usize>
     requires { length marks.now ≤ MAX_ACTIONS }
     ensures { FirstMark marks.now from result }
@@ -58,7 +58,8 @@ pub(crate) fn first_mark(marks: &[u64], from: usize) -> Option<usize>
     first_mark_in(marks, place + 1)
 }
 
-/// The first bit of a byte that is 1, from this one on: the same of one word that has no more.
+/// Returns the first bit of a byte that is 1, from this one on: the same of one word that has no
+/// more.
 #[inline(always)]
 pub(crate) fn first_bit(byte: u8, from: usize) -> Option<usize>
     requires { from ≤ 8 }
@@ -71,7 +72,7 @@ pub(crate) fn first_bit(byte: u8, from: usize) -> Option<usize>
     Some(from + rest.trailing_zeros() as usize)
 }
 
-/// The first number that is marked, from this one on, of so many.
+/// Returns the first number that is marked, from this one on, of so many.
 pub(crate) fn first_mark_below(marks: &[u64], from: u32, count: usize) -> Option<u32>
     requires words { length marks.now ≤ MAX_ACTIONS }
     requires few { count ≤ MAX_ACTIONS }
@@ -89,7 +90,7 @@ pub(crate) fn first_mark_below(marks: &[u64], from: u32, count: usize) -> Option
     }
 }
 
-/// How many numbers are marked, of so many. It goes from one to the next.
+/// Returns how many numbers are marked, of so many. It goes from one to the next.
 pub(crate) fn marks_below(marks: &[u64], count: usize) -> usize
     requires words { length marks.now ≤ MAX_ACTIONS }
     requires few { count ≤ MAX_ACTIONS }

@@ -56,7 +56,7 @@ impl<'t> Model for Successors<'t> {
 }
 
 impl<'t> Successors<'t> {
-    /// The index of a task, without marks.
+    /// Returns the index of a task, without marks.
     ///
     /// # Errors
     /// `NoMemory` where there is no room for a number an atom, four numbers an action and two bits
@@ -81,7 +81,7 @@ impl<'t> Successors<'t> {
         }
     }
 
-    /// Marks the candidates at a state, and no other action. It takes no memory.
+    /// Marks the candidates at a state, and no other action. It does not allocate.
     pub fn mark(&mut self, state: &Packed)
         requires { IsStateOf self.old.task state.now }
         ensures task { self.new.task ≡ self.old.task }
@@ -93,21 +93,21 @@ impl<'t> Successors<'t> {
             .mark_candidates(self.always.as_slice(), state, marks);
     }
 
-    /// The first action that is marked, from this number on.
+    /// Returns the first action that is marked, from this number on.
     pub fn next(&self, from: u32) -> Option<u32>
         ensures { result ≡ find (nat_le from) self.now.marked }
     {
         first_mark_below(self.marks.as_slice(), from, self.watches.watched.len())
     }
 
-    /// How many actions are marked.
+    /// Returns how many actions are marked.
     pub fn count(&self) -> usize
         ensures { result ≡ length self.now.marked }
     {
         marks_below(self.marks.as_slice(), self.watches.watched.len())
     }
 
-    /// What each action watches.
+    /// Returns what each action watches.
     pub fn watched(&self) -> &[Watch]
         ensures watched { result.now ≡ self.now.watched }
         ensures asked_for { IsWatchedBy self.now.task.actions result.now }

@@ -50,7 +50,8 @@ fn link(last: &mut [u32], watch: Watch, action: u32) -> u32
     before
 }
 
-/// The chains of all actions: by atom where each begins, and by action what stands before it.
+/// Returns the chains of all actions: by atom where each begins, and by action what stands before
+/// it.
 fn chains_of(
     alloc: Global,
     watched: &[Watch],
@@ -91,7 +92,7 @@ fn mark_always(watched: &[Watch], marks: &mut [u64])
     }
 }
 
-/// Whether the other atom that is watched is true in a state.
+/// Reports whether the other atom that is watched is true in a state.
 fn sees_other(state: &Packed, watch: Watch) -> bool
     ensures { result ≡ other_passes (has_atom state.now) (Some watch) }
 {
@@ -114,7 +115,8 @@ fn mark_if_seen(state: &Packed, watch: Watch, action: usize, marks: &mut [u64])
 }
 
 impl Watches {
-    /// What each of these actions watches, of a task of so many atoms, which starts with these.
+    /// Returns what each of these actions watches, of a task of so many atoms, which starts with
+    /// these.
     ///
     /// # Errors
     /// `NoMemory` where there is no room for a number an atom and four an action.

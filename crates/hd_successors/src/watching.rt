@@ -24,7 +24,7 @@ pub enum Watch {
 /// is seen that makes it false: as it tells no state from another, it is watched last.
 const STAYS: u32 = 1 << 31;
 
-/// How many actions ask for an atom; none where it is beyond the table.
+/// Returns how many actions ask for an atom; none where it is beyond the table.
 fn uses_of(uses: &[u32], atom: u32) -> u32 {
     uses.get(atom as usize).copied().unwrap_or(0)
 }
@@ -58,8 +58,8 @@ fn note_deletes(uses: &mut [u32], deletes: &[u32]) {
     }
 }
 
-/// How many literals of conditions ask for each atom; of one that is true in each state, more than
-/// of any other.
+/// Returns how many literals of conditions ask for each atom; of one that is true in each state,
+/// more than of any other.
 fn all_uses(alloc: Global, actions: &[Action], initial: &[bool]) -> Result<Vec<u32>, NoMemory>
     ensures { IfOk result (λ v. length v.items ≡ length initial.now) }
 {
@@ -72,8 +72,8 @@ fn all_uses(alloc: Global, actions: &[Action], initial: &[bool]) -> Result<Vec<u
     Ok(uses)
 }
 
-/// What to watch with one atom more that is asked to be true: of the three the two that fewest ask
-/// for, the rarest first, the earlier of equal ones.
+/// Returns what to watch with one atom more that is asked to be true: of the three the two that
+/// fewest ask for, the rarest first, the earlier of equal ones.
 fn rarer_with(uses: &[u32], rare: u32, other: u32, atom: u32) -> Watch
     ensures { (literals : List Literal) → asks_for literals (Watch.Atoms rare other) ≡ true
         → list_any (is_for atom) literals ≡ true → asks_for literals result ≡ true }
@@ -87,7 +87,7 @@ fn rarer_with(uses: &[u32], rare: u32, other: u32, atom: u32) -> Watch
     }
 }
 
-/// What to watch with one literal more.
+/// Returns what to watch with one literal more.
 fn rarer(uses: &[u32], watch: Watch, literal: Literal) -> Watch
     ensures { (literals : List Literal) → asks_for literals watch ≡ true
         → asks_for (literals ++ literal ∷ []) result ≡ true }
@@ -101,8 +101,8 @@ fn rarer(uses: &[u32], watch: Watch, literal: Literal) -> Watch
     }
 }
 
-/// What an action of these literals watches: the two atoms that fewest ask for, of those that it
-/// asks to be true; one that is true in each state comes last.
+/// Returns what an action of these literals watches: the two atoms that fewest ask for, of those
+/// that it asks to be true; one that is true in each state comes last.
 fn rarest(uses: &[u32], literals: &[Literal]) -> Watch
     ensures { asks_for literals.now result ≡ true }
 {
@@ -113,7 +113,7 @@ fn rarest(uses: &[u32], literals: &[Literal]) -> Watch
     watch
 }
 
-/// What each action watches.
+/// Returns what each action watches.
 fn each_rarest(alloc: Global, uses: &[u32], actions: &[Action]) -> Result<Vec<Watch>, NoMemory>
     ensures { IfOk result (λ v. IsWatchedBy actions.now v.items) }
 {
@@ -124,7 +124,7 @@ fn each_rarest(alloc: Global, uses: &[u32], actions: &[Action]) -> Result<Vec<Wa
     Ok(watched)
 }
 
-/// What each of the actions of a task watches, which starts with these atoms.
+/// Returns what each of the actions of a task watches, which starts with these atoms.
 ///
 /// # Errors
 /// `NoMemory` where there is no room for a number an atom and three an action.

@@ -13,7 +13,7 @@ use Rattle.hd_task.specs.WellFormed.{action_fits}
 use Rattle.hd_task.specs.Conditions.{holds, condition_departs}
 use Rattle.hd_task.specs.Effects.{state_after, step_cost, effects_stay}
 
--- the test of a condition: a departure is told before the answer
+-- the test of a condition: a departure is reported before the answer
 unfoldable pub test_of : State → Condition → GoalTest
 test_of s c = if condition_departs s c then Test.Departs else if holds s c then Test.Yes else Test.No
 

@@ -10,9 +10,9 @@ abbrev pub plan_from : Option (List ℕ) → ℕ → Option (List ℕ)
 plan_from None n = None
 plan_from (Some p) n = Some (followed_by p n)
 
--- the plan that a kid names, where the expanded plans are those of the entries before it: the root
--- the empty plan, another the plan of its parent followed by its action. The root's parent with
--- another action, and a parent that is no earlier entry, name nothing
+-- the plan that a successor names, where the expanded plans are those of the entries before it: the
+-- root the empty plan, another the plan of its parent followed by its action. The root's parent
+-- with another action, and a parent that is no earlier entry, name nothing
 abbrev pub plan_of : List (List ℕ) → Kid → Option (List ℕ)
 plan_of expanded k =
     if k.parent == ROOT_PARENT then (if k.action == ROOT_ACTION then Some [] else None) else plan_from (slice_get expanded k.parent) k.action

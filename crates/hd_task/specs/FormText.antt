@@ -7,11 +7,11 @@ use Rattle.hd_task.specs.declared.form.GroundForm.{GroundForm}
 abbrev pub name_at : List (List ℕ) → ℕ → List ℕ
 name_at names i = unwrap_or (slice_get names i) []
 
--- an object behind a space
+-- an object after a space
 abbrev pub object_text : List (List ℕ) → ℕ → List ℕ
 object_text objects o = codes " " ++ name_at objects o
 
--- objects, each behind a space
+-- objects, each after a space
 abbrev pub objects_text : List (List ℕ) → List ℕ → List ℕ
 objects_text objects numbers = flat_map (object_text objects) numbers
 

@@ -13,7 +13,7 @@ abbrev pub reached_by : Option Node → Reached
 reached_by None = No
 reached_by (Some r) = Next r.state r.cost
 
--- what `step` answers, by the action's number: a departure is told before the step
+-- what `step` answers, by the action's number: a departure is reported before the step
 unfoldable pub step_at : Task → Node → ℕ → Reached
 step_at t r n = if action_departs t r n then Departs else reached_by (step_by t r n)
 

@@ -42,7 +42,7 @@ fn set_each(bits: &mut Vec<bool>, places: &[u32], value: bool)
     }
 }
 
-/// The atoms after an action.
+/// Returns the atoms after an action.
 fn atoms_after(
     alloc: Global,
     task: &Task,
@@ -58,7 +58,7 @@ fn atoms_after(
     Ok(bits)
 }
 
-/// The values after an action, unless a subexpression or a new value leaves the range.
+/// Returns the values after an action, unless a subexpression or a new value leaves the range.
 fn fluents_after(
     alloc: Global,
     task: &Task,
@@ -82,8 +82,8 @@ fn fluents_after(
     Ok(Some(Sequence::from_vec(next)))
 }
 
-/// The cost of a step, by the values before it, unless a subexpression of it leaves the range or it
-/// is negative.
+/// Returns the cost of a step, by the values before it, unless a subexpression of it leaves the
+/// range or it is negative.
 #[tactic(auto, unfolding(crate::specs::Effects::step_cost))]
 pub fn step_cost<R: Reads>(task: &Task, state: &R, action: &Action) -> Option<u128>
     ensures { JudgesStepCost task.now (R.seen state.now) action.now result }
@@ -96,7 +96,7 @@ pub fn step_cost<R: Reads>(task: &Task, state: &R, action: &Action) -> Option<u1
     }
 }
 
-/// What an action does where its condition holds.
+/// Returns what an action does where its condition holds.
 #[tactic(auto, unfolding(crate::specs::Applying::test_of, crate::specs::Applying::applied_of, crate::specs::Applying::departs_aside, crate::specs::Effects::effects_stay, crate::specs::Effects::state_after))]
 fn take_effect(
     alloc: Global,
@@ -123,7 +123,8 @@ fn take_effect(
     Ok(Applied::Next(next, cost))
 }
 
-/// What an action does in a state, the sum of a plan's cost aside (with it: [`crate::step`]).
+/// Returns what an action does in a state, the sum of a plan's cost aside (with it:
+/// [`crate::step`]).
 ///
 /// It takes a copy of the state, and time in the action's own size.
 ///
@@ -148,7 +149,7 @@ pub fn apply(
     }
 }
 
-/// Whether the goal holds in a state, or departs there. It takes no memory.
+/// Reports whether the goal holds in a state, or departs there. It does not allocate.
 pub fn goal(task: &Task, state: &State) -> GoalTest
     requires of_task { IsStateOf task.now state.now }
     ensures answer { result ≡ goal_of task.now state.now }

@@ -50,14 +50,14 @@ fn all_hold<R: Reads>(state: &R, literals: &[Literal]) -> bool
         .all(|literal| literal_holds(state, *literal))
 }
 
-/// Whether the conditions on atoms and objects hold.
+/// Reports whether the conditions on atoms and objects hold.
 fn literals_hold<R: Reads>(state: &R, condition: &Condition) -> bool
     ensures { result ≡ literals_hold (R.seen state.now) condition.now }
 {
     !condition.never && all_hold(state, condition.literals.as_slice())
 }
 
-/// Whether a comparison holds, unless a subexpression leaves the range.
+/// Reports whether a comparison holds, unless a subexpression leaves the range.
 fn comparison_holds<R: Reads>(state: &R, comparison: &Comparison) -> Option<bool>
     ensures { JudgesComparison (R.seen state.now).fluents comparison.now result }
 {
@@ -66,7 +66,7 @@ fn comparison_holds<R: Reads>(state: &R, comparison: &Comparison) -> Option<bool
     Some(comparison.relation.holds(left, right))
 }
 
-/// Whether all comparisons hold, unless a subexpression of one leaves the range.
+/// Reports whether all comparisons hold, unless a subexpression of one leaves the range.
 fn comparisons_hold<R: Reads>(state: &R, comparisons: &[Comparison]) -> Option<bool>
     ensures { JudgesComparisons (R.seen state.now).fluents comparisons.now result }
 {
@@ -78,7 +78,7 @@ fn comparisons_hold<R: Reads>(state: &R, comparisons: &[Comparison]) -> Option<b
     Some(all)
 }
 
-/// Whether a condition holds in a state, or departs there. It takes no memory.
+/// Reports whether a condition holds in a state, or departs there. It does not allocate.
 #[tactic(auto, unfolding(crate::specs::Applying::test_of, crate::specs::Conditions::holds, crate::specs::Conditions::condition_departs))]
 pub fn test_of<R: Reads>(state: &R, condition: &Condition) -> GoalTest
     ensures { result ≡ test_of (R.seen state.now) condition.now }

@@ -35,8 +35,8 @@ pub struct Effect {
     pub change: Change,
 }
 
-/// A sum with one more amount, unless a subexpression leaves the range. The sum itself is not
-/// judged.
+/// Returns a sum with one more amount, unless a subexpression leaves the range. The sum itself is
+/// not judged.
 fn plus_value<R: Reads>(state: &R, sum: i128, amount: &Expr) -> Option<i128>
     requires low { neg_ℤ (pos (2 ^ 126)) ≤ℤ sum }
     requires high { sum ≤ℤ pos (2 ^ 126) }
@@ -46,7 +46,8 @@ fn plus_value<R: Reads>(state: &R, sum: i128, amount: &Expr) -> Option<i128>
     Some(sum + i128::from(value_of(state, amount)?))
 }
 
-/// A sum with one more term, unless a subexpression leaves the range. The sum itself is not judged.
+/// Returns a sum with one more term, unless a subexpression leaves the range. The sum itself is not
+/// judged.
 fn with_term<R: Reads>(state: &R, sum: i128, term: &Term) -> Option<i128>
     requires low { neg_ℤ (pos (2 ^ 126)) ≤ℤ sum }
     requires high { sum ≤ℤ pos (2 ^ 126) }
@@ -59,7 +60,7 @@ fn with_term<R: Reads>(state: &R, sum: i128, term: &Term) -> Option<i128>
     }
 }
 
-/// The sum of the terms, onto a first value.
+/// Returns the sum of the terms, onto a first value.
 fn sum_of<R: Reads>(state: &R, terms: &[Term], first: i64) -> Option<i128>
     ensures { JudgesTerms (R.seen state.now).fluents first terms.now result }
 {
@@ -70,7 +71,7 @@ fn sum_of<R: Reads>(state: &R, terms: &[Term], first: i64) -> Option<i128>
     Some(sum)
 }
 
-/// A sum, if it is in the range.
+/// Returns a sum, if it is in the range.
 fn narrow(value: i128) -> Option<i64>
     ensures { Judges result (in_range value) value }
 {
@@ -81,8 +82,8 @@ fn narrow(value: i128) -> Option<i64>
     }
 }
 
-/// The value that an effect gives its fluent by the values of a state, unless it or a subexpression
-/// leaves the range.
+/// Returns the value that an effect gives its fluent by the values of a state, unless it or a
+/// subexpression leaves the range.
 pub fn new_value<R: Reads>(state: &R, effect: &Effect) -> Option<i64>
     ensures { JudgesEffect (R.seen state.now).fluents effect.now result }
 {
@@ -94,7 +95,7 @@ pub fn new_value<R: Reads>(state: &R, effect: &Effect) -> Option<i64>
     }
 }
 
-/// The sum of the amounts, unless a subexpression of one leaves the range.
+/// Returns the sum of the amounts, unless a subexpression of one leaves the range.
 pub(crate) fn sum_of_costs<R: Reads>(state: &R, amounts: &[Expr]) -> Option<i128>
     ensures { JudgesCosts (R.seen state.now).fluents amounts.now result }
 {

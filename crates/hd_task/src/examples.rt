@@ -18,7 +18,7 @@ ghost use Rattle.hd_task.specs.Examples.{kid, a_and_b, only_m, one_atom, one_num
 ghost use Rattle.hd_task.specs.Examples.{two_actions, three_expansions, their_plans, two_ways, start_at, delete_and_add, swapping, up_and_down, one_up};
 ghost use Rattle.hd_task.specs.Examples.{by_x, by_x_less_ten, paying};
 
-/// The definitions on the small tasks of `specs/Examples.antt`.
+/// Law: the definitions on the small tasks of `specs/Examples.antt`.
 pub fn examples_compute()
     // The range and the limits of tasks are these.
     ensures range { RANGE_END ≡ 10 ^ 15 }

@@ -10,7 +10,7 @@ use hd_base::{ExprParts, Operand, if_in_range};
 /// A numeric expression over the fluents of a task, which it names by their numbers.
 pub type Expr = hd_base::Expr<Operand<u32>>;
 
-/// The value of a number or a fluent.
+/// Returns the value of a number or a fluent.
 fn leaf_value<R: Reads>(state: &R, leaf: Operand<u32>) -> i64
     ensures { result ≡ leaf_value (R.seen state.now).fluents leaf }
 {
@@ -20,7 +20,7 @@ fn leaf_value<R: Reads>(state: &R, leaf: Operand<u32>) -> i64
     }
 }
 
-/// The value of an expression, unless a subexpression leaves the range.
+/// Returns the value of an expression, unless a subexpression leaves the range.
 pub(crate) fn value_of<R: Reads>(state: &R, expr: &Expr) -> Option<i64>
     ensures value { JudgesValue (R.seen state.now).fluents expr.now result }
     ensures in_range { IfSome result (λ v. in_range v ≡ true) }

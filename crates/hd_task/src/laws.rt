@@ -12,8 +12,8 @@ ghost use Rattle.hd_task.specs.Expansions.{followed_by, is_applicable, generated
 ghost use Rattle.hd_task.specs.Covers.{Estimate, IsAdmissible, IsJustified, zero_estimate};
 ghost use Rattle.hd_task.specs.Verdicts.{IsFinished, IsTrueVerdict, Optimal, NoPlan};
 
-/// A finished search has the last word: the bound is the cost of an optimal plan, and without a
-/// bound there is no plan.
+/// Law: a finished search has the last word: the bound is the cost of an optimal plan, and without
+/// a bound there is no plan.
 ///
 /// Validity and cost are in exact integers, without a range, and speak of all plans of the task.
 pub fn verdicts_are_true()
@@ -30,14 +30,14 @@ pub fn verdicts_are_true()
         → IsFinished t h expanded → bound_of t expanded ≡ None → IsTrueVerdict t NoPlan }
 {}
 
-/// A plan at which the goal holds and does not depart is valid, whatever else departs.
+/// Law: a plan at which the goal holds and does not depart is valid, whatever else departs.
 pub fn goal_plans_are_valid()
     ensures { (t : Task) (p : List ℕ) (c : ℕ)
         → goal_cost t (exec t p) ≡ Some c → IsValidAt t p c }
 {}
 
-/// What stays when a list of expansions grows: what is justified, a bound that never rises, and the
-/// recorded departures, before those of the further entries.
+/// Law: what stays when a list of expansions grows: what is justified, a bound that never rises,
+/// and the recorded departures, before those of the further entries.
 pub fn expansions_grow()
     ensures justified { (t : Task) (h : Estimate) (expanded more : List (List ℕ)) (p : List ℕ)
         → IsJustified t h expanded p → IsJustified t h (expanded ++ more) p }
@@ -49,8 +49,8 @@ pub fn expansions_grow()
         ≡ departures_of t expanded ++ departures_from t (length expanded) more }
 {}
 
-/// A beginning of a legal list of expansions is legal, and so is a legal list with one generated
-/// plan more, which it has not.
+/// Law: a beginning of a legal list of expansions is legal, and so is a legal list with one
+/// generated plan more, which it has not.
 pub fn legal_lists()
     ensures beginning { (t : Task) (expanded : List (List ℕ)) (m : ℕ)
         → IsLegal t expanded → IsLegal t (take m expanded) }
@@ -58,19 +58,19 @@ pub fn legal_lists()
         → IsLegal t expanded → IsNext t expanded p → IsLegal t (expanded ++ p ∷ []) }
 {}
 
-/// What a legal list of expansions generates holds no plan twice: its length is the number of plans
-/// generated.
+/// Law: what a legal list of expansions generates holds no plan twice: its length is the number of
+/// plans generated.
 pub fn generated_once()
     ensures { (t : Task) (expanded : List (List ℕ))
         → IsLegal t expanded → AllPairs (λ (p q : List ℕ). p ≢ q) (generated t expanded) }
 {}
 
-/// The estimate 0 is admissible.
+/// Law: the estimate 0 is admissible.
 pub fn zero_is_admissible()
     ensures { (t : Task) → IsAdmissible t zero_estimate }
 {}
 
-/// What [`crate::apply`] and [`crate::goal`] answer in a plan's state decides, with the plan's
+/// Law: what [`crate::apply`] and [`crate::goal`] answer in a plan's state decides, with the plan's
 /// cost, what happens at the plan: whether an action is applicable, whether it departs, where it
 /// leads, and what the goal says.
 pub fn answers_decide()
@@ -87,7 +87,7 @@ pub fn answers_decide()
         → goal_departs t r ≡ says_departs (goal_of t r.state) }
 {}
 
-/// A plan leads to a state of the task.
+/// Law: a plan leads to a state of the task.
 pub fn plans_lead_to_states()
     ensures { (t : Task) (p : List ℕ) (r : Node) → exec t p ≡ Some r → IsStateOf t r.state }
 {}

@@ -1,9 +1,16 @@
-//! Numeric planning tasks: what a task, a state and an action are, what an action does in a state,
-//! and the laws by which a finished search has the last word.
+//! Ground planning tasks: what a task, a state and a plan are, and why a finished search is right.
 //!
-//! The definitions in `specs/` say what plans mean (PDDL 2.1, Fox and Long 2003) and what a search
-//! has to have looked at (HDA*, Kishimoto, Fukunaga and Botea 2013). [`apply`], [`action_test`],
-//! [`step`] and [`goal`] compute them, and the functions of [`laws`] state what follows from them.
+//! [`apply`] returns exactly what an action does in a state: it does not apply, leads to a state at
+//! a cost, or departs. [`step`] adds the cost of the plan, [`action_test`] omits the next state,
+//! and [`goal`] tests the goal. A [`Task`] exists only if its parts fit together. If a search is
+//! finished, its bound is the cost of an optimal plan, and without a bound no plan is valid
+//! ([`laws::verdicts_are_true`]).
+//!
+//! Plans are those of PDDL 2.1 (Fox and Long 2003); a search covers what hash-distributed A* has to
+//! (HDA*; Kishimoto, Fukunaga and Botea 2013). A [`State`] is a list of truth values and a list of
+//! numbers, indexed by atom and by fluent. So `apply` copies the state, and otherwise takes time in
+//! the action's own size. `action_test` and `goal` do not allocate. Start reading at [`apply`],
+//! then `specs/Plans` and `specs/Verdicts`.
 #![tactic(auto)]
 
 mod action;

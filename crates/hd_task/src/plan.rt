@@ -36,14 +36,14 @@ impl Model for Plan {
 }
 
 impl Plan {
-    /// The plan of these actions, in this order.
+    /// Returns the plan of these actions, in this order.
     pub fn from_vec(actions: Vec<ActionId>) -> Plan
         ensures { result ≡ map (λ a. a.0) actions.items }
     {
         Plan { actions }
     }
 
-    /// The actions in order.
+    /// Returns the actions in order.
     pub fn as_slice(&self) -> &[ActionId]
         ensures { map (λ a. a.0) result.now ≡ self.now }
     {

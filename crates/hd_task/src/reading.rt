@@ -9,11 +9,11 @@ pub trait Reads {
     // The state that is kept.
     ghost seen: { Self → State };
 
-    /// Whether the atom of this number is true. One that the state lacks is false.
+    /// Reports whether the atom of this number is true. One that the state lacks is false.
     fn has_atom(&self, atom: u32) -> bool
         ensures { result ≡ has_atom (seen self.now) atom };
 
-    /// The value of the fluent of this number. One that the state lacks is 0.
+    /// Returns the value of the fluent of this number. One that the state lacks is 0.
     fn fluent_of(&self, fluent: u32) -> i64
         ensures { result ≡ fluent_of (seen self.now).fluents fluent };
 }

@@ -15,7 +15,7 @@ pub struct State {
 }
 
 impl State {
-    /// A copy of the state.
+    /// Returns a copy of the state.
     ///
     /// # Errors
     /// `NoMemory` where there is no room for it.

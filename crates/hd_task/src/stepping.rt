@@ -18,7 +18,7 @@ pub enum Reached {
     Departs,
 }
 
-/// What an action does at a node, with the plan's cost.
+/// Returns what an action does at a node, with the plan's cost.
 ///
 /// It takes a copy of the state, and time in the action's own size.
 ///

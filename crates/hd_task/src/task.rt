@@ -5,7 +5,7 @@ ghost use Rattle.hd_base.specs.Numbers.{in_range};
 ghost use Rattle.hd_task.specs.WellFormed.{within_limits, are_named, action_fits, goal_fits, costs_fit, constant_cost_fits};
 
 use crate::well_formed::{
-    are_all_in_range, are_named, are_within_limits, do_all_fit, do_constant_costs_fit,
+    are_actions_well_formed, are_all_in_range, are_named, are_within_limits, do_constant_costs_fit,
     do_costs_fit, goal_fits,
 };
 use crate::{Action, Condition, GroundForm, Names, State};
@@ -64,9 +64,9 @@ impl Task {
     ghost use Rattle.hd_task.specs.WellFormed.{parts_fit};
     ghost use Rattle.hd_task.specs.Parts.{HasParts};
 
-    /// The task of these parts, or `None` where they do not fit together: where a number names
-    /// nothing, an effect's fluent stands twice or out of order, the start is out of the range, a
-    /// constant cost is negative, or a limit is passed.
+    /// Returns the task of these parts, or `None` where they do not fit together: where a number
+    /// names nothing, an effect's fluent stands twice or out of order, the start is out of the
+    /// range, a constant cost is negative, or a limit is passed.
     pub fn new(
         names: Names,
         atoms: Sequence<GroundForm>,
@@ -89,7 +89,7 @@ impl Task {
             && initial.atoms.len() == atoms.len()
             && initial.fluents.len() == fluents.len()
             && are_all_in_range(initial.fluents.as_slice())
-            && do_all_fit(actions.as_slice(), atoms.len(), fluents.len())
+            && are_actions_well_formed(actions.as_slice(), atoms.len(), fluents.len())
             && goal_fits(&goal, atoms.len(), fluents.len())
             && do_costs_fit(actions.as_slice(), fluents.len(), metric)
             && do_constant_costs_fit(actions.as_slice());

@@ -22,7 +22,7 @@ pub enum ActionTest {
     Departs,
 }
 
-/// Whether the effects' subexpressions and new values stay in the range.
+/// Reports whether the effects' subexpressions and new values stay in the range.
 fn do_effects_stay(state: &State, effects: &[Effect]) -> bool
     ensures { result ≡ list_all (effect_stays state.now.fluents) effects.now }
 {
@@ -31,7 +31,7 @@ fn do_effects_stay(state: &State, effects: &[Effect]) -> bool
         .all(|effect| new_value(state, effect).is_some())
 }
 
-/// What an action does where its condition holds, without the state after it.
+/// Returns what an action does where its condition holds, without the state after it.
 #[tactic(auto, unfolding(crate::specs::Applying::test_of, crate::specs::Applying::applied_of, crate::specs::Applying::departs_aside, crate::specs::Effects::effects_stay))]
 fn effect_test(task: &Task, state: &State, action: &Action) -> ActionTest
     requires holds { test_of state.now action.now.condition ≡ GoalTest.Yes }
@@ -47,8 +47,8 @@ fn effect_test(task: &Task, state: &State, action: &Action) -> ActionTest
     }
 }
 
-/// What an action does in a state, the sum of a plan's cost aside: what [`crate::apply`] answers,
-/// without the state after the action. It takes no memory.
+/// Returns what an action does in a state, the sum of a plan's cost aside: what [`crate::apply`]
+/// answers, without the state after the action. It does not allocate.
 #[tactic(auto, unfolding(crate::specs::Applying::test_of, crate::specs::Applying::applied_of, crate::specs::Applying::departs_aside))]
 pub fn action_test(task: &Task, state: &State, action: ActionId) -> ActionTest
     requires known { action.0 < length task.now.actions }

@@ -5,7 +5,7 @@ ghost use Rattle.hd_task.specs.FormText.{name_at, object_text, objects_text, for
 use hd_base::{Name, NoMemory};
 use std::alloc::Global;
 
-/// The name of this number.
+/// Returns the name of this number.
 fn name_at(names: &[Name], number: usize) -> &str
     ensures { result.now ≡ name_at names.now number }
 {
@@ -15,7 +15,7 @@ fn name_at(names: &[Name], number: usize) -> &str
     }
 }
 
-/// An object behind a space, behind a text.
+/// Appends an object after a space to a text.
 fn push_object(text: &mut String, objects: &[Name], object: usize) -> Result<(), NoMemory>
     ensures { OnOk result (string_bytes text.new
         ≡ string_bytes text.old ++ object_text objects.now object) }
@@ -24,7 +24,7 @@ fn push_object(text: &mut String, objects: &[Name], object: usize) -> Result<(),
     text.push_str(name_at(objects, object))
 }
 
-/// Objects, each behind a space, behind a text.
+/// Objects, each after a space, after a text.
 fn push_objects(text: &mut String, objects: &[Name], numbers: &[usize]) -> Result<(), NoMemory>
     ensures { OnOk result (string_bytes text.new
         ≡ string_bytes text.old ++ objects_text objects.now numbers.now) }
@@ -35,11 +35,11 @@ fn push_objects(text: &mut String, objects: &[Name], numbers: &[usize]) -> Resul
     Ok(())
 }
 
-/// Puts a ground form behind a text: the name of its symbol among `symbols`, and those of its
+/// Puts a ground form after a text: the name of its symbol among `symbols`, and those of its
 /// arguments among `objects`.
 ///
 /// # Errors
-/// Want of memory: a beginning of the form may then stand behind the text.
+/// Lack of memory: a beginning of the form may then stand after the text.
 pub fn push_form(
     text: &mut String,
     symbols: &[Name],
@@ -57,10 +57,10 @@ pub fn push_form(
     text.push_str(")")
 }
 
-/// The text of a ground form, such as `(drive truck depot)`.
+/// Returns the text of a ground form, such as `(drive truck depot)`.
 ///
 /// # Errors
-/// Want of memory.
+/// Lack of memory.
 pub fn form_text(
     alloc: Global,
     symbols: &[Name],

@@ -13,14 +13,14 @@ use crate::{
 };
 use hd_base::{ExprParts, Operand, in_range};
 
-/// Whether a task may have so many atoms, fluents and actions.
+/// Reports whether a task may have so many atoms, fluents and actions.
 pub(crate) fn are_within_limits(atoms: usize, fluents: usize, actions: usize) -> bool
     ensures { result ≡ within_limits atoms fluents actions }
 {
     atoms <= MAX_ATOMS && fluents <= MAX_FLUENTS && actions <= MAX_ACTIONS
 }
 
-/// Whether all values are in the range.
+/// Reports whether all values are in the range.
 pub(crate) fn are_all_in_range(values: &[i64]) -> bool
     ensures { result ≡ list_all in_range values.now }
 {
@@ -59,7 +59,7 @@ fn are_actions_named(actions: &[Action], schemas: usize, objects: usize) -> bool
         .all(|action| is_named(&action.form, schemas, objects))
 }
 
-/// Whether each atom, fluent and action has its names.
+/// Reports whether each atom, fluent and action has its names.
 pub(crate) fn are_named(
     names: &Names,
     atoms: &[GroundForm],
@@ -74,7 +74,7 @@ pub(crate) fn are_named(
         && are_actions_named(actions, names.schemas.len(), objects)
 }
 
-/// Whether a leaf is a number, or a fluent below a number.
+/// Reports whether a leaf is a number, or a fluent below a number.
 fn leaf_reads_below(leaf: Operand<u32>, fluents: usize) -> bool
     ensures { result ≡ leaf_reads_below fluents leaf }
 {
@@ -84,7 +84,7 @@ fn leaf_reads_below(leaf: Operand<u32>, fluents: usize) -> bool
     }
 }
 
-/// Whether an expression reads only fluents below a number.
+/// Reports whether an expression reads only fluents below a number.
 fn reads_below(expr: &Expr, fluents: usize) -> bool
     ensures { result ≡ reads_below fluents expr.now }
 {
@@ -146,7 +146,7 @@ fn effects_fit(effects: &[Effect], fluents: usize) -> bool
     effects.iter().all(|effect| effect_fits(effect, fluents))
 }
 
-/// Whether the fluents of the effects rise, so that none stands twice.
+/// Reports whether the fluents of the effects rise, so that none stands twice.
 fn are_rising(effects: &[Effect]) -> bool
     ensures { result ≡ is_rising (map (λ e. e.fluent) effects.now) }
 {
@@ -171,9 +171,9 @@ fn action_fits(action: &Action, atoms: usize, fluents: usize) -> bool
         && are_rising(action.effects.as_slice())
 }
 
-/// Whether all actions add atoms of the task, and read and change its fluents, each of them once at
-/// most.
-pub(crate) fn do_all_fit(actions: &[Action], atoms: usize, fluents: usize) -> bool
+/// Reports whether each action adds atoms of the task, and reads and changes its fluents, each of
+/// them at most once.
+pub(crate) fn are_actions_well_formed(actions: &[Action], atoms: usize, fluents: usize) -> bool
     ensures { result ≡ list_all (action_fits atoms fluents) actions.now }
 {
     actions
@@ -190,14 +190,14 @@ fn literals_name_below(condition: &Condition, atoms: usize) -> bool
         .all(|literal| (literal.atom as usize) < atoms)
 }
 
-/// Whether a goal names atoms of the task and reads its fluents.
+/// Reports whether a goal names atoms of the task and reads its fluents.
 pub(crate) fn goal_fits(goal: &Condition, atoms: usize, fluents: usize) -> bool
     ensures { result ≡ goal_fits atoms fluents goal.now }
 {
     literals_name_below(goal, atoms) && comparisons_read_below(goal.comparisons.as_slice(), fluents)
 }
 
-/// A sum with one more amount, if that is a number.
+/// Returns a sum with one more amount, if that is a number.
 fn plus_number(sum: i128, cost: &Expr) -> Option<i128>
     requires low { neg_ℤ (pos (2 ^ 126)) ≤ℤ sum }
     requires high { sum ≤ℤ pos (2 ^ 126) }
@@ -210,7 +210,7 @@ fn plus_number(sum: i128, cost: &Expr) -> Option<i128>
     }
 }
 
-/// The sum of the amounts, if each is a number.
+/// Returns the sum of the amounts, if each is a number.
 fn constant_sum(costs: &[Expr]) -> Option<i128>
     ensures { Judges result (list_all is_number costs.now) (constant_sum costs.now) }
 {
@@ -235,8 +235,8 @@ fn costs_fit(action: &Action, fluents: usize, metric: bool) -> bool
         && read_below(action.costs.as_slice(), fluents)
 }
 
-/// Whether the actions' amounts read fluents of the task, and there are not too many of them,
-/// without a metric none.
+/// Reports whether the actions' amounts read fluents of the task, and there are not too many of
+/// them, without a metric none.
 pub(crate) fn do_costs_fit(actions: &[Action], fluents: usize, metric: bool) -> bool
     ensures { result ≡ list_all (costs_fit fluents metric) actions.now }
 {
@@ -254,7 +254,7 @@ fn constant_cost_fits(action: &Action) -> bool
     }
 }
 
-/// Whether no action whose amounts are all constant has a negative cost.
+/// Reports whether no action whose amounts are all constant has a negative cost.
 pub(crate) fn do_constant_costs_fit(actions: &[Action]) -> bool
     ensures { result ≡ list_all constant_cost_fits actions.now }
 {

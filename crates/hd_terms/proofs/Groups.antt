@@ -14,7 +14,7 @@ use Rattle.hd_terms.specs.declared.typed.ItemKind.{ItemKind}
 use Rattle.hd_terms.specs.Typed.{with_type}
 use Rattle.hd_terms.specs.Reading.{item_in, is_minus, items_in, behind_items, items_from, rest_from, some_or, type_behind, typed_after, typed_behind}
 
--- what is read behind a group, once its type is known
+-- what is read after a group, once its type is known
 abbrev pub typed_by_group : ItemKind → List Typed → List NameAt → Option NameAt × Forms → Option (List Typed)
 typed_by_group k found items group = typed_after k group.1 (found ++ with_type group.0 items) []
 
@@ -26,7 +26,7 @@ named b more t = Some (placed_name t b, more)
 abbrev as_type : NameAt × Forms → Option (Option NameAt × Forms)
 as_type n = Some (Some n.0, n.1)
 
--- the type of items, by the name that is read behind the `-`
+-- the type of items, by the name that is read after the `-`
 by_type : (k : ItemKind) (b : ℕ) (more : Forms) (found : List Typed) (items : List NameAt) (n : Option (List ℕ))
     → (n >>= λ t. typed_after k more (found ++ with_type (Some (placed_name t b)) items) [])
     ≡ (((n >>= named b more) >>= as_type) >>= typed_by_group k found items)
@@ -63,7 +63,7 @@ group-word k at w rest found pending None more =
     ∙ cond-bind (is_minus w && not (length pending == 0)) (name_at rest >>= as_type) (typed_by_group k found pending)
     )
 
--- a group is its items and the type behind them
+-- a group is its items and the type after them
 group-read : (k : ItemKind) (f : Forms) (found : List Typed) (pending : List NameAt)
     → typed_after k f found pending
     ≡ (type_behind (not (length (pending ++ items_in k f) == 0)) (behind_items k f) >>= typed_by_group k found (pending ++ items_in k f))
@@ -74,7 +74,7 @@ group-read k (word at w rest) found pending =
     group-word k at w rest found pending (item_in k w) (λ ps. group-read k rest found ps)
 group-read k (list a inside b rest) found pending = refl
 
--- whether there are items, by how much is behind them
+-- whether there are items, by how much is after them
 some-items : (behind items all : ℕ) → behind + items ≡ all → nat_lt behind all ≡ not (items == 0)
 some-items behind items all same = grind (arith, nat_tests)
 

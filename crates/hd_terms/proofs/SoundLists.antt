@@ -28,7 +28,7 @@ use Rattle.hd_terms.specs.Effects.{IsEffect, AreEffects, place_of, change_by}
 use Rattle.hd_terms.specs.Reading.{term_in, term_at, atom_of, negated_atom_of, expression_of, pair_of, is_equal, begins_with_term, relation_in, terms_of, relation_of, denial_of, negated_condition, part_of_condition, conditions_after, condition_after, condition_at, change_of, part_of_effect, effects_after, effect_after, effect_at}
 use Rattle.hd_terms.proofs.SoundParts.{IsTerm-term_in, IsAtom-atom_of, AreExprs-pair_of, AreExprs-expression_of}
 
--- ---- what stands behind `not`
+-- ---- what stands after `not`
 
 -- one form, alone, with this in it
 pub record IsAlone (f inside : Forms) : Type 0 where

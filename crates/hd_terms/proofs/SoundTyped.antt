@@ -25,19 +25,19 @@ pub is_minus-true : (w : Word) → is_minus w ≡ true → w ≡ words.Operator 
 is_minus-true (words.Operator operators.Minus) e = refl
 is_minus-true w e = absurd cc
 
--- one item more behind others
+-- one item more after others
 AreItems-push : {k : ItemKind} {g rest : Forms} {ns : List NameAt} {at : ℕ} {w : Word} {n : List ℕ}
     → AreItems k g ns (word at w rest) → IsItem k w n → AreItems k g (ns ++ placed_name n at ∷ []) rest
 AreItems-push gr.end i = gr.one i gr.end
 AreItems-push (gr.one j r) i = gr.one j (AreItems-push r i)
 
--- what was read behind the pending items
+-- what was read after the pending items
 record ReadsTyped (k : ItemKind) (f : Forms) (found : List Typed) (pending : List NameAt) (ts : List Typed) : Type 0 where
   own : List Typed
   are : (g : Forms) → AreItems k g pending f → AreTyped k g own
   all : ts ≡ found ++ own
 
--- the type of the pending items, and what was read behind it
+-- the type of the pending items, and what was read after it
 record ReadsBehind (k : ItemKind) (rest : Forms) (found : List Typed) (pending : List NameAt) (ts : List Typed) : Type 0 where
   t : List ℕ
   at : ℕ
@@ -45,7 +45,7 @@ record ReadsBehind (k : ItemKind) (rest : Forms) (found : List Typed) (pending :
   whole : rest ≡ word at (words.Name t) more
   reads : ReadsTyped k more (found ++ with_type (Some (placed_name t at)) pending) [] ts
 
--- from what is read behind a `-`
+-- from what is read after a `-`
 ReadsTyped-behind : (k : ItemKind) (at : ℕ) (w : Word) (rest : Forms) (found : List Typed) (pending : List NameAt) (ts : List Typed)
     → w ≡ words.Operator operators.Minus → not (length pending == 0) ≡ true
     → ReadsBehind k rest found pending ts → ReadsTyped k (word at w rest) found pending ts
@@ -60,7 +60,7 @@ ReadsTyped-behind k at w rest found (n ∷ ns) ts minus some r =
       all = r.reads.all ∙ append_assoc found group r.reads.own;
     }
 
--- from what is read behind a word
+-- from what is read after a word
 ReadsTyped-word : (k : ItemKind) (at : ℕ) (w : Word) (rest : Forms) (found : List Typed) (pending : List NameAt) (ts : List Typed)
     (item : Option (List ℕ)) → item_in k w ≡ item
     → ((ps : List NameAt) → typed_after k rest found ps ≡ Some ts → ReadsTyped k rest found ps ts)

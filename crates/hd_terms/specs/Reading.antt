@@ -72,7 +72,7 @@ abbrev pub items_from : Option (List ℕ) → ℕ → List NameAt → List NameA
 items_from (Some n) at more = placed_name n at ∷ more
 items_from None at more = []
 
--- what follows the items behind an item, or the forms themselves where they begin with none
+-- what follows the items after an item, or the forms themselves where they begin with none
 abbrev pub rest_from : Option (List ℕ) → Forms → Forms → Forms
 rest_from (Some n) here behind = behind
 rest_from None here behind = here
@@ -95,7 +95,7 @@ behind_items k (word at w rest) = rest_from (item_in k w) (word at w rest) (behi
 behind_items k (list a inside b rest) = list a inside b rest
 
 -- the type of items that are followed so, if one is given, and what follows it; whether there are
--- items is told
+-- items is reported
 unfoldable pub type_behind : Bool → Forms → Option (Option NameAt × Forms)
 type_behind some none = Some (None, none)
 type_behind some (word at w rest) =
@@ -149,7 +149,7 @@ atom_of inside = do
   ts ← terms_after n.1 []
   Some (made_atom n.0 ts)
 
--- the atom behind `not`
+-- the atom after `not`
 unfoldable pub negated_atom_of : Forms → Option Atom
 negated_atom_of rest = do
   g ← group_at rest
@@ -286,7 +286,7 @@ denial_of (word at (Operator o) rest) =
     if is_equal o && begins_with_term rest then (terms_of rest >>= λ p. Some (conditions.NotEqual p.0 p.1)) else None
 denial_of inside = atom_of inside >>= λ t. Some (conditions.NotAtom t)
 
--- the condition behind `not`
+-- the condition after `not`
 unfoldable pub negated_condition : Forms → Option Condition
 negated_condition rest = do
   g ← group_at rest

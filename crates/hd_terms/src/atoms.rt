@@ -11,7 +11,7 @@ use crate::tree::{Atom, Term};
 use hd_forms::{Form, ReadError, Word, first_refusal, form_refusal, name_at, placed_name};
 use std::alloc::Global;
 
-/// The first term, and what follows it. The place `end` is that behind the forms.
+/// Returns the first term, and what follows it. The place `end` is that after the forms.
 pub fn term_at(alloc: Global, forms: &[Form], end: usize) -> Result<(Term, &[Form]), ReadError>
     ensures { Gives Refuses (λ x. (x.0, forms_view x.1.now)) result
         (term_at (forms_view forms.now)) }
@@ -26,7 +26,7 @@ pub fn term_at(alloc: Global, forms: &[Form], end: usize) -> Result<(Term, &[For
     }
 }
 
-/// The terms that these forms are, one each.
+/// Returns the terms that these forms are, one each.
 #[tactic(auto, unfolding(crate::specs::Reading::terms_after))]
 fn terms_of(alloc: Global, forms: &[Form]) -> Result<Terms, ReadError>
     ensures { Gives Refuses (λ x. x) result (terms_after (forms_view forms.now) []) }
@@ -47,7 +47,7 @@ fn terms_of(alloc: Global, forms: &[Form]) -> Result<Terms, ReadError>
     Ok(Terms::of(alloc, terms)?)
 }
 
-/// The atom, or the fluent, that stands in a form which ends at the place `to`.
+/// Returns the atom, or the fluent, that stands in a form which ends at the place `to`.
 #[tactic(auto, unfolding(crate::specs::Reading::atom_of))]
 pub fn atom_of(alloc: Global, inside: &[Form], to: usize) -> Result<Atom, ReadError>
     ensures { Gives Refuses (λ x. x) result (atom_of (forms_view inside.now)) }

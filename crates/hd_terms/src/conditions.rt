@@ -19,7 +19,7 @@ use hd_lex::Operator;
 use std::alloc::{AllocError, Global};
 use std::slice;
 
-/// Whether the operator is `=`.
+/// Reports whether the operator is `=`.
 pub fn is_equal(operator: Operator) -> bool
     ensures { result ≡ is_equal operator }
 {
@@ -29,7 +29,7 @@ pub fn is_equal(operator: Operator) -> bool
     }
 }
 
-/// The relation that the operator stands for, if it stands for one.
+/// Returns the relation that the operator stands for, if it stands for one.
 fn relation_in(operator: Operator) -> Option<Relation>
     ensures { result ≡ relation_in operator }
 {
@@ -43,7 +43,7 @@ fn relation_in(operator: Operator) -> Option<Relation>
     }
 }
 
-/// The two terms that these forms are, alone, in a form that ends at the place `to`.
+/// Returns the two terms that these forms are, alone, in a form that ends at the place `to`.
 #[tactic(auto, unfolding(crate::specs::Reading::terms_of))]
 fn terms_of(alloc: Global, forms: &[Form], to: usize) -> Result<(Term, Term), ReadError>
     ensures { Gives Refuses (λ x. x) result (terms_of (forms_view forms.now)) }
@@ -54,7 +54,7 @@ fn terms_of(alloc: Global, forms: &[Form], to: usize) -> Result<(Term, Term), Re
     Ok((left, right))
 }
 
-/// The same two terms, each in memory of its own.
+/// Returns the same two terms, each in memory of its own.
 fn boxed_terms_of(
     alloc: Global,
     rest: &[Form],
@@ -75,7 +75,7 @@ fn boxed_terms_of(
     }
 }
 
-/// The comparison of these two expressions.
+/// Returns the comparison of these two expressions.
 fn comparison_of(
     alloc: Global,
     relation: Relation,
@@ -97,8 +97,8 @@ fn comparison_of(
     }
 }
 
-/// What the operator, the first of the forms `inside`, says of the rest of them, in a form that
-/// ends at the place `to`.
+/// Returns what the operator, the first of the forms `inside`, says of the rest of them, in a form
+/// that ends at the place `to`.
 #[tactic(auto, unfolding(crate::specs::Reading::relation_of))]
 fn relation_of(
     alloc: Global,
@@ -120,7 +120,7 @@ fn relation_of(
     Ok(Condition::Compare(comparison_of(alloc, relation, left, right)?))
 }
 
-/// What is denied in a form behind the `not` at the place `not`. The form ends at `to`.
+/// Returns what is denied in a form after the `not` at the place `not`. The form ends at `to`.
 #[tactic(auto, unfolding(crate::specs::Reading::denial_of, crate::specs::Reading::atom_of))]
 fn denial_of(alloc: Global, not: usize, inside: &[Form], to: usize) -> Result<Condition, ReadError>
     ensures { Gives Refuses (λ x. x) result (denial_of (forms_view inside.now)) }
@@ -145,7 +145,7 @@ fn denial_of(alloc: Global, not: usize, inside: &[Form], to: usize) -> Result<Co
     }
 }
 
-/// What is denied behind the `not` at the place `not`, in a form that ends at `to`.
+/// Returns what is denied after the `not` at the place `not`, in a form that ends at `to`.
 #[tactic(auto, unfolding(crate::specs::Reading::negated_condition))]
 fn negated_condition(
     alloc: Global,
@@ -161,7 +161,7 @@ fn negated_condition(
     Ok(condition)
 }
 
-/// The part of a condition that stands in a form which ends at the place `to`.
+/// Returns the part of a condition that stands in a form which ends at the place `to`.
 #[tactic(auto, unfolding(crate::specs::Reading::part_of_condition))]
 fn part_of_condition(alloc: Global, inside: &[Form], to: usize) -> Result<Condition, ReadError>
     ensures { Gives Refuses (λ x. x) result (part_of_condition (forms_view inside.now)) }
@@ -193,7 +193,7 @@ enum Part<'a> {
     One(Condition),
 }
 
-/// What one condition says.
+/// Returns what one condition says.
 #[tactic(auto, unfolding(crate::specs::Reading::conditions_after))]
 fn part_of(alloc: Global, form: &Form) -> Result<Part<'_>, ReadError>
     ensures part { IfOk result (λ p. (rest : Forms) (found : List Condition)
@@ -241,8 +241,8 @@ fn add_conditions(
     Ok(())
 }
 
-/// The parts of the first form, a condition, and what follows it. The place `end` is that behind
-/// the forms.
+/// Returns the parts of the first form, a condition, and what follows it. The place `end` is that
+/// after the forms.
 #[tactic(auto, unfolding(crate::specs::Reading::condition_at))]
 pub fn condition_at(
     alloc: Global,

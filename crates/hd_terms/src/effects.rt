@@ -19,7 +19,7 @@ use hd_forms::{Change, Form, ReadError, Word, first_refusal, form_refusal, group
 use std::alloc::Global;
 use std::slice;
 
-/// The place of the first token of these forms, or 0 where there are none.
+/// Returns the place of the first token of these forms, or 0 where there are none.
 fn place_of(forms: &[Form]) -> usize
     ensures { result ≡ place_of (forms_view forms.now) }
 {
@@ -30,7 +30,7 @@ fn place_of(forms: &[Form]) -> usize
     }
 }
 
-/// The change of a fluent by an amount, in a form that ends at the place `to`.
+/// Returns the change of a fluent by an amount, in a form that ends at the place `to`.
 #[tactic(auto, unfolding(crate::specs::Reading::change_of))]
 fn change_of(alloc: Global, change: Change, rest: &[Form], to: usize) -> Result<Effect, ReadError>
     ensures { Gives Refuses (λ x. x) result (change_of change (forms_view rest.now)) }
@@ -50,7 +50,7 @@ fn change_of(alloc: Global, change: Change, rest: &[Form], to: usize) -> Result<
     Ok(Effect::Change(change))
 }
 
-/// The part of an effect that stands in a form which ends at the place `to`.
+/// Returns the part of an effect that stands in a form which ends at the place `to`.
 #[tactic(auto, unfolding(crate::specs::Reading::part_of_effect))]
 fn part_of_effect(alloc: Global, inside: &[Form], to: usize) -> Result<Effect, ReadError>
     ensures { Gives Refuses (λ x. x) result (part_of_effect (forms_view inside.now)) }
@@ -82,7 +82,7 @@ enum Part<'a> {
     One(Effect),
 }
 
-/// What one effect says.
+/// Returns what one effect says.
 #[tactic(auto, unfolding(crate::specs::Reading::effects_after))]
 fn part_of(alloc: Global, form: &Form) -> Result<Part<'_>, ReadError>
     ensures part { IfOk result (λ p. (rest : Forms) (found : List Effect)
@@ -126,8 +126,8 @@ fn add_effects(alloc: Global, forms: &[Form], found: &mut Vec<Effect>) -> Result
     Ok(())
 }
 
-/// The parts of the first form, an effect, and what follows it. The place `end` is that behind the
-/// forms.
+/// Returns the parts of the first form, an effect, and what follows it. The place `end` is that
+/// after the forms.
 #[tactic(auto, unfolding(crate::specs::Reading::effect_at))]
 pub fn effect_at(
     alloc: Global,

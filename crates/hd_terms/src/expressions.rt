@@ -25,7 +25,7 @@ enum Shape<'a> {
     Operation(Operator, &'a [Form], usize),
 }
 
-/// Whether an expression may begin with the operator.
+/// Reports whether an expression may begin with the operator.
 fn is_arithmetic(operator: Operator) -> bool
     ensures { result ≡ is_arithmetic operator }
 {
@@ -37,7 +37,7 @@ fn is_arithmetic(operator: Operator) -> bool
     }
 }
 
-/// What stands in an expression in parentheses, which ends at the place `to`.
+/// Returns what stands in an expression in parentheses, which ends at the place `to`.
 #[tactic(auto, unfolding(crate::specs::Reading::exprs_after))]
 fn inner_shape(alloc: Global, inside: &[Form], to: usize) -> Result<Shape<'_>, ReadError>
     ensures shape { IfOk result (λ s. expr_in (forms_view inside.now) ≡ expression_by s) }
@@ -65,7 +65,7 @@ fn inner_shape(alloc: Global, inside: &[Form], to: usize) -> Result<Shape<'_>, R
     }
 }
 
-/// What one expression is.
+/// Returns what one expression is.
 #[tactic(auto, unfolding(crate::specs::Reading::exprs_after))]
 fn shape_of(alloc: Global, form: &Form) -> Result<Shape<'_>, ReadError>
     ensures shape { IfOk result (λ s. (most : ℕ) (rest : Forms) (found : List (Expression Leaf))
@@ -89,8 +89,8 @@ fn shape_of(alloc: Global, form: &Form) -> Result<Shape<'_>, ReadError>
     }
 }
 
-/// The only one of these expressions. More than one are never given. The place `end` is that behind
-/// them.
+/// Returns the only one of these expressions. More than one are never given. The place `end` is
+/// that after them.
 fn only_one(expressions: Vec<Expr>, end: usize) -> Result<Expr, ReadError>
     ensures { Gives Refuses (λ x. x) result (one_in expressions.items) }
 {
@@ -105,8 +105,8 @@ fn only_one(expressions: Vec<Expr>, end: usize) -> Result<Expr, ReadError>
     }
 }
 
-/// The two expressions that these are. More than two are never given. The place `end` is that
-/// behind them.
+/// Returns the two expressions that these are. More than two are never given. The place `end` is
+/// that after them.
 fn only_two(expressions: Vec<Expr>, end: usize) -> Result<(Expr, Expr), ReadError>
     ensures { Gives Refuses (λ x. x) result (pair_in expressions.items) }
 {
@@ -124,7 +124,7 @@ fn only_two(expressions: Vec<Expr>, end: usize) -> Result<(Expr, Expr), ReadErro
     }
 }
 
-/// What `-` makes of its operands, which end at the place `end`.
+/// Returns what `-` makes of its operands, which end at the place `end`.
 fn minus_of(alloc: Global, operands: Vec<Expr>, end: usize) -> Result<Expr, ReadError>
     ensures { Gives Refuses (λ x. x) result (minus_by operands.items) }
 {
@@ -137,7 +137,7 @@ fn minus_of(alloc: Global, operands: Vec<Expr>, end: usize) -> Result<Expr, Read
     }
 }
 
-/// What the operator makes of its operands, which end at the place `end`.
+/// Returns what the operator makes of its operands, which end at the place `end`.
 fn operation_of(
     alloc: Global,
     operator: Operator,
@@ -160,7 +160,7 @@ fn operation_of(
     }
 }
 
-/// Adds these expressions, one after the other, to others, until there are so many. A form behind
+/// Adds these expressions, one after the other, to others, until there are so many. A form after
 /// them is refused.
 #[tactic(auto, unfolding(crate::specs::Reading::exprs_after))]
 fn add_expressions(
@@ -190,7 +190,7 @@ fn add_expressions(
     Ok(())
 }
 
-/// The expression that these forms are, alone. The place `end` is that behind the forms.
+/// Returns the expression that these forms are, alone. The place `end` is that after the forms.
 #[tactic(auto, unfolding(crate::specs::Reading::expression_of))]
 pub fn expression_of(alloc: Global, forms: &[Form], end: usize) -> Result<Expr, ReadError>
     ensures { Gives Refuses (λ x. x) result (expression_of (forms_view forms.now)) }
@@ -200,7 +200,7 @@ pub fn expression_of(alloc: Global, forms: &[Form], end: usize) -> Result<Expr, 
     only_one(found, end)
 }
 
-/// The two expressions that these forms are. The place `end` is that behind the forms.
+/// Returns the two expressions that these forms are. The place `end` is that after the forms.
 #[tactic(auto, unfolding(crate::specs::Reading::pair_of))]
 pub fn pair_of(alloc: Global, forms: &[Form], end: usize) -> Result<(Expr, Expr), ReadError>
     ensures { Gives Refuses (λ x. x) result (pair_of (forms_view forms.now)) }

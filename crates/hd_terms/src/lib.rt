@@ -1,10 +1,14 @@
-//! What domains and problems are made of: typed names, atoms, expressions, conditions and effects,
-//! read from nested forms.
+//! Reads the parts of domains and problems: typed names, atoms, expressions, conditions, effects.
 //!
-//! The language is that of PDDL 2.1, level 2 (Fox and Long, JAIR 20, 2003), without disjunctions,
-//! quantifiers, conditional effects and division. Each call refuses the first token that its rule
-//! does not allow, by `Unexpected` or `Unsupported` with the token's place, and is `NoMemory` where
-//! memory runs out.
+//! [`typed_of`], [`atom_of`], [`condition_at`] and [`effect_at`] return exactly the tree that their
+//! rule gives of nested forms. They refuse only if the rule gives none, or if memory runs out. The
+//! language is PDDL 2.1, level 2, without disjunctions, quantifiers, conditional effects and
+//! division.
+//!
+//! The readers descend recursively, and open each `and` into one flat list of parts. Parts wider
+//! than an atom are boxed, so that such a list stays small. An atom has its terms in two machine
+//! words ([`Terms`]), and listed items share the name of their type ([`TypeName`]). Start reading
+//! at [`condition_at`], then `specs/Conditions`.
 #![tactic(auto)]
 
 mod atoms;

@@ -1,4 +1,4 @@
-//! What may stand behind `not`.
+//! What may stand after `not`.
 
 ghost use Rattle.std.specs.Prelude.{◌≡◌};
 ghost use Rattle.hd_base.specs.Answers.{Gives};
@@ -12,7 +12,7 @@ use hd_forms::{Form, ReadError, Word, end_at, first_refusal, group_at};
 use hd_lex::Operator;
 use std::alloc::Global;
 
-/// Whether a term stands first.
+/// Reports whether a term stands first.
 pub fn begins_with_term(forms: &[Form]) -> bool
     ensures { result ≡ begins_with_term (forms_view forms.now) }
 {
@@ -26,7 +26,7 @@ pub fn begins_with_term(forms: &[Form]) -> bool
     }
 }
 
-/// Whether this begins as an equality of two objects.
+/// Reports whether this begins as an equality of two objects.
 fn begins_as_equality(inside: &[Form]) -> bool {
     match inside {
         [
@@ -40,7 +40,7 @@ fn begins_as_equality(inside: &[Form]) -> bool {
     }
 }
 
-/// Refuses the `not` at the place `not`, since what stands behind it can't be denied.
+/// Refuses the `not` at the place `not`, since what stands after it can't be denied.
 pub fn negation_refusal(alloc: Global, not: usize) -> ReadError
     ensures { IsOfGrammar result }
 {
@@ -50,7 +50,8 @@ pub fn negation_refusal(alloc: Global, not: usize) -> ReadError
     }
 }
 
-/// The atom that stands in a form behind the `not` at the place `not`. The form ends at `to`.
+/// Returns the atom that stands in a form after the `not` at the place `not`. The form ends at
+/// `to`.
 #[tactic(auto, unfolding(crate::specs::Reading::atom_of))]
 fn atom_behind(alloc: Global, not: usize, inside: &[Form], to: usize) -> Result<Atom, ReadError>
     ensures { Gives Refuses (λ x. x) result (atom_of (forms_view inside.now)) }
@@ -73,7 +74,7 @@ fn atom_behind(alloc: Global, not: usize, inside: &[Form], to: usize) -> Result<
     }
 }
 
-/// The atom behind the `not` at the place `not`, in a form that ends at `to`.
+/// Returns the atom after the `not` at the place `not`, in a form that ends at `to`.
 #[tactic(auto, unfolding(crate::specs::Reading::negated_atom_of))]
 pub fn negated_atom_of(
     alloc: Global,

@@ -36,10 +36,10 @@ impl Model for Terms {
 }
 
 impl Terms {
-    /// The terms of a `Vec`, in its order.
+    /// Returns the terms of a `Vec`, in its order.
     ///
     /// # Errors
-    /// Want of memory.
+    /// Lack of memory.
     pub fn of(alloc: Global, items: Vec<Term>) -> Result<Terms, AllocError>
         ensures { IfOk result (λ t. t ≡ items.items) }
     {
@@ -59,7 +59,7 @@ impl Terms {
         Ok(Terms { held })
     }
 
-    /// The terms as a slice.
+    /// Returns the terms as a slice.
     pub fn as_slice(&self) -> &[Term]
         ensures { result.now ≡ self.now }
     {
@@ -71,14 +71,14 @@ impl Terms {
         }
     }
 
-    /// How many terms there are.
+    /// Returns how many terms there are.
     pub fn len(&self) -> usize
         ensures { result ≡ length self.now }
     {
         self.as_slice().len()
     }
 
-    /// Whether there are none.
+    /// Reports whether there are none.
     pub fn is_empty(&self) -> bool
         ensures { result ≡ (length self.now == 0) }
     {

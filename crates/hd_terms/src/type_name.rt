@@ -23,7 +23,7 @@ impl Model for TypeName {
 }
 
 impl TypeName {
-    /// A name that is not shared yet.
+    /// Returns a name that is not shared yet.
     pub fn of(alloc: Global, name: NameAt) -> Result<TypeName, NoMemory>
         ensures { IfOk result (λ t. t ≡ name) }
     {
@@ -32,7 +32,7 @@ impl TypeName {
         })
     }
 
-    /// The same name once more.
+    /// Returns the same name once more.
     pub fn share(&self) -> Result<TypeName, NoMemory>
         ensures { IfOk result (λ t. t ≡ self.now) }
     {
@@ -41,7 +41,7 @@ impl TypeName {
         })
     }
 
-    /// The name, with its place.
+    /// Returns the name, with its place.
     pub fn get(&self) -> &NameAt
         ensures { result.now ≡ self.now }
     {

@@ -21,7 +21,7 @@ pub enum ItemKind {
     Variable,
 }
 
-/// The item that a word is, if it is one.
+/// Returns the item that a word is, if it is one.
 fn item_in(kind: ItemKind, word: &Word) -> Option<&Name>
     ensures { MatchOption result
         (item_in kind word.now ≡ None)
@@ -39,7 +39,7 @@ fn item_in(kind: ItemKind, word: &Word) -> Option<&Name>
     }
 }
 
-/// Whether the word is `-`.
+/// Reports whether the word is `-`.
 pub fn is_minus(word: &Word) -> bool
     ensures { result ≡ is_minus word.now }
 {
@@ -49,7 +49,7 @@ pub fn is_minus(word: &Word) -> bool
     }
 }
 
-/// What follows the items that stand in front.
+/// Returns what follows the items that stand in front.
 #[tactic(auto, unfolding(crate::specs::Reading::items_in, crate::specs::Reading::behind_items))]
 fn behind_items(kind: ItemKind, forms: &[Form]) -> &[Form]
     ensures rest { forms_view result.now ≡ behind_items kind (forms_view forms.now) }
@@ -66,8 +66,8 @@ fn behind_items(kind: ItemKind, forms: &[Form]) -> &[Form]
     rest
 }
 
-/// The type of the items that these forms follow, if one is given, and what follows it. The list
-/// ends, or a type is given where there are items. The place `end` is that behind the forms.
+/// Returns the type of the items that these forms follow, if one is given, and what follows it. The
+/// list ends, or a type is given where there are items. The place `end` is that after the forms.
 #[tactic(auto, unfolding(crate::specs::Reading::type_behind))]
 fn type_behind(
     alloc: Global,
@@ -148,7 +148,7 @@ fn add_items(
     Ok(())
 }
 
-/// Adds the typed list that these forms are. The place `end` is that behind the forms.
+/// Adds the typed list that these forms are. The place `end` is that after the forms.
 fn add_typed(
     alloc: Global,
     found: &mut Vec<Typed>,
@@ -170,7 +170,7 @@ fn add_typed(
     Ok(())
 }
 
-/// The typed list that these forms are. The place `end` is that behind the forms.
+/// Returns the typed list that these forms are. The place `end` is that after the forms.
 pub fn typed_of(
     alloc: Global,
     kind: ItemKind,

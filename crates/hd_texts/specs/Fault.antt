@@ -20,7 +20,7 @@ text_of (Check source fault) = checker.source_text source ++ checker.text_of fau
 text_of (Ground error) = grounder.text_of error
 text_of NoMemory = codes "NoMemory"
 
--- a reader's error in a text; want of memory is in none
+-- a reader's error in a text; lack of memory is in none
 abbrev pub read_in : Source → ReadError → TaskFault
 read_in source (reading.Lex fault) = Read source (reading.Lex fault)
 read_in source (reading.Unbalanced at) = Read source (reading.Unbalanced at)
@@ -29,12 +29,12 @@ read_in source (reading.Unsupported word at) = Read source (reading.Unsupported 
 read_in source (reading.TooDeep at) = Read source (reading.TooDeep at)
 read_in source reading.NoMemory = NoMemory
 
--- what a check tells
+-- what a check reports
 abbrev pub checked_in : CheckError → TaskFault
 checked_in (checking.In source fault) = Check source fault
 checked_in checking.NoMemory = NoMemory
 
--- why a lifted task has no task to search; want of memory is no fault of it
+-- why a lifted task has no task to search; lack of memory is no fault of it
 abbrev pub grounded_in : GroundError → TaskFault
 grounded_in grounding.TooMany = Ground grounding.TooMany
 grounded_in (grounding.Undefined fluent) = Ground (grounding.Undefined fluent)

@@ -41,7 +41,7 @@ pub record IsTaskOf (domain problem : List ℕ) (t : Task) : Type 0 where
   pub says : IsLiftedOf domain problem lifted
   pub made : IsGrounding lifted t
 
--- what a fault tells of two texts that say no lifted task: want of memory tells nothing
+-- what a fault reports of two texts that say no lifted task: lack of memory reports nothing
 pub data ExplainsTexts (domain problem : List ℕ) : TaskFault → Type 0 where
   Memory : ExplainsTexts domain problem NoMemory
   -- the domain's text is at fault
@@ -53,10 +53,10 @@ pub data ExplainsTexts (domain problem : List ℕ) : TaskFault → Type 0 where
   AtFault : (d : DomainAst) (p : ProblemAst) (source : Source) (fault : checker.Fault)
       → SayTrees domain problem d p → Stands d p (In source fault) → ExplainsTexts domain problem (Check source fault)
 
--- what a fault tells of two texts that say no task
+-- what a fault reports of two texts that say no task
 pub data Explains (domain problem : List ℕ) : TaskFault → Type 0 where
   -- they say no lifted task
   Unlifted : (f : TaskFault) → ExplainsTexts domain problem f → Explains domain problem f
-  -- no fault stands in them, and the grounder tells so of the lifted task
+  -- no fault stands in them, and the grounder reports so of the lifted task
   Ungrounded : (l : LiftedTask) (error : GroundError)
       → IsLiftedOf domain problem l → Tells l error → Explains domain problem (grounded_in error)

@@ -6,8 +6,8 @@ ghost use Rattle.hd_texts.specs.Digest.{digest_of};
 use hd_base::Seed;
 use sha2::{Digest, Sha256};
 
-/// The digest of a task's texts: SHA-256 (FIPS 180-4) of the domain's length in 8 bytes, the lowest
-/// first, the domain's bytes and the problem's bytes.
+/// Returns the digest of a task's texts: SHA-256 (FIPS 180-4) of the domain's length in 8 bytes,
+/// the lowest first, the domain's bytes and the problem's bytes.
 pub fn digest_of(domain: &[u8], problem: &[u8]) -> [u8; 32]
     ensures { result ≡ digest_of domain.now problem.now }
 {
@@ -19,8 +19,8 @@ pub fn digest_of(domain: &[u8], problem: &[u8]) -> [u8; 32]
     hasher.finalize()
 }
 
-/// What the tables of names and atoms of a task hash by: the digest of its texts, so that nobody
-/// can write texts whose names collide.
+/// Returns what the tables of names and atoms of a task hash by: the digest of its texts, so that
+/// nobody can write texts whose names collide.
 pub fn seed_of(domain: &[u8], problem: &[u8]) -> Seed
     ensures { result ≡ record { begun = seeded (digest_of domain.now problem.now) } }
 {

@@ -34,7 +34,7 @@ impl fmt::Display for TaskFault {
     }
 }
 
-/// A reader's error in a text.
+/// Returns a reader's error in a text.
 pub fn read_in(source: Source, error: ReadError) -> TaskFault
     ensures { result ≡ read_in source error }
 {
@@ -48,7 +48,7 @@ pub fn read_in(source: Source, error: ReadError) -> TaskFault
     }
 }
 
-/// What a check tells.
+/// Returns what a check reports.
 pub fn checked_in(error: CheckError) -> TaskFault
     ensures { result ≡ checked_in error }
 {
@@ -58,7 +58,7 @@ pub fn checked_in(error: CheckError) -> TaskFault
     }
 }
 
-/// Why a lifted task has no task to search.
+/// Returns why a lifted task has no task to search.
 pub fn grounded_in(error: GroundError) -> TaskFault
     ensures { result ≡ grounded_in error }
 {

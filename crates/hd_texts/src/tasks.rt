@@ -11,7 +11,7 @@ use hd_pddl::{DomainAst, ProblemAst, read_domain, read_problem};
 use hd_task::Task;
 use std::alloc::Global;
 
-/// The trees of a domain's and a problem's text.
+/// Returns the trees of a domain's and a problem's text.
 fn trees_of(
     alloc: Global,
     domain: &[u8],
@@ -29,7 +29,7 @@ fn trees_of(
     }
 }
 
-/// The lifted task that two texts say.
+/// Returns the lifted task that two texts say.
 pub fn checked_of(
     alloc: Global,
     seed: Seed,
@@ -46,7 +46,7 @@ pub fn checked_of(
     }
 }
 
-/// The task that two texts say: the grounding of the lifted task that they say.
+/// Returns the task that two texts say: the grounding of the lifted task that they say.
 ///
 /// # Errors
 /// The first fault: of the domain's text, of the problem's, of their names, types and metric, or of

@@ -21,7 +21,7 @@ answers_by b kids v kept e covered answers = record {
   answer = record { legal = kept.marked.legal; covered = covered; answers = answers };
 }
 
--- ---- what is told of a verdict says the same
+-- ---- what is reported of a verdict says the same
 
 pub outcome_answers : (t : Task) (limit : Option ℕ) (kids : List Kid) (v : Verdict) → IsAnswerOf t kids v → IsOutcomeOf t limit kids (outcome_of v)
 outcome_answers t limit kids (verdicts.Optimal p) x = x

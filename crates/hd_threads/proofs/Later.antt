@@ -11,7 +11,7 @@ use Rattle.hd_threads.specs.Growing.{Grows}
 use Rattle.hd_threads.proofs.Growing.{grows_through}
 use Rattle.hd_threads.specs.Committing.{StopsRound, StopsLater}
 
--- what the last round tells, of the journal before the first
+-- what the last round reports, of the journal before the first
 pub stops_later : {S : Type 0} {G : Ghosts S} (a b c : Journal S G) (n : ℕ) (fault : RunFault) → Grows a b → StopsRound b c n fault → StopsLater a c fault
 stops_later a b c n Full x s = s
 stops_later a b c n (Damaged at) x s = s

@@ -1,4 +1,4 @@
--- What a read gives is one of the contents that a stop may leave, also behind a call that failed,
+-- What a read gives is one of the contents that a stop may leave, also after a call that failed,
 -- where each change is made sure of at once.
 use Rattle.std.proofs.Common.{◌≡◌, inl, inr, ℕ, ◌+◌, ◌<◌, ◌≤◌, ◌-◌, Bool, true, false, List, [], ◌∷◌, ◌++◌, length, take, drop, get_or, min, Result, Ok, Err, refl, sym, ap, ◌∙◌, subst, append_assoc, arith}
 use Rattle.std.specs.Prelude.{◌&&◌, nat_le, nat_lt}
@@ -112,7 +112,7 @@ abbrev pub AreStrokes : List Call → Type 0
 AreStrokes [] = Unit {0}
 AreStrokes (call ∷ calls) = IsStroke call × AreStrokes calls
 
--- each change, and a sync behind it
+-- each change, and a sync after it
 abbrev pub all_surely : List Call → List Call
 all_surely [] = []
 all_surely (call ∷ calls) = call ∷ Syncing ∷ all_surely calls

@@ -25,7 +25,7 @@ range_at entries first r e = record {
   has = subst (λ n. BeginsWith (drop n entries) (entries_between entries r.start r.end)) e (between_has entries r.start r.end);
 }
 
--- the group that goes out next begins behind what is acknowledged
+-- the group that goes out next begins after what is acknowledged
 pub next_at : (entries : List Kid) (q : QueueView) (g : GroupView) → Some g ≡ option_map (group_of entries) (group_next q) → IsGroupAt entries q.acknowledged g
 next_at entries q g e =
     elim (group_next q) as (λ o. group_next q ≡ o → Some g ≡ option_map (group_of entries) o → IsGroupAt entries q.acknowledged g) [
@@ -35,7 +35,7 @@ next_at entries q g e =
           (range_at entries q.acknowledged r (group_starts q r (sym is)))
     ] refl e
 
--- a list is a beginning of a log, which has a group behind it: with the group it is a beginning too
+-- a list is a beginning of a log, which has a group after it: with the group it is a beginning too
 pub begins_with_group : (log kids more : List Kid) (first : ℕ) → first ≡ length kids → BeginsWith log kids → BeginsWith (drop first log) more → BeginsWith log (kids ++ more)
 begins_with_group log kids more first at is has =
     let rest : drop first log ≡ is.0 = ap (λ n. drop n log) at ∙ (ap (drop (length kids)) is.1 ∙ drop-append_seam kids is.0) in

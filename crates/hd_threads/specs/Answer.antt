@@ -28,7 +28,7 @@ abbrev pub IsAnswer : Task → Verdict → Type 0
 IsAnswer t v = (expanded : List (List ℕ)) × IsAnswerBy t expanded v
 
 -- counts are those of the end of a search with these entries: all of them are acknowledged, and
--- each kid that was posted is settled
+-- each successor that was posted is settled
 pub record IsCounted (kids : List Kid) (c : Counts) : Type 0 where
   pub entries : c.entries ≡ length kids
   pub acknowledged : c.acknowledged ≡ length kids

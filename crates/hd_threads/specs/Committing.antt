@@ -21,7 +21,7 @@ pub record IsUnmoved {S : Type 0} {G : Ghosts S} (old new : Journal S G) (acknow
   pub kids : kids_of new ≡ kids_of old
   pub counted : acknowledged ≡ length (kids_of new)
 
--- what a fault tells by which a round ends. Nothing was appended, but where the journal and the
+-- what a fault reports by which a round ends. Nothing was appended, but where the journal and the
 -- book did not fit together; and where the device did not fail the journal has its entries in whole
 -- groups
 abbrev pub StopsRound : {S : Type 0} {G : Ghosts S} → Journal S G → Journal S G → ℕ → RunFault → Type 0
@@ -32,7 +32,7 @@ StopsRound old new acknowledged Failed = (old.failed ≡ true) × IsUnmoved old 
 StopsRound old new acknowledged NotOut = Grows old new
 StopsRound old new acknowledged NoMemory = IsUnmoved old new acknowledged × Grows old new
 
--- what a fault tells by which the rounds end, of the journal before the first and behind the last
+-- what a fault reports by which the rounds end, of the journal before the first and after the last
 abbrev pub StopsLater : {S : Type 0} {G : Ghosts S} → Journal S G → Journal S G → RunFault → Type 0
 StopsLater old new Full = ⊥
 StopsLater old new (Damaged at) = ⊥

@@ -18,7 +18,7 @@ abbrev pub is_reached : Option ℕ → ℕ → Bool
 is_reached None count = false
 is_reached (Some most) count = nat_le most count
 
--- what is told of a verdict
+-- what is reported of a verdict
 abbrev pub outcome_of : Verdict → Outcome
 outcome_of (verdicts.Optimal p) = Optimal p
 outcome_of verdicts.NoPlan = NoPlan
@@ -52,7 +52,7 @@ IsTrueOutcome t (RangeLeft d p) = IsTrueAnswer t (verdicts.RangeLeft d p)
 IsTrueOutcome t (Stopped p) = IsValidPlan t p
 
 -- counts are those of the end of a search with these entries: all of them are acknowledged; and
--- each kid that was posted is settled, but where it stopped
+-- each successor that was posted is settled, but where it stopped
 abbrev pub IsCountedBy : List Kid → Outcome → Counts → Type 0
 IsCountedBy kids (Optimal p) c = IsCounted kids c
 IsCountedBy kids NoPlan c = IsCounted kids c

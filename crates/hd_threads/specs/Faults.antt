@@ -5,7 +5,7 @@ use Rattle.hd_journal.specs.declared.error.JournalError.TheVariants as journal
 use Rattle.hd_threads.specs.declared.fault.RunFault.{RunFault}
 use Rattle.hd_threads.specs.declared.fault.RunFault.TheVariants.{Full, Damaged, Device, Failed, NotOut, NoMemory}
 
--- the printed form: the refusal's number, its name, and the place in decimal; want of memory has no
+-- the printed form: the refusal's number, its name, and the place in decimal; lack of memory has no
 -- number
 abbrev pub text_of : RunFault → List ℕ
 text_of Full = codes "31 Full"

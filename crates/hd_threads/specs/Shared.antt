@@ -1,4 +1,4 @@
--- What passes between the book that threads share and the journal behind it. (Our own.)
+-- What passes between the book that threads share and the journal after it. (Our own.)
 use Rattle.std.specs.Prelude.{◌≡◌, ℕ, List, drop, Option, Some, Result, Ok, Err}
 use Rattle.hd_task.specs.declared.plan.Kid.{Kid}
 use Rattle.hd_task.specs.declared.task.Task.{Task}

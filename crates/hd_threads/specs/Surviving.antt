@@ -23,7 +23,7 @@ IsLegalLog task log = IfSome task (λ t. AreLegal t log × (length log < ROOT_PA
 abbrev pub kids_of_groups : Version → List (List Kid) → List Kid
 kids_of_groups v groups = map kid_of (entries_in v FIRST_GATE groups)
 
--- These groups stand in a content, and maybe more behind them: whoever opens it finds just these
+-- These groups stand in a content, and maybe more after them: whoever opens it finds just these
 -- and those. All their pairs begin with the pairs that are wanted there; and where there are more
 -- than those of the groups, all together name a legal list.
 pub record StillStand (t : Task) (v : Version) (digest : List ℕ) (groups : List (List Kid)) (kids : List Kid) (content : List ℕ) : Type 0 where
@@ -35,7 +35,7 @@ pub record StillStand (t : Task) (v : Version) (digest : List ℕ) (groups : Lis
 -- A journal becomes another one, and nothing that it had is lost at any moment, where it had not
 -- failed and nothing was pending on its device: whatever a stop leaves, also one within a call on
 -- the device, still has its groups. What a read gives in the end has them too, and all pairs that
--- the journal lists then, also behind a call that failed. Those that it lists are the ones that it
+-- the journal lists then, also after a call that failed. Those that it lists are the ones that it
 -- had, or name a legal list.
 pub record Survives {S : Type 0} {G : Ghosts S} (t : Task) (old new : Journal S G) : Type 0 where
   pub legal : (kids_of new ≡ kids_of old) ⊎ AreLegal t (kids_of new)

@@ -26,7 +26,7 @@ use Rattle.hd_threads.specs.declared.working.Redemption.{Redemption}
 use Rattle.hd_threads.specs.declared.working.Redemption.TheVariants.{Opened, Waiting, Void}
 use Rattle.hd_threads.specs.Shared.{IsGivenBy}
 
--- what is told of why the entries refuse a batch: for want of room or of memory, or for what it
+-- what is reported of why the entries refuse a batch: for want of room or of memory, or for what it
 -- says
 abbrev pub fault_of : Refusal → RunFault
 fault_of refusals.Full = Full
@@ -47,7 +47,7 @@ abbrev pub IsBoundBy : Option Task → List Kid → Option ℕ → Type 0
 IsBoundBy None log bound = ⊥
 IsBoundBy (Some t) log bound = bound ≡ bound_by t log
 
--- a batch of these outcomes came into the book of a task: behind a log that began with what was
+-- a batch of these outcomes came into the book of a task: after a log that began with what was
 -- seen before, of so many entries, the log has now its expansions, and nothing else; and this is
 -- the bound of all
 pub record IsIn (task : Option Task) (before : List Kid) (outcomes : List Outcome) (after : List Kid) (first : ℕ) (bound : Option ℕ) : Type 0 where
@@ -62,7 +62,7 @@ abbrev pub with_offer : Option ℕ → List ℕ → List ℕ
 with_offer None offers = offers
 with_offer (Some cost) offers = offers ++ cost ∷ []
 
--- a worker's next batch is in the book: its expansions have the numbers behind those of earlier
+-- a worker's next batch is in the book: its expansions have the numbers after those of earlier
 -- entries, and the bound is offered
 pub record IsBatchIn (before : List Kid) (count : ℕ) (seat : SeatView) (w : WorkerView) (after : List Kid) (count' : ℕ) (seat' : SeatView) (w' : WorkerView) : Type 0 where
   pub first : ℕ

@@ -137,7 +137,7 @@ fn hand_back<'t, L: Ledger, A: Ledger, R: Wait>(
     lock.leave(rt, pass, book);
 }
 
-/// Does nothing: an action is a number of four bytes.
+/// Law: does nothing: an action is a number of four bytes.
 fn is_four_bytes(_action: u32)
     ensures { _action < 2 ^ 32 }
 {}
@@ -153,9 +153,9 @@ fn are_four_bytes(kids: &[Kid])
     }
 }
 
-/// A group that was not appended, as it is. What its type says of it is known behind: how many
-/// pairs it has at most, and that their actions are numbers of four bytes. So it may stand on the
-/// device all the same. Only a search that ends by a fault comes here.
+/// Returns a group that was not appended, as it is. What its type says of it is known after: how
+/// many pairs it has at most, and that their actions are numbers of four bytes. So it may stand on
+/// the device all the same. Only a search that ends by a fault comes here.
 fn look_through(group: Group) -> Group
     ensures group { result ≡ group }
     ensures most { length group.kids ≤ MAX_GROUP }
@@ -216,11 +216,11 @@ fn append_group<'t, L: Ledger, A: Ledger, S: Store, R: Wait>(
     }
 }
 
-/// One round of the committer: takes the next group out of the book under the lock, if one is due,
-/// appends it to the journal outside the lock, and acknowledges it under the lock. What the group
-/// is put into is asked for before the lock is taken, also where none is due, and kept for the next
-/// round: so no memory is taken under the lock, and none is given back there but where the group is
-/// not appended.
+/// Returns one round of the committer: takes the next group out of the book under the lock, if one
+/// is due, appends it to the journal outside the lock, and acknowledges it under the lock. What the
+/// group is put into is asked for before the lock is taken, also where none is due, and kept for
+/// the next round: so no memory is taken under the lock, and none is given back there but where the
+/// group is not appended.
 ///
 /// The journal's list is a beginning of the log that the pass has seen, and the entries that are
 /// acknowledged are just those of the journal: so it is before a round, and so it is after one,
@@ -258,7 +258,7 @@ pub fn committer_round<'t, L: Ledger, A: Ledger, S: Store, R: Wait>(
     ensures told { IfErr result (StopsRound journal.old journal.new share.new.amount) }
     // Where the journal has not failed, and nothing is pending on its device: what a stop leaves at
     // any moment of the round has all that was in the journal before it, so all that was
-    // acknowledged then. What a read gives behind it has all that the journal lists.
+    // acknowledged then. What a read gives after it has all that the journal lists.
     ensures survives { IfSome (view pass.old).seen.task (λ t. Survives t journal.old journal.new) }
     ensures settled { IsSettled (device_of journal.old)
         → OnOk result (IsSettled (device_of journal.new)) }

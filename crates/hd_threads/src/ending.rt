@@ -47,7 +47,7 @@ pub struct Concluded {
     pub counts: Counts,
 }
 
-/// What is told of a verdict.
+/// Returns what is reported of a verdict.
 fn outcome_of(verdict: Verdict) -> Outcome
     ensures { result ≡ outcome_of verdict }
 {
@@ -58,7 +58,7 @@ fn outcome_of(verdict: Verdict) -> Outcome
     }
 }
 
-/// Whether a limit is given, and so many entries reach it.
+/// Reports whether a limit is given, and so many entries reach it.
 pub(crate) fn is_reached(limit: Option<u64>, count: u64) -> bool
     ensures { result ≡ is_reached limit count }
 {
@@ -68,8 +68,8 @@ pub(crate) fn is_reached(limit: Option<u64>, count: u64) -> bool
     }
 }
 
-/// Whether a search is over: its book is halted, or each entry is acknowledged, and all is settled,
-/// or there are as many entries as the limit says.
+/// Reports whether a search is over: its book is halted, or each entry is acknowledged, and all is
+/// settled, or there are as many entries as the limit says.
 pub fn is_over<'t, L: Ledger, A: Ledger, R: Wait>(
     rt: &R,
     lock: &Lock<SharedBook<'t, L, A>>,
@@ -91,7 +91,7 @@ pub fn is_over<'t, L: Ledger, A: Ledger, R: Wait>(
     over
 }
 
-/// Tells the gate how the search stands, if it asks.
+/// Reports the gate how the search stands, if it asks.
 fn tell<'t, L: Ledger, A: Ledger, R: Wait, G: Gate>(
     rt: &R,
     lock: &Lock<SharedBook<'t, L, A>>,
@@ -171,7 +171,7 @@ pub fn commit_all<'t, L: Ledger, A: Ledger, S: Store, R: Wait, G: Gate>(
     unreachable!()
 }
 
-/// What a book says that is at its end, where the journal has its entries.
+/// Returns what a book says that is at its end, where the journal has its entries.
 ///
 /// # Errors
 /// `NotOut` where it is not at its end, or the journal does not have its entries; `NoMemory` where
@@ -204,8 +204,8 @@ fn said_by<L: Ledger, A: Ledger, S: Store>(
     Ok(Concluded { outcome, counts })
 }
 
-/// What the book says under the lock, at the end of a search, where the journal has its entries:
-/// just those, all of them acknowledged.
+/// Returns what the book says under the lock, at the end of a search, where the journal has its
+/// entries: just those, all of them acknowledged.
 ///
 /// # Errors
 /// `NotOut` where the search is not at its end, or the journal does not have the book's entries;

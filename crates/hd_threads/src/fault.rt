@@ -13,15 +13,15 @@ use thiserror::Error;
 pub enum RunFault {
     /// The entries would be more than the journal may have.
     Full,
-    /// The journal's entry at this place of the file is not the root in first place, and no kid of
-    /// an earlier entry, or an entry before it is the same.
+    /// The journal's entry at this place of the file is not the root in first place, and no
+    /// successor of an earlier entry, or an entry before it is the same.
     Damaged(u64),
     /// The device failed, and counted the failure.
     Device,
     /// The device failed in an earlier call; the file is to be opened again.
     Failed,
-    /// What is written down does not fit together: a batch is refused for what it says, or kids are
-    /// left that nothing settles.
+    /// What is written down does not fit together: a batch is refused for what it says, or
+    /// successors are left that nothing settles.
     NotOut,
     /// Memory ran out.
     NoMemory,
@@ -50,7 +50,7 @@ impl From<AllocError> for RunFault {
     }
 }
 
-/// What is told of a journal's error.
+/// Returns what is reported of a journal's error.
 pub(crate) fn of_journal(error: JournalError) -> RunFault
     ensures { result ≡ of_journal error }
 {

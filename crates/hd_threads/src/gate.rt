@@ -5,7 +5,7 @@ use std::sync::Wait;
 /// How far a search has come, as its committer sees it.
 #[derive(Clone, Copy, Debug, PartialEq, Eq, Drop)]
 pub struct Standing {
-    /// Its entries and its kids. Those that are posted and not settled are open.
+    /// Its entries and its successors. Those that are posted and not settled are open.
     pub counts: Counts,
     /// The cost of the best plan that was found, if one was.
     pub bound: Option<u64>,
@@ -13,7 +13,7 @@ pub struct Standing {
 
 /// What the threads of a search call, outside every lock.
 ///
-/// A search has a gate that does nothing ([`OpenGate`]), or one that tells a user how the search
+/// A search has a gate that does nothing ([`OpenGate`]), or one that reports a user how the search
 /// stands; a test has one of its own, which may wait.
 pub trait Gate {
     /// The worker of this number is about to settle its `nth` node, counted from 1.
@@ -22,7 +22,8 @@ pub trait Gate {
     /// The worker of this number has settled its `nth` node, or had no room for it.
     fn after<R: Wait>(&self, rt: &R, worker: usize, nth: u64);
 
-    /// Whether the worker of this number is to tell how it stands; it is asked once a turn.
+    /// Reports whether the worker of this number is to report how it stands; it is asked once a
+    /// turn.
     fn asks_worker(&self, _worker: usize) -> bool {
         false
     }
@@ -31,8 +32,8 @@ pub trait Gate {
     /// estimate is infinite, or nothing is open.
     fn hear_worker(&self, _worker: usize, _least: Option<u128>) {}
 
-    /// Whether the committer is to tell how the search stands; it is asked before each of its
-    /// rounds.
+    /// Reports whether the committer is to report how the search stands; it is asked before each of
+    /// its rounds.
     fn asks_committer(&self) -> bool {
         false
     }

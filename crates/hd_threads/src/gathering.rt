@@ -10,7 +10,7 @@ use hd_desk::{Lock, Pass};
 use std::sync::Wait;
 use std::sync::ledger::{Ledger, Share};
 
-/// One share that has the parts and the amounts of all.
+/// Returns one share that has the parts and the amounts of all.
 fn merge_all<L: Ledger>(share: Share<L>, shares: Vec<Share<L>>) -> Share<L>
     ensures parts { result.parts ≡ share.parts + sum_by (λ s. s.parts) shares.items }
     ensures amount { result.amount ≡ share.amount + sum_by (λ s. s.amount) shares.items }
@@ -22,9 +22,9 @@ fn merge_all<L: Ledger>(share: Share<L>, shares: Vec<Share<L>>) -> Share<L>
     all
 }
 
-/// The book, from a lock that nobody uses any more, and how many batches it has taken, which is the
-/// sum of what all shares count: all passes and all shares are handed in. It waits for no other
-/// thread.
+/// Returns the book, from a lock that nobody uses any more, and how many batches it has taken,
+/// which is the sum of what all shares count: all passes and all shares are handed in. It waits for
+/// no other thread.
 pub fn gather<'t, L: Ledger, A: Ledger, R: Wait>(
     rt: &R,
     lock: Lock<SharedBook<'t, L, A>>,

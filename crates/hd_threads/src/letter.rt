@@ -36,7 +36,7 @@ impl<'t> Letter<'t> {
         Letter { parcel }
     }
 
-    /// The parcel came.
+    /// Returns the parcel came.
     pub fn into_parcel(self) -> Parcel<'t>
         ensures { result ≡ self.entry }
     {

@@ -1,6 +1,14 @@
-//! What the threads of a search share, and what each of them does with it: the workers, which
-//! settle kids and commit batches, and the committer, which appends the entries of the book to the
-//! journal.
+//! The threads of a search: what they share, what each worker does, and what the committer does.
+//!
+//! [`committer_round`] keeps the journal's entries a prefix of the book's log. As many are
+//! acknowledged, except after `NotOut`. If [`commit_next`] returns `Taken`, it has appended
+//! exactly the expansions of the worker's batch to the log. [`answer`] returns what the journal's
+//! entries show, and it is true.
+//!
+//! One lock holds the [`SharedBook`]. A worker enters it to redeem tickets, to commit, to halt
+//! the search, or to see whether it is over. Parcels and journal writes need no lock. If the lock
+//! is taken, a worker with open nodes may settle more of them before it commits.
+//! Start reading at [`work`], then at [`commit_all`].
 #![tactic(auto)]
 
 mod committing;

@@ -25,7 +25,7 @@ pub struct Pause {
 }
 
 impl Pause {
-    /// No wait yet.
+    /// Returns no wait yet.
     pub fn new() -> Pause {
         Pause { waits: 0 }
     }

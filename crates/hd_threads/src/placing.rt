@@ -118,7 +118,7 @@ pub(crate) fn open_some<'t, L: Ledger, A: Ledger>(
     place.worker.open_some(&mut place.lookup, most)
 }
 
-/// Whether a worker has an open node.
+/// Reports whether a worker has an open node.
 ///
 /// # Errors
 /// `NoMemory` where there is no room for what is kept of estimates.
@@ -135,7 +135,7 @@ pub(crate) fn has_open<'t, L: Ledger, A: Ledger>(
     Ok(best.is_some())
 }
 
-/// The least cost plus estimate of a worker's open nodes, as [`Worker::least`] tells it.
+/// Returns the least cost plus estimate of a worker's open nodes, as [`Worker::least`] reports it.
 ///
 /// # Errors
 /// As there.

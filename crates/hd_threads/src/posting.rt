@@ -23,7 +23,7 @@ pub enum Sending {
 }
 
 /// Sends the first parcel of a worker's outbox, if there is one, to the worker that owns its state.
-/// It takes no memory, and no lock.
+/// It does not allocate, and no lock.
 pub fn send_next<'t>(
     boxes: &Mailboxes<Task, Letter<'t>>,
     hands: &mut Hands<'t, Task, Letter<'t>>,

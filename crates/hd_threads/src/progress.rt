@@ -68,8 +68,8 @@ impl Progress {
         })
     }
 
-    /// Whether the oldest ticket is worth a wait for the lock: the worker settles no node before it
-    /// is redeemed, or had nothing else to do.
+    /// Reports whether the oldest ticket is worth a wait for the lock: the worker settles no node
+    /// before it is redeemed, or had nothing else to do.
     pub(crate) fn waits(&self) -> bool
         ensures idle { self.now.idle ≡ true → result ≡ true }
         ensures full { deque_len self.now.held ≡ MOST_TICKETS
@@ -94,21 +94,21 @@ impl Progress {
         self.opening = !all;
     }
 
-    /// Whether the worker is to look now whether the search is over: its last turn did nothing, or
-    /// not all that came to it is estimated.
+    /// Reports whether the worker is to look now whether the search is over: its last turn did
+    /// nothing, or not all that came to it is estimated.
     pub(crate) fn looks(&self, busy: bool) -> bool {
         !busy || self.opening
     }
 
-    /// Whether the worker did something beside its tickets in its last turn.
+    /// Reports whether the worker did something beside its tickets in its last turn.
     pub(crate) fn worked(&self) -> bool
         ensures { self.now.idle ≡ false → result ≡ true }
     {
         !self.idle
     }
 
-    /// Whether a batch is to be committed: there is room for its ticket, and there are so many
-    /// outcomes, or some that hold much, or some and no node is open.
+    /// Reports whether a batch is to be committed: there is room for its ticket, and there are so
+    /// many outcomes, or some that hold much, or some and no node is open.
     pub(crate) fn is_due(&self, open: bool, together: usize) -> bool
         ensures { result ≡ true → deque_len self.now.held < MOST_TICKETS }
     {
@@ -116,8 +116,8 @@ impl Progress {
         self.held.len() < MOST_TICKETS && self.uncommitted > 0 && enough
     }
 
-    /// Whether the worker is to wait for its tickets before it settles a further node: it holds as
-    /// many as it may, and outcomes enough are uncommitted, or they hold much.
+    /// Reports whether the worker is to wait for its tickets before it settles a further node: it
+    /// holds as many as it may, and outcomes enough are uncommitted, or they hold much.
     pub(crate) fn is_full(&self) -> bool
         ensures tickets { result ≡ true → deque_len self.now.held ≡ MOST_TICKETS }
         ensures many { result ≡ true → self.now.bytes ≤ MOST_BYTES
@@ -130,8 +130,8 @@ impl Progress {
         self.held.len() == MOST_TICKETS && self.has_many()
     }
 
-    /// Whether so many outcomes are uncommitted, or hold so much, that a batch is worth a wait for
-    /// the lock.
+    /// Reports whether so many outcomes are uncommitted, or hold so much, that a batch is worth a
+    /// wait for the lock.
     pub(crate) fn has_many(&self) -> bool
         ensures many { result ≡ true → self.now.bytes ≤ MOST_BYTES
             → MOST_UNCOMMITTED ≤ self.now.uncommitted }
@@ -141,8 +141,8 @@ impl Progress {
         self.uncommitted >= MOST_UNCOMMITTED || self.holds_much()
     }
 
-    /// Whether uncommitted outcomes hold so much that they are to be committed before a further
-    /// node is settled.
+    /// Reports whether uncommitted outcomes hold so much that they are to be committed before a
+    /// further node is settled.
     pub(crate) fn holds_much(&self) -> bool
         ensures much { result ≡ true → MOST_BYTES < self.now.bytes }
         ensures little { result ≡ false → self.now.bytes ≤ MOST_BYTES }
@@ -150,8 +150,8 @@ impl Progress {
         self.bytes > MOST_BYTES
     }
 
-    /// Whether the worker settles no further node now: it is first to wait for its tickets, or to
-    /// commit what it has.
+    /// Reports whether the worker settles no further node now: it is first to wait for its tickets,
+    /// or to commit what it has.
     pub(crate) fn rests(&self) -> bool
         ensures full { deque_len self.now.held ≡ MOST_TICKETS
             → MOST_UNCOMMITTED ≤ self.now.uncommitted → result ≡ true }
@@ -193,7 +193,7 @@ impl Progress {
         self.held.push_back_reserved(ticket);
     }
 
-    /// The oldest ticket, which leaves.
+    /// Returns the oldest ticket, which leaves.
     pub(crate) fn oldest(&mut self) -> Option<Held>
         ensures ticket { IfSome result (λ h. self.old.held.items ≡ h ∷ self.new.held.items) }
         ensures room { IfSome result (λ _. deque_len self.new.held < MOST_TICKETS) }

@@ -72,8 +72,8 @@ impl<'t, L: Ledger, A: Ledger> Locked for SharedBook<'t, L, A> {
 }
 
 impl<'t, L: Ledger, A: Ledger> SharedBook<'t, L, A> {
-    /// A book that is to be shared, with the share that is the whole of the ledger of what is
-    /// acknowledged.
+    /// Returns a book that is to be shared, with the share that is the whole of the ledger of what
+    /// is acknowledged.
     pub fn of(blank: Blank, book: Book<'t, L>) -> (SharedBook<'t, L, A>, Share<A>)
         requires name { blank.name ≡ A.name }
         requires parts { blank.parts ≡ A.parts }
@@ -164,7 +164,7 @@ impl<'t, L: Ledger, A: Ledger> SharedBook<'t, L, A> {
         let _ = self.book.counts();
     }
 
-    /// From now on each commit is refused. It takes no memory.
+    /// From now on each commit is refused. It does not allocate.
     pub fn halt(&mut self)
         ensures task { self.new.state.task ≡ self.old.state.task }
         ensures begins { BeginsWith self.new.state.entries self.old.state.entries }
@@ -254,7 +254,8 @@ impl<'t, L: Ledger, A: Ledger> SharedBook<'t, L, A> {
         }
     }
 
-    /// How many batches the book has taken, which is what all parts of the count's share amount to.
+    /// Returns how many batches the book has taken, which is what all parts of the count's share
+    /// amount to.
     pub fn audit(&mut self, share: &mut Share<L>) -> u64
         requires whole { share.old.parts ≡ L.parts }
         ensures same { self.new ≡ self.old }
@@ -267,7 +268,7 @@ impl<'t, L: Ledger, A: Ledger> SharedBook<'t, L, A> {
         self.book.counts().commits
     }
 
-    /// How far the search has come.
+    /// Returns how far the search has come.
     pub fn counts(&self) -> Counts
         ensures counts { result ≡ counts_of self.now }
         ensures kept { IsKept self.now.state }
@@ -280,21 +281,21 @@ impl<'t, L: Ledger, A: Ledger> SharedBook<'t, L, A> {
         self.book.counts()
     }
 
-    /// The least cost of an entry at which the goal holds, if there is one.
+    /// Returns the least cost of an entry at which the goal holds, if there is one.
     pub fn bound(&self) -> Option<u64>
         ensures { result ≡ bound_of self.now.state.task (expansions self.now.state) }
     {
         self.book.bound()
     }
 
-    /// Whether each commit is refused.
+    /// Reports whether each commit is refused.
     pub fn is_halted(&self) -> bool
         ensures { result ≡ self.now.batches.halted }
     {
         self.book.is_halted()
     }
 
-    /// The answer, as [`Book::verdict`] says it.
+    /// Returns the answer, as [`Book::verdict`] says it.
     ///
     /// # Errors
     /// `NoMemory` where there is no room for a plan.
@@ -308,7 +309,7 @@ impl<'t, L: Ledger, A: Ledger> SharedBook<'t, L, A> {
         self.book.verdict()
     }
 
-    /// The plan of the bound, if there is a bound, as [`Book::extract`] gives it.
+    /// Returns the plan of the bound, if there is a bound, as [`Book::extract`] gives it.
     ///
     /// # Errors
     /// `NoMemory` where there is no room for the plan.

@@ -39,7 +39,7 @@ pub struct Role<'g, G: Gate> {
     pub together: usize,
     /// No batch is committed once the book has so many entries.
     pub limit: Option<u64>,
-    /// What it calls around each node, and tells how it stands.
+    /// What it calls around each node, and reports how it stands.
     pub gate: &'g G,
     ghost there: { id < workers },
     ghost most: { workers ≤ MAX_WORKERS },
@@ -58,7 +58,7 @@ fn stop<'t, L: Ledger, A: Ledger, R: Wait>(
     halt(rt, &desk.lock, &mut place.pass);
 }
 
-/// Whether the search is over, by a worker.
+/// Reports whether the search is over, by a worker.
 fn is_done<'t, L: Ledger, A: Ledger, R: Wait>(
     rt: &R,
     desk: &Desk<'t, L, A>,
@@ -295,7 +295,7 @@ fn settle_some<'t, L: Ledger, A: Ledger, R: Wait, G: Gate>(
     Ok(together)
 }
 
-/// Tells the gate how a worker stands, if it asks.
+/// Reports the gate how a worker stands, if it asks.
 ///
 /// # Errors
 /// `NoMemory` where there is no room for what is kept of estimates.
@@ -326,12 +326,12 @@ struct Worked {
     open: bool,
 }
 
-/// Whether one of two things was done.
+/// Reports whether one of two things was done.
 fn is_either(one: bool, other: bool) -> bool {
     one || other
 }
 
-/// What was done where all is estimated, and so many nodes were settled.
+/// Returns what was done where all is estimated, and so many nodes were settled.
 fn worked_of<G: Gate>(settled: usize, progress: &Progress, role: &Role<'_, G>) -> Worked {
     let enough = settled == role.together.max(1);
     Worked {
@@ -340,7 +340,7 @@ fn worked_of<G: Gate>(settled: usize, progress: &Progress, role: &Role<'_, G>) -
     }
 }
 
-/// Settles a worker's best open nodes, and tells how it stands where it is asked, once all that
+/// Settles a worker's best open nodes, and reports how it stands where it is asked, once all that
 /// came to it is estimated. Before that only a part of that is estimated, which is something done.
 ///
 /// # Errors
@@ -370,8 +370,8 @@ fn open_and_settle<'t, L: Ledger, A: Ledger, R: Wait, G: Gate>(
     Ok(worked_of(settled, progress, role))
 }
 
-/// What a worker does without the lock: it sends, takes, settles, and tells how it stands where it
-/// is asked. Whether nodes are left that it may settle.
+/// Returns what a worker does without the lock: it sends, takes, settles, and reports how it stands
+/// where it is asked. Whether nodes are left that it may settle.
 ///
 /// # Errors
 /// `NoMemory` where there is no room for a parcel that came, or an outcome.
@@ -423,8 +423,8 @@ fn go_on_or_stop<'t, L: Ledger, A: Ledger, R: Wait, G: Gate>(
     }
 }
 
-/// Whether a worker puts its next batch off: it has nodes to settle, its outcomes are few enough,
-/// and another thread has the lock.
+/// Reports whether a worker puts its next batch off: it has nodes to settle, its outcomes are few
+/// enough, and another thread has the lock.
 #[tactic(auto, using(crate::proofs::Begins::begins_same))]
 fn puts_off<'t, L: Ledger, A: Ledger>(
     desk: &Desk<'t, L, A>,
@@ -517,7 +517,7 @@ fn commit_due<'t, L: Ledger, A: Ledger, R: Wait, G: Gate>(
 /// - It sends what is in its outbox, and takes and estimates what came to it. Where that is much,
 ///   it estimates a part of it, and settles nothing.
 /// - It settles its best open nodes, as many as its role says, unless it is first to wait for its
-///   tickets ([`Progress`]) or its outcomes hold much. It tells the gate how it stands, if that
+///   tickets ([`Progress`]) or its outcomes hold much. It reports the gate how it stands, if that
 ///   asks.
 /// - It commits its next batch, if it holds fewer than [`MOST_TICKETS`] tickets and has outcomes
 ///   enough, or some that hold much, or some and no node open. While the lock is taken it puts that
@@ -611,9 +611,9 @@ fn turns<'t, L: Ledger, A: Ledger, R: Wait, G: Gate>(
     unreachable!()
 }
 
-/// What the thread of a worker does: turn after turn, until the search is over; it waits longer and
-/// longer while there is nothing to do. In the end its tickets are given up. Its fault, if it ends
-/// by one: `NoMemory`, `Full` or `NotOut`.
+/// Runs the thread of a worker: turn after turn, until the search is over; it waits
+/// longer and longer while there is nothing to do. In the end its tickets are given up. Its fault,
+/// if it ends by one: `NoMemory`, `Full` or `NotOut`.
 pub fn work<'t, L: Ledger, A: Ledger, R: Wait, G: Gate>(
     rt: &R,
     alloc: Global,

@@ -61,14 +61,14 @@ pub enum Redemption {
     Void,
 }
 
-/// A batch that is in the book: its ticket, the number of its first entry, and the bound behind it.
+/// A batch that is in the book: its ticket, the number of its first entry, and the bound after it.
 struct Taken {
     ticket: Ticket,
     first: u64,
     bound: Option<u64>,
 }
 
-/// What is told of why the entries refuse a batch.
+/// Returns what is reported of why the entries refuse a batch.
 fn told_by(refusal: Refusal) -> RunFault
     ensures fault { result ≡ fault_of refusal }
     ensures of_worker { IsOfWorker result }
@@ -85,7 +85,7 @@ fn told_by(refusal: Refusal) -> RunFault
     }
 }
 
-/// How many parcels outcomes release.
+/// Returns how many parcels outcomes release.
 fn count_kids(outcomes: &[Outcome]) -> usize
     requires fits { kids_in outcomes.now < 2 ^ 64 }
     ensures { result ≡ kids_in outcomes.now }
@@ -191,7 +191,7 @@ fn commit_batch<'t, L: Ledger, A: Ledger, R: Wait>(
 }
 
 /// Commits a worker's next batch, if there is one and the book has fewer entries than the limit
-/// says, and then, outside the lock, offers the bound that the book has behind it.
+/// says, and then, outside the lock, offers the bound that the book has after it.
 ///
 /// # Errors
 /// `NoMemory` where there is no room for the batch's numbers, or in the book; `Full` where there

@@ -32,13 +32,13 @@ pub AreBatches-push : (from : ℕ) (ends : List ℕ) (e : ℕ) → AreBatches fr
 AreBatches-push from [] e are above near = (above, near, tt)
 AreBatches-push from (x ∷ ends) e are above near = (are.0, are.1, AreBatches-push x ends e are.2 above near)
 
--- the batches behind the first ones
+-- the batches after the first ones
 pub AreBatches-drop : (from : ℕ) (ends : List ℕ) (n : ℕ) → AreBatches from ends → AreBatches (end_of from (take n ends)) (drop n ends)
 AreBatches-drop from ends zero are = are
 AreBatches-drop from [] (suc n) are = are
 AreBatches-drop from (e ∷ ends) (suc n) are = AreBatches-drop e ends n are.2
 
--- batches end behind where they begin
+-- batches end after where they begin
 pub end_of_above : (from : ℕ) (ends : List ℕ) → AreBatches from ends → from ≤ end_of from ends
 end_of_above from [] are = omega arith
 end_of_above from (e ∷ ends) are = let above : from < e = are.0 in omega (arith, end_of_above e ends are.2)
@@ -51,7 +51,7 @@ some_fit from (e ∷ ends) are some =
     let fit : fits from e ≡ true = le-leb (e - from) MAX_GROUP (omega arith) in
     rw fit (omega arith)
 
--- the first batches end behind where all begin
+-- the first batches end after where all begin
 pub first_above : (from : ℕ) (ends : List ℕ) (n : ℕ) → AreBatches from ends → from ≤ end_of from (take n ends)
 first_above from ends zero are = omega arith
 first_above from [] (suc n) are = omega arith

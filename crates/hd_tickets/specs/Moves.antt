@@ -32,7 +32,7 @@ after_moves (m ∷ moves) b = after_moves moves (after_move m b)
 
 -- ---- whole batches
 
--- where the batches end that a call accepts behind so many entries; one without entries has no end
+-- where the batches end that a call accepts after so many entries; one without entries has no end
 -- of its own
 abbrev pub ends_at : {R : Type 0} → ℕ → Move R → List ℕ
 ends_at n (Enter count released) = if count == 0 then [] else (n + count) ∷ []
@@ -42,12 +42,12 @@ ends_at n (HandBack first end) = []
 ends_at n (Redeem k) = []
 ends_at n Halt = []
 
--- where the batches end that calls accept behind so many entries
+-- where the batches end that calls accept after so many entries
 abbrev pub ends_by : {R : Type 0} → ℕ → List (Move R) → List ℕ
 ends_by n [] = []
 ends_by n (m ∷ moves) = ends_at n m ++ ends_by (end_of n (ends_at n m)) moves
 
--- of batches that end here, behind `from`, the first ones are acknowledged, and the others are
+-- of batches that end here, after `from`, the first ones are acknowledged, and the others are
 -- those of a queue: none is split
 pub record AreCutBy (from : ℕ) (ends : List ℕ) (q : QueueView) : Type 0 where
   pub done : List ℕ

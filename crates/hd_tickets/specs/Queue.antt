@@ -3,7 +3,7 @@ use Rattle.std.specs.Prelude.{◌≡◌, ℕ, ◌+◌, ◌-◌, ◌<◌, ◌≤�
 use Rattle.std.specs.declared.ops.Range.{Range}
 use Rattle.hd_tickets.specs.declared.queue.TheConstants.{MAX_GROUP}
 
--- how many entries are acknowledged; where each batch behind them ends, the oldest first; and how
+-- how many entries are acknowledged; where each batch after them ends, the oldest first; and how
 -- many of these are in the group that is out, 0 where none is
 pub record QueueView : Type 0 where
   pub acknowledged : ℕ
@@ -17,7 +17,7 @@ pub record Queued : Type 0 where
 
 -- ---- what it says
 
--- where the last of some batches ends that begin behind `from`
+-- where the last of some batches ends that begin after `from`
 abbrev pub end_of : ℕ → List ℕ → ℕ
 end_of from [] = from
 end_of from (e ∷ ends) = end_of e ends
@@ -52,7 +52,7 @@ are_acknowledged q first end = (first == end) || nat_le end q.acknowledged
 
 -- ---- what is done to it
 
--- a queue in which so many entries are acknowledged, and none behind them
+-- a queue in which so many entries are acknowledged, and none after them
 abbrev pub queue_from : ℕ → QueueView
 queue_from n = record { acknowledged = n; ends = []; out = 0 }
 
@@ -87,7 +87,7 @@ with_none_out q = record q { out = 0 }
 
 -- ---- what it keeps
 
--- batches begin behind `from`: each has entries, and fits into a group
+-- batches begin after `from`: each has entries, and fits into a group
 abbrev pub AreBatches : ℕ → List ℕ → Type 0
 AreBatches from [] = Unit {0}
 AreBatches from (e ∷ ends) = (from < e) × (e ≤ from + MAX_GROUP) × AreBatches e ends

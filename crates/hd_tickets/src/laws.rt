@@ -6,21 +6,22 @@ ghost use Rattle.hd_tickets.specs.Batches.{Batches, TicketView, is_ticket_out};
 ghost use Rattle.hd_tickets.specs.Steps.{redeemed};
 ghost use Rattle.hd_tickets.specs.Moves.{Move, after_moves, ends_by, groups_by, AreCutBy, Lead};
 
-/// No batch is split: the entries that are acknowledged end where a batch ends, and the batches
-/// behind them are those that wait or are out.
+/// Law: no batch is split: the entries that are acknowledged end where a batch ends, and the
+/// batches after them are those that wait or are out.
 pub fn batches_stay_whole<R>()
     ensures { (b : Batches R) (moves : List (Move R))
         → AreCutBy b.queue.acknowledged (b.queue.ends ++ ends_by (entries_of b.queue) moves)
         (after_moves moves b).queue }
 {}
 
-/// The groups that are acknowledged follow one another without a gap, up to what is acknowledged.
+/// Law: the groups that are acknowledged follow one another without a gap, up to what is
+/// acknowledged.
 pub fn groups_follow<R>()
     ensures { (b : Batches R) (moves : List (Move R))
         → Lead b.queue.acknowledged (groups_by b moves) (after_moves moves b).queue.acknowledged }
 {}
 
-/// A ticket that is redeemed for anything but itself is never out again.
+/// Law: a ticket that is redeemed for anything but itself is never out again.
 pub fn tickets_are_spent_once<R>()
     ensures { (b : Batches R) (k j : TicketView) (moves : List (Move R))
         → is_ticket_out b k ≡ true

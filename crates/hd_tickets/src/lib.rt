@@ -1,8 +1,14 @@
-//! Tickets for batches of entries, and the groups in which these are appended to a journal: what is
-//! known of the batches that were accepted, apart from what they are about.
+//! Tracks accepted batches: their tickets, and the groups in which a journal gets their entries.
 //!
-//! `specs/Steps.antt` says what each call makes of what is known, by one equation each. No call but
-//! the one that makes room takes memory.
+//! [`Tickets::enter`] accepts a batch and returns its ticket. [`Tickets::redeem`] exchanges the
+//! ticket for what it releases, once the batch's entries are acknowledged. Groups follow without a
+//! gap, no batch is split, and no ticket is redeemed twice ([`laws`]).
+//!
+//! Entries and tickets are known by number alone; `R` is what a ticket releases. One queue has the
+//! end of each batch that is not acknowledged. Another has the tickets from the first unspent one
+//! on. Only [`Tickets::reserve`] allocates.
+//!
+//! Start reading at [`Tickets`], then `specs/Steps.antt`, which has one equation for each call.
 #![tactic(auto)]
 
 pub mod laws;

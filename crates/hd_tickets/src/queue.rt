@@ -15,7 +15,7 @@ pub const MAX_GROUP: u64 = 65_536;
 pub(crate) struct Queue {
     /// How many entries are acknowledged.
     acknowledged: u64,
-    /// Where each batch behind them ends.
+    /// Where each batch after them ends.
     ends: VecDeque<u64>,
     /// How many of these are in the group that is out; 0 where none is.
     out: usize,
@@ -40,7 +40,7 @@ impl Model for Queue {
     }) };
 }
 
-/// Where the last of the first `count` batches ends, which begin behind `from`.
+/// Where the last of the first `count` batches ends, which begin after `from`.
 fn end_among(ends: &VecDeque<u64>, count: usize, from: u64) -> u64
     requires { count ≤ length ends.now.items }
     ensures { result ≡ end_of from (take count ends.now.items) }
@@ -51,7 +51,7 @@ fn end_among(ends: &VecDeque<u64>, count: usize, from: u64) -> u64
     ends[count - 1]
 }
 
-/// How many batches, from the first on, end within a group of the entries from `from` on.
+/// Returns how many batches, from the first on, end within a group of the entries from `from` on.
 fn fitting_among(ends: &VecDeque<u64>, from: u64) -> usize
     ensures { result ≡ length (take_while (fits from) ends.now.items) }
 {
@@ -61,7 +61,8 @@ fn fitting_among(ends: &VecDeque<u64>, from: u64) -> usize
 }
 
 impl Queue {
-    /// The queue in which so many entries are acknowledged, and none wait. It takes no memory.
+    /// Returns the queue in which so many entries are acknowledged, and none wait. It takes no
+    /// memory.
     pub(crate) fn new(alloc: Global, acknowledged: u64) -> Queue
         ensures { result.batches ≡ queue_from acknowledged }
     {
@@ -72,7 +73,7 @@ impl Queue {
         }
     }
 
-    /// How many entries are acknowledged.
+    /// Returns how many entries are acknowledged.
     pub(crate) fn acknowledged(&self) -> u64
         ensures count { result ≡ self.now.batches.acknowledged }
         ensures few { result ≤ entries_of self.now.batches }
@@ -80,21 +81,21 @@ impl Queue {
         self.acknowledged
     }
 
-    /// How many entries there are in all.
+    /// Returns how many entries there are in all.
     pub(crate) fn entries(&self) -> u64
         ensures { result ≡ entries_of self.now.batches }
     {
         end_among(&self.ends, self.ends.len(), self.acknowledged)
     }
 
-    /// Whether nothing waits and no group is out.
+    /// Reports whether nothing waits and no group is out.
     pub(crate) fn is_idle(&self) -> bool
         ensures { result ≡ is_idle self.now.batches }
     {
         self.ends.is_empty()
     }
 
-    /// Whether these entries are acknowledged; none always are.
+    /// Reports whether these entries are acknowledged; none always are.
     pub(crate) fn are_acknowledged(&self, first: u64, end: u64) -> bool
         ensures { result ≡ are_acknowledged self.now.batches first end }
     {
@@ -104,7 +105,7 @@ impl Queue {
     /// Makes room for one more batch.
     ///
     /// # Errors
-    /// Want of memory: nothing has changed.
+    /// Lack of memory: nothing has changed.
     pub(crate) fn reserve(&mut self) -> Result<(), AllocError>
         ensures batches { self.new.batches ≡ self.old.batches }
         ensures room { OnOk result (self.new.room ≡ true) }
@@ -113,7 +114,7 @@ impl Queue {
         Ok(())
     }
 
-    /// One more batch of so many entries; there is room for it.
+    /// Adds one more batch of so many entries; there is room for it.
     pub(crate) fn push(&mut self, count: u64)
         requires room { self.old.room ≡ true }
         requires few { count ≤ MAX_GROUP }
@@ -157,7 +158,7 @@ impl Queue {
         Some(self.acknowledged..end)
     }
 
-    /// Whether the group that is out has these entries.
+    /// Reports whether the group that is out has these entries.
     pub(crate) fn is_out(&self, first: u64, end: u64) -> bool
         ensures { result ≡ is_out self.now.batches first end }
     {

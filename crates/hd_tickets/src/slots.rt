@@ -56,7 +56,7 @@ fn spend_at<R>(slots: &mut VecDeque<Option<Outgoing<R>>>, place: usize) -> Optio
 }
 
 impl<R: Drop> Slots<R> {
-    /// No tickets. It takes no memory.
+    /// Returns no tickets. It does not allocate.
     pub(crate) fn new(alloc: Global) -> Slots<R>
         ensures { result.tickets ≡ [] }
     {
@@ -66,7 +66,7 @@ impl<R: Drop> Slots<R> {
         }
     }
 
-    /// How many tickets there are, the spent ones among them.
+    /// Returns how many tickets there are, the spent ones among them.
     pub(crate) fn len(&self) -> u64
         ensures { result ≡ length self.now.tickets }
     {
@@ -76,7 +76,7 @@ impl<R: Drop> Slots<R> {
     /// Makes room for one more ticket.
     ///
     /// # Errors
-    /// Want of memory: nothing has changed.
+    /// Lack of memory: nothing has changed.
     pub(crate) fn reserve(&mut self) -> Result<(), AllocError>
         ensures tickets { self.new.tickets ≡ self.old.tickets }
         ensures room { OnOk result (self.new.room ≡ true) }
@@ -85,7 +85,7 @@ impl<R: Drop> Slots<R> {
         Ok(())
     }
 
-    /// One more ticket, which is out; there is room for it.
+    /// Adds one more ticket, which is out; there is room for it.
     pub(crate) fn push(&mut self, out: Outgoing<R>)
         requires room { self.old.room ≡ true }
         requires few { length self.old.tickets + 1 < 2 ^ 64 }
@@ -94,7 +94,7 @@ impl<R: Drop> Slots<R> {
         self.slots.push_back_reserved(Some(out));
     }
 
-    /// The ticket with this number, if it is out.
+    /// Returns the ticket with this number, if it is out.
     pub(crate) fn get(&self, number: u64) -> Option<&Outgoing<R>>
         ensures { option_copied result ≡ ticket_at self.now.tickets number }
     {

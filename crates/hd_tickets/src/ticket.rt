@@ -24,7 +24,7 @@ impl Model for Ticket {
 impl Ticket {
     ghost use Rattle.std.specs.Prelude.{◌≡◌};
 
-    /// The numbers of the batch's entries.
+    /// Returns the numbers of the batch's entries.
     pub fn range(&self) -> Range<u64>
         ensures start { result.start ≡ self.now.first }
         ensures end { result.end ≡ self.now.end }
@@ -32,21 +32,21 @@ impl Ticket {
         self.first..self.end
     }
 
-    /// The ticket of a batch.
+    /// Returns the ticket of a batch.
     pub(crate) fn of(number: u64, first: u64, end: u64) -> Ticket
         ensures { result ≡ record { number = number; first = first; end = end } }
     {
         Ticket { number, first, end }
     }
 
-    /// How many batches were accepted before this one.
+    /// Returns how many batches were accepted before this one.
     pub(crate) fn number(&self) -> u64
         ensures { result ≡ self.now.number }
     {
         self.number
     }
 
-    /// A receipt of the same entries; the ticket is spent.
+    /// Returns a receipt of the same entries; the ticket is spent.
     pub(crate) fn into_receipt(self) -> Receipt
         ensures first { result.first ≡ self.first }
         ensures end { result.end ≡ self.end }
@@ -90,7 +90,7 @@ impl Model for Receipt {
 impl Receipt {
     ghost use Rattle.std.specs.Prelude.{◌≡◌};
 
-    /// The numbers of its entries; the receipt is spent.
+    /// Returns the numbers of its entries; the receipt is spent.
     pub(crate) fn into_range(self) -> Range<u64>
         ensures start { result.start ≡ self.first }
         ensures end { result.end ≡ self.end }

@@ -36,7 +36,7 @@ impl<R: Drop> Tickets<R> {
     ghost use Rattle.hd_tickets.specs.Steps.{without};
     ghost use Rattle.hd_tickets.specs.Redeeming.{redeemed_for};
 
-    /// Whether a ticket is out.
+    /// Reports whether a ticket is out.
     fn is_ticket_out(&self, ticket: &Ticket) -> bool
         ensures { result ≡ is_ticket_out self.now.batches ticket.now }
     {
@@ -75,7 +75,7 @@ impl<R: Drop> Tickets<R> {
     ghost use Rattle.hd_tickets.specs.Steps.{resumed, ticket_of, entered, taken, flushed, handed_back, redeemed, with_halt};
     ghost use Rattle.hd_tickets.specs.Redeeming.{redeemed_for};
 
-    /// No batches yet, behind so many entries that are acknowledged. It takes no memory.
+    /// Returns no batches yet, after so many entries that are acknowledged. It does not allocate.
     pub fn new(alloc: Global, acknowledged: u64) -> Tickets<R>
         ensures { result.batches ≡ resumed acknowledged }
     {
@@ -86,21 +86,21 @@ impl<R: Drop> Tickets<R> {
         }
     }
 
-    /// How many batches were accepted.
+    /// Returns how many batches were accepted.
     pub fn commits(&self) -> u64
         ensures { result ≡ length self.now.batches.tickets }
     {
         self.slots.len()
     }
 
-    /// How many entries there are in all.
+    /// Returns how many entries there are in all.
     pub fn entries(&self) -> u64
         ensures { result ≡ entries_of self.now.batches.queue }
     {
         self.queue.entries()
     }
 
-    /// How many entries are acknowledged.
+    /// Returns how many entries are acknowledged.
     pub fn acknowledged(&self) -> u64
         ensures count { result ≡ self.now.batches.queue.acknowledged }
         ensures few { result ≤ entries_of self.now.batches.queue }
@@ -108,14 +108,14 @@ impl<R: Drop> Tickets<R> {
         self.queue.acknowledged()
     }
 
-    /// Whether all entries are acknowledged.
+    /// Reports whether all entries are acknowledged.
     pub fn is_idle(&self) -> bool
         ensures { result ≡ is_idle self.now.batches.queue }
     {
         self.queue.is_idle()
     }
 
-    /// Whether no more batches are accepted.
+    /// Reports whether no more batches are accepted.
     pub fn is_halted(&self) -> bool
         ensures { result ≡ self.now.batches.halted }
     {
@@ -125,7 +125,7 @@ impl<R: Drop> Tickets<R> {
     /// Makes room for one more batch.
     ///
     /// # Errors
-    /// Want of memory: nothing has changed.
+    /// Lack of memory: nothing has changed.
     pub fn reserve(&mut self) -> Result<(), AllocError>
         ensures batches { self.new.batches ≡ self.old.batches }
         ensures room { OnOk result (self.new.room ≡ true) }
@@ -158,9 +158,9 @@ impl<R: Drop> Tickets<R> {
         Ticket::of(number, first, end)
     }
 
-    /// The entries of the next group that is to be appended, which is out from now on: whole
-    /// batches in the order of their commits, from the oldest on, as many as fit into a group. None
-    /// where nothing waits, or a group is out.
+    /// Returns the entries of the next group that is to be appended, which is out from now on:
+    /// whole batches in the order of their commits, from the oldest on, as many as fit into a
+    /// group. None where nothing waits, or a group is out.
     pub fn take(&mut self) -> Option<Range<u64>>
         ensures group { result ≡ group_next self.old.batches.queue }
         ensures some { IfSome result (λ g. g.start < g.end) }

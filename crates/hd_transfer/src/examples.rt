@@ -3,7 +3,7 @@ ghost use Rattle.std.specs.Prelude.{◌≡◌, [], ◌∷◌};
 ghost use Rattle.hd_grounding.specs.Example.{lantern_task, the_instance};
 ghost use Rattle.hd_transfer.specs.Instances.{plan_of, HasAction};
 
-/// Plans of hd_grounding's lantern, whose task has one action.
+/// Law: plans of hd_grounding's lantern, whose task has one action.
 pub fn examples_compute()
     ensures one { plan_of lantern_task (0 ∷ []) ≡ the_instance ∷ [] }
     // A number without an action has no instance.

@@ -19,8 +19,8 @@ ghost use Rattle.hd_transfer.specs.Departures.{NoActionDeparts, NoInstanceDepart
 ghost use Rattle.hd_transfer.specs.Instances.{instance_of, plan_of, IsOfValidPlan, HasAction};
 ghost use Rattle.hd_transfer.specs.Runs.{LeadsThere, IsOfPlan};
 
-/// The actions of a task are the kept instances of its domain, in their order: each has an action,
-/// and each action is one of them.
+/// Law: the actions of a task are the kept instances of its domain, in their order: each has an
+/// action, and each action is one of them.
 pub fn actions_are_the_kept_instances()
     ensures numbered { (t : LiftedTask) (u : Task)
         → IsGrounding t u → NumbersInstances t (map instance_of u.actions) }
@@ -28,8 +28,8 @@ pub fn actions_are_the_kept_instances()
         → IsGrounding t u → IsKept t i ↔ HasAction u i }
 {}
 
-/// The valid plans of a task are those of its domain, at the same costs: none is made up and none
-/// is lost, and the cost of each valid plan of the domain is an integer that is not negative.
+/// Law: the valid plans of a task are those of its domain, at the same costs: none is made up and
+/// none is lost, and the cost of each valid plan of the domain is an integer that is not negative.
 pub fn plans_are_transferred()
     ensures there { (t : LiftedTask) (u : Task) (p : List ℕ) (c : ℕ)
         → IsGrounding t u → IsValidAt u p c → domain.IsValidAt t (plan_of u p) (pos c) }
@@ -39,7 +39,7 @@ pub fn plans_are_transferred()
         → IsGrounding t u → domain.IsValid t q → (c : ℕ) × domain.IsValidAt t q (pos c) }
 {}
 
-/// Plans go over, whether they are valid or not: where a plan is executed in the task, its
+/// Law: plans go over, whether they are valid or not: where a plan is executed in the task, its
 /// instances are executed in the domain, and each list of instances that is executed in the domain
 /// is that of such a plan, of one alone. Both lead to states that agree, at the same cost.
 pub fn runs_are_transferred()
@@ -53,8 +53,8 @@ pub fn runs_are_transferred()
         → plan_of u p ≡ plan_of u q → p ≡ q }
 {}
 
-/// Where a plan of the task leads and where its instances do, an action leaves the range exactly
-/// where its instance does, and so does the goal. That the instances lead anywhere,
+/// Law: where a plan of the task leads and where its instances do, an action leaves the range
+/// exactly where its instance does, and so does the goal. That the instances lead anywhere,
 /// `runs_are_transferred` says.
 pub fn departures_are_transferred()
     ensures actions { (t : LiftedTask) (u : Task) (p : List ℕ) (m : Node) (r : Reached)
@@ -67,24 +67,24 @@ pub fn departures_are_transferred()
         → goal_departs u m ≡ ranges.goal_departs t r }
 {}
 
-/// An instance that leaves the range where a plan of the task leads is that of an action: those
-/// that are left out depart nowhere.
+/// Law: an instance that leaves the range where a plan of the task leads is that of an action:
+/// those that are left out depart nowhere.
 pub fn departing_instances_have_actions()
     ensures { (t : LiftedTask) (u : Task) (p : List ℕ) (m : Node) (r : Reached) (i : Instance)
         → IsGrounding t u → exec u p ≡ Some m → domain.exec t (plan_of u p) ≡ Some r
         → IsInstance t i → ranges.instance_departs t r i ≡ true → HasAction u i }
 {}
 
-/// Nothing departs unseen: where no action of the task departs, and not its goal, no instance of
-/// the domain departs, and not its goal; and the other way round.
+/// Law: nothing departs unseen: where no action of the task departs, and not its goal, no instance
+/// of the domain departs, and not its goal; and the other way round.
 pub fn nothing_departs_unseen()
     ensures { (t : LiftedTask) (u : Task) (p : List ℕ) (m : Node) (r : Reached)
         → IsGrounding t u → exec u p ≡ Some m → domain.exec t (plan_of u p) ≡ Some r
         → NoActionDeparts u m ↔ NoInstanceDeparts t r }
 {}
 
-/// Where a search has recorded no departure, nothing departs in the domain where a plan that it
-/// expanded leads.
+/// Law: where a search has recorded no departure, nothing departs in the domain where a plan that
+/// it expanded leads.
 pub fn nothing_recorded_nothing_departs()
     ensures { (t : LiftedTask) (u : Task) (expanded : List (List ℕ)) (p : List ℕ)
         (m : Node) (r : Reached)
@@ -92,7 +92,7 @@ pub fn nothing_recorded_nothing_departs()
         → exec u p ≡ Some m → domain.exec t (plan_of u p) ≡ Some r → NoInstanceDeparts t r }
 {}
 
-/// Where an action of the task departs, the domain leaves the range: the plan's instances are
+/// Law: where an action of the task departs, the domain leaves the range: the plan's instances are
 /// executed there, and where they lead the action's instance departs. So it is with the goal.
 pub fn departures_are_of_the_domain()
     ensures actions { (t : LiftedTask) (u : Task) (p : List ℕ) (m : Node)
@@ -104,8 +104,9 @@ pub fn departures_are_of_the_domain()
         → GoalDepartsAt t (plan_of u p) }
 {}
 
-/// A true verdict of a task is one of its domain: the instances of an optimal plan are an optimal
-/// plan of the domain, at the same cost, and where the task has no plan, the domain has none.
+/// Law: a true verdict of a task is one of its domain: the instances of an optimal plan are an
+/// optimal plan of the domain, at the same cost, and where the task has no plan, the domain has
+/// none.
 pub fn verdicts_are_transferred()
     ensures optimal { (t : LiftedTask) (u : Task) (p : List ℕ)
         → IsGrounding t u → IsOptimal u p → domain.IsOptimal t (plan_of u p) }

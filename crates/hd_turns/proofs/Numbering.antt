@@ -57,7 +57,7 @@ late_or_none true true true why next k p n rest = inr refl
 late_or_none true true false None next k p n rest = rest
 late_or_none true true false (Some y) next k p n rest = absurd (none-some y (sym n))
 
--- outcomes that are right are refused for nothing but a kid that was settled before
+-- outcomes that are right are refused for nothing but a successor that was settled before
 pub settled_or_none : (b : BookState) (earlier later : List Outcome) → AreRight b earlier later → (first_refusal b earlier later ≡ None) ⊎ (first_refusal b earlier later ≡ Some SettledBefore)
 settled_or_none b earlier [] x = inl refl
 settled_or_none b earlier (o ∷ later) x =
@@ -213,7 +213,7 @@ module _ (t : Task) (entries0 : List Kid) (marks0 : List Bool) (kept0 : IsKept (
   or_right true y e = refl
   or_right false y e = e
 
-  -- a kid of an entry
+  -- a successor of an entry
   kid_true :
       (front behind : List (List ℕ)) (p : List ℕ) (r : Node) (c : ChildView) → expansions after ≡ front ++ p ∷ behind → exec t p ≡ Some r → Contains (children_at t r) c
       → IsTrueOf after (released_from (length front) c)

@@ -10,20 +10,21 @@ use Rattle.hd_entries.specs.Holding.{Released}
 use Rattle.hd_closed.specs.Closed.{Closed}
 use Rattle.hd_turns.specs.Worker.{WorkerView}
 
--- a parcel is of a kid of the book, with the state and the cost that its plan leads to
+-- a parcel is of a successor of the book, with the state and the cost that its plan leads to
 pub record IsTrueOf (b : BookState) (r : Released) : Type 0 where
   pub known : knows_parent b r.kid ≡ true
   pub posted : is_posted b r.kid ≡ true
   pub leads : node_of b r.kid ≡ Some (node r.state r.cost)
 
--- an outcome, behind earlier ones of its batch, is refused for nothing but that its kid is settled
+-- an outcome, after earlier ones of its batch, is refused for nothing but that its successor is
+-- settled
 pub record IsRight (b : BookState) (earlier : List Outcome) (o : Outcome) : Type 0 where
   pub of_task : IsOf b.task o
   pub known : knows_parent b (kid_of o) ≡ true
   pub posted : is_posted b (kid_of o) ≡ true
   pub unrefused : refusal_by b earlier o ≡ None
 
--- each of some outcomes is right, behind earlier ones and those before it
+-- each of some outcomes is right, after earlier ones and those before it
 abbrev pub AreRight : BookState → List Outcome → List Outcome → Type 0
 AreRight b earlier [] = Unit {0}
 AreRight b earlier (o ∷ later) = IsRight b earlier o × AreRight b (earlier ++ o ∷ []) later

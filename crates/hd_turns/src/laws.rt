@@ -14,18 +14,18 @@ ghost use Rattle.hd_turns.specs.Growth.{Grows};
 ghost use Rattle.hd_turns.specs.Truth.{IsTrueOf, IsSeenOf, IsTrueWorker};
 ghost use Rattle.hd_turns.specs.Calls.{with_parcel, Expands, ExpandsBest, batch_of, after_batch, after_numbering, with_room_for, after_releasing, after_sending, after_return, after_seeing, after_closing};
 
-/// Where all that a worker holds is true of a book, the book refuses a batch of its first outcomes
-/// for nothing that the batch says: for no parent that is unknown, no kid that is none, no state or
-/// cost that differs, no expansion that does not dominate, and no bound that is not reached. What
-/// is left is that a kid was settled before.
+/// Law: where all that a worker holds is true of a book, the book refuses a batch of its first
+/// outcomes for nothing that the batch says: for no parent that is unknown, no successor that is
+/// none, no state or cost that differs, no expansion that does not dominate, and no bound that is
+/// not reached. What is left is that a successor was settled before.
 pub fn batches_are_admissible()
     ensures { (b : BookState) (w : WorkerView) → IsTrueWorker b w
         → (first_refusal b [] (batch_of w) ≡ None)
         ⊎ (first_refusal b [] (batch_of w) ≡ Some SettledBefore) }
 {}
 
-/// A worker that holds nothing is true of each book of its task, and each call leaves it true: a
-/// parcel that is taken or put back, parcels that are released, a bound that is seen and an entry
+/// Law: a worker that holds nothing is true of each book of its task, and each call leaves it true:
+/// a parcel that is taken or put back, parcels that are released, a bound that is seen and an entry
 /// that is closed are to be true of the book themselves.
 pub fn calls_stay_true()
     ensures empty { (b : BookState) (id workers : ℕ)
@@ -54,7 +54,7 @@ pub fn calls_stay_true()
         → IsTrueWorker b (after_closing n s cost w) }
 {}
 
-/// Where the book accepts a worker's batch, and this is numbered from the number of the book's
+/// Law: where the book accepts a worker's batch, and this is numbered from the number of the book's
 /// entries before it on, the worker is true of the book afterwards, and so is each parcel that the
 /// batch releases.
 pub fn commits_stay_true()
@@ -74,8 +74,8 @@ pub fn commits_stay_true()
         → Grows b (all_settled b (batch_of w)) }
 {}
 
-/// What is true of a book stays true of it as its entries grow: what a worker holds, and a parcel
-/// and a bound anywhere.
+/// Law: what is true of a book stays true of it as its entries grow: what a worker holds, and a
+/// parcel and a bound anywhere.
 pub fn truth_stays()
     ensures worker { (b b' : BookState) (w : WorkerView)
         → Grows b b' → IsTrueWorker b w → IsTrueWorker b' w }

@@ -22,7 +22,7 @@ use Rattle.hd_validate.proofs.Apart.{one_step, one_plan}
 
 -- ---- one step
 
--- a step that passes tells nothing
+-- a step that passes reports nothing
 passes_tells : (t : LiftedTask) (r to : Reached) (n : ℕ) (s : Step) (e : Fault) → HasDistinctNames t → PassesBy t r n s to → TellsStepBy t r n s e → ⊥
 passes_tells t r to n s e distinct p (names_none none is) = none p.instance p.is_step
 passes_tells t r to n s e distinct p (fails_named i step tells) =
@@ -33,7 +33,7 @@ passes_once : (t : LiftedTask) (r to other : Reached) (n : ℕ) (s : Step) → H
 passes_once t r to other n s distinct p q =
     same_Some to other (sym p.passes.leads ∙ (ap (step_by t r) (one_step t s p.instance q.instance distinct p.is_step q.is_step) ∙ q.passes.leads))
 
--- one step tells one fault
+-- one step reports one fault
 step_tells_once : (t : LiftedTask) (r : Reached) (n : ℕ) (s : Step) (d e : Fault) → HasDistinctNames t → TellsStepBy t r n s d → TellsStepBy t r n s e → d ≡ e
 step_tells_once t r n s d e distinct (names_none none is) (names_none also other) = is ∙ sym other
 step_tells_once t r n s d e distinct (names_none none is) (fails_named i step tells) = absurd (none i step)

@@ -10,7 +10,7 @@ use Rattle.hd_validate.specs.Plans.{IsValidatedBy}
 use Rattle.hd_validate.specs.Telling.{Tells}
 use Rattle.hd_validate.proofs.Judged.{validated-no_fault}
 
--- of a plan that is validated nothing is told but want of memory
+-- of a plan that is validated nothing is reported but lack of memory
 pub only_memory : (t : LiftedTask) (steps : List Step) (cost : ℕ) (error : PlanError) → HasDistinctNames t → Tells t steps error → IsValidatedBy t steps cost
     → error ≡ NoMemory
 only_memory t steps cost (NoSuchAction n) distinct told v = absurd (validated-no_fault t steps cost (faults.NoSuchAction n) distinct v told)

@@ -1,4 +1,4 @@
--- The instance that a step names, and what is told of the step.
+-- The instance that a step names, and what is reported of the step.
 use Rattle.std.proofs.Common.{◌≡◌, ◌≤◌, ℕ, List, [], ◌∷◌, length, get_or, arith, inl, Some, None, refl, subst}
 use Rattle.std.specs.Prelude.{Result, Ok, Err, IfErr}
 use Rattle.std.specs.List.{position}
@@ -41,7 +41,7 @@ no_objects t s e i names = objects_unnamed t s.args i.objects e names.objects
 
 -- ---- telling
 
--- what is told of the instance that has the names is told of the step
+-- what is reported of the instance that has the names is reported of the step
 tells_named : (t : LiftedTask) (r : Reached) (n : ℕ) (s : Step) (i : Instance) (fault : Fault) → HasDistinctNames t → HasNamesOf t s i
     → TellsStep t r n i fault → TellsStepBy t r n s fault
 tells_named t r n s i fault distinct names (no_instance not is) =
@@ -60,7 +60,7 @@ judged_named t r n s i (Err stop) distinct names told = stops_named t r n s i st
 
 -- ---- plans
 
--- what is told of the first step is told of the steps, and so of the whole
+-- what is reported of the first step is reported of the steps, and so of the whole
 pub tells_first : (t : LiftedTask) (r from : Reached) (n : ℕ) (rest steps : List Step) (s d : Step) (stop : Stop) → 1 ≤ length rest → s ≡ get_or rest 0 d
     → ((fault : Fault) → TellsFromBy t r n rest fault → TellsFromBy t from 1 steps fault)
     → StopsBy (TellsStepBy t r n s) stop → StopsBy (TellsFromBy t from 1 steps) stop
@@ -70,6 +70,6 @@ tells_first t r from n [] steps s d stop some first whole told = absurd (no_less
 tells_first t r from n (x ∷ after) steps s d (stops.At fault) some first whole told = whole fault (inl (subst (λ (y : Step). TellsStepBy t r n y fault) first told))
 tells_first t r from n (x ∷ after) steps s d stops.NoMemory some first whole told = tt
 
--- what is told from the start is told of the plan
+-- what is reported from the start is reported of the plan
 pub tells_from : (t : LiftedTask) (r : Reached) (steps : List Step) (stop : Stop) → r ≡ start t → StopsBy (TellsFromBy t r 1 steps) stop → StopsBy (IsFirstFaultBy t steps) stop
 tells_from t r steps stop begins told = subst (λ (q : Reached). StopsBy (TellsFromBy t q 1 steps) stop) begins told

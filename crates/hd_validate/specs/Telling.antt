@@ -1,4 +1,4 @@
--- What an error tells of a plan. (Our own.)
+-- What an error reports of a plan. (Our own.)
 use Rattle.std.specs.Prelude.{◌≡◌, ℕ, List, string_bytes}
 use Rattle.hd_plan.specs.declared.step.Step.{Step}
 use Rattle.hd_lifted.specs.declared.schema.Ground.{Ground}
@@ -22,7 +22,7 @@ pub record NamesNegative (t : LiftedTask) (steps : List Step) (text : List ℕ) 
   pub first : IsFirstFaultBy t steps (faults.NegativeCost instance)
   pub is : text ≡ instance_text t instance
 
--- an error tells the first fault; want of memory tells nothing
+-- an error reports the first fault; lack of memory reports nothing
 abbrev pub Tells : LiftedTask → List Step → PlanError → Type 0
 Tells t steps (NoSuchAction n) = IsFirstFaultBy t steps (faults.NoSuchAction n)
 Tells t steps (NotApplicable n) = IsFirstFaultBy t steps (faults.NotApplicable n)

@@ -21,7 +21,7 @@ abbrev pub name_of_schema : Option Schema → List ℕ
 name_of_schema None = []
 name_of_schema (Some a) = a.name
 
--- an object behind a space
+-- an object after a space
 abbrev pub object_text : List declared.Object → ℕ → List ℕ
 object_text objects number = codes " " ++ name_of_object (slice_get objects number)
 

@@ -9,14 +9,14 @@ ghost use Rattle.hd_judge.specs.declared.fault.Fault.{Fault};
 ghost use Rattle.hd_validate.specs.Naming.{IsStep};
 ghost use Rattle.hd_validate.specs.Plans.{IsValidatedBy, IsFirstFaultBy};
 
-/// Where no name stands twice, a step is one of no two instances.
+/// Law: where no name stands twice, a step is one of no two instances.
 pub fn steps_are_told_apart()
     ensures { (t : LiftedTask) (s : Step) (i j : Instance) → HasDistinctNames t
         → IsStep t s i → IsStep t s j → i ≡ j }
 {}
 
-/// Where no name stands twice, a plan of steps is validated or it has a first fault: never both,
-/// and never neither. It has no two first faults, and no two costs.
+/// Law: where no name stands twice, a plan of steps is validated or it has a first fault: never
+/// both, and never neither. It has no two first faults, and no two costs.
 pub fn named_plans_are_judged()
     ensures never_both { (t : LiftedTask) (steps : List Step) (cost : ℕ) (fault : Fault)
         → HasDistinctNames t → IsValidatedBy t steps cost → IsFirstFaultBy t steps fault → ⊥ }

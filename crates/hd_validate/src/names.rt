@@ -27,7 +27,7 @@ impl<'a> Model for NameTable<'a> {
 }
 
 impl<'a> NameTable<'a> {
-    /// No names, in a table that hashes by this seed.
+    /// Returns no names, in a table that hashes by this seed.
     fn none(alloc: Global, seed: Seed) -> NameTable<'a>
         ensures { result ≡ [] }
     {
@@ -36,7 +36,7 @@ impl<'a> NameTable<'a> {
         }
     }
 
-    /// One name more, which is none of them.
+    /// Adds one name more, which is none of them.
     fn add(&mut self, name: &'a Name) -> Result<(), NoMemory>
         requires { is_named self.old name.now ≡ false }
         ensures { OnOk result (self.new ≡ self.old ++ name.now ∷ []) }
@@ -45,7 +45,7 @@ impl<'a> NameTable<'a> {
         Ok(())
     }
 
-    /// The number of a name, if it is one of them.
+    /// Returns the number of a name, if it is one of them.
     pub(crate) fn number_of(&self, name: &Name) -> Option<usize>
         ensures { result ≡ position (bytes_eq name.now) self.now }
     {
@@ -114,9 +114,9 @@ impl<'a> Model for TaskNames<'a> {
 }
 
 impl<'a> TaskNames<'a> {
-    /// The tables of a checked task, which hash by the seed.
+    /// Returns the tables of a checked task, which hash by the seed.
     ///
-    /// Fails only for want of memory.
+    /// Fails only for lack of memory.
     pub fn of(alloc: Global, seed: Seed, checked: &'a Checked) -> Result<TaskNames<'a>, NoMemory>
         ensures { IfOk result (λ n. n ≡ checked.now) }
     {

@@ -31,10 +31,10 @@ fn numbers_of(
     Ok(Some(Tuple::from_small_vec(numbers)))
 }
 
-/// The instance that has the names of a step, if there is one: whether its objects fit is not asked
-/// here.
+/// Returns the instance that has the names of a step, if there is one: whether its objects fit is
+/// not asked here.
 ///
-/// Fails only for want of memory.
+/// Fails only for lack of memory.
 #[tactic(auto, using(crate::proofs::Stepping::names_found, crate::proofs::Stepping::no_schema, crate::proofs::Stepping::no_objects))]
 pub fn instance_of(
     alloc: Global,

@@ -1,4 +1,4 @@
-//! What is told of a plan that is not validated.
+//! What is reported of a plan that is not validated.
 ghost use Rattle.std.specs.Prelude.{List};
 ghost use Rattle.hd_plan.specs.declared.step.Step.{Step};
 ghost use Rattle.hd_judge.specs.declared.fault.Fault.TheVariants as faults;
@@ -12,7 +12,7 @@ use hd_judge::{Fault, Stop};
 use hd_lifted::{Ground, Instance, LiftedTask};
 use std::alloc::Global;
 
-/// Tells that a fluent has no first value.
+/// Reports that a fluent has no first value.
 fn undefined(alloc: Global, task: &LiftedTask, fluent: &Ground) -> PlanError
     ensures { (steps : List Step) → IsFirstFaultBy task.now steps (faults.Undefined fluent.now)
         → Tells task.now steps result }
@@ -23,7 +23,7 @@ fn undefined(alloc: Global, task: &LiftedTask, fluent: &Ground) -> PlanError
     }
 }
 
-/// Tells that an instance is of a negative cost.
+/// Reports that an instance is of a negative cost.
 fn negative_cost(alloc: Global, task: &LiftedTask, instance: &Instance) -> PlanError
     ensures { (steps : List Step)
         → IsFirstFaultBy task.now steps (faults.NegativeCost instance.now)
@@ -35,7 +35,7 @@ fn negative_cost(alloc: Global, task: &LiftedTask, instance: &Instance) -> PlanE
     }
 }
 
-/// Tells a fault.
+/// Reports a fault.
 fn told(alloc: Global, task: &LiftedTask, fault: &Fault) -> PlanError
     ensures { (steps : List Step) → IsFirstFaultBy task.now steps fault.now
         → Tells task.now steps result }
@@ -50,7 +50,7 @@ fn told(alloc: Global, task: &LiftedTask, fault: &Fault) -> PlanError
     }
 }
 
-/// Tells why a plan is not validated.
+/// Reports why a plan is not validated.
 pub(crate) fn error_of(alloc: Global, task: &LiftedTask, stop: &Stop) -> PlanError
     ensures { (steps : List Step) → StopsBy (IsFirstFaultBy task.now steps) stop.now
         → Tells task.now steps result }

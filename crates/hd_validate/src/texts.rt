@@ -6,7 +6,7 @@ use hd_base::NoMemory;
 use hd_lifted::{Ground, Instance, LiftedTask, Object};
 use std::alloc::Global;
 
-/// The name of the object of this number.
+/// Returns the name of the object of this number.
 fn object_name(objects: &[Object], number: usize) -> &str
     ensures { result.now ≡ name_of_object (slice_get objects.now number) }
 {
@@ -16,7 +16,7 @@ fn object_name(objects: &[Object], number: usize) -> &str
     }
 }
 
-/// The name of the function of this number.
+/// Returns the name of the function of this number.
 fn function_name(task: &LiftedTask, number: usize) -> &str
     ensures { result.now ≡ name_of_function (slice_get task.now.functions number) }
 {
@@ -26,7 +26,7 @@ fn function_name(task: &LiftedTask, number: usize) -> &str
     }
 }
 
-/// The name of the schema of this number.
+/// Returns the name of the schema of this number.
 fn schema_name(task: &LiftedTask, number: usize) -> &str
     ensures { result.now ≡ name_of_schema (slice_get task.now.schemas number) }
 {
@@ -36,7 +36,7 @@ fn schema_name(task: &LiftedTask, number: usize) -> &str
     }
 }
 
-/// An object behind a space, behind a text.
+/// Appends an object after a space to a text.
 fn push_object(text: &mut String, objects: &[Object], number: usize) -> Result<(), NoMemory>
     ensures { OnOk result (string_bytes text.new
         ≡ string_bytes text.old ++ object_text objects.now number) }
@@ -45,7 +45,7 @@ fn push_object(text: &mut String, objects: &[Object], number: usize) -> Result<(
     text.push_str(object_name(objects, number))
 }
 
-/// Objects, each behind a space, behind a text.
+/// Objects, each after a space, after a text.
 fn push_objects(text: &mut String, objects: &[Object], numbers: &[usize]) -> Result<(), NoMemory>
     ensures { OnOk result (string_bytes text.new
         ≡ string_bytes text.old ++ flat_map (object_text objects.now) numbers.now) }
@@ -56,7 +56,7 @@ fn push_objects(text: &mut String, objects: &[Object], numbers: &[usize]) -> Res
     Ok(())
 }
 
-/// A name and objects in parentheses, with single spaces.
+/// Returns a name and objects in parentheses, with single spaces.
 fn form_text(
     alloc: Global,
     name: &str,
@@ -73,7 +73,7 @@ fn form_text(
     Ok(text)
 }
 
-/// A fluent in its ground form, such as `(fuel truck)`.
+/// Returns a fluent in its ground form, such as `(fuel truck)`.
 pub(crate) fn fluent_text(
     alloc: Global,
     task: &LiftedTask,
@@ -90,7 +90,7 @@ pub(crate) fn fluent_text(
     )
 }
 
-/// An instance in its ground form, such as `(drive truck depot)`.
+/// Returns an instance in its ground form, such as `(drive truck depot)`.
 pub(crate) fn instance_text(
     alloc: Global,
     task: &LiftedTask,

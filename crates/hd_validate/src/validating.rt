@@ -74,7 +74,7 @@ fn judge_all(
     judge_goal(alloc, lookups, place, number)
 }
 
-/// What a plan costs that begins here, or where its judgement stops.
+/// Returns what a plan costs that begins here, or where its judgement stops.
 #[tactic(auto, using(crate::proofs::Judged::validated_from, crate::proofs::Stepping::tells_from))]
 fn cost_from(
     alloc: Global,
@@ -96,7 +96,7 @@ fn cost_from(
     }
 }
 
-/// What a plan of a task costs, or where its judgement stops.
+/// Returns what a plan of a task costs, or where its judgement stops.
 fn cost_of(alloc: Global, seed: Seed, checked: &Checked, steps: &[Step]) -> Result<u64, Stop>
     ensures valid { IfOk result (IsValidatedBy checked.now steps.now) }
     ensures tells { IfErr result (StopsBy (IsFirstFaultBy checked.now steps.now)) }
@@ -116,10 +116,10 @@ fn cost_of(alloc: Global, seed: Seed, checked: &Checked, steps: &[Step]) -> Resu
 /// The tables hash by the seed.
 ///
 /// # Errors
-/// The first fault, in the order of the steps, with the goal behind them. Of each step it is asked
+/// The first fault, in the order of the steps, with the goal after them. Of each step it is asked
 /// whether there is such an instance, then its conditions on atoms and objects, first values, a
 /// cost that is negative in each state, its comparisons, and its effects; and of the goal the same.
-/// Or want of memory.
+/// Or lack of memory.
 pub fn validate(
     alloc: Global,
     seed: Seed,

@@ -1,4 +1,4 @@
-//! What `clap` is told of the command line.
+//! What `clap` is reported of the command line.
 
 use clap::{Arg, ArgAction, Command};
 use std::alloc::{AllocError, Global};
@@ -6,7 +6,7 @@ use std::alloc::{AllocError, Global};
 /// The name of the program, whatever its file is called.
 const NAME: &str = "hplan";
 
-/// What `--version` says behind the name: the version, the versions of journals, and the toolchain
+/// What `--version` says after the name: the version, the versions of journals, and the toolchain
 /// that has proved the program.
 const VERSION: &str = "\
 0.1.0
@@ -123,7 +123,7 @@ Exit status:
   1   an error, on one line; `19 BadLine(N)`: line N is no move
   2   the command line is wrong";
 
-/// An argument that has to be given, by its place.
+/// Returns an argument that has to be given, by its place.
 fn file<'a>(alloc: Global, id: &'a str, name: &'a str, help: &'a str) -> Arg<'a> {
     Arg::new(alloc, id)
         .value_name(name)
@@ -131,7 +131,7 @@ fn file<'a>(alloc: Global, id: &'a str, name: &'a str, help: &'a str) -> Arg<'a>
         .required(true)
 }
 
-/// The number of workers, 4 where it is not given.
+/// Returns the number of workers, 4 where it is not given.
 fn workers<'a>(alloc: Global) -> Arg<'a> {
     Arg::new(alloc, "workers")
         .long("workers")
@@ -141,7 +141,7 @@ fn workers<'a>(alloc: Global) -> Arg<'a> {
         .default_value("4")
 }
 
-/// The number of expansions that the search stops at; none where it is not given.
+/// Returns the number of expansions that the search stops at; none where it is not given.
 fn limit<'a>(alloc: Global) -> Arg<'a> {
     Arg::new(alloc, "limit")
         .long("limit")
@@ -150,7 +150,7 @@ fn limit<'a>(alloc: Global) -> Arg<'a> {
         .value_parser(clap::value_parser!(u64).range(1..=1_099_511_627_774))
 }
 
-/// Whether the search tells how it stands.
+/// Reports whether the search reports how it stands.
 fn progress<'a>(alloc: Global) -> Arg<'a> {
     Arg::new(alloc, "progress")
         .long("progress")
@@ -158,14 +158,14 @@ fn progress<'a>(alloc: Global) -> Arg<'a> {
         .action(ArgAction::SetTrue)
 }
 
-/// A command that reads a domain and a problem.
+/// Returns a command that reads a domain and a problem.
 fn of_task<'a>(alloc: Global, name: &'a str) -> Result<Command<'a>, AllocError> {
     Command::new(alloc, name)
         .arg(file(alloc, "domain", "DOMAIN", "The file with the domain"))?
         .arg(file(alloc, "problem", "PROBLEM", "The file with the problem"))
 }
 
-/// The file that a search is kept in.
+/// Returns the file that a search is kept in.
 fn journal<'a>(alloc: Global, help: &'a str, required: bool) -> Arg<'a> {
     Arg::new(alloc, "journal")
         .long("journal")
@@ -208,7 +208,7 @@ fn certify<'a>(alloc: Global) -> Result<Command<'a>, AllocError> {
         .arg(journal(alloc, "The file that the search is kept in", true))
 }
 
-/// Whether what stands before the damage of a journal is kept.
+/// Reports whether what stands before the damage of a journal is kept.
 fn salvage<'a>(alloc: Global) -> Arg<'a> {
     Arg::new(alloc, "salvage")
         .long("salvage")
@@ -232,7 +232,7 @@ fn migrate<'a>(alloc: Global) -> Result<Command<'a>, AllocError> {
         .arg(salvage(alloc))
 }
 
-/// An argument that may be given, by its place.
+/// Returns an argument that may be given, by its place.
 fn file_if<'a>(alloc: Global, id: &'a str, name: &'a str, help: &'a str) -> Arg<'a> {
     Arg::new(alloc, id).value_name(name).help(help)
 }
@@ -256,7 +256,7 @@ fn ground<'a>(alloc: Global) -> Result<Command<'a>, AllocError> {
     )
 }
 
-/// Whether the reason of a refusal is told.
+/// Reports whether the reason of a refusal is reported.
 fn explain<'a>(alloc: Global) -> Arg<'a> {
     Arg::new(alloc, "explain")
         .long("explain")
@@ -281,7 +281,7 @@ fn replay<'a>(alloc: Global) -> Result<Command<'a>, AllocError> {
         .arg(file(alloc, "schedule", "SCHEDULE", "The file with the schedule"))
 }
 
-/// A command with one more below it, if that could be made.
+/// Returns a command with one more below it, if that could be made.
 fn with<'a>(
     command: Command<'a>,
     below: Result<Command<'a>, AllocError>,
@@ -295,7 +295,7 @@ fn with<'a>(
     }
 }
 
-/// The program without its commands.
+/// Returns the program without its commands.
 fn program<'a>(alloc: Global) -> Result<Command<'a>, AllocError> {
     Ok(
         Command::new(alloc, NAME)
@@ -307,7 +307,7 @@ fn program<'a>(alloc: Global) -> Result<Command<'a>, AllocError> {
     )
 }
 
-/// The whole command line.
+/// Returns the whole command line.
 pub fn command_line<'a>(alloc: Global) -> Result<Command<'a>, AllocError> {
     let line = program(alloc)?;
     let line = with(line, solve(alloc))?;

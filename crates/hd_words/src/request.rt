@@ -15,14 +15,14 @@ pub const MAX_WORKERS: u32 = 64;
 pub const MAX_LIMIT: u64 = 1_099_511_627_774;
 
 /// How a search goes: by how many workers, at how many expansions it stops, if at any, and whether
-/// it tells how it stands.
+/// it reports how it stands.
 #[derive(Clone, Copy, Debug, PartialEq, Eq)]
 pub struct Search {
     /// From 1 to [`MAX_WORKERS`].
     pub workers: u32,
     /// From 1 to [`MAX_LIMIT`].
     pub limit: Option<u64>,
-    /// Whether it tells on standard error how it stands.
+    /// Whether it reports on standard error how it stands.
     pub progress: bool,
 }
 
@@ -102,7 +102,7 @@ pub enum Request {
         problem: String,
         /// The name of the file with the plan.
         plan: String,
-        /// Whether the reason of a refusal is told.
+        /// Whether the reason of a refusal is reported.
         explain: bool,
     },
     /// To play a schedule of the search of a task.
@@ -116,7 +116,7 @@ pub enum Request {
     },
 }
 
-/// What `clap` answers in place of matches: its text, and where it goes.
+/// Returns what `clap` answers in place of matches: its text, and where it goes.
 fn refusal_of(alloc: Global, error: Error) -> WordsError {
     if error.kind() == ErrorKind::OutOfMemory {
         return WordsError::NoMemory;
@@ -128,7 +128,7 @@ fn refusal_of(alloc: Global, error: Error) -> WordsError {
     }
 }
 
-/// A number of workers, if it is one of 1 to 64.
+/// Returns a number of workers, if it is one of 1 to 64.
 fn workers_in(found: &ArgMatches<'_>) -> Option<u32>
     ensures { IfSome result IsWorkers }
 {
@@ -139,8 +139,8 @@ fn workers_in(found: &ArgMatches<'_>) -> Option<u32>
     Some(workers)
 }
 
-/// How a search is to go, if its number of workers is one of 1 to 64, and its limit, where it has
-/// one, one of 1 to [`MAX_LIMIT`].
+/// Returns how a search is to go, if its number of workers is one of 1 to 64, and its limit, where
+/// it has one, one of 1 to [`MAX_LIMIT`].
 fn search_in(found: &ArgMatches<'_>) -> Option<Search>
     ensures { IfSome result IsSearchOf }
 {
@@ -161,7 +161,7 @@ fn search_in(found: &ArgMatches<'_>) -> Option<Search>
     }
 }
 
-/// A text that may be there, as one of its own.
+/// Returns a text that may be there, as one of its own.
 fn owned(alloc: Global, text: Option<&str>) -> Result<Option<String>, AllocError> {
     match text {
         Some(text) => Ok(Some(String::from_str(alloc, text)?)),
@@ -169,7 +169,7 @@ fn owned(alloc: Global, text: Option<&str>) -> Result<Option<String>, AllocError
     }
 }
 
-/// The request to solve, if its number of workers is one of 1 to 64.
+/// Returns the request to solve, if its number of workers is one of 1 to 64.
 fn solve_request(
     alloc: Global,
     domain: &str,
@@ -209,7 +209,7 @@ fn resume_request(
     }))
 }
 
-/// The request to certify, if its journal is named.
+/// Returns the request to certify, if its journal is named.
 fn certify_request(
     alloc: Global,
     domain: &str,
@@ -228,7 +228,7 @@ fn certify_request(
     }))
 }
 
-/// The request to migrate, if both files are named.
+/// Returns the request to migrate, if both files are named.
 fn migrate_request(
     alloc: Global,
     domain: &str,
@@ -249,7 +249,7 @@ fn migrate_request(
     }))
 }
 
-/// The request to validate, if its plan is named.
+/// Returns the request to validate, if its plan is named.
 fn validate_request(
     alloc: Global,
     domain: &str,
@@ -270,7 +270,7 @@ fn validate_request(
     }))
 }
 
-/// The request to play a schedule, if that is named.
+/// Returns the request to play a schedule, if that is named.
 fn replay_request(
     alloc: Global,
     domain: &str,
@@ -289,7 +289,7 @@ fn replay_request(
     }))
 }
 
-/// The request to inspect, if its journal is named, and both files of a task or neither.
+/// Returns the request to inspect, if its journal is named, and both files of a task or neither.
 fn inspect_request(alloc: Global, found: &ArgMatches<'_>) -> Result<Option<Request>, AllocError>
     ensures { IfOk result (λ found. IfSome found IsWithin) }
 {
@@ -307,7 +307,7 @@ fn inspect_request(alloc: Global, found: &ArgMatches<'_>) -> Result<Option<Reque
     }
 }
 
-/// The request of the command of this name, if its files are named.
+/// Returns the request of the command of this name, if its files are named.
 fn named_request(
     alloc: Global,
     name: &str,
@@ -339,7 +339,7 @@ fn named_request(
     }
 }
 
-/// The request that `clap`'s matches are, if they are one.
+/// Returns the request that `clap`'s matches are, if they are one.
 fn request_of(alloc: Global, matches: &ArgMatches<'_>) -> Result<Option<Request>, AllocError>
     ensures { IfOk result (λ found. IfSome found IsWithin) }
 {

@@ -63,7 +63,7 @@ all_drop P (suc n) [] all = tt
 all_drop P zero (x ∷ xs) all = all
 all_drop P (suc n) (x ∷ xs) all = all_drop P n xs all.1
 
--- outcomes of a task stay so when they are named anew
+-- outcomes of a task stay so when they are named again
 pub all_renamed : (t : Task) (first : ℕ) (given : List ℕ) (outcomes : List Outcome) → AllByRecursion (IsOf t) outcomes → AllByRecursion (IsOf t) (map (outcome_numbered first given) outcomes)
 all_renamed t first given [] all = tt
 all_renamed t first given (Expanded e ∷ outcomes) all = (all.0, all_renamed t first given outcomes all.1)
@@ -75,7 +75,7 @@ pub ranks-some : (n : ℕ) (outcomes : List Outcome) → 1 ≤ length outcomes �
 ranks-some n [] some = λ e. absurd (let none : length {A = Outcome} [] ≡ 0 = refl in omega arith)
 ranks-some n (o ∷ outcomes) some = λ e. absurd (cc)
 
--- outcomes release as many parcels as they have kids
+-- outcomes release as many parcels as they have successors
 released_here : (n : ℕ) (o : Outcome) → length (released_at n o) ≡ kids_at o
 released_here n (Expanded e) = length-map e.children (released_from n)
 released_here n (Duplicate k by) = refl

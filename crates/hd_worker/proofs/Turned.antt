@@ -36,7 +36,7 @@ module _ (t : Task) (id workers : ℕ) (given : List ℕ) (outbox : List Release
   abbrev pub after : WorkerView
   after = worker_by t id workers given outbox seen lent f' outcomes'
 
-  -- the outcome of the open node at a place stands behind the others
+  -- the outcome of the open node at a place stands after the others
   settled_is : (place pick : ℕ) (o : Outcome) → before ≡ w → place ≡ length given + length outcomes → f' ≡ settled_at place pick o f → outcomes' ≡ outcomes ++ o ∷ [] → after ≡ with_outcome pick o w
   settled_is place pick o is named settled more =
       ap₂ (λ (g : FrontierView) (os : List Outcome). worker_by t id workers given outbox seen lent g os) (settled ∙ ap (λ (n : ℕ). settled_at n pick o f) named) more
@@ -64,7 +64,7 @@ module _ (t : Task) (id workers : ℕ) (given : List ℕ) (outbox : List Release
       (subst (λ (x : WorkerView). IsBest (total_at u) x.waiting settles.0) is (subst (λ (v : Task). IsBest (total_at v) f.waiting settles.0) own settles.1))
       (settled_to place settles.0 o u is own named more settles.2)
 
--- a batch is given, where there is room for its kids
+-- a batch is given, where there is room for its successors
 pub batch_given :
     (w v : WorkerView) (given : List ℕ) (outcomes : List Outcome) (kids : ℕ) → v ≡ with_room_for kids w → given ≡ ranks 0 (batch_of w) → outcomes ≡ drop MAX_OUTCOMES w.outcomes
     → kids ≡ kids_in (batch_of w) → record v { given = given; outcomes = outcomes } ≡ after_batch w

@@ -50,7 +50,7 @@ closed_too n s cost f = record {
   room = f.room;
 }
 
--- all expansions are named anew
+-- all expansions are named again
 abbrev pub all_numbered : ℕ → List ℕ → FrontierView → FrontierView
 all_numbered first given f = record { task = f.task; waiting = f.waiting; closed = map (closed_numbered first given) f.closed; room = f.room }
 

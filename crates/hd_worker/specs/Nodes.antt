@@ -11,7 +11,7 @@ use Rattle.hd_closed.specs.Closed.{ClosedView, state_at}
 use Rattle.hd_worker.specs.declared.node.Node.{Node}
 use Rattle.hd_turns.specs.Totals.{total_of}
 
--- the kid of a node, which is kept in two parts
+-- the successor of a node, which is kept in two parts
 abbrev pub kid_of : Node → Kid
 kid_of n = record { parent = n.parent; action = n.action }
 
@@ -19,7 +19,7 @@ kid_of n = record { parent = n.parent; action = n.action }
 abbrev pub released_of : List State → Node → Released
 released_of states n = record { kid = kid_of n; state = state_at states n.state; cost = n.cost }
 
--- the open nodes, and behind them the parcels that came and are not estimated yet
+-- the open nodes, and after them the parcels that came and are not estimated yet
 abbrev pub waiting_by : List State → List Node → List ParcelView → List Released
 waiting_by states nodes fresh = map (released_of states) nodes ++ map parcel_of fresh
 

@@ -17,7 +17,7 @@ use hd_open::OpenList;
 use std::alloc::{AllocError, Global};
 use std::collections::VecDeque;
 
-/// A place in the closed list, in 32 bits.
+/// Returns a place in the closed list, in 32 bits.
 ///
 /// # Errors
 /// `NoMemory` where it has more.
@@ -30,7 +30,7 @@ fn short(place: usize) -> Result<u32, NoMemory>
     }
 }
 
-/// The node of a parcel, whose state is in the closed list from then on, with its estimate.
+/// Returns the node of a parcel, whose state is in the closed list from then on, with its estimate.
 ///
 /// # Errors
 /// `NoMemory` where there is no room for them.
@@ -63,7 +63,7 @@ fn node_for<'t>(
     })
 }
 
-/// The node of the first parcel that came is open, behind the others; the parcel is dropped.
+/// The node of the first parcel that came is open, after the others; the parcel is dropped.
 ///
 /// # Errors
 /// `NoMemory` where there is no room for it; nothing has changed.
@@ -90,7 +90,7 @@ fn open_first<'t>(
     }
 }
 
-/// The parcels that came become open nodes, in their order, behind the others. Each is estimated,
+/// The parcels that came become open nodes, in their order, after the others. Each is estimated,
 /// unless its state was before. Room for so many to come is kept.
 ///
 /// # Errors
@@ -126,8 +126,8 @@ pub(crate) fn open_all<'t>(
     Ok(())
 }
 
-/// The first parcels that came become open nodes, as by [`open_all`], but so many of them at most:
-/// whether all are open nodes now.
+/// Opens the first `most` parcels that came, as [`open_all`] does; returns whether all that came
+/// are open nodes now.
 ///
 /// # Errors
 /// As there.

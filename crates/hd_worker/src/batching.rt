@@ -15,7 +15,7 @@ use hd_node::{Batch, MAX_OUTCOMES, Outcome};
 use std::alloc::Global;
 use std::mem;
 
-/// One outcome more, where there is room for it.
+/// Adds one outcome more, where there is room for it.
 pub(crate) fn push_outcome<'t>(outcomes: &mut Vec<Outcome<'t>>, outcome: Outcome<'t>)
     requires { vec_len outcomes.old < vec_capacity outcomes.old }
     ensures { outcomes.new.items ≡ outcomes.old.items ++ outcome.entry ∷ [] }
@@ -26,7 +26,7 @@ pub(crate) fn push_outcome<'t>(outcomes: &mut Vec<Outcome<'t>>, outcome: Outcome
     }
 }
 
-/// How many kids outcomes have.
+/// Returns how many successors outcomes have.
 fn kids_of(outcomes: &[Outcome]) -> usize
     requires fits { kids_in outcomes.now < 2 ^ 64 }
     ensures { result ≡ kids_in outcomes.now }
@@ -59,8 +59,8 @@ fn ranks_of(alloc: Global, outcomes: &[Outcome]) -> Result<Vec<u64>, NoMemory>
     Ok(ranks)
 }
 
-/// The first outcomes, so many of them, which leave the list. Where none is left, the list keeps
-/// room for as many to come.
+/// Returns the first outcomes, so many of them, which leave the list. Where none is left, the list
+/// keeps room for as many to come.
 ///
 /// # Errors
 /// `NoMemory` where there is no room for the others; the list is as it was.
@@ -82,7 +82,7 @@ fn split_first<'t>(
     Ok(mem::replace(outcomes, rest))
 }
 
-/// Names an outcome anew.
+/// Names an outcome again.
 fn number_one<'t>(outcome: &mut Outcome<'t>, first: u64, given: &[u64])
     requires { (k : ℕ) → first + slice_index given.now k < 2 ^ 64 }
     ensures { outcome.new ≡ outcome_numbered first given.now outcome.old }
@@ -92,7 +92,7 @@ fn number_one<'t>(outcome: &mut Outcome<'t>, first: u64, given: &[u64])
     }
 }
 
-/// Names outcomes anew.
+/// Names outcomes again.
 fn number_all<'t>(outcomes: &mut [Outcome<'t>], first: u64, given: &[u64])
     requires { (k : ℕ) → first + slice_index given.now k < 2 ^ 64 }
     ensures { outcomes.new ≡ map (outcome_numbered first given.now) outcomes.old }
@@ -103,8 +103,8 @@ fn number_all<'t>(outcomes: &mut [Outcome<'t>], first: u64, given: &[u64])
 }
 
 impl<'t> Worker<'t> {
-    /// The batch of the first outcomes, at most [`MAX_OUTCOMES`]; none where there are no outcomes.
-    /// It makes the room for what the batch releases, and for its numbers.
+    /// Returns the batch of the first outcomes, at most [`MAX_OUTCOMES`]; none where there are no
+    /// outcomes. It makes the room for what the batch releases, and for its numbers.
     ///
     /// # Errors
     /// `NoMemory` where there is none; the worker is as it was.
@@ -155,7 +155,8 @@ impl<'t> Worker<'t> {
     }
 
     /// The batch that was given last is numbered from `first` on: its expansions are these entries.
-    /// It takes no memory. A batch that was refused is numbered from a number on that no entry has.
+    /// It does not allocate. A batch that was refused is numbered from a number on that no entry
+    /// has.
     pub fn committed(&mut self, first: u64)
         requires given { self.old.given ≢ [] }
         requires fits { first + MAX_OUTCOMES ≤ 2 ^ 64 }

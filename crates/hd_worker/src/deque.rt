@@ -41,7 +41,7 @@ pub(crate) fn give_back<T>(queue: &mut VecDeque<T>, room: usize)
     }
 }
 
-/// One item more, behind the others, where there is room for it.
+/// Adds one item more, after the others, where there is room for it.
 pub(crate) fn push_reserved<T: Drop>(queue: &mut VecDeque<T>, item: T)
     requires { deque_len queue.old < deque_capacity queue.old }
     ensures items { queue.new.items ≡ queue.old.items ++ item ∷ [] }
@@ -54,7 +54,7 @@ pub(crate) fn push_reserved<T: Drop>(queue: &mut VecDeque<T>, item: T)
     }
 }
 
-/// One item more, before the others, where there is room for it.
+/// Adds one item more, before the others, where there is room for it.
 pub(crate) fn push_front_reserved<T: Drop>(queue: &mut VecDeque<T>, item: T)
     requires { deque_len queue.old < deque_capacity queue.old }
     ensures items { queue.new.items ≡ item ∷ queue.old.items }
@@ -67,7 +67,7 @@ pub(crate) fn push_front_reserved<T: Drop>(queue: &mut VecDeque<T>, item: T)
     }
 }
 
-/// One item more, behind the others, which leaves room for so many.
+/// Adds one item more, after the others, which leaves room for so many.
 ///
 /// # Errors
 /// The item, where there is no room for it; the room is as it was.

@@ -14,7 +14,8 @@ use crate::{Lookup, Worker};
 use hd_base::NoMemory;
 use hd_node::Outcome;
 
-/// The place of the next outcome, counted from the first one of the batch that was given last.
+/// Returns the place of the next outcome, counted from the first one of the batch that was given
+/// last.
 fn next_place(given: &Vec<u64>, outcomes: &Vec<Outcome<'_>>) -> usize
     requires { vec_len given.now ≤ MAX_OUTCOMES }
     ensures { result ≡ vec_len given.now + vec_len outcomes.now }
@@ -24,7 +25,7 @@ fn next_place(given: &Vec<u64>, outcomes: &Vec<Outcome<'_>>) -> usize
     given.len() + outcomes.len()
 }
 
-/// The bytes of the states of an outcome's children.
+/// Returns the bytes of the states of an outcome's children.
 fn bytes_of(outcome: &Outcome<'_>) -> usize
     ensures { result ≡ min (bytes_of outcome.now) (2 ^ 64 - 1) }
 {
@@ -38,8 +39,8 @@ fn bytes_of(outcome: &Outcome<'_>) -> usize
 }
 
 impl<'t> Worker<'t> {
-    /// The bytes of the states of the last outcome's children: 0 where it has none, or there is no
-    /// outcome.
+    /// Returns the bytes of the states of the last outcome's children: 0 where it has none, or
+    /// there is no outcome.
     pub fn last_bytes(&self) -> usize
         ensures { result ≡ min (last_bytes self.now.outcomes) (2 ^ 64 - 1) }
     {
@@ -63,8 +64,8 @@ impl<'t> Worker<'t> {
         self.frontier.open_some(&mut lookup.hmax, most)
     }
 
-    /// The place of the open node of the least cost plus estimate, the earliest of equal ones;
-    /// those of infinite estimates come last. None where nothing is open. Nodes that have no
+    /// Returns the place of the open node of the least cost plus estimate, the earliest of equal
+    /// ones; those of infinite estimates come last. None where nothing is open. Nodes that have no
     /// estimate yet are estimated, unless their state was before.
     ///
     /// # Errors
@@ -80,8 +81,8 @@ impl<'t> Worker<'t> {
         self.frontier.best(&mut lookup.hmax)
     }
 
-    /// The least cost plus estimate of the open nodes: that of the node whose place `best` answers.
-    /// None where each estimate is infinite, or nothing is open.
+    /// Returns the least cost plus estimate of the open nodes: that of the node whose place `best`
+    /// answers. None where each estimate is infinite, or nothing is open.
     ///
     /// # Errors
     /// `NoMemory` where there is no room for what is kept of estimates.

@@ -30,7 +30,7 @@ pub(crate) struct Frontier<'t> {
     task: &'t Task,
     known: ClosedList<'t>,
     nodes: OpenList<Node>,
-    /// Parcels that came behind the open nodes, and are not estimated yet.
+    /// Parcels that came after the open nodes, and are not estimated yet.
     fresh: VecDeque<Parcel<'t>>,
     /// How many parcels may still come without memory.
     room: usize,
@@ -60,7 +60,7 @@ impl<'t> Model for Frontier<'t> {
 }
 
 impl<'t> Frontier<'t> {
-    /// No nodes and no expansions.
+    /// Returns no nodes and no expansions.
     pub(crate) fn empty(alloc: Global, task: &'t Task) -> Frontier<'t>
         ensures { result ≡ empty_frontier task.now }
     {
@@ -74,7 +74,7 @@ impl<'t> Frontier<'t> {
         }
     }
 
-    /// How many parcels may still come without memory.
+    /// Returns how many parcels may still come without memory.
     pub(crate) fn room(&self) -> usize
         ensures { result ≡ self.now.room }
     {
@@ -127,7 +127,7 @@ impl<'t> Frontier<'t> {
         self.room -= less;
     }
 
-    /// Estimates parcels that came behind the open nodes, so many of them at most: whether all that
+    /// Estimates parcels that came after the open nodes, so many of them at most: whether all that
     /// are open are estimated now.
     ///
     /// # Errors
@@ -152,8 +152,8 @@ impl<'t> Frontier<'t> {
         )
     }
 
-    /// The place of the open node of the least cost plus estimate, the earliest of equal ones; none
-    /// where nothing is open.
+    /// Returns the place of the open node of the least cost plus estimate, the earliest of equal
+    /// ones; none where nothing is open.
     ///
     /// # Errors
     /// `NoMemory` where there is no room for the estimates.
@@ -176,8 +176,8 @@ impl<'t> Frontier<'t> {
         Ok(self.nodes.best())
     }
 
-    /// The least cost plus estimate of the open nodes; none where each estimate is infinite, or
-    /// nothing is open.
+    /// Returns the least cost plus estimate of the open nodes; none where each estimate is
+    /// infinite, or nothing is open.
     ///
     /// # Errors
     /// `NoMemory` where there is no room for the estimates.
@@ -304,7 +304,7 @@ impl<'t> Frontier<'t> {
         Ok(())
     }
 
-    /// Names all expansions anew, once the batch that was given last is numbered from `first` on.
+    /// Names all expansions again, once the batch that was given last is numbered from `first` on.
     pub(crate) fn number(&mut self, first: u64, given: &[u64])
         requires { (k : ℕ) → first + slice_index given.now k < 2 ^ 64 }
         ensures { self.new ≡ all_numbered first given.now self.old }

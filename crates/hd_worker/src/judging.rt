@@ -19,7 +19,7 @@ use hd_open::{OpenList, Waits};
 use hd_task::Task;
 use std::alloc::Global;
 
-/// Whether a total reaches a bound, or there is none.
+/// Reports whether a total reaches a bound, or there is none.
 fn is_reached(bound: Option<u64>, total: Option<u128>) -> bool
     ensures reached { result ≡ is_reached bound total }
     ensures small { IfSome total (λ _. IfSome bound (λ limit. limit < 2 ^ 64)) }
@@ -31,7 +31,7 @@ fn is_reached(bound: Option<u64>, total: Option<u128>) -> bool
     }
 }
 
-/// The parcel of a node: its state is copied from the closed list.
+/// Returns the parcel of a node: its state is copied from the closed list.
 ///
 /// # Errors
 /// `NoMemory` where there is no room for the state.
@@ -52,9 +52,9 @@ fn parcel_at<'t>(
     Ok(Parcel::known(task, node.kid(), state, node.cost))
 }
 
-/// The outcome of a node: a duplicate where an expansion of its state costs no more; else bounded
-/// where its cost and its estimate reach the bound that was seen last, or its estimate is infinite;
-/// else its expansion.
+/// Returns the outcome of a node: a duplicate where an expansion of its state costs no more; else
+/// bounded where its cost and its estimate reach the bound that was seen last, or its estimate is
+/// infinite; else its expansion.
 ///
 /// # Errors
 /// `NoMemory` where there is no room for its state or its expansion.

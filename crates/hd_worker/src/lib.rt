@@ -1,8 +1,14 @@
-//! A worker of a search: its open nodes, its closed list, its outcomes, and the parcels that it
-//! sends to others.
+//! Implements a worker of a search: open nodes, closed list, outcomes, and parcels for others.
 //!
-//! hd_turns says what each call does to plain lists, and that the batches of a worker are
-//! admissible where what it is given is true.
+//! Each call does what hd_turns defines, and changes nothing if memory is refused.
+//! [`Worker::expand_best`] settles the open node of least total, the oldest of equal ones.
+//! [`Worker::next_batch`] returns the first outcomes, at most `MAX_OUTCOMES`, as a batch.
+//!
+//! A new parcel waits in a queue until it is estimated. Then it is an open node, whose state stands
+//! only in the closed list. `next_batch` makes the room for what the batch releases, so
+//! [`Worker::released`] does not allocate. No call takes a lock or waits.
+//!
+//! Start reading at [`Worker`], then `src/judging.rt`, which settles a node.
 #![tactic(auto)]
 
 mod arriving;

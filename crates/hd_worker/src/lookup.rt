@@ -19,7 +19,7 @@ pub struct Lookup<'t> {
 }
 
 impl<'t> Lookup<'t> {
-    /// What is looked up for a task.
+    /// Returns what is looked up for a task.
     ///
     /// # Errors
     /// `NoMemory` where there is no room for it.

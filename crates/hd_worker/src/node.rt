@@ -13,7 +13,7 @@ use hd_task::Kid;
 /// is not kept here too.
 #[derive(Debug, Drop)]
 pub(crate) struct Node {
-    /// The kid, in two parts, so that it takes no more room than these.
+    /// The successor, in two parts, so that it takes no more room than these.
     pub(crate) parent: u64,
     pub(crate) cost: u64,
     /// Its cost plus its estimate; none where the estimate is infinite.
@@ -24,7 +24,7 @@ pub(crate) struct Node {
 }
 
 impl Node {
-    /// The kid that names the plan.
+    /// Returns the successor that names the plan.
     pub(crate) fn kid(&self) -> Kid
         ensures { result ≡ kid_of self.now }
     {
@@ -43,7 +43,7 @@ impl Waits for Node {
     }
 }
 
-/// A cost plus an estimate; none where the estimate is infinite.
+/// Returns a cost plus an estimate; none where the estimate is infinite.
 pub(crate) fn total_of(cost: u64, value: EstimateValue) -> Option<u128>
     ensures { result ≡ total_of cost (estimated value) }
 {

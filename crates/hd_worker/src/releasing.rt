@@ -13,7 +13,7 @@ use hd_node::Parcel;
 use hd_zobrist::owner;
 use std::collections::VecDeque;
 
-/// Whether the worker of this number, of so many, owns a parcel's state.
+/// Reports whether the worker of this number, of so many, owns a parcel's state.
 fn is_own(id: usize, workers: usize, parcel: &Parcel<'_>) -> bool
     requires some { 1 ≤ workers }
     requires most { workers ≤ MAX_WORKERS }

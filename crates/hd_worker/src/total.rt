@@ -31,7 +31,7 @@ impl Model for Total {
 }
 
 impl Total {
-    /// A total, or none.
+    /// Returns a total, or none.
     ///
     /// # Errors
     /// `NoMemory` where it has more than 64 bits, and there is no room for it.
@@ -51,7 +51,7 @@ impl Total {
         Ok(Total { code })
     }
 
-    /// The total, if there is one.
+    /// Returns the total, if there is one.
     pub(crate) fn get(&self) -> Option<u128>
         ensures { result ≡ self.now }
     {

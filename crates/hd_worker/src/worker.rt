@@ -77,7 +77,7 @@ impl<'t> Model for Worker<'t> {
 }
 
 impl<'t> Worker<'t> {
-    /// The worker of this number, of so many, with nothing open and nothing closed.
+    /// Returns the worker of this number, of so many, with nothing open and nothing closed.
     pub fn new(alloc: Global, task: &'t Task, id: usize, workers: usize) -> Worker<'t>
         requires within { id < workers }
         requires few { workers ≤ MAX_WORKERS }
@@ -111,7 +111,7 @@ impl<'t> Worker<'t> {
     }
 
     /// Parcels that a batch has released: those whose states this worker owns are open nodes, the
-    /// others are in the outbox. It takes no memory: the calls of `next_batch` made the room.
+    /// others are in the outbox. It does not allocate: the calls of `next_batch` made the room.
     pub fn released(&mut self, parcels: Vec<Parcel<'t>>)
         requires room { length parcels.items ≤ self.old.room }
         requires of_task { AllByRecursion (IsParcelOf self.old.task) parcels.items }
@@ -126,8 +126,8 @@ impl<'t> Worker<'t> {
         );
     }
 
-    /// The first parcel of the outbox, if there is one. It takes no memory, and leaves room for the
-    /// parcel to come back.
+    /// Returns the first parcel of the outbox, if there is one. It does not allocate, and leaves
+    /// room for the parcel to come back.
     pub fn next_out(&mut self) -> Option<Parcel<'t>>
         ensures sent { IfSome result (λ p. slice_get self.old.outbox 0 ≡ Some (parcel_of p)) }
         ensures of_task { IfSome result (λ p. p.task ≡ self.old.task) }
@@ -140,7 +140,7 @@ impl<'t> Worker<'t> {
         Some(parcel)
     }
 
-    /// The parcel that left the outbox last is its first again. It takes no memory.
+    /// The parcel that left the outbox last is its first again. It does not allocate.
     pub fn put_back(&mut self, parcel: Parcel<'t>)
         requires lent { self.old.lent ≡ true }
         requires of_task { parcel.task ≡ self.old.task }
@@ -157,7 +157,7 @@ impl<'t> Worker<'t> {
         self.seen = bound;
     }
 
-    /// An entry of the book is in the closed list, behind the others.
+    /// An entry of the book is in the closed list, after the others.
     ///
     /// # Errors
     /// `NoMemory` where there is no room for it; the worker is as it was.

@@ -169,8 +169,8 @@ pub record IsHeadline (t : Task) (digest start : List ℕ) (earlier : File) : Ty
       → Opens digest content calls f → is_recovered t f ≡ true
   -- no commit, no ticket and no group is refused for what it says
   pub admissible : (moves : List Move) (f : File) (r : Run) → Reaches Anything t digest start moves (Running f r) → AllIsAdmissible f r
-  -- no kid is lost: each that is posted and not settled is in exactly one place; so where nothing
-  -- is left to do, all is settled
+  -- no successor is lost: each that is posted and not settled is in exactly one place; so where
+  -- nothing is left to do, all is settled
   pub whole : (moves : List Move) (f : File) (r : Run) → Reaches Anything t digest start moves (Running f r) → IsWhole r
   pub ends : (moves : List Move) (f : File) (r : Run) → Reaches Anything t digest start moves (Running f r) → IsIdle r → is_over r.book.state ≡ true
   -- what is answered is true

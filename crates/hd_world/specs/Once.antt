@@ -1,4 +1,4 @@
--- In how many places of a running search a kid is. (Our own.)
+-- In how many places of a running search a successor is. (Our own.)
 use Rattle.std.specs.Prelude.{◌≡◌, ℕ, ◌+◌, ◌≤◌, ◌==◌, if◌then◌else◌, List, [], ◌∷◌, Option, Some, None}
 use Rattle.hd_task.specs.declared.plan.Kid.{Kid}
 use Rattle.hd_kids.specs.Kids.{same_kid}
@@ -17,7 +17,7 @@ abbrev pub total : {X : Type 0} → (X → ℕ) → List X → ℕ
 total weigh [] = 0
 total weigh (x ∷ xs) = weigh x + total weigh xs
 
--- ---- what the kids in each place weigh
+-- ---- what the successors in each place weigh
 
 abbrev pub in_parcels : (Kid → ℕ) → List Released → ℕ
 in_parcels weigh parcels = total (λ (p : Released). weigh p.kid) parcels
@@ -44,25 +44,25 @@ in_ticket weigh (Some o) = in_parcels weigh o.released.kids
 abbrev pub in_run : (Kid → ℕ) → Run → ℕ
 in_run weigh r = total (in_seat weigh) r.seats + total (in_parcels weigh) r.mailboxes + total (in_ticket weigh) r.book.batches.tickets
 
--- ---- one kid
+-- ---- one successor
 
--- each kid like this one weighs 1, and any other nothing
+-- each successor like this one weighs 1, and any other nothing
 abbrev pub only : Kid → Kid → ℕ
 only k q = if same_kid k q then 1 else 0
 
--- in how many places a kid may be: in one where it is posted and not settled, else in none
+-- in how many places a successor may be: in one where it is posted and not settled, else in none
 abbrev pub room_of : BookState → Kid → ℕ
 room_of b k = if is_marked b k then 0 else 1
 
--- each kid is in one place at most, and in none once it is settled
+-- each successor is in one place at most, and in none once it is settled
 abbrev pub IsOnce : Run → Type 0
 IsOnce r = (k : Kid) → in_run (only k) r ≤ room_of r.book.state k
 
--- and none is lost: each kid that is posted and not settled is in exactly one place
+-- and none is lost: each successor that is posted and not settled is in exactly one place
 abbrev pub IsWhole : Run → Type 0
 IsWhole r = (k : Kid) → in_run (only k) r ≡ room_of r.book.state k
 
--- nothing is left to do: no kid is anywhere
+-- nothing is left to do: no successor is anywhere
 abbrev pub IsIdle : Run → Type 0
 IsIdle r = in_run (λ k. 1) r ≡ 0
 

@@ -21,7 +21,7 @@ first_search = record { expanded = []; acknowledged = 0 }
 abbrev pub search_in : Task → File → Search
 search_in t f = record { expanded = expansions (resumed_state t (entries_of f)); acknowledged = length (entries_of f) }
 
--- more plans are expanded behind the others, and the list stays legal
+-- more plans are expanded after the others, and the list stays legal
 pub record Extends (t : Task) (a b : Search) (more : List (List ℕ)) : Type 0 where
   pub longer : b.expanded ≡ a.expanded ++ more
   pub legal : IsLegal t b.expanded

@@ -8,7 +8,7 @@ pub const MAX_TICKETS: usize = 4;
 /// How many parcels a mailbox has room for.
 pub const MAILBOX_PLACES: usize = 1024;
 
-/// The limits as numbers. It does nothing: its contract is the law.
+/// Law: the limits as numbers. It does nothing: its contract is the law.
 pub fn limits_are()
     ensures tickets { MAX_TICKETS ≡ 4 }
     ensures places { MAILBOX_PLACES ≡ 1024 }

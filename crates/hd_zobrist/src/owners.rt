@@ -5,7 +5,8 @@ ghost use Rattle.hd_zobrist.specs.declared.owners.TheConstants.{MAX_WORKERS};
 /// The greatest number of workers.
 pub const MAX_WORKERS: usize = 64;
 
-/// The worker that owns the states of this hash, of so many workers, which are numbered from 0.
+/// Returns the worker that owns the states of this hash, of so many workers, which are numbered
+/// from 0.
 pub fn owner(hash: u64, workers: usize) -> usize
     requires some { 1 ≤ workers }
     requires most { workers ≤ MAX_WORKERS }

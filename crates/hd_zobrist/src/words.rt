@@ -11,28 +11,28 @@ use rand_xoshiro::SplitMix64;
 use std::alloc::Global;
 use std::marker::Model;
 
-/// The first word of SplitMix64 from a number.
+/// Returns the first word of SplitMix64 from a number.
 fn word(number: u64) -> u64
     ensures { result ≡ word number }
 {
     SplitMix64::seed_from_u64(number).next_u64()
 }
 
-/// The word of an atom that is true.
+/// Returns the word of an atom that is true.
 fn atom_word(atom: usize) -> u64
     ensures { result ≡ atom_word atom }
 {
     word(2u64.wrapping_mul(atom as u64))
 }
 
-/// The word of a fluent's number.
+/// Returns the word of a fluent's number.
 fn place_word(fluent: usize) -> u64
     ensures { result ≡ place_word fluent }
 {
     word(2u64.wrapping_mul(fluent as u64).wrapping_add(1))
 }
 
-/// The words of the first atoms, as many as asked.
+/// Returns the words of the first atoms, as many as asked.
 #[tactic(auto, using(crate::proofs::Wrapping::words_more))]
 fn atom_words(alloc: Global, count: usize) -> Result<Vec<u64>, NoMemory>
     ensures words { IfOk result (λ v. (i w : ℕ) → slice_get v.items i ≡ Some w
@@ -46,7 +46,7 @@ fn atom_words(alloc: Global, count: usize) -> Result<Vec<u64>, NoMemory>
     Ok(words)
 }
 
-/// The words of the first fluents' numbers, as many as asked.
+/// Returns the words of the first fluents' numbers, as many as asked.
 #[tactic(auto, using(crate::proofs::Wrapping::words_more))]
 fn place_words(alloc: Global, count: usize) -> Result<Vec<u64>, NoMemory>
     ensures words { IfOk result (λ v. (j w : ℕ) → slice_get v.items j ≡ Some w
@@ -81,7 +81,7 @@ impl Model for Words {
 }
 
 impl Words {
-    /// The words of a task.
+    /// Returns the words of a task.
     ///
     /// # Errors
     /// `NoMemory` where there is no room for eight bytes an atom and a fluent.
@@ -103,7 +103,7 @@ impl Words {
         })
     }
 
-    /// The word of an atom that is true.
+    /// Returns the word of an atom that is true.
     #[inline(always)]
     fn of_atom(&self, atom: usize) -> u64
         ensures { result ≡ atom_word atom }
@@ -114,7 +114,7 @@ impl Words {
         }
     }
 
-    /// The word of a fluent's number.
+    /// Returns the word of a fluent's number.
     fn of_place(&self, fluent: usize) -> u64
         ensures { result ≡ place_word fluent }
     {
@@ -124,7 +124,7 @@ impl Words {
         }
     }
 
-    /// The word of a fluent with its value.
+    /// Returns the word of a fluent with its value.
     #[tactic(auto, unfolding(crate::specs::Hash::fluent_word))]
     fn of_fluent(&self, fluent: usize, value: &i64) -> u64
         ensures { result ≡ fluent_word fluent value.now }
@@ -132,7 +132,7 @@ impl Words {
         word(self.of_place(fluent) ^ value.cast_unsigned())
     }
 
-    /// The exclusive or of the words of the atoms that are true.
+    /// Returns the exclusive or of the words of the atoms that are true.
     fn hash_of_atoms(&self, atoms: &[bool]) -> u64
         ensures { result ≡ atoms_hash 0 atoms.now }
     {
@@ -149,7 +149,7 @@ impl Words {
         hash
     }
 
-    /// The exclusive or of the words of the fluents with their values.
+    /// Returns the exclusive or of the words of the fluents with their values.
     #[tactic(auto, using(crate::proofs::Hashing::fluents_next))]
     fn hash_of_fluents(&self, fluents: &[i64]) -> u64
         ensures { result ≡ fluents_hash 0 fluents.now }
@@ -165,7 +165,7 @@ impl Words {
         hash
     }
 
-    /// The hash of a state. It takes no memory.
+    /// The hash of a state. It does not allocate.
     #[tactic(auto, unfolding(crate::specs::Hash::state_hash))]
     pub fn hash(&self, state: &State) -> u64
         ensures { result ≡ state_hash state.now }
@@ -173,7 +173,7 @@ impl Words {
         self.hash_of_atoms(state.atoms.as_slice()) ^ self.hash_of_fluents(state.fluents.as_slice())
     }
 
-    /// What a change does to a hash, by exclusive or.
+    /// Returns what a change does to a hash, by exclusive or.
     #[inline(always)]
     fn of_change(&self, change: Change) -> u64
         ensures { result ≡ change_word change }
@@ -186,7 +186,7 @@ impl Words {
         }
     }
 
-    /// A hash with what changes do to it.
+    /// Returns a hash with what changes do to it.
     #[inline(always)]
     fn updated(&self, old_hash: u64, changes: &[Change]) -> u64
         ensures { result ≡ updated old_hash changes.now }
@@ -198,7 +198,7 @@ impl Words {
         hash
     }
 
-    /// The hash after changes, from the one before them. It takes no memory.
+    /// The hash after changes, from the one before them. It does not allocate.
     ///
     /// Where the changes are those between two states, one after the other, and the old hash is
     /// that of the one, this is that of the other.

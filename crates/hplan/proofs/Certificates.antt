@@ -1,4 +1,4 @@
--- From what a journal's entries show to what is told of it.
+-- From what a journal's entries show to what is reported of it.
 use Rattle.std.proofs.Common.{◌≡◌, ℕ, false, Bool, List, Option, Some, None, IfSome, sym, ◌∙◌, subst}
 use Rattle.std.proofs.lemmas.Option.{none-some, same_Some}
 use Rattle.std.specs.Prelude.{Result, Ok, Err, IfOk, IfErr, MatchOption}
@@ -70,7 +70,7 @@ certificate_by domain problem t task digest file (Ok c) is s =
     s
 certificate_by domain problem t task digest file (Err f) is s = tt
 
--- ---- what is told of an optimal plan
+-- ---- what is reported of an optimal plan
 
 cost_found : (t : Task) (p : List ℕ) (found : Option ℕ) (cost : ℕ) → found ≡ Some cost
     → MatchOption found (goes_through t p ≡ false) (λ c. (r : Node) × (exec t p ≡ Some r) × (r.cost ≡ c))

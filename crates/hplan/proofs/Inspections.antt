@@ -1,4 +1,4 @@
--- Why nothing is told of a file.
+-- Why nothing is reported of a file.
 use Rattle.std.proofs.Common.{◌≡◌, ℕ, List, Option, IfSome, subst}
 use Rattle.std.specs.Prelude.{Result, Ok, Err, IfErr}
 use Rattle.std.specs.declared.io.ErrorKind.{ErrorKind}

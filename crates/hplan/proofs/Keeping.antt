@@ -1,4 +1,4 @@
--- From what is told of a journal to what is told of the file that holds it.
+-- From what is reported of a journal to what is reported of the file that holds it.
 use Rattle.std.proofs.Common.{◌≡◌, ◌⊎◌, inl, inr, ℕ, ◌+◌, true, false, Ok, Err, Option, List, [], ◌∷◌, ◌++◌, map, length, refl, sym, ap, ◌∙◌, subst, IfSome, arith}
 use Rattle.std.specs.Prelude.{Result, IfOk, IfErr, OnOk}
 use Rattle.std.proofs.lemmas.List.{append-nil, map-append}
@@ -111,7 +111,7 @@ module _ {S : Type 0} {G : Ghosts S} where
     begins = refl;
   }
 
-  -- a journal that was begun has become a later one: it has whole groups, behind what it began
+  -- a journal that was begun has become a later one: it has whole groups, after what it began
   -- with
   grown : (start : Start) (digest before : List ℕ) (old new : of.Journal S G) → IsBegun start digest before old → Grows old new
       → (groups : List (List Kid)) × IsOf digest groups new × BeganWith start digest before new.version groups
@@ -331,7 +331,7 @@ module _ {S : Type 0} {G : Ghosts S} where
   unsolved_on start t digest before after old new (Err f) begun survives left refused =
       refused_run start t digest before after old new f begun survives left refused
 
-  -- the device failed behind what was found
+  -- the device failed after what was found
   pub failed_behind : (start : Start) (t : Task) (digest before after : List ℕ) (old new : of.Journal S G) → IsBegun start digest before old
       → Survives t old new → content_of (device_of new) ≡ after → HasNoSolution start t digest before after (Search searching.Device)
   failed_behind start t digest before after old new begun survives left =
@@ -345,7 +345,7 @@ module _ {X : Type 0} (found now : Result X Fault) where
   answer_stands P (inl same) k = subst (λ r. IfOk r P) (sym same) k
   answer_stands P (inr failed) k = subst (λ r. IfOk r P) (sym failed) tt
 
-  -- a fault is told as it was, or it is the device's
+  -- a fault is reported as it was, or it is the device's
   pub fault_stands : (P : Fault → Type 0) → StandsOrFails found now → IfErr found P → P (Search searching.Device) → IfErr now P
   fault_stands P (inl same) k failing = subst (λ r. IfErr r P) (sym same) k
   fault_stands P (inr failed) k failing = subst (λ r. IfErr r P) (sym failed) failing

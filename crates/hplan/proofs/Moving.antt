@@ -1,4 +1,4 @@
--- From entries that are read and written to what is told of the two files.
+-- From entries that are read and written to what is reported of the two files.
 use Rattle.std.proofs.Common.{◌≡◌, ◌≢◌, inl, inr, ℕ, ◌≤◌, ◌==◌, ◌||◌, nat_lt, true, List, [], map, length, arith, Option, IfSome, Ok, Err, refl, sym, ap, ◌∙◌, subst}
 use Rattle.std.specs.Prelude.{Result, IfOk, IfErr, OnOk}
 use Rattle.std.specs.List.{list_all}

@@ -1,4 +1,4 @@
--- From a schedule that is played to what is told of it.
+-- From a schedule that is played to what is reported of it.
 use Rattle.std.proofs.Common.{◌≡◌, ◌⊎◌, inl, inr, ℕ, List, Option, Some, None, Ok, Err, subst, sym}
 use Rattle.std.specs.Prelude.{Result, IfOk, IfErr}
 use Rattle.std.specs.declared.io.ErrorKind.{ErrorKind}

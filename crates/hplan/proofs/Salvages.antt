@@ -1,4 +1,4 @@
--- From entries that are kept and written to what is told of the two files.
+-- From entries that are kept and written to what is reported of the two files.
 use Rattle.std.proofs.Common.{◌≡◌, ℕ, List, map, length, Option, Ok, Err, sym, ap, ◌∙◌, subst}
 use Rattle.std.specs.Prelude.{Result, IfOk, IfErr}
 use Rattle.std.specs.declared.io.ErrorKind.{ErrorKind}

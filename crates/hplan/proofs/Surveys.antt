@@ -1,4 +1,4 @@
--- From what a journal's entries tell to what is told of it.
+-- From what a journal's entries tell to what is reported of it.
 use Rattle.std.proofs.Common.{◌≡◌, ◌++◌, ℕ, List, Option, sym, ◌∙◌, subst}
 use Rattle.std.specs.Prelude.{Result, Ok, Err, IfOk, IfErr}
 use Rattle.std.specs.declared.io.ErrorKind.{ErrorKind}

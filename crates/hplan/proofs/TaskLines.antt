@@ -15,7 +15,7 @@ lines_more t n =
     ∙ flat_map-append (numbered_line t) (numbers_below n) (n ∷ [])
     ∙ ap (λ xs. flat_map (numbered_line t) (numbers_below n) ++ xs) (append-nil (numbered_line t n))
 
--- behind a text and the lines before it
+-- after a text and the lines before it
 pub behind_lines : (t : Task) (front before after : List ℕ) (n : ℕ)
     → before ≡ front ++ flat_map (numbered_line t) (numbers_below n) → after ≡ before ++ numbered_line t n
     → after ≡ front ++ flat_map (numbered_line t) (numbers_below (n + 1))

@@ -102,9 +102,9 @@ pub record IsAnswerText (k : Keeping) (limit : Option ℕ) (domain problem : Lis
   pub ending : Ending
   pub answer : IsKeptAnswer k limit domain problem ending text
 
--- why two texts have no answer: what is told of the texts, and nothing was begun; or they say a
+-- why two texts have no answer: what is reported of the texts, and nothing was begun; or they say a
 -- task, and its search has none; or they have one, and there is no memory for its text; or they
--- have one, of whose text a beginning is written, and what is told of the error that the writer
+-- have one, of whose text a beginning is written, and what is reported of the error that the writer
 -- has answered. The writer is untouched where it is not to blame
 pub data HasNoAnswer (k : Keeping) (limit : Option ℕ) (domain problem : List ℕ) (old new : Option (List ℕ)) (before noted : Option ErrorKind) : Fault → Type 0 where
   OfTexts : IsUntouched old new before noted → IsLeftAlone k → (f : TaskFault) → Explains domain problem f
@@ -122,7 +122,7 @@ HasNoAnswerYet k limit domain problem f =
     (bytes : Option (List ℕ)) (noted : Option ErrorKind) → HasNoAnswer k limit domain problem bytes bytes noted noted f
 
 -- a text is not written, or not all of it: memory ran out, and nothing is written; or a beginning
--- is, which is not all of it, and the writer has answered an error. This is told of it
+-- is, which is not all of it, and the writer has answered an error. This is reported of it
 pub record IsUnwritten (text : List ℕ) (old new : Option (List ℕ)) (before noted : Option ErrorKind) (fault : Fault) : Type 0 where
   pub error : WriteError
   pub short : AppendsShort old new text

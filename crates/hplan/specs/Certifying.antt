@@ -1,4 +1,4 @@
--- What the bytes of a journal show of the task of two texts, how that is told, and why nothing
+-- What the bytes of a journal show of the task of two texts, how that is reported, and why nothing
 -- is. (That a journal is a certificate is our own.)
 use Rattle.std.specs.Prelude.{◌≡◌, ◌⊎◌, ℕ, Bool, true, is_some, List, [], ◌++◌, Option, Some, None, IfSome, codes, decimal}
 use Rattle.std.specs.declared.io.ErrorKind.{ErrorKind}
@@ -37,7 +37,7 @@ abbrev pub IsTrueThere : LiftedTask → Task → Certified → Type 0
 IsTrueThere l t (Optimal p) = plans.IsOptimal l (plan_of t p)
 IsTrueThere l t NoPlan = plans.HasNoPlan l
 
--- an optimal plan is told by the cost of the node that it leads to
+-- an optimal plan is reported by the cost of the node that it leads to
 abbrev pub optimal_text : Option Node → List ℕ
 optimal_text None = []
 optimal_text (Some r) = codes "certified optimal; cost = " ++ decimal r.cost ++ line_end
@@ -64,15 +64,15 @@ pub record IsToldOf (t : Task) (digest content : List ℕ) (shown : Option Certi
   pub shown_in : IsShownIn t digest content shown
   pub told : text ≡ certified_text t shown
 
--- this is told of a task, where a content shows something of it, and where it does not; and what
--- is shown is true of all plans of the task
+-- this is reported of a task, where a content shows something of it, and where it does not; and
+-- what is shown is true of all plans of the task
 pub record IsToldBy (t : Task) (digest content : List ℕ) (answer : Bool) (text : List ℕ) : Type 0 where
   pub shown : Option Certified
   pub answers : answer ≡ is_some shown
   pub told : IsToldOf t digest content shown text
   pub is_true : IfSome shown (IsTrueOf t)
 
--- two texts say a task, and this is told of what a content shows of it; it is true of all plans
+-- two texts say a task, and this is reported of what a content shows of it; it is true of all plans
 -- of the domain
 pub record IsCertified (domain problem content : List ℕ) (answer : Bool) (text : List ℕ) : Type 0 where
   pub task : Task
@@ -88,7 +88,7 @@ pub record OnContent (file : Option (List ℕ)) (P : List ℕ → Type 0) : Type
   pub known : IfSome file (λ bytes. content ≡ bytes)
   pub holds : P content
 
--- this is told of what the file of a journal shows of the task of two texts, where that is
+-- this is reported of what the file of a journal shows of the task of two texts, where that is
 -- something, and where it is not
 abbrev pub IsCertificate : List ℕ → List ℕ → Option (List ℕ) → Bool → List ℕ → Type 0
 IsCertificate domain problem file answer text = OnContent file (λ content. IsCertified domain problem content answer text)
@@ -102,7 +102,7 @@ abbrev pub CanBeTold : Task → Certified → Type 0
 CanBeTold t (Optimal p) = goes_through t p ≡ true
 CanBeTold t NoPlan = Unit {0}
 
--- ---- why nothing is told
+-- ---- why nothing is reported
 
 -- why nothing is shown of a task in a content: memory ran out; or the content is refused; or its
 -- entries are
@@ -112,7 +112,7 @@ pub data ShowsNothing (t : Task) (digest content : List ℕ) : Fault → Type 0 
   OfEntries : (found : Found) (error : RecoverError) → IsFound digest content found
       → IsRefusal t (most_of (version_in found)) (found_in found) error → ShowsNothing t digest content (certify_in error)
 
--- a file was not read, and this is told of its error
+-- a file was not read, and this is reported of its error
 abbrev pub IsUnread : Fault → Type 0
 IsUnread fault = (kind : ErrorKind) × TellsKind kind fault
 
@@ -120,9 +120,9 @@ IsUnread fault = (kind : ErrorKind) × TellsKind kind fault
 abbrev pub FailsOnFile : Task → List ℕ → Option (List ℕ) → Fault → Type 0
 FailsOnFile t digest file fault = IsUnread fault ⊎ OnContent file (λ content. ShowsNothing t digest content fault)
 
--- why nothing is told, or not all: what is told of the texts; or they say a task, and nothing is
--- shown of it; or a beginning of what is to be told is written, and what is told of the error
--- that the writer has answered. The writer is untouched where it is not to blame
+-- why nothing is reported, or not all: what is reported of the texts; or they say a task, and
+-- nothing is shown of it; or a beginning of what is to be told is written, and what is reported of
+-- the error that the writer has answered. The writer is untouched where it is not to blame
 pub data HasNoCertificate (domain problem : List ℕ) (file old new : Option (List ℕ)) (before noted : Option ErrorKind) : Fault → Type 0 where
   OfTexts : IsUntouched old new before noted → (f : TaskFault) → Explains domain problem f
       → HasNoCertificate domain problem file old new before noted (task_in f)

@@ -48,7 +48,7 @@ text_of (Replay fault) = replay.text_of fault
 text_of NoThread = codes "NoThread"
 text_of NoMemory = codes "NoMemory"
 
--- a fault of the domain's and the problem's texts; want of memory is no fault of theirs
+-- a fault of the domain's and the problem's texts; lack of memory is no fault of theirs
 abbrev pub task_in : TaskFault → Fault
 task_in (texts.Read source error) = Task (texts.Read source error)
 task_in (texts.Check source fault) = Task (texts.Check source fault)
@@ -78,7 +78,7 @@ abbrev pub schedule_in : ScheduleError → Fault
 schedule_in (schedule.BadLine line) = Schedule (schedule.BadLine line)
 schedule_in schedule.NoMemory = NoMemory
 
--- why a plan is not valid; want of memory is no fault of it
+-- why a plan is not valid; lack of memory is no fault of it
 abbrev pub judged_in : PlanError → Fault
 judged_in (judging.NoSuchAction step) = Plan (judging.NoSuchAction step)
 judged_in (judging.NotApplicable step) = Plan (judging.NotApplicable step)
@@ -88,7 +88,7 @@ judged_in (judging.Departs step) = Plan (judging.Departs step)
 judged_in judging.GoalUnmet = Plan judging.GoalUnmet
 judged_in judging.NoMemory = NoMemory
 
--- why a journal can't be begun, or gone on with; want of memory is no fault of it
+-- why a journal can't be begun, or gone on with; lack of memory is no fault of it
 abbrev pub journal_in : JournalError → Fault
 journal_in journaling.NotAJournal = Journal journaling.NotAJournal
 journal_in journaling.OtherTask = Journal journaling.OtherTask
@@ -99,7 +99,7 @@ journal_in journaling.JournalExists = Journal journaling.JournalExists
 journal_in journaling.NotOut = Journal journaling.NotOut
 journal_in journaling.NoMemory = NoMemory
 
--- why a search that has its threads has ended without an answer; want of memory is no fault of it
+-- why a search that has its threads has ended without an answer; lack of memory is no fault of it
 abbrev pub run_in : RunFault → Fault
 run_in searching.Full = Search searching.Full
 run_in (searching.Damaged at) = Search (searching.Damaged at)
@@ -113,13 +113,13 @@ abbrev pub search_in : ThreadsFault → Fault
 search_in (Run fault) = run_in fault
 search_in threads.NoThread = NoThread
 
--- why the entries of a journal show nothing; want of memory is no fault of theirs
+-- why the entries of a journal show nothing; lack of memory is no fault of theirs
 abbrev pub certify_in : RecoverError → Fault
 certify_in certifying.Full = Search searching.Full
 certify_in (certifying.Damaged at) = Search (searching.Damaged at)
 certify_in certifying.NoMemory = NoMemory
 
--- why a schedule is not played to its end; want of memory is no fault of it
+-- why a schedule is not played to its end; lack of memory is no fault of it
 abbrev pub replay_in : ReplayFault → Fault
 replay_in (replaying.Recovery fault) = Replay (replaying.Recovery fault)
 replay_in (replaying.Journal error) = Replay (replaying.Journal error)
@@ -133,21 +133,21 @@ abbrev pub store_in : StoreError → Fault
 store_in store.NoMemory = NoMemory
 store_in store.Failed = Device
 
--- what is told of an error of this kind: want of memory, or else that the device failed
+-- what is reported of an error of this kind: lack of memory, or else that the device failed
 abbrev pub TellsKind : ErrorKind → Fault → Type 0
 TellsKind kind fault = ((kind ≡ OutOfMemory) × (fault ≡ NoMemory)) ⊎ ((kind ≢ OutOfMemory) × (fault ≡ Device))
 
--- what is told where a plan's text was not written
+-- what is reported where a plan's text was not written
 abbrev pub TellsUnwritten : WriteError → Fault → Type 0
 TellsUnwritten unwritten.NoMemory fault = fault ≡ NoMemory
 TellsUnwritten (unwritten.Device kind) fault = TellsKind kind fault
 
--- a writer has answered an error, which is noted of it, and this is told of it
+-- a writer has answered an error, which is noted of it, and this is reported of it
 pub record AnswersFault (noted : Option ErrorKind) (fault : Fault) : Type 0 where
   pub kind : ErrorKind
   pub is_noted : noted ≡ Some kind
   pub told : TellsKind kind fault
 
--- a writer answers the error that is told, and none where none is told
+-- a writer answers the error that is reported, and none where none is reported
 abbrev pub Answers : {X : Type 0} → Option ErrorKind → Option ErrorKind → Result X Fault → Type 0
 Answers old new result = MatchResult result (λ _. new ≡ old) (AnswersFault new)

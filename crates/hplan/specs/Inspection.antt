@@ -1,4 +1,4 @@
--- What is told of the file of a journal, whatever its task, and why nothing is. (Our own.)
+-- What is reported of the file of a journal, whatever its task, and why nothing is. (Our own.)
 use Rattle.std.specs.Prelude.{◌≡◌, ℕ, List, ◌++◌, Option, codes}
 use Rattle.std.specs.declared.io.ErrorKind.{ErrorKind}
 use Rattle.hex.specs.Hex.{encode_lower}
@@ -33,31 +33,31 @@ summary_text s =
     count_line (codes "version") (version_number s.version) ++ digest_line s.digest ++ count_line (codes "entries") s.entries
     ++ count_line (codes "groups") s.groups ++ count_line (codes "bytes behind") s.behind
 
--- what is told of a file's bytes
+-- what is reported of a file's bytes
 abbrev pub inspected_text : Inspected → List ℕ
 inspected_text Unmade = codes "no header yet" ++ line_end
 inspected_text HalfMade = codes "a header that is being made" ++ line_end
 inspected_text (Journal s) = summary_text s
 
--- a text tells what a content is
+-- a text reports what a content is
 pub record IsToldOfContent (content text : List ℕ) : Type 0 where
   pub inspected : Inspected
   pub is : IsInspected content inspected
   pub told : text ≡ inspected_text inspected
 
--- a text tells what the bytes of a file are
+-- a text reports what the bytes of a file are
 abbrev pub IsInspection : Option (List ℕ) → List ℕ → Type 0
 IsInspection file text = OnContent file (λ content. IsToldOfContent content text)
 
--- why nothing is told of a content: it is no journal of any task, or a damaged one; or memory ran
--- out
+-- why nothing is reported of a content: it is no journal of any task, or a damaged one; or memory
+-- ran out
 pub data IsNotTold (content : List ℕ) : Fault → Type 0 where
   OfContent : (error : ImageError) → IsRefused content error → IsNotTold content (journal_in (of_image error))
   OfMemory : IsNotTold content NoMemory
 
--- why nothing is told of a file, or not all: it was not read; or nothing is told of its bytes; or
--- a beginning of what is to be told is written, and what is told of the error that the writer has
--- answered. The writer is untouched where it is not to blame
+-- why nothing is reported of a file, or not all: it was not read; or nothing is reported of its
+-- bytes; or a beginning of what is to be told is written, and what is reported of the error that
+-- the writer has answered. The writer is untouched where it is not to blame
 pub data HasNoInspection (file old new : Option (List ℕ)) (before noted : Option ErrorKind) : Fault → Type 0 where
   Unread : IsUntouched old new before noted → (f : Fault) → IsUnread f → HasNoInspection file old new before noted f
   Untold : IsUntouched old new before noted → (f : Fault) → OnContent file (λ content. IsNotTold content f)

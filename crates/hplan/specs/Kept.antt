@@ -37,7 +37,7 @@ use Rattle.hplan.specs.Fault.{search_in, store_in}
 -- ---- what a file holds
 
 -- a content is the whole journal of these entries, for the task of this digest: their groups,
--- each behind its open gate, and then a closed gate, which is the last byte
+-- each after its open gate, and then a closed gate, which is the last byte
 pub record IsJournalOf (digest : List ℕ) (kids : List Kid) (content : List ℕ) : Type 0 where
   pub version : Version
   pub groups : List (List Kid)
@@ -79,11 +79,11 @@ IsAsItWasOrMaking digest before after = (after ≡ before) ⊎ ((before ≡ []) 
 abbrev pub HasNoHeader : List ℕ → List ℕ → Type 0
 HasNoHeader digest content = IsFound digest content Unmade ⊎ IsFound digest content HalfMade
 
--- what is told of a file that is to be begun, or gone on with: it is not empty; or it is no
+-- what is reported of a file that is to be begun, or gone on with: it is not empty; or it is no
 -- journal, one of another task or damaged. It is as it was then. Where a journal is to be begun,
 -- and the device failed or memory ran out, nothing is lost. Where one is to be gone on with,
 -- memory runs out over a file that is left as it was, or over one in which a header was still to
--- be made: it had no entries. What it holds there behind a fault of the device is not said here
+-- be made: it had no entries. What it holds there after a fault of the device is not said here
 abbrev pub TellsOfFile : Start → List ℕ → List ℕ → List ℕ → JournalError → Type 0
 TellsOfFile New digest before after journal.NotAJournal = ⊥
 TellsOfFile New digest before after journal.OtherTask = ⊥
@@ -127,7 +127,7 @@ IsLeftByDevice Kept t digest before after = Unit {0}
 
 -- what a fault of the search itself may be: there is no room for more entries, or what the
 -- threads share did not fit together, and those that there are are kept; or the device failed. No
--- other is told
+-- other is reported
 abbrev pub TellsOfSearch : Start → Task → List ℕ → List ℕ → List ℕ → RunFault → Type 0
 TellsOfSearch start t digest before after searching.Full = AreKept start t digest before after
 TellsOfSearch start t digest before after (searching.Damaged at) = ⊥
@@ -138,7 +138,7 @@ TellsOfSearch start t digest before after searching.NoMemory = ⊥
 
 -- why the search of a task over a file has no answer: memory ran out before it began, or later,
 -- and the entries that there are are kept; a thread did not start, and they are kept too; or what
--- is told of the file, of an entry in it, or of the search
+-- is reported of the file, of an entry in it, or of the search
 pub data HasNoSolution (start : Start) (t : Task) (digest before after : List ℕ) : Fault → Type 0 where
   OfMemory : TellsOfFile start digest before after journal.NoMemory → HasNoSolution start t digest before after NoMemory
   OfMemoryLater : AreKept start t digest before after → HasNoSolution start t digest before after NoMemory
@@ -173,7 +173,7 @@ abbrev pub IsLeftAlone : Keeping → Type 0
 IsLeftAlone InMemory = Unit {0}
 IsLeftAlone (InFile start old new) = new ≡ old
 
--- a file was not lent, and is as it was, and this is told of it
+-- a file was not lent, and is as it was, and this is reported of it
 abbrev pub IsNotLent : Option (List ℕ) → Option (List ℕ) → Fault → Type 0
 IsNotLent old new fault = (error : StoreError) × (fault ≡ store_in error) × (new ≡ old)
 
@@ -201,10 +201,10 @@ IsBegun New digest before begun = (before ≡ []) × (begun.version ≡ Two) × 
 IsBegun Kept digest before begun = IsResumed digest before begun
 
 -- a search over a journal has no answer: memory ran out, and the journal is the same or a later
--- one; or this is told of the fault by which it ended
+-- one; or this is reported of the fault by which it ended
 abbrev pub IsRefusedRun : {S : Type 0} {G : Ghosts S} → Task → of.Journal S G → of.Journal S G → Fault → Type 0
 IsRefusedRun t old new fault = ((fault ≡ NoMemory) × Grows old new) ⊎ ((why : ThreadsFault) × (fault ≡ search_in why) × Tells t old new why)
 
--- an answer stands as it was found, or the device failed behind it
+-- an answer stands as it was found, or the device failed after it
 abbrev pub StandsOrFails : {X : Type 0} → Result X Fault → Result X Fault → Type 0
 StandsOrFails found now = (now ≡ found) ⊎ (now ≡ Err (Search searching.Device))

@@ -1,4 +1,4 @@
--- What is told of the entries of one file that were written anew to another, and why they were
+-- What is reported of the entries of one file that were written again to another, and why they were
 -- not, or not all. (Our own.)
 use Rattle.std.specs.Prelude.{◌≡◌, ◌≢◌, ◌⊎◌, ℕ, List, [], map, length, Option, codes}
 use Rattle.std.specs.declared.io.ErrorKind.{ErrorKind}
@@ -38,8 +38,8 @@ pub record AreRead (domain problem : List ℕ) (file : Option (List ℕ)) (kids 
   pub is_task : IsTaskOf domain problem task
   pub named : OnContent file (λ content. IsNamedIn task (digest_of domain problem) content kids)
 
--- why no pairs are read: what is told of the texts; or they say a task, and its journal in a file
--- can't be had
+-- why no pairs are read: what is reported of the texts; or they say a task, and its journal in a
+-- file can't be had
 pub data HasNoKids (domain problem : List ℕ) (file : Option (List ℕ)) : Fault → Type 0 where
   OfTexts : (f : TaskFault) → Explains domain problem f → HasNoKids domain problem file (task_in f)
   OfFile : (t : Task) (f : Fault) → IsTaskOf domain problem t → FailsOnFile t (digest_of domain problem) file f → HasNoKids domain problem file f
@@ -62,7 +62,7 @@ pub record IsLeft (digest : List ℕ) (kids : List Kid) (before after : List ℕ
   pub kept : before ≢ [] → after ≡ before
   pub under_way : before ≡ [] → IsUnderWay digest kids after
 
--- what is told of a file to which not all entries were written: it is not empty, and is as it
+-- what is reported of a file to which not all entries were written: it is not empty, and is as it
 -- was; or it failed; or memory ran out
 abbrev pub TellsOfCopy : List ℕ → List Kid → List ℕ → List ℕ → JournalError → Type 0
 TellsOfCopy digest kids before after journal.NotAJournal = ⊥
@@ -105,14 +105,14 @@ pub record AreMoved (domain problem : List ℕ) (m : Moving) (count : ℕ) : Typ
   pub copied : OnFile m.before m.after (IsCopied (digest_of domain problem) kids)
   pub counted : count ≡ length kids
 
--- a text tells how many
+-- a text reports how many
 pub record IsMigration (domain problem : List ℕ) (m : Moving) (text : List ℕ) : Type 0 where
   pub count : ℕ
   pub moved : AreMoved domain problem m count
   pub told : text ≡ migrated_text count
 
 -- why entries are not written to the other file, or not all: nothing is read, and the other file
--- is as it was; or the files have one name; or there is no memory to tell how many they are; or
+-- is as it was; or the files have one name; or there is no memory to report how many they are; or
 -- they are read, and not written
 pub data AreNotMoved (domain problem : List ℕ) (m : Moving) : Fault → Type 0 where
   Unread : (f : Fault) → HasNoKids domain problem m.held f → m.after ≡ m.before → AreNotMoved domain problem m f
@@ -121,9 +121,9 @@ pub data AreNotMoved (domain problem : List ℕ) (m : Moving) : Fault → Type 0
   Unwritten : (kids : List Kid) (f : Fault) → AreRead domain problem m.held kids → FailsToCopy (digest_of domain problem) kids m.before m.after f
       → AreNotMoved domain problem m f
 
--- why nothing is told, or not all: the entries are not all written; or they are, a beginning of
--- what is to be told is written, and what is told of the error that the writer has answered. The
--- writer is untouched where it is not to blame
+-- why nothing is reported, or not all: the entries are not all written; or they are, a beginning of
+-- what is to be told is written, and what is reported of the error that the writer has answered.
+-- The writer is untouched where it is not to blame
 pub data HasNoMigration (domain problem : List ℕ) (m : Moving) (old new : Option (List ℕ)) (before noted : Option ErrorKind) : Fault → Type 0 where
   NotMoved : IsUntouched old new before noted → (f : Fault) → AreNotMoved domain problem m f
       → HasNoMigration domain problem m old new before noted f

@@ -28,7 +28,7 @@ pub record IsFileOf (l : LiftedTask) (plan : List Instance) (cost : ℕ) (text :
   pub are_steps : AllZip (IsStep l) steps plan
 
 -- a text is a file of a plan that is valid in the domain and problem of two texts, at the cost
--- that it tells
+-- that it reports
 pub record IsFileOfValid (domain problem : List ℕ) (text : List ℕ) : Type 0 where
   pub lifted : LiftedTask
   pub is_lifted : IsLiftedOf domain problem lifted

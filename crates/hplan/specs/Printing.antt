@@ -15,9 +15,9 @@ pub record IsPrintOf (domain problem : List ℕ) (text : List ℕ) : Type 0 wher
   pub is_task : IsTaskOf domain problem task
   pub is : text ≡ task_text task
 
--- why the task of two texts is not printed: what is told of the texts; or they say a task, of
--- whose text a beginning is written, and what is told of the error that the writer has answered.
--- The writer is untouched where it is not to blame
+-- why the task of two texts is not printed: what is reported of the texts; or they say a task, of
+-- whose text a beginning is written, and what is reported of the error that the writer has
+-- answered. The writer is untouched where it is not to blame
 pub data IsNotPrinted (domain problem : List ℕ) (old new : Option (List ℕ)) (before noted : Option ErrorKind) : Fault → Type 0 where
   InTexts : IsUntouched old new before noted → (f : TaskFault) → Explains domain problem f
       → IsNotPrinted domain problem old new before noted (task_in f)

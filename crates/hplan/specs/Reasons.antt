@@ -1,4 +1,4 @@
--- What is told of the plan in a third text beside its fault. (Our own.)
+-- What is reported of the plan in a third text beside its fault. (Our own.)
 use Rattle.std.specs.Prelude.{◌≡◌, ℕ, Bool, true, false, List}
 use Rattle.hd_explain.specs.Plans.{TellsReason, NeedsNoReason}
 use Rattle.hd_lifted.specs.declared.task.LiftedTask.{LiftedTask}
@@ -9,14 +9,14 @@ use Rattle.hd_texts.specs.declared.fault.TaskFault.{TaskFault}
 use Rattle.hd_texts.specs.declared.fault.TaskFault.TheVariants.{Read, Check, Ground, NoMemory}
 use Rattle.hd_texts.specs.Tasks.{IsLiftedOf, ExplainsTexts}
 
--- a line tells why the steps that a text says are not valid in a lifted task: the reason of their
+-- a line reports why the steps that a text says are not valid in a lifted task: the reason of their
 -- first fault
 pub record TellsReasonIn (l : LiftedTask) (plan : List ℕ) (line : List ℕ) : Type 0 where
   pub steps : List Step
   pub reads : ReadsAs plan steps
   pub tells : TellsReason l steps line
 
--- a line tells why the plan of three texts is not valid: two of them say a lifted task, and the
+-- a line reports why the plan of three texts is not valid: two of them say a lifted task, and the
 -- third such steps
 pub record TellsReasonOf (domain problem plan : List ℕ) (line : List ℕ) : Type 0 where
   pub lifted : LiftedTask
@@ -29,7 +29,7 @@ pub data NeedsNoReasonIn (l : LiftedTask) (plan : List ℕ) : Type 0 where
   Unread : (line : ℕ) → IsFault plan (BadLine line) → NeedsNoReasonIn l plan
   OfSteps : (steps : List Step) → ReadsAs plan steps → NeedsNoReason l steps → NeedsNoReasonIn l plan
 
--- a fault of texts stands in them: it is no want of memory
+-- a fault of texts stands in them: it is no lack of memory
 abbrev pub is_in_texts : TaskFault → Bool
 is_in_texts (Read source error) = true
 is_in_texts (Check source fault) = true

@@ -1,4 +1,4 @@
--- What is told of the schedule in a third text, and why nothing is. (Our own.)
+-- What is reported of the schedule in a third text, and why nothing is. (Our own.)
 use Rattle.std.specs.Prelude.{◌≡◌, ℕ, List, [], Option, Some, None, Ok, pos}
 use Rattle.std.specs.declared.io.ErrorKind.{ErrorKind}
 use Rattle.hd_lifted.specs.declared.instance.Instance.{Instance}
@@ -54,18 +54,18 @@ pub record IsReportText (domain problem schedule : List ℕ) (text : List ℕ) :
   pub is_report : IsReportOf domain problem schedule report
   pub is : text ≡ report_text report
 
--- ---- why nothing is told
+-- ---- why nothing is reported
 
 -- why the schedule of a text is not played on a task: memory ran out; or the text's first bad
--- line; or it says moves, and this is told where they are not played to their end
+-- line; or it says moves, and this is reported where they are not played to their end
 pub data ExplainsSchedule (schedule : List ℕ) : Fault → Type 0 where
   Memory : ExplainsSchedule schedule NoMemory
   Unread : (error : ScheduleError) → IsFault schedule error → ExplainsSchedule schedule (schedule_in error)
   Unplayed : (moves : List Move) (fault : ReplayFault) → schedule_of schedule ≡ Ok moves → ExplainsSchedule schedule (replay_in fault)
 
--- why nothing is told, or not all: what is told of the first two texts; or they say a task, and
--- what is told of the third; or a beginning of the report is written, and what is told of the
--- error that the writer has answered. The writer is untouched where it is not to blame
+-- why nothing is reported, or not all: what is reported of the first two texts; or they say a task,
+-- and what is reported of the third; or a beginning of the report is written, and what is reported
+-- of the error that the writer has answered. The writer is untouched where it is not to blame
 pub data HasNoReport (domain problem schedule : List ℕ) (old new : Option (List ℕ)) (before noted : Option ErrorKind) : Fault → Type 0 where
   InTexts : IsUntouched old new before noted → (f : TaskFault) → Explains domain problem f
       → HasNoReport domain problem schedule old new before noted (task_in f)

@@ -1,5 +1,5 @@
--- What is told of the entries of one file, up to its damage, that were written anew to another,
--- and why they were not, or not all. (Our own.)
+-- What is reported of the entries of one file, up to its damage, that were written again to
+-- another, and why they were not, or not all. (Our own.)
 use Rattle.std.specs.Prelude.{◌≡◌, ◌⊎◌, ℕ, List, [], ◌++◌, map, length, Option, Some, None, codes}
 use Rattle.std.specs.declared.io.ErrorKind.{ErrorKind}
 use Rattle.hd_task.specs.declared.task.Task.{Task}
@@ -54,14 +54,14 @@ pub data KeepsNothing (t : Task) (digest content : List ℕ) : Fault → Type 0 
 abbrev pub FailsToKeep : Task → List ℕ → Option (List ℕ) → Fault → Type 0
 FailsToKeep t digest file fault = IsUnread fault ⊎ OnContent file (λ content. KeepsNothing t digest content fault)
 
--- why no pairs are kept: what is told of the texts; or they say a task, and nothing is kept of
+-- why no pairs are kept: what is reported of the texts; or they say a task, and nothing is kept of
 -- its journal in a file
 pub data HasNoSalvage (domain problem : List ℕ) (file : Option (List ℕ)) : Fault → Type 0 where
   OfTexts : (f : TaskFault) → Explains domain problem f → HasNoSalvage domain problem file (task_in f)
   OfFile : (t : Task) (f : Fault) → IsTaskOf domain problem t → FailsToKeep t (digest_of domain problem) file f
       → HasNoSalvage domain problem file f
 
--- ---- what is told
+-- ---- what is reported
 
 -- the line that tells from which byte on a file is dropped, if it is
 abbrev pub dropped_line : Option ℕ → List ℕ
@@ -79,7 +79,7 @@ pub record AreSaved (domain problem : List ℕ) (m : Moving) (dropped : Option �
   pub copied : OnFile m.before m.after (IsCopied (digest_of domain problem) kids)
   pub counted : count ≡ length kids
 
--- a text tells how many, and up to where
+-- a text reports how many, and up to where
 pub record IsSalvaging (domain problem : List ℕ) (m : Moving) (text : List ℕ) : Type 0 where
   pub count : ℕ
   pub dropped : Option ℕ
@@ -87,7 +87,7 @@ pub record IsSalvaging (domain problem : List ℕ) (m : Moving) (text : List ℕ
   pub told : text ≡ salvaged_text count dropped
 
 -- why entries are not written to the other file, or not all: nothing is kept, and the other file
--- is as it was; or the files have one name; or there is no memory to tell how many they are; or
+-- is as it was; or the files have one name; or there is no memory to report how many they are; or
 -- they are kept, and not written
 pub data AreNotSaved (domain problem : List ℕ) (m : Moving) : Fault → Type 0 where
   Unkept : (f : Fault) → HasNoSalvage domain problem m.held f → m.after ≡ m.before → AreNotSaved domain problem m f
@@ -96,9 +96,9 @@ pub data AreNotSaved (domain problem : List ℕ) (m : Moving) : Fault → Type 0
   Unwritten : (dropped : Option ℕ) (kids : List Kid) (f : Fault) → AreSalvaged domain problem m.held dropped kids
       → FailsToCopy (digest_of domain problem) kids m.before m.after f → AreNotSaved domain problem m f
 
--- why nothing is told, or not all: the entries are not all written; or they are, a beginning of
--- what is to be told is written, and what is told of the error that the writer has answered. The
--- writer is untouched where it is not to blame
+-- why nothing is reported, or not all: the entries are not all written; or they are, a beginning of
+-- what is to be told is written, and what is reported of the error that the writer has answered.
+-- The writer is untouched where it is not to blame
 pub data HasNoSalvaging (domain problem : List ℕ) (m : Moving) (old new : Option (List ℕ)) (before noted : Option ErrorKind) : Fault → Type 0 where
   NotSaved : IsUntouched old new before noted → (f : Fault) → AreNotSaved domain problem m f
       → HasNoSalvaging domain problem m old new before noted f

@@ -1,4 +1,5 @@
--- What is told of the journal of two texts, as it stands in a file, and why nothing is. (Our own.)
+-- What is reported of the journal of two texts, as it stands in a file, and why nothing is. (Our
+-- own.)
 use Rattle.std.specs.Prelude.{◌≡◌, ◌⊎◌, ℕ, List, [], ◌++◌, flat_map, Option, Some, None, codes, decimal}
 use Rattle.std.specs.declared.io.ErrorKind.{ErrorKind}
 use Rattle.hd_task.specs.declared.task.Task.{Task}
@@ -59,9 +60,9 @@ survey_text t s =
     count_line (codes "posted") s.posted ++ count_line (codes "settled") s.settled ++ bound_line s.bound ++ bound_plan t s.plan
     ++ departure_line t s.departure ++ row_lines (codes "depth") s.depths ++ row_lines (codes "cost") s.costs
 
--- ---- what is told
+-- ---- what is reported
 
--- a content is a journal of the task of this digest, or one that is being made, and a text tells
+-- a content is a journal of the task of this digest, or one that is being made, and a text reports
 -- what it is, and what its entries tell of the search of the task
 pub record IsSurveyedIn (t : Task) (digest content text : List ℕ) : Type 0 where
   pub found : Found
@@ -82,20 +83,21 @@ pub record IsSurveyed (domain problem content text : List ℕ) : Type 0 where
 abbrev pub IsSurveyText : List ℕ → List ℕ → Option (List ℕ) → List ℕ → Type 0
 IsSurveyText domain problem file text = OnContent file (λ content. IsSurveyed domain problem content text)
 
--- ---- why nothing is told
+-- ---- why nothing is reported
 
--- of a content: its entries can't be had, as for a certificate; or nothing is told of it as of
+-- of a content: its entries can't be had, as for a certificate; or nothing is reported of it as of
 -- any journal
 abbrev pub TellsNothing : Task → List ℕ → List ℕ → Fault → Type 0
 TellsNothing t digest content fault = ShowsNothing t digest content fault ⊎ IsNotTold content fault
 
--- of a file: it was not read, or nothing is told of its bytes
+-- of a file: it was not read, or nothing is reported of its bytes
 abbrev pub FailsOnSurvey : Task → List ℕ → Option (List ℕ) → Fault → Type 0
 FailsOnSurvey t digest file fault = IsUnread fault ⊎ OnContent file (λ content. TellsNothing t digest content fault)
 
--- why nothing is told, or not all: what is told of the texts; or they say a task, and nothing is
--- told of the file; or a beginning of what is to be told is written, and what is told of the
--- error that the writer has answered. The writer is untouched where it is not to blame
+-- why nothing is reported, or not all: what is reported of the texts; or they say a task, and
+-- nothing is reported of the file; or a beginning of what is to be told is written, and what is
+-- reported of the error that the writer has answered. The writer is untouched where it is not to
+-- blame
 pub data HasNoSurvey (domain problem : List ℕ) (file old new : Option (List ℕ)) (before noted : Option ErrorKind) : Fault → Type 0 where
   OfTexts : IsUntouched old new before noted → (f : TaskFault) → Explains domain problem f
       → HasNoSurvey domain problem file old new before noted (task_in f)

@@ -1,4 +1,4 @@
--- What is told of the plan in a third text, and why nothing is. (Our own.)
+-- What is reported of the plan in a third text, and why nothing is. (Our own.)
 use Rattle.std.specs.Prelude.{◌≡◌, ℕ, List, Option, ◌++◌, codes, decimal}
 use Rattle.std.specs.declared.io.ErrorKind.{ErrorKind}
 use Rattle.hd_lifted.specs.declared.task.LiftedTask.{LiftedTask}
@@ -26,12 +26,12 @@ pub record IsValidIn (l : LiftedTask) (plan : List ℕ) (cost : ℕ) : Type 0 wh
   pub reads : ReadsAs plan steps
   pub validated : IsValidatedBy l steps cost
 
--- what a fault tells of a text and a lifted task: want of memory tells nothing
+-- what a fault reports of a text and a lifted task: lack of memory reports nothing
 pub data ExplainsPlan (l : LiftedTask) (plan : List ℕ) : Fault → Type 0 where
   Memory : ExplainsPlan l plan NoMemory
   -- the text's first bad line
   Unread : (error : PlanTextError) → IsFault plan error → ExplainsPlan l plan (plan_read_in error)
-  -- the text says steps, and the validator tells so of them
+  -- the text says steps, and the validator reports so of them
   Invalid : (steps : List Step) (error : PlanError) → ReadsAs plan steps → Tells l steps error → ExplainsPlan l plan (judged_in error)
 
 -- three texts say a plan that is valid at a cost: two of them a lifted task, and the third steps
@@ -47,10 +47,10 @@ pub record IsVerdictOf (domain problem plan : List ℕ) (text : List ℕ) : Type
   pub valid : AreValid domain problem plan cost
   pub is : text ≡ valid_text cost
 
--- why no verdict is written: what is told of the first two texts; or they say a lifted task, and
--- what is told of the third in it; or the plan is valid, a beginning of the verdict is written,
--- and what is told of the error that the writer has answered. The writer is untouched where it is
--- not to blame
+-- why no verdict is written: what is reported of the first two texts; or they say a lifted task,
+-- and what is reported of the third in it; or the plan is valid, a beginning of the verdict is
+-- written, and what is reported of the error that the writer has answered. The writer is untouched
+-- where it is not to blame
 pub data HasNoVerdict (domain problem plan : List ℕ) (old new : Option (List ℕ)) (before noted : Option ErrorKind) : Fault → Type 0 where
   InTexts : IsUntouched old new before noted → (f : TaskFault) → ExplainsTexts domain problem f
       → HasNoVerdict domain problem plan old new before noted (task_in f)

@@ -25,7 +25,7 @@ pub record IsUntouched (old new : Option (List ℕ)) (before noted : Option Erro
   pub fault : noted ≡ before
 
 -- there was a text of this kind to write, and the writer failed: a beginning of it is written,
--- which is not all of it, and this is told of the error that the writer has answered
+-- which is not all of it, and this is reported of the error that the writer has answered
 pub record FailsToWrite (IsText : List ℕ → Type 0) (old new : Option (List ℕ)) (noted : Option ErrorKind) (fault : Fault) : Type 0 where
   pub front : WritesFrontOfA IsText old new
   pub answers : AnswersFault noted fault

@@ -20,7 +20,7 @@ use hd_texts::{digest_of, task_of};
 use std::alloc::Global;
 use std::io::Write;
 
-/// What is told of what a journal shows.
+/// What is reported of what a journal shows.
 #[derive(Debug, Drop)]
 struct Certificate {
     /// Whether it shows a verdict.
@@ -29,7 +29,7 @@ struct Certificate {
     text: Vec<u8>,
 }
 
-/// The entries of what was found, and how many a journal of its version may have.
+/// Returns the entries of what was found, and how many a journal of its version may have.
 pub fn entries_of(alloc: Global, found: Found) -> (Sequence<Entry>, u64)
     ensures entries { result.0 ≡ found_in found }
     ensures most { result.1 ≡ most_of (version_in found) }
@@ -43,7 +43,7 @@ pub fn entries_of(alloc: Global, found: Found) -> (Sequence<Entry>, u64)
     }
 }
 
-/// What the bytes of a journal show of a task.
+/// Returns what the bytes of a journal show of a task.
 fn shown_in(
     alloc: Global,
     task: &Task,
@@ -68,7 +68,7 @@ fn shown_in(
     }
 }
 
-/// What is told of what the bytes of a journal show of a task.
+/// Returns what is reported of what the bytes of a journal show of a task.
 fn told_in(
     alloc: Global,
     task: &Task,
@@ -89,7 +89,8 @@ fn told_in(
     }
 }
 
-/// What is told of what the file of a journal shows of a task. The file is read, and left alone.
+/// Returns what is reported of what the file of a journal shows of a task. The file is read, and
+/// left alone.
 fn told_of_file<P: Places>(
     alloc: Global,
     places: &mut P,
@@ -112,7 +113,7 @@ fn told_of_file<P: Places>(
     told
 }
 
-/// What is told of what the file of a journal shows of the task of two texts.
+/// Returns what is reported of what the file of a journal shows of the task of two texts.
 fn certificate_of<P: Places>(
     alloc: Global,
     places: &mut P,
@@ -137,15 +138,15 @@ fn certificate_of<P: Places>(
     }
 }
 
-/// Tells what the journal in a file shows by itself of the task that two texts say, whoever made
+/// Reports what the journal in a file shows by itself of the task that two texts say, whoever made
 /// it: `certified optimal; cost = N`, `certified no plan`, or `not certified`; and answers
 /// whether it shows a verdict. The file is read, and left alone.
 ///
 /// # Errors
 /// The first fault of the texts; that the file can't be read; why its bytes are no journal of
-/// theirs; the first entry that is no step of a search of the task; or what is told of the error
-/// that the writer has answered. A beginning of the text has then been written, and not all of
-/// it, and else nothing.
+/// theirs; the first entry that is no step of a search of the task; or what is reported of the
+/// error that the writer has answered. A beginning of the text has then been written, and not all
+/// of it, and else nothing.
 pub fn certify<P: Places, W: Write>(
     alloc: Global,
     places: &mut P,
@@ -154,7 +155,7 @@ pub fn certify<P: Places, W: Write>(
     problem: &[u8],
     out: &mut Watched<'_, W>,
 ) -> Result<bool, Fault>
-    // What is told is shown by the file's bytes, and true of all plans of the domain.
+    // What is reported is shown by the file's bytes, and true of all plans of the domain.
     ensures whole { IfOk result (λ answer. WritesA
         (IsCertificate domain.now problem.now (P.file_of places.old name.now) answer)
         (W.contents out.old.writer.now) (W.contents out.new.writer.now)) }

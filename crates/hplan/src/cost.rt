@@ -33,7 +33,7 @@ fn step_from(
     }
 }
 
-/// What a plan costs, if each of its steps is applicable.
+/// Returns what a plan costs, if each of its steps is applicable.
 pub fn cost_of(alloc: Global, task: &Task, plan: &Plan) -> Result<Option<u64>, NoMemory>
     ensures { IfOk result (λ found. MatchOption found
         (goes_through task.now plan.now ≡ false)

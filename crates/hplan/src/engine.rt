@@ -23,7 +23,7 @@ use std::sync::Wait;
 use std::thread::Threads;
 use std::time::Clock;
 
-/// The answer to two texts; its search is kept in memory.
+/// Returns the answer to two texts; its search is kept in memory.
 fn answer_in_memory<R: Threads + Wait + Sync + Eprint + Clock>(
     rt: &R,
     alloc: Global,
@@ -47,7 +47,7 @@ fn answer_in_memory<R: Threads + Wait + Sync + Eprint + Clock>(
     }
 }
 
-/// The answer to two texts; its search is kept in a file.
+/// Returns the answer to two texts; its search is kept in a file.
 fn answer_in_file<P: Places, R: Threads + Wait + Sync + Eprint + Clock>(
     rt: &R,
     alloc: Global,
@@ -102,7 +102,7 @@ fn write_found<W: Write>(
     }
 }
 
-/// Writes the text of an answer's plan, if it has one, and tells how the answer ends.
+/// Writes the text of an answer's plan, if it has one, and reports how the answer ends.
 fn write_told<W: Write>(
     alloc: Global,
     told: Told,
@@ -128,12 +128,12 @@ fn write_told<W: Write>(
     }
 }
 
-/// Answers the task that two texts say, and writes the text of its plan, if it has one. It is
+/// Solves the task that two texts say, and writes the text of its plan, if it has one. It is
 /// searched by so many threads as there are to be workers, until as many plans are expanded as
 /// its limit says, if it has one. The search is kept in memory.
 ///
 /// # Errors
-/// The first fault of the texts, or why the search fails, or what is told of the error that the
+/// The first fault of the texts, or why the search fails, or what is reported of the error that the
 /// writer has answered. A beginning of the text has then been written, and not all of it, and
 /// else nothing.
 pub fn solve<W: Write, R: Threads + Wait + Sync + Eprint + Clock>(
@@ -153,9 +153,9 @@ pub fn solve<W: Write, R: Threads + Wait + Sync + Eprint + Clock>(
         ⊎ WritesFrontOfA (IsAnswerText InMemory how.limit domain.now problem.now)
         (W.contents out.old.writer.now) (W.contents out.new.writer.now)) }
 
-    // Why there is no answer, and what is written then. `Fault::Device` is told only of an error
-    // that the writer has answered, after which a beginning of the answer's text is written; none
-    // that it answers is passed over. A fault of the journal's device is another one.
+    // Why there is no answer, and what is written then. `Fault::Device` is reported only of an
+    // error that the writer has answered, after which a beginning of the answer's text is written;
+    // none that it answers is passed over. A fault of the journal's device is another one.
     ensures refusal { IfErr result (HasNoAnswer InMemory how.limit domain.now problem.now
         (W.contents out.old.writer.now) (W.contents out.new.writer.now)
         out.old.fault out.new.fault) }
@@ -165,12 +165,12 @@ pub fn solve<W: Write, R: Threads + Wait + Sync + Eprint + Clock>(
     write_told(alloc, told, out)
 }
 
-/// The same, where the search is kept in a file: once it has answered, the journal there has all
-/// of its entries, also where `out` fails. A new journal wants a file that is not there or empty;
-/// one that is there goes on from the entries that are found in it, in its version.
+/// Returns the same, where the search is kept in a file: once it has answered, the journal there
+/// has all of its entries, also where `out` fails. A new journal wants a file that is not there or
+/// empty; one that is there goes on from the entries that are found in it, in its version.
 ///
 /// # Errors
-/// The same, and, behind the faults of the texts, that the file can't be had, begun or gone on
+/// The same, and, after the faults of the texts, that the file can't be had, begun or gone on
 /// with.
 pub fn solve_kept<P: Places, W: Write, R: Threads + Wait + Sync + Eprint + Clock>(
     rt: &R,

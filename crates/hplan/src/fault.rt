@@ -91,7 +91,7 @@ impl From<TaskFault> for Fault {
     }
 }
 
-/// An error of a plan's text.
+/// Returns an error of a plan's text.
 pub fn plan_read_in(error: PlanTextError) -> Fault
     ensures { result ≡ plan_read_in error }
 {
@@ -101,7 +101,7 @@ pub fn plan_read_in(error: PlanTextError) -> Fault
     }
 }
 
-/// An error of a schedule's text.
+/// Returns an error of a schedule's text.
 pub fn schedule_in(error: ScheduleError) -> Fault
     ensures { result ≡ schedule_in error }
 {
@@ -111,7 +111,7 @@ pub fn schedule_in(error: ScheduleError) -> Fault
     }
 }
 
-/// Why a plan is not valid.
+/// Returns why a plan is not valid.
 pub fn judged_in(error: PlanError) -> Fault
     ensures { result ≡ judged_in error }
 {
@@ -126,7 +126,7 @@ pub fn judged_in(error: PlanError) -> Fault
     }
 }
 
-/// Why a journal can't be begun, or gone on with.
+/// Returns why a journal can't be begun, or gone on with.
 pub fn journal_in(error: JournalError) -> Fault
     ensures { result ≡ journal_in error }
 {
@@ -142,7 +142,7 @@ pub fn journal_in(error: JournalError) -> Fault
     }
 }
 
-/// Why a search that has its threads has ended without an answer.
+/// Returns why a search that has its threads has ended without an answer.
 fn run_in(fault: RunFault) -> Fault
     ensures { result ≡ run_in fault }
 {
@@ -156,7 +156,7 @@ fn run_in(fault: RunFault) -> Fault
     }
 }
 
-/// Why a search has ended without an answer.
+/// Returns why a search has ended without an answer.
 pub fn search_in(fault: ThreadsFault) -> Fault
     ensures { result ≡ search_in fault }
 {
@@ -166,7 +166,7 @@ pub fn search_in(fault: ThreadsFault) -> Fault
     }
 }
 
-/// Why the entries of a journal show nothing.
+/// Returns why the entries of a journal show nothing.
 pub fn certify_in(error: RecoverError) -> Fault
     ensures { result ≡ certify_in error }
 {
@@ -177,7 +177,7 @@ pub fn certify_in(error: RecoverError) -> Fault
     }
 }
 
-/// Why a schedule is not played to its end.
+/// Returns why a schedule is not played to its end.
 pub fn replay_in(fault: ReplayFault) -> Fault
     ensures { result ≡ replay_in fault }
 {
@@ -189,7 +189,7 @@ pub fn replay_in(fault: ReplayFault) -> Fault
     }
 }
 
-/// Why a file was not lent.
+/// Returns why a file was not lent.
 pub fn store_in(error: StoreError) -> Fault
     ensures { result ≡ store_in error }
 {
@@ -199,8 +199,8 @@ pub fn store_in(error: StoreError) -> Fault
     }
 }
 
-/// A fault of a file, a reader or a writer, by its error's kind: `NoMemory` where memory ran out,
-/// else `Device`.
+/// Returns a fault of a file, a reader or a writer, by its error's kind: `NoMemory` where memory
+/// ran out, else `Device`.
 pub fn kind_fault(kind: io::ErrorKind) -> Fault
     ensures { TellsKind kind result }
 {
@@ -211,7 +211,7 @@ pub fn kind_fault(kind: io::ErrorKind) -> Fault
     }
 }
 
-/// Why a plan's text was not written.
+/// Returns why a plan's text was not written.
 pub fn unwritten(error: WriteError) -> Fault
     ensures { TellsUnwritten error result }
 {
@@ -221,7 +221,7 @@ pub fn unwritten(error: WriteError) -> Fault
     }
 }
 
-/// A fault of a file, a reader or a writer, by its error.
+/// Returns a fault of a file, a reader or a writer, by its error.
 pub fn device_fault(error: io::Error) -> Fault
     ensures { TellsKind (error_kind error) result }
 {

@@ -11,7 +11,7 @@ use hd_texts::task_of;
 use std::alloc::Global;
 use std::io::Write;
 
-/// The task that two texts say, as it is printed.
+/// Returns the task that two texts say, as it is printed.
 #[tactic(auto, using(crate::proofs::Explaining::memory_unprinted, crate::proofs::Explaining::task_unprinted))]
 fn print_of(alloc: Global, domain: &[u8], problem: &[u8]) -> Result<Vec<u8>, Fault>
     ensures found { IfOk result (λ text. IsPrintOf domain.now problem.now text.items) }
@@ -50,7 +50,7 @@ pub fn ground<W: Write>(
         ⊎ WritesFrontOfA (IsPrintOf domain.now problem.now)
         (W.contents out.old.writer.now) (W.contents out.new.writer.now)) }
 
-    // Why nothing is written, or not all. `Device` is told only of an error that the writer has
+    // Why nothing is written, or not all. `Device` is reported only of an error that the writer has
     // answered, after which a beginning of the task's text is written; none that it answers is
     // passed over.
     ensures refusal { IfErr result (IsNotPrinted domain.now problem.now

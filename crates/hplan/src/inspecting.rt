@@ -1,4 +1,4 @@
-//! From the bytes of a file to what is told of the journal in them, whatever its task.
+//! From the bytes of a file to what is reported of the journal in them, whatever its task.
 ghost use Rattle.std.specs.Prelude.{◌≡◌, ◌⊎◌, IfOk, IfErr, OnErr, OnOk};
 ghost use Rattle.hplan.specs.Inspection.{IsToldOfContent, IsInspection, IsNotTold, HasNoInspection, HasNoInspectionYet};
 ghost use Rattle.hplan.specs.Written.{WritesA, WritesFrontOfA};
@@ -12,7 +12,7 @@ use hd_plan::Watched;
 use std::alloc::Global;
 use std::io::Write;
 
-/// What is told of a content.
+/// Returns what is reported of a content.
 fn told_of_content(alloc: Global, content: &[u8]) -> Result<Vec<u8>, Fault>
     ensures told { IfOk result (λ text. IsToldOfContent content.now text.items) }
     ensures refusal { IfErr result (IsNotTold content.now) }
@@ -26,7 +26,7 @@ fn told_of_content(alloc: Global, content: &[u8]) -> Result<Vec<u8>, Fault>
     }
 }
 
-/// What is told of a file. It is read, and left alone.
+/// Returns what is reported of a file. It is read, and left alone.
 fn told_of_file<P: Places>(alloc: Global, places: &mut P, name: &str) -> Result<Vec<u8>, Fault>
     ensures told { IfOk result (λ text.
         IsInspection (P.file_of places.old name.now) text.items) }
@@ -42,12 +42,12 @@ fn told_of_file<P: Places>(alloc: Global, places: &mut P, name: &str) -> Result<
     told
 }
 
-/// Tells what the bytes of a file are, as a journal of any task: its version, the digest of the
-/// task's texts, how many entries and groups it has, and how many bytes stand behind them; or
+/// Reports what the bytes of a file are, as a journal of any task: its version, the digest of the
+/// task's texts, how many entries and groups it has, and how many bytes stand after them; or
 /// that a header is not there yet. The file is read, and left alone.
 ///
 /// # Errors
-/// That the file can't be read; why its bytes are no journal, or a damaged one; or what is told
+/// That the file can't be read; why its bytes are no journal, or a damaged one; or what is reported
 /// of the error that the writer has answered. A beginning of the text has then been written, and
 /// not all of it, and else nothing.
 pub fn inspect<P: Places, W: Write>(

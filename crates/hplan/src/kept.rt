@@ -42,7 +42,7 @@ pub enum Start {
     Kept,
 }
 
-/// Answers how many open nodes a worker settles before their outcomes are committed: no more than
+/// Returns how many open nodes a worker settles before their outcomes are committed: no more than
 /// the limit leaves, so that few are expanded in vain.
 fn together_for(limit: Option<u64>, entries: u64) -> usize {
     match limit {
@@ -54,8 +54,8 @@ fn together_for(limit: Option<u64>, entries: u64) -> usize {
     }
 }
 
-/// What the search of a task by threads ends with over a journal. Where it is to tell how it
-/// stands, it does so on standard error.
+/// Returns what the search of a task by threads ends with over a journal. Where it is to report how
+/// it stands, it does so on standard error.
 fn concluded_of<S: Store, R: Threads + Wait + Sync + Eprint + Clock>(
     rt: &R,
     alloc: Global,
@@ -89,7 +89,7 @@ fn concluded_of<S: Store, R: Threads + Wait + Sync + Eprint + Clock>(
     ended
 }
 
-/// What the search of a task answers over a journal.
+/// Returns what the search of a task answers over a journal.
 fn solution_of<S: Store, R: Threads + Wait + Sync + Eprint + Clock>(
     rt: &R,
     alloc: Global,
@@ -114,7 +114,7 @@ fn solution_of<S: Store, R: Threads + Wait + Sync + Eprint + Clock>(
     }
 }
 
-/// A journal on a store: a new one, or the one that is there.
+/// Returns a journal on a store: a new one, or the one that is there.
 fn journal_on<S: Store>(
     alloc: Global,
     start: Start,
@@ -131,8 +131,8 @@ fn journal_on<S: Store>(
     }
 }
 
-/// What a search has found, if its store is still there and as long as it should be. Behind its
-/// last flush nothing else would notice that somebody has removed or cut the file.
+/// Returns what a search has found, if its store is still there and as long as it should be. After
+/// its last flush nothing else would notice that somebody has removed or cut the file.
 fn looked_again<S: Store>(store: S, found: Result<Told, Fault>) -> (S, Result<Told, Fault>)
     ensures same { content_of (S.device result.0) ≡ content_of (S.device store) }
     ensures stands { StandsOrFails found result.1 }
@@ -144,7 +144,8 @@ fn looked_again<S: Store>(store: S, found: Result<Told, Fault>) -> (S, Result<To
     }
 }
 
-/// What the search of a task answers over a journal on a store, and the store as it is then.
+/// Returns what the search of a task answers over a journal on a store, and the store as it is
+/// then.
 fn solution_on<S: Store, R: Threads + Wait + Sync + Eprint + Clock>(
     rt: &R,
     alloc: Global,
@@ -172,7 +173,7 @@ fn solution_on<S: Store, R: Threads + Wait + Sync + Eprint + Clock>(
     }
 }
 
-/// What the search of a task answers over a journal in memory.
+/// Returns what the search of a task answers over a journal in memory.
 pub fn solution_in_memory<R: Threads + Wait + Sync + Eprint + Clock>(
     rt: &R,
     alloc: Global,
@@ -191,7 +192,7 @@ pub fn solution_in_memory<R: Threads + Wait + Sync + Eprint + Clock>(
     found
 }
 
-/// What the search of a task answers over a journal in a file.
+/// Returns what the search of a task answers over a journal in a file.
 pub fn solution_in_file<P: Places, R: Threads + Wait + Sync + Eprint + Clock>(
     rt: &R,
     alloc: Global,

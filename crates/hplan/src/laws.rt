@@ -21,16 +21,16 @@ ghost use Rattle.hplan.specs.Answer.{IsSolved};
 ghost use Rattle.hplan.specs.Kept.{IsKept};
 ghost use Rattle.hplan.specs.PlanFiles.{IsValidatedFile, IsFileOfValid, IsFileOfOptimal};
 
-/// A step of a plan is printed as the ground form of its action: so a plan's lines are actions as
-/// `ground` prints them.
+/// Law: a step of a plan is printed as the ground form of its action: so a plan's lines are actions
+/// as `ground` prints them.
 pub fn steps_are_printed_as_ground_forms()
     ensures form { (names : Names) (g : GroundForm)
         → step_text (step_of names g) ≡ form_text names.schemas names.objects g }
 {}
 
-/// What is written of an answer is a plan file: it is valid in the task of the same two texts, as
-/// `validate` judges it, at the cost that stands in it. Nothing is written only where there is no
-/// plan, and so not of an answer that ends with an optimal one.
+/// Law: what is written of an answer is a plan file: it is valid in the task of the same two texts,
+/// as `validate` judges it, at the cost that stands in it. Nothing is written only where there is
+/// no plan, and so not of an answer that ends with an optimal one.
 pub fn answers_are_validated()
     ensures optimal { (limit : Option ℕ) (domain problem text : List ℕ)
         → IsSolved limit domain problem Optimal text → IsValidatedFile domain problem text }
@@ -39,8 +39,8 @@ pub fn answers_are_validated()
         → (text ≡ []) ⊎ IsValidatedFile domain problem text }
 {}
 
-/// The steps that such a file says, read back, name the instances of a plan that is valid in the
-/// domain and problem, at that cost; where the answer ends with an optimal plan, no valid plan
+/// Law: the steps that such a file says, read back, name the instances of a plan that is valid in
+/// the domain and problem, at that cost; where the answer ends with an optimal plan, no valid plan
 /// costs less.
 pub fn written_plans_are_valid()
     ensures optimal { (limit : Option ℕ) (domain problem text : List ℕ)
@@ -50,8 +50,8 @@ pub fn written_plans_are_valid()
         → (text ≡ []) ⊎ IsFileOfValid domain problem text }
 {}
 
-/// A file whose search goes on is not refused, and what it holds then begins with the groups that
-/// stood in it.
+/// Law: a file whose search goes on is not refused, and what it holds then begins with the groups
+/// that stood in it.
 pub fn what_stood_is_gone_on_with()
     ensures unrefused { (digest : List ℕ) (kids : List Kid) (before after : List ℕ)
         (error : ImageError) → IsKept Kept digest kids before after

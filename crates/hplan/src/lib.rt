@@ -1,7 +1,14 @@
-//! The planner hplan: from a command line to a plan (`solve`, `resume`), what a journal shows by
-//! itself (`certify`) or is (`inspect`), its entries in a journal of the second version
-//! (`migrate`, also of a damaged one: `salvage`), the actions of a task (`ground`), the verdict
-//! on a plan (`validate`), or what stands at the end of a schedule of a search (`replay`).
+//! The planner hplan as a library: the commands of the program, and the program itself.
+//!
+//! If [`solve`] succeeds, it has written exactly the plan, if any, of a true answer to the two
+//! texts. [`solve_kept`] answers what the entries in its file show when it returns. [`validate`],
+//! [`certify`] and the other commands write exactly what their definitions say.
+//! [`laws::written_plans_are_valid`]: a plan that a search has written is valid, at its cost.
+//!
+//! [`command`] reads the arguments and the files, and calls one of these. All files come from
+//! [`Places`], so tests use a [`Shelf`] in memory. `solve` grounds the texts by hd_texts and
+//! searches by hd_parallel. Error lines and the statuses of `command` are tested only.
+//! Start reading at [`command`], then at `src/engine.rt` and `specs/Answer`.
 #![tactic(auto)]
 
 mod certifying;

@@ -23,7 +23,7 @@ use hd_texts::{digest_of, task_of};
 use std::alloc::Global;
 use std::io::Write;
 
-/// The pairs of the entries of a content, which name a legal list of a task.
+/// Returns the pairs of the entries of a content, which name a legal list of a task.
 fn named_in(
     alloc: Global,
     task: &Task,
@@ -71,7 +71,7 @@ fn named_in_file<P: Places>(
     named
 }
 
-/// The pairs of the entries of the journal of two texts, in a file.
+/// Returns the pairs of the entries of the journal of two texts, in a file.
 fn kids_of<P: Places>(
     alloc: Global,
     places: &mut P,
@@ -127,9 +127,9 @@ pub fn copy_to<P: Places>(
     }
 }
 
-/// Writes entries to a file of another name, which is not there or empty, and answers what is
-/// told of that.
-fn moved<P: Places>(
+/// Writes entries to a file of another name, which is not there or empty, and returns what is
+/// reported of that.
+fn write_entries<P: Places>(
     alloc: Global,
     places: &mut P,
     from: &str,
@@ -170,7 +170,7 @@ fn moved<P: Places>(
 }
 
 /// Reads the entries of a journal of two texts in one file, writes them to another, and answers
-/// what is told of that.
+/// what is reported of that.
 fn migration<P: Places>(
     alloc: Global,
     places: &mut P,
@@ -194,7 +194,7 @@ fn migration<P: Places>(
 {
     match kids_of(alloc, places, from, domain, problem) {
         Ok(kids) => {
-            let told = moved(alloc, places, from, to, domain, problem, &kids);
+            let told = write_entries(alloc, places, from, to, domain, problem, &kids);
             drop(kids);
             told
         }
@@ -203,7 +203,7 @@ fn migration<P: Places>(
 }
 
 /// Writes all entries of the journal in one file, which is one of the task that two texts say, to
-/// another file, as a journal of version two in groups as large as may be; and tells how many
+/// another file, as a journal of version two in groups as large as may be; and reports how many
 /// they are. The first file is read, and left alone; the other has to be empty, or is made.
 ///
 /// # Errors
@@ -211,7 +211,7 @@ fn migration<P: Places>(
 /// of theirs; the first entry that is no step of a search of the task; that the other file is not
 /// empty, or is the same by its name, and then it is as it was; that it can't be had or written,
 /// and then it has a header that is still to be made, or a journal of the first of the entries;
-/// or what is told of the error that the writer has answered. A beginning of the text has then
+/// or what is reported of the error that the writer has answered. A beginning of the text has then
 /// been written, and not all of it, and else nothing.
 pub fn migrate<P: Places, W: Write>(
     alloc: Global,

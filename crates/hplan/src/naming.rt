@@ -18,7 +18,7 @@ pub struct NamedPlan {
     pub cost: u64,
 }
 
-/// The name of this number; every number of a task has one.
+/// Returns the name of this number; every number of a task has one.
 fn name_at(alloc: Global, names: &[Name], number: usize) -> Result<Name, NoMemory>
     ensures { IfOk result (λ name. name ≡ name_at names.now number) }
 {
@@ -39,7 +39,7 @@ fn names_at(alloc: Global, names: &[Name], numbers: &[usize]) -> Result<Sequence
     Ok(Sequence::from_vec(found))
 }
 
-/// The step that a ground form of an action is.
+/// Returns the step that a ground form of an action is.
 fn step_of(alloc: Global, names: &Names, form: &GroundForm) -> Result<Step, NoMemory>
     ensures { IfOk result (λ step. step ≡ step_of names.now form.now) }
 {
@@ -49,7 +49,7 @@ fn step_of(alloc: Global, names: &Names, form: &GroundForm) -> Result<Step, NoMe
     })
 }
 
-/// The step of the action with this number.
+/// Returns the step of the action with this number.
 fn step_at(alloc: Global, task: &Task, action: ActionId) -> Result<Step, NoMemory>
     ensures { IfOk result (λ step. step ≡ step_at task.now action.0) }
 {
@@ -62,7 +62,7 @@ fn step_at(alloc: Global, task: &Task, action: ActionId) -> Result<Step, NoMemor
     }
 }
 
-/// The steps of a plan.
+/// Returns the steps of a plan.
 fn steps_of(alloc: Global, task: &Task, plan: &Plan) -> Result<Sequence<Step>, NoMemory>
     ensures { IfOk result (λ steps. steps ≡ steps_of task.now plan.now) }
 {

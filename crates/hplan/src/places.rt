@@ -23,7 +23,7 @@ pub trait Places {
     /// A file that is lent.
     type Disk: Store + Drop;
 
-    /// The bytes of a file, whole.
+    /// Returns the bytes of a file, whole.
     fn read(&mut self, alloc: Global, name: &str) -> io::Result<Vec<u8>>
         ensures bytes { IfOk result (λ v.
             IfSome (file_of self.old name.now) (λ bytes. v.items ≡ bytes)) }
@@ -33,7 +33,7 @@ pub trait Places {
     /// back. All others are as they were.
     ///
     /// # Errors
-    /// A failure where it can't be had. Want of memory. All files are then as they were.
+    /// A failure where it can't be had. Lack of memory. All files are then as they were.
     fn store(&mut self, alloc: Global, name: &str, make: bool) -> Result<Self::Disk, StoreError>
         ensures lent { IfOk result (λ disk. IfSome (file_of self.old name.now)
             (λ bytes. content_of (Self.Disk.device disk) ≡ bytes)) }
@@ -53,7 +53,7 @@ pub trait Places {
         ensures others { (other : List ℕ) → other ≢ name.now
             → file_of self.new other ≡ file_of self.old other };
 
-    /// Takes a file back behind a search that failed, as `give_back`. The system removes it if the
+    /// Takes a file back after a search that failed, as `give_back`. The system removes it if the
     /// last `store` has made it, and it holds no entry.
     fn take_back(&mut self, name: &str, disk: Self::Disk)
         ensures given { IfSome (file_of self.new name.now)
@@ -63,7 +63,7 @@ pub trait Places {
         ensures others { (other : List ℕ) → other ≢ name.now
             → file_of self.new other ≡ file_of self.old other };
 
-    /// Tells whether two names lead to the same file.
+    /// Reports whether two names lead to the same file.
     fn is_one_file(&self, one: &str, other: &str) -> bool;
 }
 
@@ -76,18 +76,18 @@ pub struct SystemFiles<'r, R> {
 }
 
 impl<'r, R> SystemFiles<'r, R> {
-    /// The files of this runtime.
+    /// Returns the files of this runtime.
     pub fn new(rt: &'r R) -> SystemFiles<'r, R> {
         SystemFiles { rt, is_made: false }
     }
 }
 
-/// Makes an empty file where none is: tells whether it did.
+/// Makes an empty file where none is: reports whether it did.
 fn make_new<R: Files<File = File>>(rt: &R, name: &str) -> bool {
     File::create_new(rt, name).is_ok()
 }
 
-/// Tells whether a file is too short for a journal's first entry.
+/// Reports whether a file is too short for a journal's first entry.
 fn has_no_entry<R: Files>(rt: &R, name: &str) -> bool {
     match fs::metadata(rt, name) {
         Ok(metadata) => metadata.len() <= FIRST_GATE as u64 + 1,
@@ -147,7 +147,7 @@ impl Model for Shelf {
 }
 
 impl Shelf {
-    /// No files.
+    /// Returns no files.
     pub fn empty(alloc: Global) -> Shelf
         ensures { result ≡ [] }
     {
@@ -156,7 +156,7 @@ impl Shelf {
         }
     }
 
-    /// One file more, whose bytes are those of a disk.
+    /// Adds one file more, whose bytes are those of a disk.
     ///
     /// # Errors
     /// `AllocError` where there is no room for it; the shelf is then as it was.
@@ -175,7 +175,7 @@ impl Shelf {
         Ok(())
     }
 
-    /// One file more.
+    /// Adds one file more.
     ///
     /// # Errors
     /// `AllocError` where there is no room for it; the shelf is then as it was.
@@ -204,7 +204,7 @@ impl Shelf {
     }
 }
 
-/// The place of the first file of this name.
+/// Returns the place of the first file of this name.
 fn place_of(files: &[(String, MemoryDisk)], name: &str) -> Option<usize>
     ensures place { result ≡ place_in (shown files.now) name.now }
     ensures within { IfSome result (λ place. place < length files.now) }
@@ -221,7 +221,7 @@ fn place_of(files: &[(String, MemoryDisk)], name: &str) -> Option<usize>
     None
 }
 
-/// The bytes of the first file of this name.
+/// Returns the bytes of the first file of this name.
 fn find<'s>(files: &'s [(String, MemoryDisk)], name: &str) -> Option<&'s [u8]>
     ensures { option_map (λ b. b.now) result ≡ file_in (shown files.now) name.now }
 {

@@ -50,7 +50,7 @@ const RANGE_LEFT: u8 = 11;
 /// The exit status where the search has stopped at its limit.
 const STOPPED: u8 = 12;
 
-/// Tells a fault, on one line.
+/// Reports a fault, on one line.
 fn refuse<E: Write>(err: &mut E, fault: &Fault) -> u8
     ensures { result ≡ REFUSED }
 {
@@ -58,7 +58,7 @@ fn refuse<E: Write>(err: &mut E, fault: &Fault) -> u8
     REFUSED
 }
 
-/// Tells how an answer ends.
+/// Reports how an answer ends.
 fn tell<E: Write>(err: &mut E, ending: &Ending) -> u8
     ensures { result ≡ status_of_ending ending.now }
 {
@@ -94,7 +94,7 @@ fn flush<O: Write>(out: &mut O) -> Result<(), Fault> {
     }
 }
 
-/// The bytes of a file.
+/// Returns the bytes of a file.
 fn read<P: Places>(alloc: Global, places: &mut P, name: &str) -> Result<Vec<u8>, Fault> {
     match places.read(alloc, name) {
         Ok(bytes) => Ok(bytes),
@@ -129,7 +129,7 @@ fn solve_files<P: Places, O: Write, R: Threads + Wait + Sync + Eprint + Clock>(
     Ok(ending)
 }
 
-/// The exit status of a search; how it ends is told, or its fault.
+/// Returns the exit status of a search; how it ends is reported, or its fault.
 fn status_of_search<E: Write>(err: &mut E, ended: Result<Ending, Fault>) -> u8
     ensures { MatchResult ended
         (λ ending. result ≡ status_of_ending ending) (λ _. result ≡ REFUSED) }
@@ -154,7 +154,7 @@ fn ground_files<P: Places, O: Write>(
     flush(out)
 }
 
-/// Reads two files, and tells what the journal in a third shows of their task. Whether it shows a
+/// Reads two files, and reports what the journal in a third shows of their task. Whether it shows a
 /// verdict is answered.
 fn certify_files<P: Places, O: Write>(
     alloc: Global,
@@ -172,7 +172,7 @@ fn certify_files<P: Places, O: Write>(
     Ok(is_certified)
 }
 
-/// The exit status of what a journal shows; a fault is told.
+/// Returns the exit status of what a journal shows; a fault is reported.
 fn status_of_certificate<E: Write>(err: &mut E, certified: Result<bool, Fault>) -> u8
     ensures { MatchResult certified
         (λ answer. result ≡ status_of_certificate answer) (λ _. result ≡ REFUSED) }
@@ -184,8 +184,8 @@ fn status_of_certificate<E: Write>(err: &mut E, certified: Result<bool, Fault>) 
     }
 }
 
-/// Tells whether the file to write a journal to is one of those that are read, by whatever name.
-/// Of the old journal's own name `migrate` tells.
+/// Reports whether the file to write a journal to is one of those that are read, by whatever name.
+/// Of the old journal's own name `migrate` reports.
 fn is_read_too<P: Places>(places: &P, texts: (&str, &str), from: &str, to: &str) -> bool {
     places.is_one_file(to, texts.0)
         || places.is_one_file(to, texts.1)
@@ -231,7 +231,7 @@ fn salvage_files<P: Places, O: Write>(
     flush(out)
 }
 
-/// Tells of the journal in a file.
+/// Reports of the journal in a file.
 fn inspect_file<P: Places, O: Write>(
     alloc: Global,
     places: &mut P,
@@ -242,7 +242,7 @@ fn inspect_file<P: Places, O: Write>(
     flush(out)
 }
 
-/// Reads two files, and tells of the journal in a third, and of the search in it.
+/// Reads two files, and reports of the journal in a third, and of the search in it.
 fn survey_files<P: Places, O: Write>(
     alloc: Global,
     places: &mut P,
@@ -304,7 +304,7 @@ fn replay_files<P: Places, O: Write>(
     flush(out)
 }
 
-/// The exit status of a command that is done or refused; a fault is told.
+/// Returns the exit status of a command that is done or refused; a fault is reported.
 fn status_of<E: Write>(err: &mut E, done: Result<(), Fault>) -> u8
     ensures { MatchResult done (λ _. result ≡ DONE) (λ _. result ≡ REFUSED) }
 {
@@ -314,7 +314,7 @@ fn status_of<E: Write>(err: &mut E, done: Result<(), Fault>) -> u8
     }
 }
 
-/// Tells the reason of a plan's fault on one line, if it has one, and there is memory for it.
+/// Reports the reason of a plan's fault on one line, if it has one, and there is memory for it.
 fn tell_reason<E: Write>(alloc: Global, files: &ThreeFiles, err: &mut E) {
     if let Ok(Some(reason)) = explain(alloc, &files.domain, &files.problem, &files.third) {
         let _ = put(err, reason.as_bytes());
@@ -322,8 +322,8 @@ fn tell_reason<E: Write>(alloc: Global, files: &ThreeFiles, err: &mut E) {
     }
 }
 
-/// The exit status of a judged plan: a fault is told, and behind that of a plan its reason, where
-/// it is asked for.
+/// Returns the exit status of a judged plan: a fault is reported, and after that of a plan its
+/// reason, where it is asked for.
 fn judge_files<O: Write, E: Write>(
     alloc: Global,
     files: &ThreeFiles,
@@ -340,8 +340,8 @@ fn judge_files<O: Write, E: Write>(
     status
 }
 
-/// The exit status of a search over a journal, if one is named: a new one, or the one that is
-/// there.
+/// Returns the exit status of a search over a journal, if one is named: a new one, or the one that
+/// is there.
 fn answer_search<P: Places, O: Write, E: Write, R: Threads + Wait + Sync + Eprint + Clock>(
     rt: &R,
     alloc: Global,
@@ -358,8 +358,8 @@ fn answer_search<P: Places, O: Write, E: Write, R: Threads + Wait + Sync + Eprin
     status_of_search(err, ended)
 }
 
-/// The exit status of a plan in a file that is judged: a fault is told, and its reason, where it
-/// is asked for.
+/// Returns the exit status of a plan in a file that is judged: a fault is reported, and its reason,
+/// where it is asked for.
 fn answer_plan<P: Places, O: Write, E: Write>(
     alloc: Global,
     places: &mut P,
@@ -525,7 +525,7 @@ pub fn command<P: Places, O: Write, E: Write, R: Threads + Wait + Sync + Eprint 
     }
 }
 
-/// The words of the command line.
+/// Returns the words of the command line.
 fn words_of<R: Env + AllocGlobal>(rt: &R) -> io::Result<Vec<String>> {
     Ok(env::args(rt)?.collect(rt.alloc())?)
 }

@@ -8,7 +8,7 @@ use hd_plan::{PlanTextError, read_plan};
 use hd_texts::{TaskFault, checked_of, seed_of};
 use std::alloc::{AllocError, Global};
 
-/// Why the plan that a text says is not valid in a checked task.
+/// Returns why the plan that a text says is not valid in a checked task.
 fn reason_in(
     alloc: Global,
     seed: Seed,
@@ -31,7 +31,7 @@ fn reason_in(
     }
 }
 
-/// Whether a fault of texts stands in them: it is no want of memory.
+/// Reports whether a fault of texts stands in them: it is no lack of memory.
 fn is_in_texts(fault: &TaskFault) -> bool
     ensures { result ≡ is_in_texts fault.now }
 {
@@ -41,16 +41,16 @@ fn is_in_texts(fault: &TaskFault) -> bool
     }
 }
 
-/// Why the plan of a third text is not valid in the task that two texts say, in one line without
-/// its end: the first condition of an action or of the goal that does not hold, or what is out of
-/// the range, with the values of its fluents. Atoms come first, then equalities of objects, then
-/// comparisons, those of one kind as they are written.
+/// Returns why the plan of a third text is not valid in the task that two texts say, in one line
+/// without its end: the first condition of an action or of the goal that does not hold, or what is
+/// out of the range, with the values of its fluents. Atoms come first, then equalities of objects,
+/// then comparisons, those of one kind as they are written.
 ///
 /// `None` where the plan is valid, and where the fault itself says all: one of a text, `15`, `16`
 /// and `20`.
 ///
 /// # Errors
-/// Want of memory.
+/// Lack of memory.
 pub fn explain(
     alloc: Global,
     domain: &[u8],

@@ -17,8 +17,8 @@ use hd_texts::{digest_of, task_of};
 use std::alloc::Global;
 use std::io::Write;
 
-/// What stands at the end of the schedule that a text says, played on a task from an empty disk
-/// on.
+/// Returns what stands at the end of the schedule that a text says, played on a task from an empty
+/// disk on.
 fn played_in(
     alloc: Global,
     task: &Task,
@@ -42,7 +42,8 @@ fn played_in(
     }
 }
 
-/// What stands at the end of the schedule of the third text, played on the task of the first two.
+/// Returns what stands at the end of the schedule of the third text, played on the task of the
+/// first two.
 fn report_of(alloc: Global, domain: &[u8], problem: &[u8], schedule: &[u8]) -> Result<Report, Fault>
     ensures found { IfOk result (IsReportOf domain.now problem.now schedule.now) }
     ensures refusal { IfErr result (HasNoReportYet domain.now problem.now schedule.now) }
@@ -58,7 +59,7 @@ fn report_of(alloc: Global, domain: &[u8], problem: &[u8], schedule: &[u8]) -> R
     }
 }
 
-/// The four lines of a report.
+/// Returns the four lines of a report.
 fn report_text(alloc: Global, report: &Report) -> Result<Vec<u8>, NoMemory>
     ensures { IfOk result (λ v. v.items ≡ report_text report.now) }
 {
@@ -72,8 +73,8 @@ fn report_text(alloc: Global, report: &Report) -> Result<Vec<u8>, NoMemory>
 ///
 /// # Errors
 /// The first fault: of the first two texts; the first line of the third that is no move; why the
-/// schedule was not played to its end; or what is told of the error that the writer has answered.
-/// A beginning of the lines has then been written, and else nothing.
+/// schedule was not played to its end; or what is reported of the error that the writer has
+/// answered. A beginning of the lines has then been written, and else nothing.
 #[tactic(auto, using(crate::proofs::Replays::memory_unreported))]
 pub fn replay<W: Write>(
     alloc: Global,
@@ -91,7 +92,7 @@ pub fn replay<W: Write>(
         ⊎ WritesFrontOfA (IsReportText domain.now problem.now schedule.now)
         (W.contents out.old.writer.now) (W.contents out.new.writer.now)) }
 
-    // Why nothing is written, or not all. `Device` is told only of an error that the writer has
+    // Why nothing is written, or not all. `Device` is reported only of an error that the writer has
     // answered, after which a beginning of the lines is written; none that it answers is passed
     // over.
     ensures refusal { IfErr result (HasNoReport domain.now problem.now schedule.now

@@ -32,7 +32,8 @@ struct Front {
     dropped: Option<u64>,
 }
 
-/// The pairs of the entries of a content up to its damage, which name a legal list of a task.
+/// Returns the pairs of the entries of a content up to its damage, which name a legal list of a
+/// task.
 fn front_in(
     alloc: Global,
     task: &Task,
@@ -82,7 +83,7 @@ fn front_in_file<P: Places>(
     front_in(alloc, task, digest, content)
 }
 
-/// The same of the journal of two texts, in a file.
+/// Returns the same of the journal of two texts, in a file.
 fn front_of<P: Places>(
     alloc: Global,
     places: &mut P,
@@ -152,7 +153,7 @@ fn saved<P: Places>(
 }
 
 /// Reads the entries of a journal of two texts in one file, up to its damage, writes them to
-/// another, and answers what is told of that.
+/// another, and answers what is reported of that.
 fn salvaged<P: Places>(
     alloc: Global,
     places: &mut P,
@@ -184,9 +185,9 @@ fn salvaged<P: Places>(
     }
 }
 
-/// Writes the entries of the journal in one file to another, and tells how many they are, as
+/// Writes the entries of the journal in one file to another, and reports how many they are, as
 /// [`migrate`](crate::migrate) does. Of a journal that is damaged, from an open gate on that has
-/// no whole group behind it, these are the entries before that gate, and its place is told on a
+/// no whole group after it, these are the entries before that gate, and its place is reported on a
 /// second line: `dropped from byte P`. The first file is read, and left alone.
 ///
 /// # Errors

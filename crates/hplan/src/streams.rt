@@ -1,4 +1,4 @@
-//! The program's three streams, and the files behind names.
+//! The program's three streams, and the files after names.
 use std::fs::{self, File};
 use std::io;
 use std::os::fd::AsRawFd;
@@ -42,7 +42,7 @@ fn hold_one<R: Files<File = File>>(rt: &R) -> io::Result<Option<File>> {
     Ok(Some(file))
 }
 
-/// Tells whether two names lead to the same file, which is there.
+/// Reports whether two names lead to the same file, which is there.
 pub fn is_same_file<R: Files>(rt: &R, one: &str, other: &str) -> bool {
     match (fs::metadata(rt, one), fs::metadata(rt, other)) {
         (Ok(one), Ok(other)) => {
@@ -52,7 +52,7 @@ pub fn is_same_file<R: Files>(rt: &R, one: &str, other: &str) -> bool {
     }
 }
 
-/// Tells whether a name leads to what standard output or standard error is written to.
+/// Reports whether a name leads to what standard output or standard error is written to.
 pub fn is_output<R: Files>(rt: &R, name: &str) -> bool {
     is_same_file(rt, name, "/dev/stdout") || is_same_file(rt, name, "/dev/stderr")
 }

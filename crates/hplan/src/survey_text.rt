@@ -10,7 +10,7 @@ use hd_inspect::Inspected;
 use hd_task::{Departure, Plan, Task};
 use std::alloc::Global;
 
-/// The line of a row, behind a text.
+/// Appends the line of a row to a text.
 fn push_row(alloc: Global, text: &mut String, what: &str, row: Row) -> Result<(), NoMemory>
     ensures { OnOk result (string_bytes text.new
         ≡ string_bytes text.old ++ row_line what.now row) }
@@ -22,7 +22,7 @@ fn push_row(alloc: Global, text: &mut String, what: &str, row: Row) -> Result<()
     text.push_str("\n")
 }
 
-/// The lines of rows, behind a text.
+/// Appends the lines of rows to a text.
 fn push_rows(alloc: Global, text: &mut String, what: &str, rows: &[Row]) -> Result<(), NoMemory>
     ensures { OnOk result (string_bytes text.new
         ≡ string_bytes text.old ++ row_lines what.now rows.now) }
@@ -35,7 +35,7 @@ fn push_rows(alloc: Global, text: &mut String, what: &str, rows: &[Row]) -> Resu
     Ok(())
 }
 
-/// The line of an action, behind a text.
+/// Appends the line of an action to a text.
 fn push_step(text: &mut String, task: &Task, action: usize) -> Result<(), NoMemory>
     ensures { OnOk result (string_bytes text.new
         ≡ string_bytes text.old ++ plan_lines task.now (action ∷ [])) }
@@ -44,7 +44,7 @@ fn push_step(text: &mut String, task: &Task, action: usize) -> Result<(), NoMemo
     text.push_str("\n")
 }
 
-/// The lines of a plan's actions, behind a text.
+/// Appends the lines of a plan's actions to a text.
 fn push_plan(text: &mut String, task: &Task, plan: &Plan) -> Result<(), NoMemory>
     ensures { OnOk result (string_bytes text.new
         ≡ string_bytes text.old ++ plan_lines task.now plan.now) }
@@ -57,7 +57,7 @@ fn push_plan(text: &mut String, task: &Task, plan: &Plan) -> Result<(), NoMemory
     Ok(())
 }
 
-/// The bound, and the actions of its plan, behind a text.
+/// Appends the bound, and the actions of its plan to a text.
 fn push_bound(
     alloc: Global,
     text: &mut String,
@@ -77,7 +77,7 @@ fn push_bound(
     }
 }
 
-/// The first departure, behind a text.
+/// Appends the first departure to a text.
 fn push_departure(
     alloc: Global,
     text: &mut String,
@@ -96,7 +96,7 @@ fn push_departure(
     }
 }
 
-/// What entries tell of a search.
+/// Returns what entries tell of a search.
 fn survey_part(alloc: Global, task: &Task, survey: &Survey) -> Result<String, NoMemory>
     ensures { IfOk result (λ s. string_bytes s ≡ survey_text task.now survey.now) }
 {
@@ -110,7 +110,7 @@ fn survey_part(alloc: Global, task: &Task, survey: &Survey) -> Result<String, No
     Ok(text)
 }
 
-/// What is told of a file's bytes, and of what its entries tell of a search.
+/// Returns what is reported of a file's bytes, and of what its entries tell of a search.
 pub fn survey_text(
     alloc: Global,
     task: &Task,

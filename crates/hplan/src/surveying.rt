@@ -1,4 +1,4 @@
-//! From the bytes of two texts and of a journal to what is told of the search in it.
+//! From the bytes of two texts and of a journal to what is reported of the search in it.
 ghost use Rattle.std.specs.Prelude.{◌≡◌, ◌⊎◌, IfOk, IfErr, OnErr, OnOk};
 ghost use Rattle.hd_journal.specs.Journal.{found_in};
 ghost use Rattle.hd_image.specs.Reading.{IsFound};
@@ -22,7 +22,7 @@ use hd_texts::{digest_of, task_of};
 use std::alloc::Global;
 use std::io::Write;
 
-/// What the entries of a content tell of the search of a task.
+/// Returns what the entries of a content tell of the search of a task.
 fn survey_in(
     alloc: Global,
     task: &Task,
@@ -46,7 +46,7 @@ fn survey_in(
     }
 }
 
-/// What is told of a content, and of the search in it.
+/// Returns what is reported of a content, and of the search in it.
 fn surveyed_in(
     alloc: Global,
     task: &Task,
@@ -93,7 +93,7 @@ fn surveyed_in_file<P: Places>(
     told
 }
 
-/// What is told of the journal of two texts in a file, and of the search in it.
+/// Returns what is reported of the journal of two texts in a file, and of the search in it.
 fn survey_of<P: Places>(
     alloc: Global,
     places: &mut P,
@@ -118,7 +118,7 @@ fn survey_of<P: Places>(
     }
 }
 
-/// Tells what the bytes of a file are, as `inspect` does, and behind it how far the search of the
+/// Reports what the bytes of a file are, as `inspect` does, and after it how far the search of the
 /// task that two texts say has come by the entries in it: how many plans are posted, and how many
 /// of them settled, as far as the entries show it; the bound with its plan; the first departure;
 /// and how many entries there are of each depth, and of each cost. The file is read, and left
@@ -126,9 +126,9 @@ fn survey_of<P: Places>(
 ///
 /// # Errors
 /// The first fault of the texts; that the file can't be read; why its bytes are no journal of
-/// theirs; the first entry that is no step of a search of the task; or what is told of the error
-/// that the writer has answered. A beginning of the text has then been written, and not all of
-/// it, and else nothing.
+/// theirs; the first entry that is no step of a search of the task; or what is reported of the
+/// error that the writer has answered. A beginning of the text has then been written, and not all
+/// of it, and else nothing.
 pub fn survey<P: Places, W: Write>(
     alloc: Global,
     places: &mut P,

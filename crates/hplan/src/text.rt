@@ -16,7 +16,7 @@ use hd_inspect::{DIGEST_LEN, Inspected, Summary, Version, digest_text};
 use hd_task::{DepartsBy, Departure, Task, push_form};
 use std::alloc::Global;
 
-/// The ground form of an action behind a text.
+/// Appends the ground form of an action to a text.
 pub fn push_action(text: &mut String, task: &Task, action: usize) -> Result<(), NoMemory>
     ensures { OnOk result (string_bytes text.new
         ≡ string_bytes text.old ++ action_text task.now action) }
@@ -33,7 +33,7 @@ pub fn push_action(text: &mut String, task: &Task, action: usize) -> Result<(), 
     }
 }
 
-/// What leaves the range, behind a text.
+/// Returns what leaves the range, after a text.
 fn push_departing(text: &mut String, task: &Task, by: DepartsBy) -> Result<(), NoMemory>
     ensures { OnOk result (string_bytes text.new
         ≡ string_bytes text.old ++ departing_text task.now by) }
@@ -44,7 +44,7 @@ fn push_departing(text: &mut String, task: &Task, by: DepartsBy) -> Result<(), N
     }
 }
 
-/// A departure, as it is told, behind a text.
+/// Appends the text of a departure to a text.
 pub fn push_departed(
     alloc: Global,
     text: &mut String,
@@ -61,7 +61,7 @@ pub fn push_departed(
     Ok(())
 }
 
-/// A departure, as it is told.
+/// Returns a departure, as it is told.
 pub fn departure_text(alloc: Global, task: &Task, departure: Departure) -> Result<Vec<u8>, NoMemory>
     ensures { IfOk result (λ v. v.items ≡ departure_text task.now departure) }
 {
@@ -70,7 +70,7 @@ pub fn departure_text(alloc: Global, task: &Task, departure: Departure) -> Resul
     Ok(text.into_bytes())
 }
 
-/// The line that counts something, behind a text.
+/// Appends the line that counts something to a text.
 pub fn push_count(alloc: Global, text: &mut String, what: &str, count: u64) -> Result<(), NoMemory>
     ensures { OnOk result (string_bytes text.new
         ≡ string_bytes text.old ++ count_line what.now count) }
@@ -80,7 +80,7 @@ pub fn push_count(alloc: Global, text: &mut String, what: &str, count: u64) -> R
     text.push_str("\n")
 }
 
-/// The line of the action with this number, behind a text.
+/// Appends the line of the action with this number to a text.
 fn push_numbered(
     alloc: Global,
     text: &mut String,
@@ -96,7 +96,7 @@ fn push_numbered(
     text.push_str("\n")
 }
 
-/// The lines of all actions, behind a text.
+/// Appends the lines of all actions to a text.
 fn push_actions(alloc: Global, text: &mut String, task: &Task) -> Result<(), NoMemory>
     ensures { OnOk result (string_bytes text.new
         ≡ string_bytes text.old ++ numbered_lines task.now) }
@@ -107,8 +107,8 @@ fn push_actions(alloc: Global, text: &mut String, task: &Task) -> Result<(), NoM
     Ok(())
 }
 
-/// A task: how many actions, atoms and fluents it has, and then its actions in the order of their
-/// numbers, a line each.
+/// Returns a task: how many actions, atoms and fluents it has, and then its actions in the order of
+/// their numbers, a line each.
 pub fn task_text(alloc: Global, task: &Task) -> Result<Vec<u8>, NoMemory>
     ensures { IfOk result (λ v. v.items ≡ task_text task.now) }
 {
@@ -120,7 +120,7 @@ pub fn task_text(alloc: Global, task: &Task) -> Result<Vec<u8>, NoMemory>
     Ok(text.into_bytes())
 }
 
-/// How it is told how many entries were written to another file.
+/// Returns how it is told how many entries were written to another file.
 pub fn migrated_text(alloc: Global, entries: u64) -> Result<Vec<u8>, NoMemory>
     ensures { IfOk result (λ v. v.items ≡ migrated_text entries) }
 {
@@ -129,7 +129,7 @@ pub fn migrated_text(alloc: Global, entries: u64) -> Result<Vec<u8>, NoMemory>
     Ok(text.into_bytes())
 }
 
-/// The line that tells from which byte on a file is dropped, if it is, behind a text.
+/// Appends the line that tells from which byte on a file is dropped, if it is to a text.
 fn push_dropped(alloc: Global, text: &mut String, dropped: Option<u64>) -> Result<(), NoMemory>
     ensures { OnOk result (string_bytes text.new
         ≡ string_bytes text.old ++ dropped_line dropped) }
@@ -140,8 +140,8 @@ fn push_dropped(alloc: Global, text: &mut String, dropped: Option<u64>) -> Resul
     }
 }
 
-/// How it is told how many entries were written to another file, and from which byte on the rest
-/// is dropped, if it is.
+/// Returns how it is told how many entries were written to another file, and from which byte on the
+/// rest is dropped, if it is.
 pub fn salvaged_text(alloc: Global, entries: u64, dropped: Option<u64>) -> Result<Vec<u8>, NoMemory>
     ensures { IfOk result (λ v. v.items ≡ salvaged_text entries dropped) }
 {
@@ -151,7 +151,7 @@ pub fn salvaged_text(alloc: Global, entries: u64, dropped: Option<u64>) -> Resul
     Ok(text.into_bytes())
 }
 
-/// How it is told that a plan is valid.
+/// Returns how it is told that a plan is valid.
 pub fn valid_text(alloc: Global, cost: u64) -> Result<Vec<u8>, NoMemory>
     ensures { IfOk result (λ v. v.items ≡ valid_text cost) }
 {
@@ -160,7 +160,7 @@ pub fn valid_text(alloc: Global, cost: u64) -> Result<Vec<u8>, NoMemory>
     Ok(text.into_bytes())
 }
 
-/// A line of its own.
+/// Returns a line of its own.
 fn line_of(alloc: Global, text: &str) -> Result<Vec<u8>, NoMemory>
     ensures { IfOk result (λ v. v.items ≡ text.now ++ line_end) }
 {
@@ -169,7 +169,7 @@ fn line_of(alloc: Global, text: &str) -> Result<Vec<u8>, NoMemory>
     Ok(line.into_bytes())
 }
 
-/// How it is told that a plan of this cost is shown to be optimal.
+/// Returns how it is told that a plan of this cost is shown to be optimal.
 fn optimal_text(alloc: Global, cost: u64) -> Result<Vec<u8>, NoMemory>
     ensures { (r : Node) → r.cost ≡ cost
         → IfOk result (λ v. v.items ≡ optimal_text (Some r)) }
@@ -179,7 +179,7 @@ fn optimal_text(alloc: Global, cost: u64) -> Result<Vec<u8>, NoMemory>
     Ok(text.into_bytes())
 }
 
-/// How it is told which verdict is shown.
+/// Returns how it is told which verdict is shown.
 fn verdict_text(alloc: Global, task: &Task, verdict: &Certified) -> Result<Vec<u8>, NoMemory>
     requires { CanBeTold task.now verdict.now }
     ensures { IfOk result (λ v. v.items ≡ verdict_text task.now verdict.now) }
@@ -193,7 +193,7 @@ fn verdict_text(alloc: Global, task: &Task, verdict: &Certified) -> Result<Vec<u
     }
 }
 
-/// How it is told what is shown of a task.
+/// Returns how it is told what is shown of a task.
 pub fn certified_text(
     alloc: Global,
     task: &Task,
@@ -208,7 +208,7 @@ pub fn certified_text(
     }
 }
 
-/// The line of a digest, behind a text.
+/// Appends the line of a digest to a text.
 fn push_digest(alloc: Global, text: &mut String, digest: &[u8; DIGEST_LEN]) -> Result<(), NoMemory>
     ensures { OnOk result (string_bytes text.new
         ≡ string_bytes text.old ++ digest_line digest.now) }
@@ -219,7 +219,7 @@ fn push_digest(alloc: Global, text: &mut String, digest: &[u8; DIGEST_LEN]) -> R
     text.push_str("\n")
 }
 
-/// The number of a version.
+/// Returns the number of a version.
 fn version_number(version: Version) -> u64
     ensures { result ≡ version_number version }
 {
@@ -229,7 +229,7 @@ fn version_number(version: Version) -> u64
     }
 }
 
-/// The lines that tell of a journal.
+/// Returns the lines that tell of a journal.
 fn summary_text(alloc: Global, summary: &Summary) -> Result<Vec<u8>, NoMemory>
     ensures { IfOk result (λ v. v.items ≡ summary_text summary.now) }
 {
@@ -242,7 +242,7 @@ fn summary_text(alloc: Global, summary: &Summary) -> Result<Vec<u8>, NoMemory>
     Ok(text.into_bytes())
 }
 
-/// What is told of a file's bytes.
+/// Returns what is reported of a file's bytes.
 pub fn inspected_text(alloc: Global, inspected: &Inspected) -> Result<Vec<u8>, NoMemory>
     ensures { IfOk result (λ v. v.items ≡ inspected_text inspected.now) }
 {

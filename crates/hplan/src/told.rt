@@ -1,4 +1,4 @@
-//! How the answer of a search is told.
+//! How the answer of a search is reported.
 ghost use Rattle.std.specs.Prelude.{◌≡◌, true, IfOk, IfSome};
 ghost use Rattle.hd_plan.specs.PlanText as plans;
 ghost use Rattle.hplan.specs.Answer.{plan_in, text_if, written_of, ending_of};
@@ -43,7 +43,7 @@ fn plan_of(alloc: Global, task: &Task, plan: &Plan) -> Result<NamedPlan, NoMemor
     }
 }
 
-/// The plan, by its names, that an answer may have beside.
+/// Returns the plan, by its names, that an answer may have beside.
 fn plan_beside(
     alloc: Global,
     task: &Task,
@@ -58,7 +58,7 @@ fn plan_beside(
     }
 }
 
-/// How an answer ends, and its plan, if it has one.
+/// Returns how an answer ends, and its plan, if it has one.
 pub fn told_of(alloc: Global, task: &Task, outcome: &Outcome) -> Result<Told, NoMemory>
     requires { IfSome (plan_in outcome.now) (λ p. goes_through task.now p ≡ true) }
     ensures ends { IfOk result (λ told. told.ending ≡ ending_of task.now outcome.now) }

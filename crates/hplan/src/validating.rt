@@ -13,7 +13,7 @@ use hd_texts::{checked_of, seed_of};
 use std::alloc::Global;
 use std::io::Write;
 
-/// What the plan that a text says costs in a checked task.
+/// Returns what the plan that a text says costs in a checked task.
 #[tactic(auto, using(crate::proofs::Explaining::plan_unread))]
 fn cost_in(alloc: Global, seed: Seed, checked: &Checked, plan: &[u8]) -> Result<u64, Fault>
     ensures valid { IfOk result (IsValidIn checked.now plan.now) }
@@ -31,7 +31,7 @@ fn cost_in(alloc: Global, seed: Seed, checked: &Checked, plan: &[u8]) -> Result<
     }
 }
 
-/// What the plan of the third text costs in the task of the first two.
+/// Returns what the plan of the third text costs in the task of the first two.
 #[tactic(auto, using(crate::proofs::Explaining::texts_without_verdict))]
 fn cost_of_texts(alloc: Global, domain: &[u8], problem: &[u8], plan: &[u8]) -> Result<u64, Fault>
     ensures valid { IfOk result (AreValid domain.now problem.now plan.now) }
@@ -66,7 +66,7 @@ pub fn validate<W: Write>(
     plan: &[u8],
     out: &mut Watched<'_, W>,
 ) -> Result<(), Fault>
-    // The verdict is written only where the plan is valid, and tells its cost.
+    // The verdict is written only where the plan is valid, and reports its cost.
     ensures whole { OnOk result (WritesA (IsVerdictOf domain.now problem.now plan.now)
         (W.contents out.old.writer.now) (W.contents out.new.writer.now)) }
     ensures front { OnErr result
@@ -74,7 +74,7 @@ pub fn validate<W: Write>(
         ⊎ WritesFrontOfA (IsVerdictOf domain.now problem.now plan.now)
         (W.contents out.old.writer.now) (W.contents out.new.writer.now)) }
 
-    // Why nothing is written, or not all. `Device` is told only of an error that the writer has
+    // Why nothing is written, or not all. `Device` is reported only of an error that the writer has
     // answered, after which a beginning of the verdict is written; none that it answers is passed
     // over.
     ensures refusal { IfErr result (HasNoVerdict domain.now problem.now plan.now

@@ -1,4 +1,8 @@
-//! The program hplan.
+//! The executable hplan: calls `hplan::start` and exits with the status that it returns.
+//!
+//! Nothing but safety is proved of it. The crate has one run: arguments (`args`), files
+//! (`data/`) and expected output (`stdout`).
+//! Start at `src/program.rt` of the crate hplan.
 #![tactic(auto)]
 
 use std::process::ExitCode;

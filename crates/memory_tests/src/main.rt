@@ -1,10 +1,10 @@
-//! A search that is refused memory, and what goes on behind it.
+//! Tests a search that is refused memory, and the search that resumes from its journal.
 //!
-//! Two workers search a small task up to a limit, and then to its end, over a journal in memory.
-//! Where a part is refused memory, it is taken up again from the journal's bytes, which have the
-//! entries that the journal had, and these begin with those before. The length of the plan is
-//! printed, or what is not as it should be; then the status is 1. `rt try --fail-alloc N` refuses
-//! the `N`-th allocation; the whole program is refused each growth by `bench/memory-refused.sh`.
+//! Two workers search a small task to a limit, and then to its end, over a journal in memory.
+//! If a part is refused memory, the next part opens the journal's bytes. It must find and keep
+//! the journal's entries. The test prints the plan's length; or what is wrong, with status 1.
+//! `rt try --fail-alloc N` refuses the `N`-th allocation; `bench/memory-refused.sh` refuses
+//! each growth of the whole program. Start at `src/search.rt`, then `src/part.rt`.
 #![tactic(auto)]
 
 mod part;

@@ -25,7 +25,7 @@ pub enum End {
     Plan(usize),
 }
 
-/// Whether entries begin with others.
+/// Reports whether entries begin with others.
 fn begin_with(entries: &[Entry], others: &[Entry]) -> bool {
     others.len() <= entries.len()
         && others
@@ -34,7 +34,7 @@ fn begin_with(entries: &[Entry], others: &[Entry]) -> bool {
             .all(|(other, entry)| *other == *entry)
 }
 
-/// How a search over a journal ended.
+/// Returns how a search over a journal ended.
 fn end_over<R: Threads + Wait + Sync>(
     rt: &R,
     alloc: Global,
@@ -48,7 +48,7 @@ fn end_over<R: Threads + Wait + Sync>(
             Outcome::Stopped(_) => Ok(End::Stopped),
             Outcome::NoPlan | Outcome::RangeLeft(..) => Err("another answer"),
         },
-        // A thread that does not start for want of memory is no other than one that does not
+        // A thread that does not start for lack of memory is no other than one that does not
         // start.
         Err(ThreadsFault::Run(RunFault::NoMemory) | ThreadsFault::NoThread) => Ok(End::Refused),
         Err(ThreadsFault::Run(_)) => Err("another fault"),

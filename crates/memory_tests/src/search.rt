@@ -28,7 +28,7 @@ const LIMIT: u64 = 2;
 /// More parts than a search has of which one is refused memory.
 const PARTS: usize = 4;
 
-/// The task, also where it was refused memory the first time.
+/// Returns the task, also where it was refused memory the first time.
 fn task_in(alloc: Global) -> Result<Task, Wrong> {
     for _time in 0..2 {
         if let Ok(task) = task_of(alloc, N.as_bytes(), N_PROBLEM.as_bytes()) {
@@ -38,7 +38,7 @@ fn task_in(alloc: Global) -> Result<Task, Wrong> {
     Err("there is no task")
 }
 
-/// How long the plan is that two workers find, part by part.
+/// Returns how long the plan is that two workers find, part by part.
 pub fn plan_len<R: Threads + Wait + Sync>(rt: &R, alloc: Global) -> Result<usize, Wrong> {
     let task = task_in(alloc)?;
     let mut left = Left {

@@ -119,7 +119,7 @@ fn play(
 }
 
 /// Answers `mailbox MOVES`: `+N` sends N letters, one that comes back is sent again by the next
-/// `+`; `-N` takes N. The answer tells how many went and came.
+/// `+`; `-N` takes N. The answer reports how many went and came.
 pub fn mailbox<R: Wait>(rt: &R, alloc: Global, moves: &str) -> Result<Option<String>, AllocError> {
     let seed = Letter { of: OF, number: 0 };
     let (boxes, mut hands) = Mailboxes::new(rt, alloc, 1, &OF, seed)?;

@@ -1,9 +1,10 @@
 //! Plays probes: small questions to the libraries, with the answers that are wanted.
 //!
 //! A probe is a line `QUESTION => ANSWER` of a text file. A line `task NAME` starts a fresh book
-//! and a fresh journal of the task in `tasks/`, which the lines below it ask. Lines before the
-//! first task ask what needs none. Empty lines and lines that begin with `#` say nothing. The
-//! arguments name the files; without any, the file `all` names them, one a line.
+//! and a fresh journal of the task in `tasks/`, for the lines below it. Lines before the first task
+//! need none. Empty lines and lines that begin with `#` are skipped. The arguments name the files;
+//! without any, the file `all` names them, one a line. Start at `src/playing.rt`, then
+//! `src/asking.rt`.
 #![tactic(auto)]
 
 mod asking;

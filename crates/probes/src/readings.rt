@@ -1,4 +1,4 @@
-//! Probes of what a book tells.
+//! Probes of what a book reports.
 use crate::texts::{kid_text, told};
 use hd_book::{Book, Verdict};
 use hd_task::{DepartsBy, Kid, Plan};
@@ -57,7 +57,7 @@ fn entry_text(alloc: Global, kid: Option<Kid>) -> Result<Option<String>, AllocEr
     }
 }
 
-/// Answers what a book tells: `counts`, `state`, `bound`, `verdict` or `entry N`.
+/// Returns what a book reports: `counts`, `state`, `bound`, `verdict` or `entry N`.
 pub fn read<L: Ledger>(
     alloc: Global,
     book: &Book<L>,

@@ -22,7 +22,7 @@ impl Tally {
         }
     }
 
-    /// Counts a probe that failed, and tells its place, `wanted` and `got`.
+    /// Counts a probe that failed, and reports its place, `wanted` and `got`.
     pub fn fail(
         &mut self,
         file: &str,

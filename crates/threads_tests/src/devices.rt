@@ -1,4 +1,4 @@
-//! Devices that fail, and searches that go on behind.
+//! Devices that fail, and searches that go on after.
 ghost use Rattle.std.specs.Prelude.{◌≤◌, ◌<◌};
 
 use crate::tasks::{DIGEST, N, N_PROBLEM, Says, said, task};
@@ -60,7 +60,7 @@ fn go_on<R: Threads + Wait + Sync>(
     })
 }
 
-/// Whether entries begin with others.
+/// Reports whether entries begin with others.
 fn begin_with(entries: &[Entry], others: &[Entry]) -> bool {
     others.len() <= entries.len()
         && entries
@@ -85,8 +85,8 @@ const EVENTS: [Event; 4] = [
     Event::Stop(0x37),
 ];
 
-/// A search by two workers in whose n-th write, cut or sync this happens: what it leaves, with
-/// the disk as it is when it is used again.
+/// Returns a search by two workers in whose n-th write, cut or sync this happens: what it leaves,
+/// with the disk as it is when it is used again.
 fn broken_off<R: Threads + Wait + Sync>(
     rt: &R,
     alloc: Global,
@@ -112,8 +112,8 @@ fn broken_off<R: Threads + Wait + Sync>(
 /// group takes four.
 const CALLS: u64 = 40;
 
-/// What was in the journal when the device failed is found there again, and stays; some searches
-/// had begun to write and were not at their end.
+/// Returns what was in the journal when the device failed is found there again, and stays; some
+/// searches had begun to write and were not at their end.
 #[test]
 fn searches_go_on_behind_each_failing_call(rt: HostRuntime) -> Result<(), Fail> {
     let alloc = rt.alloc();

@@ -138,7 +138,7 @@ fn four() -> [AtomicU64; 4] {
     ]
 }
 
-/// The word of an even number, by SplitMix64.
+/// Returns the word of an even number, by SplitMix64.
 fn word(k: u64) -> u64 {
     let z = k.wrapping_add(0x9E3779B97F4A7C15);
     let z = (z ^ (z >> 30)).wrapping_mul(0xBF58476D1CE4E5B9);
@@ -146,8 +146,8 @@ fn word(k: u64) -> u64 {
     z ^ (z >> 31)
 }
 
-/// How many calls each of four workers makes: each set of atoms is settled as often as it has
-/// atoms, the empty one once.
+/// Returns how many calls each of four workers makes: each set of atoms is settled as often as it
+/// has atoms, the empty one once.
 fn owned() -> [u64; 4] {
     let mut calls = [0u64; 4];
     for set in 0..1024u64 {

@@ -12,8 +12,8 @@ use std::sync::Wait;
 use std::sync::ledger::{Blank, Ledger};
 use std::test::Fail;
 
-/// A new book in a lock, of which two have a pass and a share of the commits; what is told when
-/// both give them back: how many commits, and how many kids are posted.
+/// Returns a new book in a lock, of which two have a pass and a share of the commits; what is
+/// reported when both give them back: how many commits, and how many successors are posted.
 fn gathered<L: Ledger, A: Ledger, R: Wait>(
     rt: &R,
     alloc: Global,
@@ -40,7 +40,7 @@ fn gathered<L: Ledger, A: Ledger, R: Wait>(
     Ok((number, book.counts().posted))
 }
 
-/// The same with two parts of the commits, and one of what is acknowledged.
+/// Returns the same with two parts of the commits, and one of what is acknowledged.
 fn gathered_of_two<R: Wait>(rt: &R, alloc: Global, task: &Task) -> Result<(u64, u64), Fail> {
     gathered::<Brand, Brand, R>(rt, alloc, Blank::new(2), Blank::new(1), task)
 }

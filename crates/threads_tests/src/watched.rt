@@ -30,8 +30,8 @@ impl Screen {
         }
     }
 
-    /// Whether just one line was told since this was asked last, and what it was; or whether none
-    /// was.
+    /// Reports whether just one line was told since this was asked last, and what it was; or
+    /// whether none was.
     fn is_told(&self, line: Option<&str>) -> bool {
         match (self.line.take(), line) {
             (Some(told), Some(line)) => self.lines.replace(0) == 1 && told.as_str() == line,
@@ -68,7 +68,7 @@ impl Eprint for Screen {
     }
 }
 
-/// So many entries, kids posted and settled, and entries acknowledged; and the best cost.
+/// So many entries, successors posted and settled, and entries acknowledged; and the best cost.
 fn standing(counted: [u64; 4], bound: Option<u64>) -> Standing {
     let [entries, posted, settled, acknowledged] = counted;
     let counts = Counts {
@@ -81,9 +81,9 @@ fn standing(counted: [u64; 4], bound: Option<u64>) -> Standing {
     Standing { counts, bound }
 }
 
-/// The search by two workers begins at 5 seconds, with 10 entries. A line is told once a second
+/// The search by two workers begins at 5 seconds, with 10 entries. A line is reported once a second
 /// has passed since the one before, and the workers are asked a tenth of a second before; the
-/// last line is told when the search ends.
+/// last line is reported when the search ends.
 #[test]
 fn a_line_is_told_each_second(rt: HostRuntime) -> Result<(), Fail> {
     let screen = Screen::new(rt.alloc(), 5000);

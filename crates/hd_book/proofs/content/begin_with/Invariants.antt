@@ -2,7 +2,7 @@ use Rattle.std.proofs.Common.{◌≡◌, ◌+◌, drop}
 use Rattle.hd_book.specs.Groups.{begins_with}
 use Rattle.hd_book.proofs.content.begin_with.Given as goal
 
--- the kids that are left, and where they are to stand
+-- the successors that are left, and where they are to stand
 abbrev pub invariant-loop-kid : goal.invariant-loop-kid
 invariant-loop-kid l = record {
   number : l.number ≡ l.first + l.kid-index;

@@ -6,7 +6,7 @@ use Rattle.hd_entries.specs.Holding.{parcel_of, released_by, IsParcelOf}
 use Rattle.hd_entries.specs.Growing.{kids_in}
 use Rattle.hd_entries.proofs.releasing.release_kids.Given as goal
 
--- the kids released so far, and room for those that are left
+-- the successors released so far, and room for those that are left
 abbrev pub invariant-loop-outcome : goal.invariant-loop-outcome
 invariant-loop-outcome l = record {
   whole : l.yielded ++ into_iter_items l.outcome-iterator ≡ l.fn.outcomes.items;

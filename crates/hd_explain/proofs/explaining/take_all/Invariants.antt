@@ -9,7 +9,7 @@ use Rattle.hd_judge.specs.Validity.{TellsFrom}
 use Rattle.hd_explain.specs.Steps.{LeadsTo}
 use Rattle.hd_explain.proofs.explaining.take_all.Given as goal
 
--- the rest leads from here to where all lead, and what it tells here is told of all
+-- the rest leads from here to where all lead, and what it reports here is reported of all
 abbrev pub invariant-loop-rest : goal.invariant-loop-rest
 invariant-loop-rest l = record {
   numbered : l.number + length l.rest ≡ 1 + length l.steps;

@@ -1,7 +1,7 @@
 use Rattle.std.proofs.Common.{ℕ, ◌-◌, ◌<◌, ◌≤◌, get_or}
 use Rattle.hd_kids.proofs.search.place_in.Given as goal
 
--- what was passed over is less before and more behind
+-- what was passed over is less before and more after
 abbrev pub invariant-loop-from : goal.invariant-loop-from
 invariant-loop-from l = record {
   low : l.low ≤ l.from;

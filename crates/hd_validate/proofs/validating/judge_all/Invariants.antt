@@ -6,7 +6,7 @@ use Rattle.hd_judge.specs.Way.{IsOnWay}
 use Rattle.hd_validate.specs.Plans.{TellsFromBy, ClearsFromBy}
 use Rattle.hd_validate.proofs.validating.judge_all.Given as goal
 
--- what is told of the rest from here on is told of the steps
+-- what is reported of the rest from here on is reported of the steps
 abbrev pub invariant-loop-rest : goal.invariant-loop-rest
 invariant-loop-rest l = record {
   numbered : l.number + length l.rest ≡ 1 + length l.steps;

@@ -13,8 +13,8 @@ pub returns-in-Ok-clause-refusal : goal.returns-in-Ok-clause-refusal
 returns-in-Ok-clause-refusal g c =
     let from = c.args.from.now in
     let to = c.args.to.now in
-    not_moved c.args.domain.now c.args.problem.now _ c.moved-told.result
+    not_moved c.args.domain.now c.args.problem.now _ c.write_entries-told.result
     (subst
-    (λ p. IfErr c.moved-told.result (AreNotMoved c.args.domain.now c.args.problem.now
-    (moving from to (g.P.Places.file_of p from) (g.P.Places.file_of p to) (g.P.Places.file_of c.moved-told.new.places to))))
-    c.kids_of.ensures.alone c.moved-told.ensures.refusal)
+    (λ p. IfErr c.write_entries-told.result (AreNotMoved c.args.domain.now c.args.problem.now
+    (moving from to (g.P.Places.file_of p from) (g.P.Places.file_of p to) (g.P.Places.file_of c.write_entries-told.new.places to))))
+    c.kids_of.ensures.alone c.write_entries-told.ensures.refusal)

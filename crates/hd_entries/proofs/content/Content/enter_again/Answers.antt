@@ -13,7 +13,7 @@ use Rattle.hd_entries.specs.Waiting.{AreSlots, IsAgain, IsExpansionTo}
 use Rattle.hd_entries.proofs.Slots.{IsReady, ready, own_of, no_slot, goes_on}
 use Rattle.hd_entries.proofs.content.Content.enter_again.Goals as goal
 
--- a kid with no fault is ready at its place
+-- a successor with no fault is ready at its place
 ready_at : (s : Content) (slots : List (Option ParcelView)) (k : Kid) → IsHeld s → IsAgain (state_of s) slots → fault_at s.expanded.task.now (state_of s).entries k ≡ None
     → IsReady s.expanded.task.now (state_of s).entries k slots
 ready_at s slots k held again free =

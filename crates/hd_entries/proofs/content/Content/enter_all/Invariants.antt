@@ -4,7 +4,7 @@ use Rattle.hd_entries.specs.Resuming.{first_fault}
 use Rattle.hd_entries.specs.Waiting.{IsAgain}
 use Rattle.hd_entries.proofs.content.Content.enter_all.Given as goal
 
--- so many kids are entries again
+-- so many successors are entries again
 abbrev pub invariant-loop-number : goal.invariant-loop-number
 invariant-loop-number g l = record {
   held : IsHeld l.self;

@@ -2,7 +2,7 @@ use Rattle.std.proofs.Common.{sym, ap, ◌∙◌}
 use Rattle.hd_task.specs.declared.state.State.{State}
 use Rattle.hd_pack.specs.Packing.{same_packing}
 use Rattle.hd_entries.proofs.Same.{packings_tell, packings_tell_back}
-use Rattle.hd_entries.proofs.admission.is_same.Goals as goal
+use Rattle.hd_entries.proofs.admission.are_states_equal.Goals as goal
 
 pub returns-clause-there : goal.returns-clause-there
 returns-clause-there c =

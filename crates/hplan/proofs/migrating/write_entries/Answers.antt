@@ -2,7 +2,7 @@ use Rattle.std.proofs.Common.{refl, sym, ◌∙◌}
 use Rattle.hplan.specs.Migrating.{OneName, OfMemory}
 use Rattle.hplan.proofs.Moving.{unwritten_by}
 use Rattle.hplan.proofs.Shelves.{same_bytes}
-use Rattle.hplan.proofs.migrating.moved.Goals as goal
+use Rattle.hplan.proofs.migrating.write_entries.Goals as goal
 
 pub returns-then-eq-clause-refusal : goal.returns-then-eq-clause-refusal
 returns-then-eq-clause-refusal g c = OneName (same_bytes c.args.from.now c.args.to.now (sym c.eq.ensures ∙ c.if-eq.true)) refl

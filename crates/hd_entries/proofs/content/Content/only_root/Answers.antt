@@ -3,7 +3,7 @@ use Rattle.hd_node.specs.Parcel.{ParcelView}
 use Rattle.hd_entries.specs.Holding.{state_of}
 use Rattle.hd_entries.specs.Waiting.{IsAgain}
 use Rattle.hd_entries.proofs.Slots.{first_again}
-use Rattle.hd_entries.proofs.content.Content.root_alone.Goals as goal
+use Rattle.hd_entries.proofs.content.Content.only_root.Goals as goal
 
 pub returns : goal.returns
 returns c =
