@@ -21,7 +21,7 @@ impl<T: Drop> Boxed<T> {
     /// This value in memory of its own.
     ///
     /// # Errors
-    /// Lack of memory.
+    /// - Lack of memory.
     pub fn of(alloc: Global, value: T) -> Result<Boxed<T>, AllocError>
         ensures { IfOk result (λ b. b ≡ value) }
     {

@@ -84,7 +84,7 @@ impl Name {
     /// Returns the name that this text spells.
     ///
     /// # Errors
-    /// Lack of memory.
+    /// - Lack of memory.
     pub fn of(alloc: Global, text: &str) -> Result<Name, AllocError>
         ensures { IfOk result (λ n. n ≡ text.now) }
     {
@@ -100,7 +100,7 @@ impl Name {
     /// case.
     ///
     /// # Errors
-    /// Lack of memory.
+    /// - Lack of memory.
     pub fn folded(alloc: Global, text: &str) -> Result<Name, AllocError>
         requires { IsAscii text.now }
         ensures { IfOk result (λ n. n ≡ map to_ascii_lowercase text.now) }
@@ -133,7 +133,7 @@ impl Name {
     /// Returns the same name, in memory of its own.
     ///
     /// # Errors
-    /// Lack of memory.
+    /// - Lack of memory.
     pub fn copied(&self, alloc: Global) -> Result<Name, AllocError>
         ensures { IfOk result (λ n. n ≡ self.now) }
     {

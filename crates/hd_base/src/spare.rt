@@ -22,7 +22,7 @@ fn moved<T: Drop>(alloc: Global, items: Vec<T>) -> Result<Vec<T>, AllocError>
 /// for most lists.
 ///
 /// # Errors
-/// Lack of memory.
+/// - Lack of memory.
 pub fn exact<T: Drop>(alloc: Global, items: Vec<T>) -> Result<Vec<T>, AllocError>
     ensures { IfOk result (λ v. v.items ≡ items.items) }
 {

@@ -73,7 +73,7 @@ impl<'t, L: Ledger> Book<'t, L> {
     /// it.
     ///
     /// # Errors
-    /// `NoMemory` where there is no room for it.
+    /// - `NoMemory`: there is no room for it.
     pub fn new(
         blank: Blank,
         alloc: Global,
@@ -97,9 +97,9 @@ impl<'t, L: Ledger> Book<'t, L> {
     /// how far it is.
     ///
     /// # Errors
-    /// `Full` with the number 0 where there are more entries than `most`; else the number of the
-    /// first entry that can't be the next one after those before it, with `UnknownParent`,
-    /// `NotAKid` or `SettledBefore`; or `NoMemory`, never in place of `Full`.
+    /// - `Full` with the number 0 where there are more entries than `most`; else the number of the
+    ///   first entry that can't be the next one after those before it, with `UnknownParent`,
+    ///   `NotAKid` or `SettledBefore`; or `NoMemory`, never in place of `Full`.
     pub fn resume<H: Listener>(
         blank: Blank,
         alloc: Global,
@@ -134,10 +134,10 @@ impl<'t, L: Ledger> Book<'t, L> {
     /// without expansions is acknowledged at once.
     ///
     /// # Errors
-    /// The batch, and why it is refused: it is as it was, and so are the book and the share. In
-    /// this order: `Halted`, `Full`, then for each outcome in order `UnknownParent`, `NotAKid`,
-    /// `SettledBefore`, `StateDiffers`, `NotDominated`, `BelowBound`. `NoMemory` may come in place
-    /// of each but the first two, and of the ticket.
+    /// - The batch, and why it is refused: it is as it was, and so are the book and the share. In
+    ///   this order: `Halted`, `Full`, then for each outcome in order `UnknownParent`, `NotAKid`,
+    ///   `SettledBefore`, `StateDiffers`, `NotDominated`, `BelowBound`.
+    /// - `NoMemory` may come in place of each but the first two, and of the ticket.
     pub fn commit(
         &mut self,
         share: &mut Share<L>,
@@ -171,7 +171,7 @@ impl<'t, L: Ledger> Book<'t, L> {
     /// that is handed in. It does not allocate.
     ///
     /// # Errors
-    /// The room again, where nothing waits, or a group is out: nothing has changed.
+    /// - The room again, where nothing waits, or a group is out: nothing has changed.
     pub fn take_pending(&mut self, room: Room) -> Result<Group, Room>
         ensures task { self.new.state.task ≡ self.old.state.task }
         ensures begins { BeginsWith self.new.state.entries self.old.state.entries }
@@ -188,8 +188,8 @@ impl<'t, L: Ledger> Book<'t, L> {
     /// more. It does not allocate.
     ///
     /// # Errors
-    /// `NotOut` where this group is not the one that is out: what said that it was appended is
-    /// spent, and nothing has changed.
+    /// - `NotOut`: this group is not the one that is out: what said that it was appended is spent,
+    ///   and nothing has changed.
     pub fn acknowledge(&mut self, flushed: Flushed) -> Result<Vec<Kid>, NotOut>
         ensures task { self.new.state.task ≡ self.old.state.task }
         ensures begins { BeginsWith self.new.state.entries self.old.state.entries }
@@ -205,7 +205,7 @@ impl<'t, L: Ledger> Book<'t, L> {
     /// halted. It does not allocate.
     ///
     /// # Errors
-    /// `NotOut` where this group is not the one that is out: it is spent, and nothing has changed.
+    /// - `NotOut`: this group is not the one that is out: it is spent, and nothing has changed.
     pub fn hand_back(&mut self, group: Group) -> Result<(), NotOut>
         ensures task { self.new.state.task ≡ self.old.state.task }
         ensures begins { BeginsWith self.new.state.entries self.old.state.entries }
@@ -221,7 +221,7 @@ impl<'t, L: Ledger> Book<'t, L> {
     /// back. It does not allocate.
     ///
     /// # Errors
-    /// `NotOut` where no such ticket is out: the ticket is spent, and nothing has changed.
+    /// - `NotOut`: no such ticket is out: the ticket is spent, and nothing has changed.
     pub fn redeem(&mut self, ticket: Ticket) -> Result<Redeemed<Parcels<'t>>, NotOut>
         ensures task { self.new.state.task ≡ self.old.state.task }
         ensures begins { BeginsWith self.new.state.entries self.old.state.entries }
@@ -236,7 +236,7 @@ impl<'t, L: Ledger> Book<'t, L> {
     /// Spends a receipt: the numbers of its entries. It does not allocate.
     ///
     /// # Errors
-    /// `NotOut` where these are not acknowledged; none always are. The receipt is spent.
+    /// - `NotOut`: these are not acknowledged; none always are. The receipt is spent.
     pub fn present(&self, receipt: Receipt) -> Result<Range<u64>, NotOut>
         ensures acknowledged { is_ok result
             ≡ are_acknowledged self.now.batches.queue receipt.first receipt.end }
@@ -323,7 +323,7 @@ impl<'t, L: Ledger> Book<'t, L> {
     /// which the goal holds at this cost. It is valid.
     ///
     /// # Errors
-    /// `NoMemory` where there is no room for the plan.
+    /// - `NoMemory`: there is no room for the plan.
     pub fn extract(&self) -> Result<Option<Plan>, NoMemory>
         ensures plan { IfOk result (IsBoundPlanOf self.now.state.task (expansions self.now.state)) }
         ensures valid { IfOk result (IsValidPlan self.now.state.task) }
@@ -334,7 +334,7 @@ impl<'t, L: Ledger> Book<'t, L> {
     /// Returns the answer, once all is settled, nothing waits to be appended, and no group is out.
     ///
     /// # Errors
-    /// `NoMemory` where there is no room for a plan.
+    /// - `NoMemory`: there is no room for a plan.
     pub fn verdict(&self) -> Result<Option<Verdict>, NoMemory>
         ensures over { IfOk result (λ v. is_some v
             ≡ (is_over self.now.state && is_idle self.now.batches.queue)) }

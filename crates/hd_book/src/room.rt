@@ -19,7 +19,7 @@ impl Room {
     /// Room for a group: one block of a mebibyte, of which a system gives only what is written to.
     ///
     /// # Errors
-    /// `NoMemory` where there is none.
+    /// - `NoMemory`: there is none.
     pub fn new(alloc: Global) -> Result<Room, NoMemory> {
         let kids = Vec::with_capacity(alloc, MAX_GROUP as usize)?;
         Ok(Room { kids })
@@ -65,7 +65,7 @@ impl Rooms {
     /// Returns what is kept, or else new room.
     ///
     /// # Errors
-    /// `NoMemory` where there is no room.
+    /// - `NoMemory`: there is no room.
     pub fn take(&mut self) -> Result<Room, NoMemory> {
         match self.kept.take() {
             Some(room) => Ok(room),

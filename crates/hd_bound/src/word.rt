@@ -66,7 +66,7 @@ impl BoundWord {
     /// of it.
     ///
     /// # Errors
-    /// `NoMemory` where there is no room for it.
+    /// - `NoMemory`: there is no room for it.
     pub fn new(alloc: Global, start: Option<u64>) -> Result<(BoundWord, BoundSeat), NoMemory>
         ensures of { IfOk result (λ r. r.1.of ≡ r.0.of) }
         ensures start { IfOk result (λ r. r.0.start ≡ word_of start) }

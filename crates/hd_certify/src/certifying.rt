@@ -16,7 +16,7 @@ use std::alloc::Global;
 /// Returns what entries show that decide their task.
 ///
 /// # Errors
-/// `NoMemory` where there is no room for the plan.
+/// - `NoMemory`: there is no room for the plan.
 fn shown_by(entries: &Entries<'_>) -> Result<Certified, NoMemory>
     requires { IsDecisive entries.now.state.task (expansions entries.now.state) }
     ensures { IfOk result (λ c.
@@ -32,8 +32,9 @@ fn shown_by(entries: &Entries<'_>) -> Result<Certified, NoMemory>
 /// optimal, or that there is none; or nothing. What they show is true, whoever made them.
 ///
 /// # Errors
-/// `Full` where there are more entries than `most`; `Damaged` with the place of the first that
-/// makes no legal list with those before it; `NoMemory`.
+/// - `Full`: there are more entries than `most`.
+/// - `Damaged` with the place of the first that makes no legal list with those before it.
+/// - `NoMemory`.
 pub fn certify(
     alloc: Global,
     task: &Task,

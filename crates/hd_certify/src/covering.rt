@@ -32,7 +32,7 @@ fn is_bounded(bound: Option<u64>, cost: u64, value: EstimateValue) -> bool
 /// its cost and its estimate reach the bound, or the estimate is infinite.
 ///
 /// # Errors
-/// `NoMemory` where there is no room for its state.
+/// - `NoMemory`: there is no room for its state.
 pub(crate) fn is_spared<'t>(
     alloc: Global,
     entries: &Entries<'t>,
@@ -60,7 +60,7 @@ pub(crate) fn is_spared<'t>(
 /// The expansion of an entry is closed.
 ///
 /// # Errors
-/// `NoMemory` where there is no room for it.
+/// - `NoMemory`: there is no room for it.
 fn close_one<'t>(
     alloc: Global,
     entries: &Entries<'t>,
@@ -89,7 +89,7 @@ fn close_one<'t>(
 /// Returns the expansions of all entries.
 ///
 /// # Errors
-/// `NoMemory` where there is no room for one.
+/// - `NoMemory`: there is no room for one.
 pub(crate) fn closed_of<'t>(
     alloc: Global,
     entries: &Entries<'t>,
@@ -107,7 +107,7 @@ pub(crate) fn closed_of<'t>(
 /// Reports whether no successor of these need be expanded.
 ///
 /// # Errors
-/// `NoMemory`.
+/// - `NoMemory`.
 pub(crate) fn are_spared<'t>(
     alloc: Global,
     entries: &Entries<'t>,

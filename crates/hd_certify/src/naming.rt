@@ -16,8 +16,9 @@ use std::alloc::Global;
 /// task: they are made again, and let go.
 ///
 /// # Errors
-/// `Full` where there are more entries than `most`; `Damaged` with the place of the first that
-/// makes no legal list with those before it; `NoMemory`.
+/// - `Full`: there are more entries than `most`.
+/// - `Damaged` with the place of the first that makes no legal list with those before it.
+/// - `NoMemory`.
 fn check(alloc: Global, task: &Task, most: u64, entries: &[Entry]) -> Result<(), RecoverError>
     requires { most < ROOT_PARENT }
     ensures within { OnOk result (length entries.now ≤ most) }
@@ -40,8 +41,9 @@ fn check(alloc: Global, task: &Task, most: u64, entries: &[Entry]) -> Result<(),
 /// legal list of a task. Each parent is the root's or a number below `most`.
 ///
 /// # Errors
-/// `Full` where there are more entries than `most`; `Damaged` with the place of the first that
-/// makes no legal list with those before it; `NoMemory`.
+/// - `Full`: there are more entries than `most`.
+/// - `Damaged` with the place of the first that makes no legal list with those before it.
+/// - `NoMemory`.
 pub fn legal_kids(
     alloc: Global,
     task: &Task,

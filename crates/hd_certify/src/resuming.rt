@@ -30,7 +30,7 @@ fn kid_of(entry: &Entry) -> Kid
 /// Returns the pairs of entries, in order.
 ///
 /// # Errors
-/// `NoMemory` where there is no room for them.
+/// - `NoMemory`: there is no room for them.
 pub fn kids_of(alloc: Global, entries: &[Entry]) -> Result<Vec<Kid>, NoMemory>
     ensures { IfOk result (λ kids. kids.items ≡ map kid_of entries.now) }
 {
@@ -74,8 +74,9 @@ pub fn fault_at(entries: &[Entry], number: u64, refusal: Refusal) -> RecoverErro
 /// Returns the entries made again, and the parcels of all posted successors that are no entries.
 ///
 /// # Errors
-/// `Full` where there are more entries than `most`; `Damaged` of the first that makes no legal list
-/// with those before it; `NoMemory`.
+/// - `Full`: there are more entries than `most`.
+/// - `Damaged` of the first that makes no legal list with those before it.
+/// - `NoMemory`.
 pub(crate) fn resume<'t>(
     alloc: Global,
     task: &'t Task,

@@ -32,7 +32,7 @@ fn counted_on(count: u64, is_so: bool) -> u64
 /// these parcels that is spared.
 ///
 /// # Errors
-/// `NoMemory`.
+/// - `NoMemory`.
 fn settled_of<'t>(
     alloc: Global,
     entries: &Entries<'t>,
@@ -71,7 +71,7 @@ fn depth_of(entries: &Entries<'_>, before: &[u64], number: u64) -> u64
 /// Returns the lengths of the plans of all entries.
 ///
 /// # Errors
-/// `NoMemory`.
+/// - `NoMemory`.
 fn depths_of(alloc: Global, entries: &Entries<'_>) -> Result<Vec<u64>, NoMemory>
     requires { IsKept entries.now.state }
     ensures { IfOk result (λ v. v.items ≡ map length (expansions entries.now.state)) }
@@ -87,7 +87,7 @@ fn depths_of(alloc: Global, entries: &Entries<'_>) -> Result<Vec<u64>, NoMemory>
 /// Returns what the plans of all entries cost.
 ///
 /// # Errors
-/// `NoMemory`.
+/// - `NoMemory`.
 fn costs_of(alloc: Global, entries: &Entries<'_>) -> Result<Vec<u64>, NoMemory>
     requires { IsKept entries.now.state }
     ensures { IfOk result (λ v. v.items
@@ -107,8 +107,9 @@ fn costs_of(alloc: Global, entries: &Entries<'_>) -> Result<Vec<u64>, NoMemory>
 /// is, and what it has found.
 ///
 /// # Errors
-/// `Full` where there are more entries than `most`; `Damaged` with the place of the first that
-/// makes no legal list with those before it; `NoMemory`.
+/// - `Full`: there are more entries than `most`.
+/// - `Damaged` with the place of the first that makes no legal list with those before it.
+/// - `NoMemory`.
 pub fn survey(
     alloc: Global,
     task: &Task,

@@ -11,7 +11,7 @@ use std::alloc::Global;
 /// Counts one value more: in the last row, where it has that value, or else in a new one.
 ///
 /// # Errors
-/// `NoMemory` where there is no room for the row.
+/// - `NoMemory`: there is no room for the row.
 fn count_on(rows: &mut Vec<Row>, last: &mut Row, value: u64) -> Result<(), NoMemory>
     requires { last.old.count < 2 ^ 63 }
     ensures { OnOk result
@@ -29,7 +29,7 @@ fn count_on(rows: &mut Vec<Row>, last: &mut Row, value: u64) -> Result<(), NoMem
 /// Returns the rows of values that ascend.
 ///
 /// # Errors
-/// `NoMemory` where there is no room for them.
+/// - `NoMemory`: there is no room for them.
 fn rows_of(alloc: Global, values: &[u64]) -> Result<Vec<Row>, NoMemory>
     requires { IsSorted nat_cmp values.now }
     ensures { IfOk result (λ rows. IsTableOf values.now rows.items) }

@@ -419,10 +419,11 @@ fn lifted_task(
 ///
 /// # Errors
 ///
-/// The first fault, in the order of the texts: that the problem names another domain, then the
-/// types, constants, predicates, functions and actions of the domain, then the objects, initial
-/// state, goal and metric of the problem. Of types on cycles any may be told by the contract; that
-/// it is the first listed is tested. `NoMemory` where memory runs out.
+/// - The first fault, in the order of the texts: that the problem names another domain, then the
+///   types, constants, predicates, functions and actions of the domain, then the objects, initial
+///   state, goal and metric of the problem. Of types on cycles any may be told by the contract;
+///   that it is the first listed is tested.
+/// - `NoMemory`: memory runs out.
 pub fn check(
     alloc: Global,
     seed: Seed,

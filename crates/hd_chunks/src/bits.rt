@@ -65,7 +65,7 @@ impl Bits {
     /// Makes room for so many bits more.
     ///
     /// # Errors
-    /// `NoMemory`: the bits are as they were, and so is the room that there was.
+    /// - `NoMemory`: the bits are as they were, and so is the room that there was.
     pub fn reserve(&mut self, count: usize) -> Result<(), NoMemory>
         ensures items { self.new.items ≡ self.old.items }
         ensures room_kept { self.old.room ≤ self.new.room }

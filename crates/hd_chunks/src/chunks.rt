@@ -102,7 +102,7 @@ impl<T> Chunks<T> {
     /// Makes room for so many items more.
     ///
     /// # Errors
-    /// `NoMemory`: the items are as they were, and so is the room that there was.
+    /// - `NoMemory`: the items are as they were, and so is the room that there was.
     pub fn reserve(&mut self, count: usize) -> Result<(), NoMemory>
     where
         T: Drop,

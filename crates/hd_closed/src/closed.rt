@@ -169,7 +169,7 @@ impl<'t> ClosedList<'t> {
     /// copy.
     ///
     /// # Errors
-    /// `NoMemory` where there is no room for it.
+    /// - `NoMemory`: there is no room for it.
     pub fn place_of(&mut self, alloc: Global, state: &Hashed) -> Result<usize, NoMemory>
         requires of_task { IsStateOf self.old.task state.now }
         ensures task { self.new.task ≡ self.old.task }
@@ -248,7 +248,7 @@ impl<'t> ClosedList<'t> {
     /// Makes room for one expansion more.
     ///
     /// # Errors
-    /// `NoMemory` where there is none.
+    /// - `NoMemory`: there is none.
     pub fn reserve(&mut self) -> Result<(), NoMemory>
         ensures task { self.new.task ≡ self.old.task }
         ensures states { self.new.states ≡ self.old.states }

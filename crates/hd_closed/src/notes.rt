@@ -80,7 +80,7 @@ fn link_all(notes: &mut Vec<Note>, heads: &mut Vec<Place>)
 /// So many empty buckets.
 ///
 /// # Errors
-/// `NoMemory` where there is no room for them.
+/// - `NoMemory`: there is no room for them.
 fn buckets_of(alloc: Global, count: usize) -> Result<Vec<Place>, NoMemory>
     ensures len { IfOk result (λ v. length v.items ≡ count) }
     ensures empty { IfOk result (λ v. (b : ℕ) → head_at v.items b ≡ None) }
@@ -95,7 +95,7 @@ fn buckets_of(alloc: Global, count: usize) -> Result<Vec<Place>, NoMemory>
 /// Makes a bucket for one note more: as many again as there are, where there are as many notes.
 ///
 /// # Errors
-/// `NoMemory` where there is no room for them.
+/// - `NoMemory`: there is no room for them.
 #[tactic(auto, using(crate::proofs::Chains::alike_same))]
 fn cover(
     alloc: Global,
@@ -177,7 +177,7 @@ fn push_note(notes: &mut Vec<Note>, heads: &mut Vec<Place>, hash: u64)
 /// Adds one state more, of which nothing is known yet.
 ///
 /// # Errors
-/// Lack of memory; no state has come.
+/// - Lack of memory; no state has come.
 #[tactic(auto, using(crate::proofs::Chains::alike_same))]
 pub(crate) fn add(
     alloc: Global,

@@ -48,7 +48,7 @@ impl<B: Locked> Lock<B> {
     /// seen the value.
     ///
     /// # Errors
-    /// Lack of memory.
+    /// - Lack of memory.
     pub fn open<R: Wait>(rt: &R, alloc: Global, value: B) -> Result<(Lock<B>, Pass<B>), AllocError>
         ensures pass { IfOk result (λ r. IsOutside r.0.place r.1) }
         ensures view { IfOk result (λ r. view r.1 ≡ opened (B.task value) (B.log value)) }

@@ -192,7 +192,7 @@ impl<K, T: Sent<K>> Mailboxes<K, T> {
     /// Puts an item into a mailbox.
     ///
     /// # Errors
-    /// The item, where the mailbox is full, or another thread is in the way: nothing was put in.
+    /// - The item, where the mailbox is full, or another thread is in the way: nothing was put in.
     pub fn push(&self, hands: &mut Hands<K, T>, to: usize, item: T) -> Result<(), T>
         requires of { IsFor self.now hands.old }
         requires there { to < length self.now }
@@ -228,7 +228,7 @@ impl<K, T: Sent<K>> Mailboxes<K, T> {
     /// all items are of; it is not put into any.
     ///
     /// # Errors
-    /// `NoMemory` where there is no room for them.
+    /// - `NoMemory`: there is no room for them.
     pub fn new<'t, R: Wait>(
         rt: &R,
         alloc: Global,
@@ -249,7 +249,7 @@ impl<K, T: Sent<K>> Mailboxes<K, T> {
     /// Passes of all mailboxes with one part each, for another thread.
     ///
     /// # Errors
-    /// `NoMemory` where there is no room for them: nothing has changed.
+    /// - `NoMemory`: there is no room for them: nothing has changed.
     pub fn share<'t>(
         &self,
         alloc: Global,

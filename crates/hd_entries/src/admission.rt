@@ -49,8 +49,8 @@ impl<'t> ExpandedPlans<'t> {
     /// posted, so its action is applicable.
     ///
     /// # Errors
-    /// `NoMemory` where there is no room for the state: only for the root, or where the place was
-    /// of no such state before.
+    /// - `NoMemory`: there is no room for the state: only for the root, or where the place was of
+    ///   no such state before.
     fn reach(&self, kid: Kid, reached: &mut Place) -> Result<(), NoMemory>
         requires held { IsExpanded self.now }
         requires known { knows_parent (unmarked self.now) kid ≡ true }
@@ -160,7 +160,7 @@ impl<'t> ExpandedPlans<'t> {
     /// written to a place.
     ///
     /// # Errors
-    /// Why it is refused, or `NoMemory`.
+    /// - Why it is refused, or `NoMemory`.
     fn judged(
         &self,
         kids: &KidTable,
@@ -196,7 +196,7 @@ impl<'t> ExpandedPlans<'t> {
     /// judged; or none of them, where one is refused.
     ///
     /// # Errors
-    /// Why the first that is not right is refused, or `NoMemory`; the table is as it was.
+    /// - Why the first that is not right is refused, or `NoMemory`; the table is as it was.
     pub(crate) fn settle_from(
         &self,
         kids: &mut KidTable,

@@ -25,7 +25,7 @@ impl<'t> Content<'t> {
     /// Returns the parts of a search without entries: the root is posted.
     ///
     /// # Errors
-    /// `NoMemory` where there is no room for it.
+    /// - `NoMemory`: there is no room for it.
     pub(crate) fn new(alloc: Global, task: &'t Task, most: u64) -> Result<Content<'t>, NoMemory>
         ensures task { IfOk result (λ c. c.expanded.task.now ≡ task.now) }
         ensures entries { IfOk result (λ c. c.expanded.entries.items ≡ []) }

@@ -45,7 +45,7 @@ impl<'t> Entries<'t> {
     /// Returns no entries, of which there may be `most`: the root is posted.
     ///
     /// # Errors
-    /// `NoMemory` where there is no room for it.
+    /// - `NoMemory`: there is no room for it.
     pub fn new(alloc: Global, task: &'t Task, most: u64) -> Result<Entries<'t>, NoMemory>
         requires { most < ROOT_PARENT }
         ensures { IfOk result (λ b. b ≡ no_entries task.now most) }
@@ -59,9 +59,9 @@ impl<'t> Entries<'t> {
     /// successors that are no entries, in posting order. The listener hears how far it is.
     ///
     /// # Errors
-    /// `Full` with the number 0 where there are more entries than `most`; else the number of the
-    /// first entry that can't be the next one after those before it, with `UnknownParent`,
-    /// `NotAKid` or `SettledBefore`; or `NoMemory`, never in place of `Full`.
+    /// - `Full` with the number 0 where there are more entries than `most`; else the number of the
+    ///   first entry that can't be the next one after those before it, with `UnknownParent`,
+    ///   `NotAKid` or `SettledBefore`; or `NoMemory`, never in place of `Full`.
     pub fn resume<H: Listener>(
         alloc: Global,
         task: &'t Task,
@@ -95,10 +95,10 @@ impl<'t> Entries<'t> {
     /// makes of the batch once it is taken.
     ///
     /// # Errors
-    /// Why it is refused: the entries are as they were. In this order: `Full`, then for each
-    /// outcome in order `UnknownParent`, `NotAKid`, `SettledBefore`, `StateDiffers`,
-    /// `NotDominated`, `BelowBound`. `NoMemory` may come in place of each but the first, and of the
-    /// room.
+    /// - Why it is refused: the entries are as they were. In this order: `Full`, then for each
+    ///   outcome in order `UnknownParent`, `NotAKid`, `SettledBefore`, `StateDiffers`,
+    ///   `NotDominated`, `BelowBound`.
+    /// - `NoMemory` may come in place of each but the first, and of the room.
     pub fn commit(&mut self, batch: &Batch<'t>) -> Result<Vec<Parcel<'t>>, Refusal>
         requires of_task { AllByRecursion (IsOf self.old.state.task) batch.now.outcomes }
         ensures task { self.new.state.task ≡ self.old.state.task }
@@ -195,7 +195,7 @@ impl<'t> Entries<'t> {
     /// which the goal holds at this cost. It is valid.
     ///
     /// # Errors
-    /// `NoMemory` where there is no room for the plan.
+    /// - `NoMemory`: there is no room for the plan.
     pub fn extract(&self) -> Result<Option<Plan>, NoMemory>
         ensures plan { IfOk result (IsBoundPlanOf self.now.state.task (expansions self.now.state)) }
         ensures valid { IfOk result (IsValidPlan self.now.state.task) }
@@ -206,7 +206,7 @@ impl<'t> Entries<'t> {
     /// Returns the answer, once all is settled.
     ///
     /// # Errors
-    /// `NoMemory` where there is no room for a plan.
+    /// - `NoMemory`: there is no room for a plan.
     pub fn verdict(&self) -> Result<Option<Verdict>, NoMemory>
         ensures over { IfOk result (λ v. is_some v ≡ is_over self.now.state) }
         ensures kept { IsKept self.now.state }

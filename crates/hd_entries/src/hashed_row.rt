@@ -53,7 +53,7 @@ impl<'r> HashedRow<'r> {
     /// Returns a copy in bytes of its own, with the same hash.
     ///
     /// # Errors
-    /// `NoMemory` where there is no room for the bytes.
+    /// - `NoMemory`: there is no room for the bytes.
     pub fn copied(&self, alloc: Global) -> Result<Hashed, NoMemory>
         ensures { IfOk result (λ h. h ≡ self.now) }
     {

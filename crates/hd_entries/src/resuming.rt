@@ -79,7 +79,7 @@ impl<'t> Content<'t> {
     /// Returns the place of a successor that can be the next entry.
     ///
     /// # Errors
-    /// Why it can't.
+    /// - Why it can't.
     fn place_for(&self, kid: Kid) -> Result<usize, Refusal>
         requires held { IsHeld self.now }
         requires again { state_of self.now
@@ -106,7 +106,7 @@ impl<'t> Content<'t> {
     /// its successors.
     ///
     /// # Errors
-    /// `NoMemory`.
+    /// - `NoMemory`.
     fn expand_again(
         &mut self,
         alloc: Global,
@@ -152,7 +152,7 @@ impl<'t> Content<'t> {
     /// Makes a successor the next entry again.
     ///
     /// # Errors
-    /// Why it can't be the next entry, or `NoMemory`.
+    /// - Why it can't be the next entry, or `NoMemory`.
     fn enter_again(
         &mut self,
         alloc: Global,
@@ -188,7 +188,7 @@ impl<'t> Content<'t> {
     /// Makes these successors the entries again, in order, and reports the listener how far it is.
     ///
     /// # Errors
-    /// The number of the first that can't be the next entry, and why; or `NoMemory`.
+    /// - The number of the first that can't be the next entry, and why; or `NoMemory`.
     fn enter_all<H: Listener>(
         &mut self,
         alloc: Global,

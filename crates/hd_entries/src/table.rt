@@ -87,7 +87,7 @@ impl EntryTable {
     /// Makes room for so many entries more.
     ///
     /// # Errors
-    /// `NoMemory`: the entries are as they were, and so is the room that there was.
+    /// - `NoMemory`: the entries are as they were, and so is the room that there was.
     pub(crate) fn reserve(&mut self, count: usize) -> Result<(), NoMemory>
         ensures widths { self.new.widths ≡ self.old.widths }
         ensures items { self.new.items ≡ self.old.items }

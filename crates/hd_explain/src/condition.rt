@@ -70,7 +70,7 @@ fn failing_equality(objects: &[usize], said: &[Equality]) -> Option<Equality>
 /// says that all of them hold; comparisons are not asked.
 ///
 /// # Errors
-/// Lack of memory.
+/// - Lack of memory.
 #[tactic(auto, using(crate::proofs::Finding::all_where_none))]
 pub(crate) fn explain_literals<'a>(
     alloc: Global,

@@ -151,7 +151,7 @@ fn explain_changes<'a>(
 /// plan's cost with it. `None` says that nothing departs.
 ///
 /// # Errors
-/// Lack of memory.
+/// - Lack of memory.
 pub fn explain_effects<'a>(
     alloc: Global,
     lookups: &Lookups<'_>,

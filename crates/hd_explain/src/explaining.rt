@@ -52,8 +52,8 @@ fn take_all(
 /// Where these steps of a plan lead, from its beginning on, in tables that hash by the seed.
 ///
 /// # Errors
-/// The first fault of the steps, which is that of each plan that begins with them; or want of
-/// memory.
+/// - The first fault of the steps, which is that of each plan that begins with them; or want of
+///   memory.
 pub fn place_after(
     alloc: Global,
     seed: Seed,
@@ -110,7 +110,7 @@ fn explain_numbers<'a>(
 /// state and less than 0, or its comparisons hold and nothing departs.
 ///
 /// # Errors
-/// Lack of memory.
+/// - Lack of memory.
 pub fn explain_step<'a>(
     alloc: Global,
     lookups: &Lookups<'_>,

@@ -55,7 +55,7 @@ fn goal_undefined(alloc: Global, lookups: &Lookups<'_>, place: &Place) -> Result
 /// value, or its comparisons hold and stay in the range.
 ///
 /// # Errors
-/// Lack of memory.
+/// - Lack of memory.
 pub fn explain_goal<'a>(
     alloc: Global,
     lookups: &Lookups<'_>,

@@ -219,7 +219,7 @@ fn explain_from(
 /// than 0.
 ///
 /// # Errors
-/// Lack of memory.
+/// - Lack of memory.
 pub fn explain(
     alloc: Global,
     seed: Seed,

@@ -207,7 +207,7 @@ fn push_readings(
 /// that is read twice stands twice.
 ///
 /// # Errors
-/// Lack of memory.
+/// - Lack of memory.
 pub fn readings_of(
     alloc: Global,
     place: &Place,

@@ -437,7 +437,7 @@ fn push_readings(text: &mut String, task: &LiftedTask, readings: &[Reading]) -> 
 /// action; for the goal there are none.
 ///
 /// # Errors
-/// Lack of memory.
+/// - Lack of memory.
 pub fn text_of(
     alloc: Global,
     task: &LiftedTask,

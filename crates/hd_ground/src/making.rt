@@ -138,7 +138,7 @@ fn task_with(printed: Printed, ends: Ends, actions: Sequence<Action>, metric: bo
 /// Returns the task to search of what was counted, where nothing is at fault.
 ///
 /// # Errors
-/// Lack of memory.
+/// - Lack of memory.
 pub fn task_of(alloc: Global, lookups: &Lookups<'_>, counted: &Counted) -> Result<Task, NoMemory>
     requires checked { IsChecked lookups.now }
     requires counted { AreCounted lookups.now counted.now.instances counted.now.atoms

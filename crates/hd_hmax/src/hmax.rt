@@ -50,8 +50,8 @@ impl<'t> Hmax<'t> {
     /// Returns what computes the estimates of a task's states.
     ///
     /// # Errors
-    /// `NoMemory` where there is no room for six numbers an action, six an atom, and one for each
-    /// literal of a condition, of the goal and of what an action brings about.
+    /// - `NoMemory`: there is no room for six numbers an action, six an atom, and one for each
+    ///   literal of a condition, of the goal and of what an action brings about.
     pub fn new(alloc: Global, task: &'t Task) -> Result<Hmax<'t>, NoMemory>
         ensures task { IfOk result (λ h. h.task ≡ task.now) }
     {
@@ -72,7 +72,7 @@ impl<'t> Hmax<'t> {
     /// Returns the estimate of a state, which keeps the state packed.
     ///
     /// # Errors
-    /// `NoMemory` where there is no room for the packed state.
+    /// - `NoMemory`: there is no room for the packed state.
     pub fn estimate(&mut self, alloc: Global, state: &State) -> Result<Estimate<'t>, NoMemory>
         requires of_task { IsStateOf self.old.task state.now }
         ensures of_task { IfOk result (λ e. e.task ≡ self.old.task) }
@@ -87,7 +87,7 @@ impl<'t> Hmax<'t> {
     /// Returns the estimate of a packed state, with a copy of it.
     ///
     /// # Errors
-    /// `NoMemory` where there is no room for the copy.
+    /// - `NoMemory`: there is no room for the copy.
     pub fn estimate_packed(
         &mut self,
         alloc: Global,

@@ -67,7 +67,7 @@ fn price(task: &Task, action: &Action) -> u128
 /// Returns the prices of a task's actions.
 ///
 /// # Errors
-/// `NoMemory` where there is no room for a number an action.
+/// - `NoMemory`: there is no room for a number an action.
 pub(crate) fn prices_of(alloc: Global, task: &Task) -> Result<Vec<u128>, NoMemory>
     ensures prices { IfOk result (λ v. v.items ≡ map (price task.now) task.now.actions) }
     ensures small { IfOk result (λ v. All (λ p. p ≤ 2 ^ 63 * MAX_AMOUNTS) v.items) }

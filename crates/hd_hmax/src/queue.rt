@@ -61,7 +61,7 @@ impl Queue {
     /// Returns a queue with room for so many rules.
     ///
     /// # Errors
-    /// `NoMemory` where there is no room for twice as many.
+    /// - `NoMemory`: there is no room for twice as many.
     pub(crate) fn new(alloc: Global, room: usize) -> Result<Queue, NoMemory>
         ensures run { IfOk result (λ q. room ≤ vec_capacity q.run) }
         ensures heap { IfOk result (λ q. room ≤ heap_capacity q.heap) }

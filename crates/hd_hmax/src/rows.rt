@@ -28,7 +28,7 @@ impl Rows {
     /// Returns no rows.
     ///
     /// # Errors
-    /// `NoMemory` where there is no room for a number.
+    /// - `NoMemory`: there is no room for a number.
     pub(crate) fn none(alloc: Global) -> Result<Rows, NoMemory>
         ensures { IfOk result (λ rows. rows ≡ []) }
     {
@@ -41,7 +41,7 @@ impl Rows {
     /// Adds one row more, after the others.
     ///
     /// # Errors
-    /// `NoMemory` where there is no room for the row.
+    /// - `NoMemory`: there is no room for the row.
     pub(crate) fn push(&mut self, row: &[u32]) -> Result<(), NoMemory>
         ensures { OnOk result (self.new ≡ self.old ++ row.now ∷ []) }
     {

@@ -277,8 +277,8 @@ impl<'t> Rules<'t> {
     /// Returns the rules of a task.
     ///
     /// # Errors
-    /// `NoMemory` where there is no room for two numbers a rule, two a place, and one for each
-    /// literal of a condition, of the goal and of what an action brings about.
+    /// - `NoMemory`: there is no room for two numbers a rule, two a place, and one for each literal
+    ///   of a condition, of the goal and of what an action brings about.
     pub(crate) fn of(alloc: Global, task: &'t Task) -> Result<Rules<'t>, NoMemory>
         ensures { IfOk result (λ r. r.task.now ≡ task.now) }
     {

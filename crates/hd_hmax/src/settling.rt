@@ -173,7 +173,7 @@ impl Work {
     /// Room for a task's places and rules.
     ///
     /// # Errors
-    /// `NoMemory` where there is no room for a byte a place and seven numbers a rule.
+    /// - `NoMemory`: there is no room for a byte a place and seven numbers a rule.
     pub(crate) fn new(alloc: Global, rules: &Rules<'_>) -> Result<Work, NoMemory>
         ensures { IfOk result (HasWidth rules.now.task.now) }
     {

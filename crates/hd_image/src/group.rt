@@ -91,7 +91,7 @@ fn push_entries(bytes: &mut Vec<u8>, version: Version, kids: &[Kid]) -> Result<(
 /// next gate, closed.
 ///
 /// # Errors
-/// `NoMemory` where there is no room for the bytes.
+/// - `NoMemory`: there is no room for the bytes.
 pub fn closed_group(alloc: Global, version: Version, kids: &[Kid]) -> Result<Vec<u8>, NoMemory>
     requires some { 1 ≤ length kids.now }
     requires most { length kids.now ≤ MAX_GROUP }

@@ -12,9 +12,11 @@ use std::alloc::Global;
 /// entries, by the bytes that are there.
 ///
 /// # Errors
-/// `NotAJournal` where no header stands at the front, and none was being made; `OtherTask` where it
-/// has another digest; `Damaged` with the place of the first open gate that has no whole group and
-/// next gate after it; `NoMemory` where there is no room for the entries.
+/// - `NotAJournal`: no header stands at the front, and none was being made.
+/// - `OtherTask`: it has another digest.
+/// - `Damaged` with the place of the first open gate that has no whole group and next gate after
+///   it.
+/// - `NoMemory`: there is no room for the entries.
 pub fn read(alloc: Global, content: &[u8], digest: &[u8; DIGEST_LEN]) -> Result<Found, ImageError>
     ensures found { IfOk result (λ found. IsFound digest.now content.now found) }
     ensures refused { IfErr result (λ error. IsRefused digest.now content.now error) }

@@ -113,7 +113,7 @@ fn changed(
 /// Returns the action that an instance of a schema is.
 ///
 /// # Errors
-/// Lack of memory.
+/// - Lack of memory.
 pub fn action_of(
     alloc: Global,
     lookups: &Lookups<'_>,

@@ -38,7 +38,7 @@ fn add_goal(alloc: Global, forms: &mut Forms, literals: &[Literal]) -> Result<()
 /// Returns the atoms that are reached, and those that the goal names, each once.
 ///
 /// # Errors
-/// Lack of memory.
+/// - Lack of memory.
 pub fn atoms_in(
     alloc: Global,
     seed: Seed,

@@ -12,7 +12,7 @@ use std::alloc::Global;
 /// Returns the numbers of atoms: one without a number is left out.
 ///
 /// # Errors
-/// Lack of memory.
+/// - Lack of memory.
 pub fn numbers_of(
     alloc: Global,
     atoms: &Numbers,
@@ -94,7 +94,7 @@ fn comparisons_of(
 /// can't hold in any state.
 ///
 /// # Errors
-/// Lack of memory.
+/// - Lack of memory.
 pub fn condition_of(
     alloc: Global,
     atoms: &Numbers,

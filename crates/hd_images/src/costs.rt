@@ -65,7 +65,7 @@ pub fn count_costs(effects: &[NumericEffect]) -> usize
 /// are the same in each state as numbers.
 ///
 /// # Errors
-/// Lack of memory.
+/// - Lack of memory.
 pub fn costs_of(
     alloc: Global,
     lookups: &Lookups<'_>,

@@ -139,7 +139,7 @@ fn changes_of(
 /// numbers.
 ///
 /// # Errors
-/// Lack of memory.
+/// - Lack of memory.
 pub fn effects_of(
     alloc: Global,
     fluents: &Numbers,

@@ -29,7 +29,7 @@ fn operand_of(
 /// Returns an expression, each fluent by its number: one without a number is read as the first.
 ///
 /// # Errors
-/// Lack of memory.
+/// - Lack of memory.
 pub fn expression_of(
     alloc: Global,
     fluents: &Numbers,

@@ -69,7 +69,7 @@ impl Forms {
     /// Adds one form more, if it is none of them yet.
     ///
     /// # Errors
-    /// Lack of memory.
+    /// - Lack of memory.
     pub fn add(&mut self, alloc: Global, form: &Ground) -> Result<(), NoMemory>
         ensures { IfOk result (λ _. self.new ≡ with_form self.old form.now) }
     {
@@ -80,7 +80,7 @@ impl Forms {
     /// Adds one form more, with objects in the place of its arguments, if it is none of them yet.
     ///
     /// # Errors
-    /// Lack of memory.
+    /// - Lack of memory.
     pub fn add_at(
         &mut self,
         alloc: Global,

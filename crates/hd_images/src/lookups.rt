@@ -42,7 +42,7 @@ impl<'a> Lookups<'a> {
     /// Returns the tables of a lifted task, which hash by the seed.
     ///
     /// # Errors
-    /// Lack of memory.
+    /// - Lack of memory.
     #[tactic(auto, unfolding(hd_kept::specs::Amounts::is_changed))]
     pub fn of(alloc: Global, seed: Seed, task: &'a LiftedTask) -> Result<Lookups<'a>, NoMemory>
         ensures { IfOk result (λ l. l ≡ task.now) }
@@ -91,7 +91,7 @@ impl<'a> Lookups<'a> {
     /// one.
     ///
     /// # Errors
-    /// Lack of memory, where the fluent has more than four objects.
+    /// - Lack of memory, where the fluent has more than four objects.
     pub fn first_value(
         &self,
         alloc: Global,

@@ -220,7 +220,7 @@ fn met_by_instances(
 /// which they are met first: all of them, or more than a task may have.
 ///
 /// # Errors
-/// Lack of memory.
+/// - Lack of memory.
 pub fn met_by_all(
     alloc: Global,
     seed: Seed,

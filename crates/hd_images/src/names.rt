@@ -13,7 +13,7 @@ use std::alloc::Global;
 /// Returns the form of an instance: its schema and its objects.
 ///
 /// # Errors
-/// Lack of memory.
+/// - Lack of memory.
 pub fn form_of_instance(alloc: Global, instance: &Instance) -> Result<GroundForm, NoMemory>
     ensures { IfOk result (λ f. f ≡ form_of_instance instance.now) }
 {
@@ -46,7 +46,7 @@ fn form_by(alloc: Global, key: &Key) -> Result<GroundForm, NoMemory>
 /// Returns what atoms or fluents are printed as, in the order of their numbers.
 ///
 /// # Errors
-/// Lack of memory.
+/// - Lack of memory.
 pub fn forms_of(alloc: Global, numbers: &Numbers) -> Result<Sequence<GroundForm>, NoMemory>
     ensures { IfOk result (λ s. s ≡ map form_of numbers.now) }
 {
@@ -129,7 +129,7 @@ fn predicates_and_functions(
 /// The names that ground forms are printed with.
 ///
 /// # Errors
-/// Lack of memory.
+/// - Lack of memory.
 pub fn names_in(alloc: Global, task: &LiftedTask) -> Result<Names, NoMemory>
     ensures { IfOk result (λ n. n ≡ names_in task.now) }
 {

@@ -91,7 +91,7 @@ fn is_negative_instance(
 /// Returns the first instance that costs less than 0 in each state, if there is one.
 ///
 /// # Errors
-/// Lack of memory.
+/// - Lack of memory.
 pub fn first_negative<'a>(
     alloc: Global,
     lookups: &Lookups<'_>,

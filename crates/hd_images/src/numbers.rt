@@ -37,7 +37,7 @@ impl Numbers {
     /// Returns these forms by number.
     ///
     /// # Errors
-    /// Lack of memory.
+    /// - Lack of memory.
     pub fn of(forms: Forms) -> Result<Numbers, NoMemory>
         requires { length forms ≤ 2 ^ 32 }
         ensures exactly { IfOk result (HasExactly (Contains forms) form_key) }
@@ -84,7 +84,7 @@ impl Numbers {
     /// Returns the number of a form, if it has one.
     ///
     /// # Errors
-    /// Lack of memory, where the form has more than four objects.
+    /// - Lack of memory, where the form has more than four objects.
     pub fn number_of(
         &self,
         alloc: Global,
@@ -99,7 +99,7 @@ impl Numbers {
     /// Returns the number of a form with objects in the place of its arguments, if it has one.
     ///
     /// # Errors
-    /// Lack of memory, where the form has more than four objects.
+    /// - Lack of memory, where the form has more than four objects.
     pub fn number_at(
         &self,
         alloc: Global,

@@ -42,7 +42,7 @@ fn values_of(
 /// Returns the atoms that are true at first, and the first values: 0 for a fluent that has none.
 ///
 /// # Errors
-/// Lack of memory.
+/// - Lack of memory.
 pub fn start_in(
     alloc: Global,
     lookups: &Lookups<'_>,

@@ -40,7 +40,7 @@ fn is_undefined(lookups: &Lookups<'_>, key: &Key) -> bool
 /// Returns the first of these fluents that has no first value, if there is one.
 ///
 /// # Errors
-/// Lack of memory.
+/// - Lack of memory.
 pub fn first_undefined(
     alloc: Global,
     lookups: &Lookups<'_>,

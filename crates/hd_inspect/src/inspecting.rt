@@ -45,9 +45,11 @@ fn summary_of(digest: [u8; DIGEST_LEN], found: &Contents) -> Summary
 /// Returns what the bytes of a file tell of the journal in them, whatever its task.
 ///
 /// # Errors
-/// `NotAJournal` where no header stands at the front, and none was being made; `Damaged` with the
-/// place of the first open gate that has no whole group and next gate after it; `NoMemory`.
-/// `OtherTask` is never told.
+/// - `NotAJournal`: no header stands at the front, and none was being made.
+/// - `Damaged` with the place of the first open gate that has no whole group and next gate after
+///   it.
+/// - `NoMemory`.
+/// - `OtherTask` is never told.
 pub fn inspect(alloc: Global, content: &[u8]) -> Result<Inspected, ImageError>
     ensures inspected { IfOk result (IsInspected content.now) }
     ensures refused { IfErr result (IsRefused content.now) }
@@ -64,7 +66,7 @@ pub fn inspect(alloc: Global, content: &[u8]) -> Result<Inspected, ImageError>
 /// Returns a digest in hexadecimal, in lower case.
 ///
 /// # Errors
-/// `NoMemory` where there is no room for the text.
+/// - `NoMemory`: there is no room for the text.
 pub fn digest_text(alloc: Global, digest: &[u8; DIGEST_LEN]) -> Result<String, NoMemory>
     ensures { IfOk result (λ text. string_bytes text ≡ encode_lower digest.now) }
 {

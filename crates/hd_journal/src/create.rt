@@ -57,9 +57,10 @@ impl<S: Store> Journal<S> {
     /// Makes a journal without entries on an empty store, for the task of this digest.
     ///
     /// # Errors
-    /// The store, and why: `JournalExists` where it is not empty, and then it is as it was;
-    /// `Device` where the device failed; `NoMemory` where the store could not grow. After these two
-    /// the header may be half made: a later `open` makes it again.
+    /// - The store, and why: `JournalExists` where it is not empty, and then it is as it was.
+    /// - `Device`: the device failed.
+    /// - `NoMemory`: the store could not grow. After these two the header may be half made: a later
+    ///   `open` makes it again.
     pub fn create(
         alloc: Global,
         store: S,

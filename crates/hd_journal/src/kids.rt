@@ -22,7 +22,7 @@ impl<S: Store> Journal<S> {
     /// Returns the pairs of all entries, in order: a list of its own, of 16 bytes a pair.
     ///
     /// # Errors
-    /// `NoMemory` where there is no room for it.
+    /// - `NoMemory`: there is no room for it.
     pub fn kids(&self, alloc: Global) -> Result<Vec<Kid>, NoMemory>
         ensures { IfOk result (λ kids. kids.items ≡ kids_of self.now) }
     {

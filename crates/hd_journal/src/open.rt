@@ -120,9 +120,11 @@ impl<S: Store> Journal<S> {
     /// made, is made.
     ///
     /// # Errors
-    /// The store, and why: `NotAJournal`, `OtherTask` and `Damaged` of its bytes, and then it is as
-    /// it was; `Device` where the device failed; `NoMemory`. After these two a header may be half
-    /// made, or a journal half mended: it is to be opened again.
+    /// - The store, and why: `NotAJournal`, `OtherTask` and `Damaged` of its bytes, and then it is
+    ///   as it was.
+    /// - `Device`: the device failed.
+    /// - `NoMemory`. After these two a header may be half made, or a journal half mended: it is to
+    ///   be opened again.
     pub fn open(
         alloc: Global,
         store: S,

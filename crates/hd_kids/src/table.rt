@@ -41,7 +41,7 @@ impl KidTable {
     /// Returns the table of a search that has not begun: the root is posted.
     ///
     /// # Errors
-    /// `NoMemory` where there is no room for it.
+    /// - `NoMemory`: there is no room for it.
     pub fn new(alloc: Global) -> Result<KidTable, NoMemory>
         ensures kids { IfOk result (λ t. t.kids ≡ root ∷ []) }
         ensures marks { IfOk result (λ t. t.marks ≡ false ∷ []) }
@@ -64,7 +64,7 @@ impl KidTable {
     /// Makes room for so many entries more, and for so many successors of theirs.
     ///
     /// # Errors
-    /// `NoMemory`: the table is as it was, and so is the room that there was.
+    /// - `NoMemory`: the table is as it was, and so is the room that there was.
     pub fn reserve(&mut self, entries: usize, kids: usize) -> Result<(), NoMemory>
         ensures same { IsSame self.old self.new }
         ensures entry_room_kept { self.old.entry_room ≤ self.new.entry_room }

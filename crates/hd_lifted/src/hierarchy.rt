@@ -39,7 +39,7 @@ impl Hierarchy {
     ///
     /// # Errors
     ///
-    /// Lack of memory.
+    /// - Lack of memory.
     pub fn new(alloc: Global, parents: Vec<usize>) -> Result<Result<Hierarchy, usize>, NoMemory>
         ensures made { IfOk result (λ answer. IfOk answer (λ types. types ≡ parents.items)) }
         ensures acyclic { IfOk result (λ answer. IfOk answer (λ _. IsAcyclic parents.items)) }

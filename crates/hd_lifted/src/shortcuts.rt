@@ -24,7 +24,7 @@ impl Shortcuts {
     ///
     /// # Errors
     ///
-    /// Lack of memory.
+    /// - Lack of memory.
     pub fn new(alloc: Global, parents: &[usize]) -> Result<Shortcuts, NoMemory>
         requires { IsRooted parents.now }
         ensures { IfOk result (HasShortcuts parents.now) }

@@ -17,9 +17,10 @@ use std::alloc::Global;
 /// whether all are there.
 ///
 /// # Errors
-/// `JournalExists` where the store is not empty, and then it is as it was; `Device` where the
-/// device failed; `NoMemory`. After these two the store has a header that is still to be made, or
-/// a journal of the first of the entries.
+/// - `JournalExists`: the store is not empty, and then it is as it was.
+/// - `Device`: the device failed.
+/// - `NoMemory`. After these two the store has a header that is still to be made, or a journal of
+///   the first of the entries.
 pub fn copy<S: Store>(
     alloc: Global,
     kids: &[Kid],

@@ -37,7 +37,8 @@ fn owned(alloc: Global, kids: &[Kid]) -> Result<Vec<Kid>, NoMemory>
 /// Appends a list of pairs as one group.
 ///
 /// # Errors
-/// `Device` where the device failed; `NoMemory`.
+/// - `Device`: the device failed.
+/// - `NoMemory`.
 fn append_owned<S: Store>(journal: &mut Journal<S>, kids: Vec<Kid>) -> Result<(), JournalError>
     requires group { IsGroup journal.old.version kids.items }
     requires fit { list_all (λ kid. fits_parent journal.old.version kid.parent) kids.items ≡ true }
@@ -61,7 +62,8 @@ fn append_owned<S: Store>(journal: &mut Journal<S>, kids: Vec<Kid>) -> Result<()
 /// Appends entries as one group.
 ///
 /// # Errors
-/// `Device` where the device failed; `NoMemory`.
+/// - `Device`: the device failed.
+/// - `NoMemory`.
 fn append_group<S: Store>(
     alloc: Global,
     journal: &mut Journal<S>,
@@ -94,7 +96,8 @@ fn first_group(kids: &[Kid]) -> (&[Kid], &[Kid])
 /// Appends entries, in groups as large as may be.
 ///
 /// # Errors
-/// `Device` where the device failed; `NoMemory`.
+/// - `Device`: the device failed.
+/// - `NoMemory`.
 pub(crate) fn append_all<S: Store>(
     alloc: Global,
     journal: &mut Journal<S>,

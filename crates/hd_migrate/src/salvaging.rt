@@ -69,9 +69,10 @@ fn salvage_before(
 /// entries.
 ///
 /// # Errors
-/// `NotAJournal` where no header stands at the front, and none was being made; `OtherTask` where
-/// it has another digest; `NoMemory` where there is no room for the entries. `Damaged` is never
-/// told.
+/// - `NotAJournal`: no header stands at the front, and none was being made.
+/// - `OtherTask`: it has another digest.
+/// - `NoMemory`: there is no room for the entries.
+/// - `Damaged` is never told.
 pub fn salvage(
     alloc: Global,
     content: Vec<u8>,

@@ -45,7 +45,7 @@ fn metric_of(functions: &Names, metric: &Option<NameAt>) -> Option<usize>
 /// metric of its problem.
 ///
 /// # Errors
-/// The first fault of its constants, predicates and functions.
+/// - The first fault of its constants, predicates and functions.
 #[tactic(auto, unfolding(crate::specs::Scope::scope_of, crate::specs::Scope::scope_fault))]
 pub fn scope_of(
     alloc: Global,
@@ -73,7 +73,7 @@ pub fn scope_of(
 /// Returns a scope with objects after those that are there.
 ///
 /// # Errors
-/// The first fault of these objects.
+/// - The first fault of these objects.
 #[tactic(auto, unfolding(crate::specs::Scope::with_objects))]
 pub fn with_objects(alloc: Global, scope: Scope, declared: &[Typed]) -> Result<Scope, NameStop>
     ensures { ChecksObjects result scope declared.now }

@@ -43,7 +43,7 @@ impl Children {
     /// Makes room for so many children in all.
     ///
     /// # Errors
-    /// `NoMemory` where there is none.
+    /// - `NoMemory`: there is none.
     pub(crate) fn reserve_all(&mut self, count: usize) -> Result<(), NoMemory>
         ensures { self.new ≡ self.old }
     {
@@ -55,7 +55,7 @@ impl Children {
     /// Adds one child more.
     ///
     /// # Errors
-    /// `NoMemory` where there is no room for it.
+    /// - `NoMemory`: there is no room for it.
     pub(crate) fn push(&mut self, child: Child) -> Result<(), NoMemory>
         ensures { OnOk result (self.new ≡ self.old ++ child ∷ []) }
     {

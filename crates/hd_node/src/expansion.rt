@@ -81,7 +81,7 @@ impl<'t> Expansion<'t> {
     /// and for the departures, where there are any.
     ///
     /// # Errors
-    /// The parcel and `NoMemory` where there is no room for them.
+    /// - The parcel and `NoMemory` where there is no room for them.
     pub fn of(
         alloc: Global,
         task: &'t Task,

@@ -38,7 +38,7 @@ impl Hashed {
     /// Returns a state of a task, packed, with its hash.
     ///
     /// # Errors
-    /// `NoMemory` where there is no room for the packing.
+    /// - `NoMemory`: there is no room for the packing.
     pub fn of(alloc: Global, task: &Task, words: &Words, state: &State) -> Result<Hashed, NoMemory>
         ensures { IfOk result (λ h. h ≡ state.now) }
     {
@@ -59,7 +59,7 @@ impl Hashed {
     /// Returns a copy, with the same hash.
     ///
     /// # Errors
-    /// `NoMemory` where there is no room for the bytes.
+    /// - `NoMemory`: there is no room for the bytes.
     pub fn copied(&self, alloc: Global) -> Result<Hashed, NoMemory>
         ensures { IfOk result (λ h. h ≡ self.now) }
     {

@@ -47,7 +47,7 @@ impl<'t> Parcel<'t> {
     /// Returns the parcel that says of a successor where it leads. The state is packed and hashed.
     ///
     /// # Errors
-    /// `NoMemory` where there is no room for the packed state.
+    /// - `NoMemory`: there is no room for the packed state.
     pub fn of(
         alloc: Global,
         task: &'t Task,

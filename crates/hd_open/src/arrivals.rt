@@ -33,7 +33,7 @@ impl Arrivals {
     /// Adds one arrival more, after the others.
     ///
     /// # Errors
-    /// `NoMemory` where there is no room for it.
+    /// - `NoMemory`: there is no room for it.
     pub(crate) fn push(&mut self, arrival: u32) -> Result<(), NoMemory>
         ensures ok { OnOk result (self.new ≡ self.old ++ arrival ∷ []) }
         ensures err { OnErr result (self.new ≡ self.old) }

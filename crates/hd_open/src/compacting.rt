@@ -130,7 +130,7 @@ fn compact<T: Waits>(slots: &mut Vec<Option<T>>, counts: &mut Counts, queue: &mu
 /// buckets, and comes again after half as many pushes or more.
 ///
 /// # Errors
-/// `NoMemory` where there is none for a slot more.
+/// - `NoMemory`: there is none for a slot more.
 pub(crate) fn make_room<T: Waits>(
     slots: &mut Vec<Option<T>>,
     counts: &mut Counts,

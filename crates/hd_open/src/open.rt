@@ -65,7 +65,7 @@ impl<T: Waits> OpenList<T> {
     /// A node more, after the others.
     ///
     /// # Errors
-    /// The node, where there is no room for it; no other node has come or gone.
+    /// - The node, where there is no room for it; no other node has come or gone.
     pub fn push(&mut self, node: T) -> Result<(), (T, NoMemory)>
         ensures nodes { OnOk result (self.new.nodes ≡ self.old.nodes ++ node ∷ []) }
         ensures back { IfErr result (λ r. r.0 ≡ node) }

@@ -179,7 +179,7 @@ impl Queue {
     /// One arrival more, which is less than none before it.
     ///
     /// # Errors
-    /// `NoMemory` where there is no room for it, or it is no number of 32 bits.
+    /// - `NoMemory`: there is no room for it, or it is no number of 32 bits.
     // Each push goes through it, and mostly through `add_small`: as calls each would take some ten
     // instructions more.
     #[inline(always)]

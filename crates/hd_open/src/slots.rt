@@ -147,7 +147,7 @@ pub(crate) fn arrival_by<T>(
 /// A word more, if the next slot is the first of a group.
 ///
 /// # Errors
-/// `NoMemory` where there is no room for it.
+/// - `NoMemory`: there is no room for it.
 fn cover_words<T>(slots: &[Option<T>], words: &mut Vec<u64>) -> Result<(), NoMemory>
     requires marked { AreMarks slots.now words.old.items }
     ensures marked { AreMarks slots.now words.new.items }
@@ -162,7 +162,7 @@ fn cover_words<T>(slots: &[Option<T>], words: &mut Vec<u64>) -> Result<(), NoMem
 /// Counts a group more, which has no node, if the next slot is the first of one.
 ///
 /// # Errors
-/// `NoMemory` where there is no room for its count.
+/// - `NoMemory`: there is no room for its count.
 pub(crate) fn cover<T>(slots: &[Option<T>], counts: &mut Counts) -> Result<(), NoMemory>
     requires marked { AreMarks slots.now counts.old.marks.items }
     requires counted { AreCounts slots.now counts.old }

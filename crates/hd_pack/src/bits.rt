@@ -19,7 +19,7 @@ pub(crate) type Bytes = SmallVec<u8, IN_PLACE>;
 /// alone.
 ///
 /// # Errors
-/// `NoMemory` where there is no room for the block.
+/// - `NoMemory`: there is no room for the block.
 pub(crate) fn copy_of(alloc: Global, bytes: &[u8]) -> Result<Bytes, NoMemory>
     ensures { IfOk result (λ b. b.items ≡ bytes.now) }
 {

@@ -169,7 +169,7 @@ fn take_effect(
 /// else; and time in the action's own size.
 ///
 /// # Errors
-/// `NoMemory` where there is no room for the bytes of the state after it.
+/// - `NoMemory`: there is no room for the bytes of the state after it.
 // It stands in the innermost loop of an expansion, and its answer is some sixty bytes: inlined,
 // most of them are never written.
 #[inline(always)]

@@ -43,7 +43,7 @@ impl Packed {
     /// Returns a copy of a packing of so many atoms that stands elsewhere.
     ///
     /// # Errors
-    /// `NoMemory` where there is no room for the bytes.
+    /// - `NoMemory`: there is no room for the bytes.
     pub fn of_bytes(alloc: Global, atoms: usize, bytes: &[u8]) -> Result<Packed, NoMemory>
         requires { IsPacking atoms bytes.now }
         ensures { IfOk result (λ p. p ≡ unpacked atoms bytes.now) }
@@ -70,7 +70,7 @@ impl Packed {
     /// Returns a copy of the packing.
     ///
     /// # Errors
-    /// `NoMemory` where there is no room for the bytes.
+    /// - `NoMemory`: there is no room for the bytes.
     pub fn copied(&self, alloc: Global) -> Result<Packed, NoMemory>
         ensures { IfOk result (λ p. p ≡ self.now) }
     {
@@ -147,7 +147,7 @@ impl Reads for Packed {
 /// memory once.
 ///
 /// # Errors
-/// `NoMemory` where there is no room for the bytes.
+/// - `NoMemory`: there is no room for the bytes.
 pub fn pack(alloc: Global, layout: &Layout, state: &State) -> Result<Packed, NoMemory>
     ensures { IfOk result (λ p. p ≡ state.now) }
 {
@@ -164,7 +164,7 @@ pub fn pack(alloc: Global, layout: &Layout, state: &State) -> Result<Packed, NoM
 /// take memory once for each.
 ///
 /// # Errors
-/// `NoMemory` where there is no room for the state.
+/// - `NoMemory`: there is no room for the state.
 #[tactic(auto, using(crate::proofs::Trips::bytes_enough))]
 pub fn unpack(alloc: Global, layout: &Layout, packed: &Packed) -> Result<State, NoMemory>
     ensures { IfOk result (λ s. s ≡ packed.now) }

@@ -51,7 +51,7 @@ pub(crate) struct Ended<'t, 'j, L: Ledger, A: Ledger, S: Store> {
 /// the book is halted first.
 ///
 /// # Errors
-/// Those of a round.
+/// - Those of a round.
 #[tactic(auto, using(crate::proofs::Stopping::along, crate::proofs::Stopping::survives_along))]
 fn commit_beside<'t, L: Ledger, A: Ledger, S: Store, G: Gate, R: Wait>(
     rt: &R,

@@ -58,7 +58,7 @@ pub(crate) struct Opened<'t, L: Ledger, A: Ledger> {
 /// Returns a letter of a task: that of the root.
 ///
 /// # Errors
-/// `NoMemory` where there is no room for it.
+/// - `NoMemory`: there is no room for it.
 fn letter_of<'t>(alloc: Global, task: &'t Task) -> Result<Letter<'t>, NoMemory>
     ensures { IfOk result (λ l. l.task ≡ task.now) }
 {
@@ -75,7 +75,7 @@ fn letter_of<'t>(alloc: Global, task: &'t Task) -> Result<Letter<'t>, NoMemory>
 /// committer has; and the rest.
 ///
 /// # Errors
-/// `NoMemory` where there is no room for it.
+/// - `NoMemory`: there is no room for it.
 #[tactic(auto, using(crate::proofs::Parts::all_many))]
 fn desk_of<'t, L: Ledger, A: Ledger, R: Wait>(
     rt: &R,
@@ -116,7 +116,7 @@ fn desk_of<'t, L: Ledger, A: Ledger, R: Wait>(
 /// Returns the place of a worker, for which a part of all is given.
 ///
 /// # Errors
-/// `NoMemory` where there is no room for it.
+/// - `NoMemory`: there is no room for it.
 #[tactic(auto, using(crate::proofs::Parts::all_shareable, crate::proofs::Seating::at_place, crate::proofs::Seating::room_after))]
 fn place_of<'t, L: Ledger, A: Ledger>(
     alloc: Global,
@@ -149,7 +149,7 @@ fn place_of<'t, L: Ledger, A: Ledger>(
 /// Returns the places of workers, in their order.
 ///
 /// # Errors
-/// `NoMemory` where there is no room for one.
+/// - `NoMemory`: there is no room for one.
 fn places_of<'t, L: Ledger, A: Ledger>(
     alloc: Global,
     task: &'t Task,
@@ -187,8 +187,9 @@ impl<'g, G: Gate> Listener for ByGate<'g, G> {
 /// many entries are made again.
 ///
 /// # Errors
-/// `Full` where there are more entries than the journal may have; `Damaged` of the first that
-/// makes no legal list with those before it; `NoMemory`.
+/// - `Full`: there are more entries than the journal may have.
+/// - `Damaged` of the first that makes no legal list with those before it.
+/// - `NoMemory`.
 pub(crate) fn open_search<'t, L: Ledger, A: Ledger, S: Store, G: Gate, R: Wait>(
     rt: &R,
     alloc: Global,
@@ -233,7 +234,7 @@ pub(crate) fn open_search<'t, L: Ledger, A: Ledger, S: Store, G: Gate, R: Wait>(
 /// Returns a search that goes on, opened for its workers.
 ///
 /// # Errors
-/// `NoMemory` where there is no room for what they share.
+/// - `NoMemory`: there is no room for what they share.
 #[tactic(auto, using(crate::proofs::Places::fresh_all, crate::proofs::Places::length_all, crate::proofs::Places::opened_at))]
 fn opened_from<'t, L: Ledger, A: Ledger, R: Wait>(
     rt: &R,

@@ -39,7 +39,8 @@ fn take_back<T>(_journal: &mut T)
 /// ended.
 ///
 /// # Errors
-/// The committer's fault, else that of the least worker; `NoThread` where a thread does not start.
+/// - The committer's fault, else that of the least worker.
+/// - `NoThread`: a thread does not start.
 #[tactic(auto, using(crate::proofs::Stopping::first_stops, crate::proofs::Stopping::first_grows, crate::proofs::Stopping::first_settled))]
 fn run_threads<
     't,
@@ -104,8 +105,9 @@ fn run_threads<
 /// Runs an opened search to its end; then says what the book says.
 ///
 /// # Errors
-/// Those of the threads; `NotOut` where the book and the journal do not fit together; `NoMemory`
-/// where there is no room for a plan.
+/// - Those of the threads.
+/// - `NotOut`: the book and the journal do not fit together.
+/// - `NoMemory`: there is no room for a plan.
 #[tactic(auto, using(crate::proofs::Stopping::can_run, crate::proofs::Stopping::answer_stops, crate::proofs::Stopping::survives_of))]
 fn run_opened<
     't,
@@ -213,12 +215,13 @@ fn run_as<
 /// journal had among them.
 ///
 /// # Errors
-/// `Damaged` of the first entry of the journal that makes no legal list with those before it, and
-/// nothing is written then; `Full` where there are more entries than the journal may have, or would
-/// be; `NoThread` where the system starts no thread; the journal's own faults; `NoMemory`. The
-/// committer's fault is reported before those of workers, and that of the least worker first. The
-/// journal has the entries that it had, and maybe more after them: a later search goes on from
-/// there.
+/// - `Damaged` of the first entry of the journal that makes no legal list with those before it, and
+///   nothing is written then.
+/// - `Full`: there are more entries than the journal may have, or would be.
+/// - `NoThread`: the system starts no thread; the journal's own faults.
+/// - `NoMemory`. The committer's fault is reported before those of workers, and that of the least
+///   worker first. The journal has the entries that it had, and maybe more after them: a later
+///   search goes on from there.
 pub fn run<S: Store, G: Gate + Sync, R: Threads + Wait + Sync>(
     rt: &R,
     alloc: Global,

@@ -92,8 +92,8 @@ fn start<
 /// Starts a thread for each worker.
 ///
 /// # Errors
-/// `NoThread` where one does not start, `NoMemory` where there is no room for its handle; those
-/// that run are left to end.
+/// - `NoThread`: one does not start, `NoMemory` where there is no room for its handle; those that
+///   run are left to end.
 pub(crate) fn start_all<
     's,
     'e: 's,

@@ -64,8 +64,8 @@ impl<'w, W: Write> Watched<'w, W> {
     /// Writes some of these bytes, and answers how many. This alone notes an error.
     ///
     /// # Errors
-    /// The kind of the error that the writer answers, after which nothing of them has been written.
-    /// A writer that takes none of the bytes has failed with `WriteZero`.
+    /// - The kind of the error that the writer answers, after which nothing of them has been
+    ///   written. A writer that takes none of the bytes has failed with `WriteZero`.
     fn write(&mut self, bytes: &[u8]) -> Result<usize, io::ErrorKind>
         requires { 0 < length bytes.now }
         ensures part { IfOk result (IsPartOf bytes.now) }
@@ -85,8 +85,8 @@ impl<'w, W: Write> Watched<'w, W> {
     /// Writes bytes, whole.
     ///
     /// # Errors
-    /// The kind of the error that the writer answers, after which a beginning of the bytes has been
-    /// written, and not all of them.
+    /// - The kind of the error that the writer answers, after which a beginning of the bytes has
+    ///   been written, and not all of them.
     #[tactic(auto, using(crate::proofs::Parts::part_appended))]
     pub fn put(&mut self, bytes: &[u8]) -> Result<(), io::ErrorKind>
         // All bytes are written, or a beginning of them: where the writer's bytes are known, it is
@@ -110,7 +110,8 @@ impl<'w, W: Write> Watched<'w, W> {
 /// Writes bytes, whole, to a writer of which nothing is noted.
 ///
 /// # Errors
-/// The writer's fault, after which a beginning of the bytes has been written, and not all of them.
+/// - The writer's fault, after which a beginning of the bytes has been written, and not all of
+///   them.
 #[tactic(auto, using(crate::proofs::Parts::part_appended))]
 pub fn put<W: Write>(out: &mut W, bytes: &[u8]) -> io::Result<()>
     ensures whole { OnOk result (Appends (W.contents out.old) (W.contents out.new) bytes.now) }

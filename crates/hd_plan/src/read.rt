@@ -79,7 +79,7 @@ fn steps_of(alloc: Global, text: &[u8]) -> Result<Vec<Step>, PlanTextError>
 /// Any bytes may come. The only error that a good text meets is lack of memory.
 ///
 /// # Errors
-/// `BadLine` with the number of the first bad line, counted from 1, and lack of memory.
+/// - `BadLine` with the number of the first bad line, counted from 1, and lack of memory.
 #[tactic(auto, using(crate::proofs::Lowered::reads_names, crate::proofs::Files::reads_unique, crate::proofs::Files::good_refused, crate::proofs::Files::bad_answered, crate::proofs::Files::bad_refused))]
 pub fn read_plan(alloc: Global, text: &[u8]) -> Result<Sequence<Step>, PlanTextError>
     // What is answered: the steps of the text's lines, in order, whose names are those of texts, in

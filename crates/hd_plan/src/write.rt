@@ -67,8 +67,8 @@ fn plan_text(alloc: Global, steps: &[Step], cost: u64) -> Result<Vec<u8>, NoMemo
 /// = N`.
 ///
 /// # Errors
-/// Lack of memory, before anything is written; and the writer's fault, which it has then answered
-/// and which is noted of it. A beginning of the text has then been written, and not all of it.
+/// - Lack of memory, before anything is written; and the writer's fault, which it has then answered
+///   and which is noted of it. A beginning of the text has then been written, and not all of it.
 #[tactic(auto, using(crate::proofs::Parts::nothing_appended))]
 pub fn write_plan<W: Write>(
     alloc: Global,

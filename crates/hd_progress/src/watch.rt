@@ -55,7 +55,7 @@ impl<'r, R: Eprint + Clock> Watch<'r, R> {
     /// none of those that it makes. Where the clock can't be read, the last line alone is reported.
     ///
     /// # Errors
-    /// `AllocError` where there is no room for what workers tell.
+    /// - `AllocError`: there is no room for what workers tell.
     pub fn begin(
         rt: &'r R,
         alloc: Global,

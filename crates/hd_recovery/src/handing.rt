@@ -21,7 +21,7 @@ use std::sync::ledger::Ledger;
 /// So many workers, with nothing open and nothing closed.
 ///
 /// # Errors
-/// `NoMemory` where there is no room for them.
+/// - `NoMemory`: there is no room for them.
 pub(crate) fn idle_workers<'t>(
     alloc: Global,
     task: &'t Task,
@@ -40,7 +40,7 @@ pub(crate) fn idle_workers<'t>(
 /// An entry is closed at the worker that owns its state.
 ///
 /// # Errors
-/// `NoMemory` where there is no room for it.
+/// - `NoMemory`: there is no room for it.
 fn close_at_owner<'t>(
     task: &'t Task,
     count: usize,
@@ -64,7 +64,7 @@ fn close_at_owner<'t>(
 /// An entry of a book is closed at the worker that owns its state.
 ///
 /// # Errors
-/// `NoMemory` where there is no room for it.
+/// - `NoMemory`: there is no room for it.
 fn close_one<'t, L: Ledger>(
     alloc: Global,
     book: &Book<'t, L>,
@@ -92,7 +92,7 @@ fn close_one<'t, L: Ledger>(
 /// Each entry of a book is closed at the worker that owns its state.
 ///
 /// # Errors
-/// `NoMemory` where there is no room for one.
+/// - `NoMemory`: there is no room for one.
 pub(crate) fn close_all<'t, L: Ledger>(
     alloc: Global,
     book: &Book<'t, L>,
@@ -114,7 +114,7 @@ pub(crate) fn close_all<'t, L: Ledger>(
 /// A parcel is a worker's last open node.
 ///
 /// # Errors
-/// `NoMemory` where there is no room for it.
+/// - `NoMemory`: there is no room for it.
 fn take<'t>(worker: &mut Worker<'t>, parcel: Parcel<'t>) -> Result<(), NoMemory>
     requires { parcel.task ≡ worker.old.task }
     ensures { OnOk result (worker.new ≡ with_parcel (parcel_of parcel.entry) worker.old) }
@@ -128,7 +128,7 @@ fn take<'t>(worker: &mut Worker<'t>, parcel: Parcel<'t>) -> Result<(), NoMemory>
 /// A parcel is the last open node of the worker that owns its state.
 ///
 /// # Errors
-/// `NoMemory` where there is no room for it.
+/// - `NoMemory`: there is no room for it.
 fn take_at_owner<'t>(
     task: &'t Task,
     count: usize,
@@ -152,7 +152,7 @@ fn take_at_owner<'t>(
 /// Parcels are open nodes, each of the worker that owns its state, in their order.
 ///
 /// # Errors
-/// `NoMemory` where there is no room for one.
+/// - `NoMemory`: there is no room for one.
 pub(crate) fn take_all<'t>(
     task: &'t Task,
     count: usize,

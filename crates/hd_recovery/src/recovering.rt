@@ -35,7 +35,7 @@ pub struct Recovered<'t, L: Ledger> {
 /// is open, at the worker that owns its state.
 ///
 /// # Errors
-/// `NoMemory` where there is no room for one.
+/// - `NoMemory`: there is no room for one.
 fn workers_of<'t, L: Ledger>(
     alloc: Global,
     task: &'t Task,
@@ -66,8 +66,9 @@ fn workers_of<'t, L: Ledger>(
 /// are made again.
 ///
 /// # Errors
-/// `Full` where there are more entries than `most`; `Damaged` with the place of the first that
-/// makes no legal list with those before it; `NoMemory`.
+/// - `Full`: there are more entries than `most`.
+/// - `Damaged` with the place of the first that makes no legal list with those before it.
+/// - `NoMemory`.
 pub fn recover<'t, L: Ledger, H: Listener>(
     blank: Blank,
     alloc: Global,

@@ -21,8 +21,9 @@ use std::sync::ledger::{Blank, Ledger, Share};
 /// the parcels of the successors that are no entries.
 ///
 /// # Errors
-/// `Full` where there are more entries than `most`; `Damaged` of the first that makes no legal
-/// list with those before it; `NoMemory`.
+/// - `Full`: there are more entries than `most`.
+/// - `Damaged` of the first that makes no legal list with those before it.
+/// - `NoMemory`.
 pub(crate) fn resume<'t, L: Ledger, H: Listener>(
     blank: Blank,
     alloc: Global,

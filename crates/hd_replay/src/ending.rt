@@ -60,7 +60,7 @@ pub(crate) fn end<L: Ledger>(run: Run<'_, L>) {
 /// Returns the journal that stands on a disk, where the machine will stop in a call.
 ///
 /// # Errors
-/// `NoMemory`, or what the journal answers.
+/// - `NoMemory`, or what the journal answers.
 fn open_until(
     alloc: Global,
     digest: &[u8; DIGEST_LEN],
@@ -82,7 +82,7 @@ fn open_until(
 /// A group is appended to a journal, and the machine stops in one of the calls: what that leaves.
 ///
 /// # Errors
-/// `NoMemory`, or what the journal answers.
+/// - `NoMemory`, or what the journal answers.
 fn append_until(
     alloc: Global,
     journal: Journal<MemoryDisk>,
@@ -113,7 +113,7 @@ fn append_until(
 /// Returns a stop in a call that appends a group to a journal: what it leaves.
 ///
 /// # Errors
-/// `NoMemory`, or what the journal answers.
+/// - `NoMemory`, or what the journal answers.
 fn stop_within(
     alloc: Global,
     digest: &[u8; DIGEST_LEN],
@@ -138,7 +138,7 @@ fn stop_within(
 /// Returns a stop, in a call of an append where one is named: what it leaves.
 ///
 /// # Errors
-/// `NoMemory`, or what the journal answers.
+/// - `NoMemory`, or what the journal answers.
 pub(crate) fn stop<L: Ledger>(
     alloc: Global,
     digest: &[u8; DIGEST_LEN],

@@ -30,7 +30,7 @@ impl<'t, L: Ledger> Run<'t, L> {
     /// The worker takes the parcel in its hand.
     ///
     /// # Errors
-    /// `NoMemory` where there is no room for it: it is in the hand still.
+    /// - `NoMemory`: there is no room for it: it is in the hand still.
     pub(crate) fn take(&mut self, number: usize) -> Result<(), ReplayFault>
         ensures ok { OnOk result
             (TurnsTo self.old.book.state.task self.old (moves.Take number) self.new) }
@@ -46,7 +46,7 @@ impl<'t, L: Ledger> Run<'t, L> {
     /// The worker expands its open node at a place, in the order of arrival.
     ///
     /// # Errors
-    /// `NoMemory` where there is no room for its outcome: it is open still.
+    /// - `NoMemory`: there is no room for its outcome: it is open still.
     pub(crate) fn expand(&mut self, number: usize, place: usize) -> Result<(), ReplayFault>
         requires sound { IsSoundRun self.old }
         ensures ok { OnOk result (TurnsTo self.old.book.state.task self.old
@@ -65,7 +65,7 @@ impl<'t, L: Ledger> Run<'t, L> {
     /// batch that is refused for what it says is dropped.
     ///
     /// # Errors
-    /// `Full`, where the book takes no more, or `NoMemory`.
+    /// - `Full`: the book takes no more, or `NoMemory`.
     pub(crate) fn commit(&mut self, number: usize) -> Result<(), ReplayFault>
         requires sound { IsSoundRun self.old }
         ensures ok { OnOk result
@@ -101,7 +101,7 @@ impl<'t, L: Ledger> Run<'t, L> {
     /// The next parcel of the worker's outbox goes to its owner's mailbox, if that is not full.
     ///
     /// # Errors
-    /// `NoMemory` where the mailbox can't grow.
+    /// - `NoMemory`: the mailbox can't grow.
     pub(crate) fn push(&mut self, number: usize) -> Result<(), ReplayFault>
         requires sound { IsSoundRun self.old }
         ensures ok { OnOk result

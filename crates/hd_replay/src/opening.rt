@@ -24,7 +24,7 @@ pub(crate) enum Opened {
 /// Opens the journal on a disk.
 ///
 /// # Errors
-/// What the journal answers.
+/// - What the journal answers.
 pub(crate) fn open(
     alloc: Global,
     digest: &[u8; DIGEST_LEN],
@@ -43,7 +43,7 @@ pub(crate) fn open(
 /// disk.
 ///
 /// # Errors
-/// `NoMemory`, or what the journal answers.
+/// - `NoMemory`, or what the journal answers.
 fn open_again(
     alloc: Global,
     digest: &[u8; DIGEST_LEN],
@@ -61,7 +61,7 @@ fn open_again(
 /// Opens the journal on a disk, where the machine stops in one of the calls, if there are so many.
 ///
 /// # Errors
-/// `NoMemory`, or what the journal answers.
+/// - `NoMemory`, or what the journal answers.
 fn open_until(
     alloc: Global,
     digest: &[u8; DIGEST_LEN],
@@ -85,7 +85,7 @@ fn open_until(
 /// there are so many.
 ///
 /// # Errors
-/// `NoMemory`, or what the journal answers.
+/// - `NoMemory`, or what the journal answers.
 pub(crate) fn open_for(
     alloc: Global,
     digest: &[u8; DIGEST_LEN],

@@ -38,7 +38,7 @@ pub(crate) enum Played {
 /// Returns the report of a run, and the disk that it leaves.
 ///
 /// # Errors
-/// `NoMemory` where there is no room for a plan.
+/// - `NoMemory`: there is no room for a plan.
 fn report<L: Ledger>(
     run: Run<'_, L>,
     journal: Journal<MemoryDisk>,
@@ -180,7 +180,7 @@ pub(crate) fn play_from<L: Ledger>(
 /// Plays a resumption with one worker, and nothing after it: the report, and the disk.
 ///
 /// # Errors
-/// `NoMemory`, or what the journal answers, or why no search goes on from its entries.
+/// - `NoMemory`, or what the journal answers, or why no search goes on from its entries.
 pub(crate) fn play_last<L: Ledger>(
     blank: Blank,
     alloc: Global,

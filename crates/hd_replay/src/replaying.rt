@@ -91,7 +91,7 @@ fn play_next(
 /// Plays a schedule on a disk that was started again: its report, and the disk.
 ///
 /// # Errors
-/// Those of [`replay`].
+/// - Those of [`replay`].
 fn play_all(
     alloc: Global,
     task: &Task,
@@ -126,9 +126,10 @@ fn play_all(
 /// sure reads 0 at first.
 ///
 /// # Errors
-/// `NoMemory`; `Full` where the entries would be more than a journal may have; or what the
-/// journal answers of what was on the disk, or why no search goes on from its entries: from an
-/// empty disk neither comes. The disk is empty then.
+/// - `NoMemory`.
+/// - `Full`: the entries would be more than a journal may have; or what the journal answers of what
+///   was on the disk, or why no search goes on from its entries: from an empty disk neither comes.
+///   The disk is empty then.
 pub fn replay(
     alloc: Global,
     task: &Task,

@@ -29,7 +29,7 @@ fn said_for<L: Ledger>(book: &Book<'_, L>, verdict: Verdict) -> Says
 /// Returns what a book answers, if it is at its end.
 ///
 /// # Errors
-/// `NoMemory` where there is no room for a plan.
+/// - `NoMemory`: there is no room for a plan.
 pub(crate) fn says_of<L: Ledger>(book: &Book<'_, L>) -> Result<Option<Says>, NoMemory>
     ensures said { IfOk result (IsSaidOf book.now) }
     ensures truth { IfOk result (IsTrueOf book.now.state.task) }

@@ -90,7 +90,7 @@ fn ends(refusal: CommitRefusal) -> Option<ReplayFault>
 /// it says: it is dropped.
 ///
 /// # Errors
-/// `Full`, where the book takes no more, or `NoMemory`.
+/// - `Full`: the book takes no more, or `NoMemory`.
 fn enter<'t, L: Ledger>(
     book: &mut Book<'t, L>,
     share: &mut Share<L>,
@@ -207,7 +207,7 @@ impl<'t> Seat<'t> {
     /// The parcel in the hand is the worker's last open node.
     ///
     /// # Errors
-    /// `NoMemory` where there is no room for it: it is in the hand still.
+    /// - `NoMemory`: there is no room for it: it is in the hand still.
     pub(crate) fn take(&mut self) -> Result<(), NoMemory>
         ensures ok { OnOk result (self.new ≡ with_taken self.old self.old.hand) }
         ensures err { OnErr result (self.new ≡ self.old) }
@@ -227,7 +227,7 @@ impl<'t> Seat<'t> {
     /// The worker's open node at a place is an outcome, if there is one at it.
     ///
     /// # Errors
-    /// `NoMemory` where there is no room for it: the node is open still.
+    /// - `NoMemory`: there is no room for it: the node is open still.
     pub(crate) fn expand(&mut self, lookup: &mut Lookup<'t>, place: usize) -> Result<(), NoMemory>
         requires { IsLookupOf self.old.worker.task lookup.old }
         ensures lookup { IsLookupOf self.old.worker.task lookup.new }
@@ -243,7 +243,7 @@ impl<'t> Seat<'t> {
     /// batch that is refused for what it says is dropped.
     ///
     /// # Errors
-    /// `Full`, where the book takes no more, or `NoMemory`.
+    /// - `Full`: the book takes no more, or `NoMemory`.
     pub(crate) fn commit<L: Ledger>(
         &mut self,
         book: &mut Book<'t, L>,
@@ -313,7 +313,7 @@ impl<'t> Seat<'t> {
     /// A parcel that left the outbox last goes to a mailbox, or comes back where that is full.
     ///
     /// # Errors
-    /// `NoMemory` where the mailbox can't grow: the parcel comes back.
+    /// - `NoMemory`: the mailbox can't grow: the parcel comes back.
     pub(crate) fn post(
         &mut self,
         mailbox: &mut VecDeque<Parcel<'t>>,

@@ -11,7 +11,7 @@ use std::alloc::Global;
 /// length is the greatest: a disk that holds it for sure, and of which nothing else is known.
 ///
 /// # Errors
-/// `NoMemory`.
+/// - `NoMemory`.
 pub(crate) fn settled(alloc: Global, disk: MemoryDisk, byte: u8) -> Result<MemoryDisk, NoMemory>
     ensures { IfOk result (λ left. (content : List ℕ) × Filled (device_of disk) byte content
         × IsStarted left content) }

@@ -26,7 +26,7 @@ use std::sync::ledger::{Blank, Ledger};
 /// Returns the place of each worker.
 ///
 /// # Errors
-/// `NoMemory` where there is no room for them.
+/// - `NoMemory`: there is no room for them.
 fn seats_of<'t>(alloc: Global, workers: Vec<Worker<'t>>) -> Result<Vec<Seat<'t>>, NoMemory>
     ensures { IfOk result (λ seats. seats.items ≡ map seat_with workers.entry.items) }
 {
@@ -40,7 +40,7 @@ fn seats_of<'t>(alloc: Global, workers: Vec<Worker<'t>>) -> Result<Vec<Seat<'t>>
 /// So many empty mailboxes.
 ///
 /// # Errors
-/// `NoMemory` where there is no room for them.
+/// - `NoMemory`: there is no room for them.
 fn mailboxes_of<'t>(alloc: Global, workers: usize) -> Result<Vec<VecDeque<Parcel<'t>>>, NoMemory>
     ensures { IfOk result (λ boxes. map (λ box. box.items) boxes.items ≡ replicate workers []) }
 {
@@ -54,7 +54,7 @@ fn mailboxes_of<'t>(alloc: Global, workers: usize) -> Result<Vec<VecDeque<Parcel
 /// Returns the run of a search that was made again.
 ///
 /// # Errors
-/// `NoMemory` where there is no room for it.
+/// - `NoMemory`: there is no room for it.
 fn begun<'t, L: Ledger>(
     alloc: Global,
     task: &'t Task,
@@ -99,8 +99,8 @@ fn begun<'t, L: Ledger>(
 /// Returns the run that begins with a journal's entries, shared among so many workers.
 ///
 /// # Errors
-/// Why a search can't go on from them: that they are too many, or that one is faulty; or
-/// `NoMemory`.
+/// - Why a search can't go on from them: that they are too many, or that one is faulty; or
+///   `NoMemory`.
 pub(crate) fn run_of<'t, L: Ledger>(
     blank: Blank,
     alloc: Global,

@@ -16,7 +16,7 @@ use std::sync::ledger::Ledger;
 /// A move that touches no disk. One that is not possible changes nothing.
 ///
 /// # Errors
-/// `Full`, where the book takes no more entries, or `NoMemory`.
+/// - `Full`: the book takes no more entries, or `NoMemory`.
 fn turn<L: Ledger>(run: &mut Run<'_, L>, next: Move) -> Result<(), ReplayFault>
     requires sound { IsSoundRun run.old }
     ensures { OnOk result (TurnsTo run.old.book.state.task run.old next run.new) }
@@ -66,7 +66,7 @@ pub(crate) fn stop_in<L: Ledger>(run: &Run<'_, L>, next: Move) -> Option<StopAt>
 /// A move that does not end the run. One that is not possible changes nothing.
 ///
 /// # Errors
-/// `Full` or `NoMemory`, or what the journal answers.
+/// - `Full` or `NoMemory`, or what the journal answers.
 pub(crate) fn step<L: Ledger>(
     run: &mut Run<'_, L>,
     journal: &mut Journal<MemoryDisk>,

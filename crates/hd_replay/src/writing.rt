@@ -31,7 +31,7 @@ impl<'t, L: Ledger> Run<'t, L> {
     /// Returns what is pending is pulled out of the book, if no group is out.
     ///
     /// # Errors
-    /// `NoMemory` where there is no room for a group.
+    /// - `NoMemory`: there is no room for a group.
     pub(crate) fn pull(&mut self) -> Result<(), ReplayFault>
         requires sound { IsSoundRun self.old }
         ensures ok { OnOk result (TurnsTo self.old.book.state.task self.old moves.Pull self.new) }
@@ -70,7 +70,7 @@ impl<'t, L: Ledger> Run<'t, L> {
     /// Returns what was pulled is appended to the journal.
     ///
     /// # Errors
-    /// Why it is not appended: it is pulled still.
+    /// - Why it is not appended: it is pulled still.
     pub(crate) fn flush(&mut self, journal: &mut Journal<MemoryDisk>) -> Result<(), ReplayFault>
         ensures flushed { (digest : List ℕ) (f : File) → StandsAs digest f journal.old
             → OnOk result (Flushes digest f self.old journal.new self.new) }

@@ -21,7 +21,7 @@ impl Block {
     /// Returns no states, with the memory of a full block.
     ///
     /// # Errors
-    /// `NoMemory` where there is none.
+    /// - `NoMemory`: there is none.
     pub(crate) fn empty(alloc: Global, layout: Layout) -> Result<Block, NoMemory>
         ensures block { IfOk result (λ b. IsBlock (widths_of layout) b) }
         ensures states { IfOk result (λ b. states_of (widths_of layout) b ≡ []) }

@@ -103,7 +103,7 @@ impl RowBlocks {
     /// Makes room for so many more.
     ///
     /// # Errors
-    /// `NoMemory`: the states are as they were, and so is the room that there was.
+    /// - `NoMemory`: the states are as they were, and so is the room that there was.
     pub fn reserve(&mut self, count: usize) -> Result<(), NoMemory>
         ensures widths { self.new.widths ≡ self.old.widths }
         ensures states { self.new.states ≡ self.old.states }

@@ -103,7 +103,7 @@ impl Draft {
     /// bytes.
     ///
     /// # Errors
-    /// `NoMemory` where there is no room for the bytes: it is as it was.
+    /// - `NoMemory`: there is no room for the bytes: it is as it was.
     pub fn set(&mut self, alloc: Global, state: &Row<'_>) -> Result<(), NoMemory>
         ensures ok { OnOk result (self.new ≡ state.now) }
         ensures err { OnErr result (self.new ≡ self.old) }
@@ -227,7 +227,7 @@ impl Draft {
     /// only where that state has another number of bytes, and time in the action's own size.
     ///
     /// # Errors
-    /// `NoMemory` where there is no room for the bytes.
+    /// - `NoMemory`: there is no room for the bytes.
     pub fn follow(
         &mut self,
         alloc: Global,

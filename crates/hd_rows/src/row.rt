@@ -121,7 +121,7 @@ impl<'r> Row<'r> {
     /// Returns the state in bytes of its own.
     ///
     /// # Errors
-    /// `NoMemory` where there is no room for them.
+    /// - `NoMemory`: there is no room for them.
     pub fn packed(&self, alloc: Global) -> Result<Packed, NoMemory>
         ensures { IfOk result (λ p. p ≡ self.now) }
     {

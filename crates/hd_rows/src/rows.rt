@@ -86,7 +86,7 @@ impl Rows {
     /// Adds one state more, after the others.
     ///
     /// # Errors
-    /// `NoMemory` where there is no room for it.
+    /// - `NoMemory`: there is no room for it.
     pub fn push(&mut self, state: &Packed) -> Result<(), NoMemory>
         requires few { length self.old.states < MAX_ROWS }
         requires of_rows { IsOfRows self.old state.now }

@@ -34,7 +34,7 @@ fn moves_of(alloc: Global, text: &[u8]) -> Result<Vec<Move>, ScheduleError>
 /// Any bytes may come. The only error that a good text meets is lack of memory.
 ///
 /// # Errors
-/// `BadLine` with the number of the first bad line, counted from 1, and lack of memory.
+/// - `BadLine` with the number of the first bad line, counted from 1, and lack of memory.
 pub fn read_schedule(alloc: Global, text: &[u8]) -> Result<Sequence<Move>, ScheduleError>
     // What is answered: the moves of the text's lines, in order.
     ensures answer { IfOk result (λ moves. schedule_of text.now ≡ Ok moves) }

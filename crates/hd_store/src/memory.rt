@@ -51,7 +51,7 @@ impl MemoryDisk {
     /// Returns a disk that holds these bytes for sure.
     ///
     /// # Errors
-    /// Lack of memory.
+    /// - Lack of memory.
     pub fn of(alloc: Global, bytes: Vec<u8>) -> Result<MemoryDisk, NoMemory>
         ensures { IfOk result (λ disk. IsStarted disk bytes.items) }
     {
@@ -105,7 +105,7 @@ impl MemoryDisk {
     /// greatest that it may be. Nothing that was planned is left.
     ///
     /// # Errors
-    /// Lack of memory, and then nothing is changed.
+    /// - Lack of memory, and then nothing is changed.
     pub fn settle(&mut self, fill: u8) -> Result<(), NoMemory>
         ensures ok { OnOk result (IsStopped (device_of self.old) fill (device_of self.new)) }
         ensures err { OnErr result (device_of self.new ≡ device_of self.old) }

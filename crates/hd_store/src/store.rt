@@ -20,7 +20,7 @@ pub trait Store {
     /// Returns how many bytes there are.
     ///
     /// # Errors
-    /// A failure of the device.
+    /// - A failure of the device.
     fn len(&mut self) -> Result<u64, StoreError>
         ensures len { IfOk result (λ len. len ≡ length (content_of (device self.old))) }
         ensures ok { OnOk result (device self.new ≡ device self.old) }
@@ -32,7 +32,7 @@ pub trait Store {
     /// Reads so many bytes from a place on, all of them within the length.
     ///
     /// # Errors
-    /// A failure of the device.
+    /// - A failure of the device.
     fn read_at(&mut self, at: u64, into: &mut [u8]) -> Result<(), StoreError>
         requires { at + length into.old ≤ length (content_of (device self.old)) }
         ensures read { OnOk result (into.new
@@ -46,7 +46,7 @@ pub trait Store {
     /// Writes these bytes from a place within the length on, over what is there and past the end.
     ///
     /// # Errors
-    /// A failure of the device. Lack of memory, where the store grows: then nothing was begun.
+    /// - A failure of the device. Lack of memory, where the store grows: then nothing was begun.
     fn write_at(&mut self, at: u64, bytes: &[u8]) -> Result<(), StoreError>
         requires { at ≤ length (content_of (device self.old)) }
         ensures ok { OnOk result (device self.new
@@ -64,7 +64,7 @@ pub trait Store {
     /// Makes sure of what a read gives.
     ///
     /// # Errors
-    /// A failure of the device: then nothing was made sure.
+    /// - A failure of the device: then nothing was made sure.
     fn sync(&mut self) -> Result<(), StoreError>
         ensures ok { OnOk result (device self.new ≡ done (device self.old)
             Sync (content_of (device self.old))) }
@@ -77,7 +77,7 @@ pub trait Store {
     /// Cuts what there is to a length within it.
     ///
     /// # Errors
-    /// A failure of the device.
+    /// - A failure of the device.
     fn cut(&mut self, len: u64) -> Result<(), StoreError>
         requires { len ≤ length (content_of (device self.old)) }
         ensures ok { OnOk result (device self.new ≡ done (device self.old)

@@ -59,8 +59,8 @@ impl<'t> Successors<'t> {
     /// Returns the index of a task, without marks.
     ///
     /// # Errors
-    /// `NoMemory` where there is no room for a number an atom, four numbers an action and two bits
-    /// an action.
+    /// - `NoMemory`: there is no room for a number an atom, four numbers an action and two bits an
+    ///   action.
     pub fn new(alloc: Global, task: &'t Task) -> Result<Successors<'t>, NoMemory>
         ensures task { IfOk result (λ s. s.task ≡ task.now) }
         ensures marked { IfOk result (λ s. s.marked ≡ []) }

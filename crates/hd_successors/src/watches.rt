@@ -119,7 +119,7 @@ impl Watches {
     /// these.
     ///
     /// # Errors
-    /// `NoMemory` where there is no room for a number an atom and four an action.
+    /// - `NoMemory`: there is no room for a number an atom and four an action.
     pub(crate) fn of(
         alloc: Global,
         actions: &[Action],

@@ -127,7 +127,7 @@ fn each_rarest(alloc: Global, uses: &[u32], actions: &[Action]) -> Result<Vec<Wa
 /// Returns what each of the actions of a task watches, which starts with these atoms.
 ///
 /// # Errors
-/// `NoMemory` where there is no room for a number an atom and three an action.
+/// - `NoMemory`: there is no room for a number an atom and three an action.
 pub(crate) fn watched_of(
     alloc: Global,
     actions: &[Action],

@@ -129,7 +129,7 @@ fn take_effect(
 /// It takes a copy of the state, and time in the action's own size.
 ///
 /// # Errors
-/// `NoMemory` where there is no room for the state after it.
+/// - `NoMemory`: there is no room for the state after it.
 #[tactic(auto, unfolding(crate::specs::Applying::test_of, crate::specs::Applying::applied_of, crate::specs::Applying::departs_aside))]
 pub fn apply(
     alloc: Global,

@@ -23,7 +23,7 @@ pub enum Reached {
 /// It takes a copy of the state, and time in the action's own size.
 ///
 /// # Errors
-/// `NoMemory` where there is no room for the state after it.
+/// - `NoMemory`: there is no room for the state after it.
 pub fn step(
     alloc: Global,
     task: &Task,

@@ -39,7 +39,7 @@ fn push_objects(text: &mut String, objects: &[Name], numbers: &[usize]) -> Resul
 /// arguments among `objects`.
 ///
 /// # Errors
-/// Lack of memory: a beginning of the form may then stand after the text.
+/// - Lack of memory: a beginning of the form may then stand after the text.
 pub fn push_form(
     text: &mut String,
     symbols: &[Name],
@@ -60,7 +60,7 @@ pub fn push_form(
 /// Returns the text of a ground form, such as `(drive truck depot)`.
 ///
 /// # Errors
-/// Lack of memory.
+/// - Lack of memory.
 pub fn form_text(
     alloc: Global,
     symbols: &[Name],

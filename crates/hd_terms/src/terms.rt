@@ -39,7 +39,7 @@ impl Terms {
     /// Returns the terms of a `Vec`, in its order.
     ///
     /// # Errors
-    /// Lack of memory.
+    /// - Lack of memory.
     pub fn of(alloc: Global, items: Vec<Term>) -> Result<Terms, AllocError>
         ensures { IfOk result (λ t. t ≡ items.items) }
     {

@@ -49,9 +49,9 @@ pub fn checked_of(
 /// Returns the task that two texts say: the grounding of the lifted task that they say.
 ///
 /// # Errors
-/// The first fault: of the domain's text, of the problem's, of their names, types and metric, or of
-/// the grounding: that the task would be too large, that a fluent has no first value, or that an
-/// action costs less than 0.
+/// - The first fault: of the domain's text, of the problem's, of their names, types and metric, or
+///   of the grounding: that the task would be too large, that a fluent has no first value, or that
+///   an action costs less than 0.
 #[tactic(auto, using(crate::proofs::Explaining::unlifted))]
 pub fn task_of(alloc: Global, domain: &[u8], problem: &[u8]) -> Result<Task, TaskFault>
     ensures found { IfOk result (IsTaskOf domain.now problem.now) }

@@ -38,7 +38,7 @@ pub enum Round {
 /// Room for a group; where there is none, the book is halted, in a turn of its own under the lock.
 ///
 /// # Errors
-/// `NoMemory` where there is none.
+/// - `NoMemory`: there is none.
 #[tactic(auto, using(crate::proofs::Begins::begins_itself))]
 fn room_for<'t, L: Ledger, A: Ledger, R: Wait>(
     rt: &R,
@@ -64,7 +64,7 @@ fn room_for<'t, L: Ledger, A: Ledger, R: Wait>(
 /// Takes the next group out of the book, if one is due.
 ///
 /// # Errors
-/// The room again, where none is.
+/// - The room again, where none is.
 fn take_group<'t, L: Ledger, A: Ledger, R: Wait>(
     rt: &R,
     lock: &Lock<SharedBook<'t, L, A>>,
@@ -92,7 +92,7 @@ fn take_group<'t, L: Ledger, A: Ledger, R: Wait>(
 /// is halted.
 ///
 /// # Errors
-/// `NotOut` where it is not the group that is out.
+/// - `NotOut`: it is not the group that is out.
 fn acknowledge<'t, L: Ledger, A: Ledger, R: Wait>(
     rt: &R,
     lock: &Lock<SharedBook<'t, L, A>>,
@@ -170,7 +170,7 @@ fn look_through(group: Group) -> Group
 /// group is handed back, or the book is halted.
 ///
 /// # Errors
-/// Why it is not appended, or `NotOut` where it is not the group that is out.
+/// - Why it is not appended, or `NotOut` where it is not the group that is out.
 #[tactic(auto, using(crate::proofs::Begins::begins_along))]
 fn append_group<'t, L: Ledger, A: Ledger, S: Store, R: Wait>(
     rt: &R,
@@ -227,10 +227,11 @@ fn append_group<'t, L: Ledger, A: Ledger, S: Store, R: Wait>(
 /// unless that answers `NotOut`. A group that goes out is whole batches.
 ///
 /// # Errors
-/// `NoMemory` where there is no room for a group: none goes out. `Device`, `Failed` or `NoMemory`
-/// where the journal does not take it: it is handed back, nothing is appended. `NotOut` where the
-/// journal can't take it, or the book does not have it out any more. After each of them the book is
-/// halted.
+/// - `NoMemory`: there is no room for a group: none goes out.
+/// - `Device`, `Failed` or `NoMemory` where the journal does not take it: it is handed back,
+///   nothing is appended.
+/// - `NotOut`: the journal can't take it, or the book does not have it out any more. After each of
+///   them the book is halted.
 #[tactic(auto, using(crate::proofs::Begins::begins_along, crate::proofs::Begins::begins_itself, crate::proofs::Surviving::survives_itself))]
 pub fn committer_round<'t, L: Ledger, A: Ledger, S: Store, R: Wait>(
     rt: &R,

@@ -119,7 +119,7 @@ fn tell<'t, L: Ledger, A: Ledger, R: Wait, G: Gate>(
 /// stands, if it asks.
 ///
 /// # Errors
-/// Those of a round.
+/// - Those of a round.
 pub fn commit_all<'t, L: Ledger, A: Ledger, S: Store, R: Wait, G: Gate>(
     rt: &R,
     lock: &Lock<SharedBook<'t, L, A>>,
@@ -174,8 +174,8 @@ pub fn commit_all<'t, L: Ledger, A: Ledger, S: Store, R: Wait, G: Gate>(
 /// Returns what a book says that is at its end, where the journal has its entries.
 ///
 /// # Errors
-/// `NotOut` where it is not at its end, or the journal does not have its entries; `NoMemory` where
-/// there is no room for a plan.
+/// - `NotOut`: it is not at its end, or the journal does not have its entries.
+/// - `NoMemory`: there is no room for a plan.
 fn said_by<L: Ledger, A: Ledger, S: Store>(
     book: &SharedBook<'_, L, A>,
     journal: &Journal<S>,
@@ -208,8 +208,8 @@ fn said_by<L: Ledger, A: Ledger, S: Store>(
 /// entries: just those, all of them acknowledged.
 ///
 /// # Errors
-/// `NotOut` where the search is not at its end, or the journal does not have the book's entries;
-/// `NoMemory` where there is no room for a plan.
+/// - `NotOut`: the search is not at its end, or the journal does not have the book's entries.
+/// - `NoMemory`: there is no room for a plan.
 pub fn answer<'t, L: Ledger, A: Ledger, S: Store, R: Wait>(
     rt: &R,
     lock: &Lock<SharedBook<'t, L, A>>,

@@ -41,7 +41,7 @@ pub struct Workplace<'t, L: Ledger, A: Ledger> {
 /// Redeems a worker's ticket, as [`redeem_next`] does.
 ///
 /// # Errors
-/// As there.
+/// - As there.
 pub(crate) fn redeem<'t, L: Ledger, A: Ledger, R: Wait>(
     rt: &R,
     desk: &Desk<'t, L, A>,
@@ -86,7 +86,7 @@ pub(crate) fn send<'t, L: Ledger, A: Ledger>(
 /// Takes the oldest parcel out of a worker's mailbox, as [`take_next`] does.
 ///
 /// # Errors
-/// As there.
+/// - As there.
 pub(crate) fn take<'t, L: Ledger, A: Ledger>(
     desk: &Desk<'t, L, A>,
     place: &mut Workplace<'t, L, A>,
@@ -104,7 +104,7 @@ pub(crate) fn take<'t, L: Ledger, A: Ledger>(
 /// all is estimated now.
 ///
 /// # Errors
-/// As there.
+/// - As there.
 pub(crate) fn open_some<'t, L: Ledger, A: Ledger>(
     desk: &Desk<'t, L, A>,
     place: &mut Workplace<'t, L, A>,
@@ -121,7 +121,7 @@ pub(crate) fn open_some<'t, L: Ledger, A: Ledger>(
 /// Reports whether a worker has an open node.
 ///
 /// # Errors
-/// `NoMemory` where there is no room for what is kept of estimates.
+/// - `NoMemory`: there is no room for what is kept of estimates.
 pub(crate) fn has_open<'t, L: Ledger, A: Ledger>(
     desk: &Desk<'t, L, A>,
     place: &mut Workplace<'t, L, A>,
@@ -138,7 +138,7 @@ pub(crate) fn has_open<'t, L: Ledger, A: Ledger>(
 /// Returns the least cost plus estimate of a worker's open nodes, as [`Worker::least`] reports it.
 ///
 /// # Errors
-/// As there.
+/// - As there.
 pub(crate) fn least<'t, L: Ledger, A: Ledger>(
     desk: &Desk<'t, L, A>,
     place: &mut Workplace<'t, L, A>,
@@ -154,7 +154,7 @@ pub(crate) fn least<'t, L: Ledger, A: Ledger>(
 /// Settles a worker's best open node, as [`settle_best`] does.
 ///
 /// # Errors
-/// As there.
+/// - As there.
 pub(crate) fn settle<'t, L: Ledger, A: Ledger>(
     desk: &Desk<'t, L, A>,
     place: &mut Workplace<'t, L, A>,
@@ -174,7 +174,7 @@ pub(crate) fn settle<'t, L: Ledger, A: Ledger>(
 /// Commits a worker's next batch, as [`commit_next`] does.
 ///
 /// # Errors
-/// As there.
+/// - As there.
 pub(crate) fn commit<'t, L: Ledger, A: Ledger, R: Wait>(
     rt: &R,
     desk: &Desk<'t, L, A>,

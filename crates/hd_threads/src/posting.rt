@@ -57,7 +57,7 @@ pub fn send_next<'t>(
 /// takes no lock.
 ///
 /// # Errors
-/// `NoMemory` where there is no room for it: the parcel is lost.
+/// - `NoMemory`: there is no room for it: the parcel is lost.
 pub fn take_next<'t>(
     boxes: &Mailboxes<Task, Letter<'t>>,
     hands: &mut Hands<'t, Task, Letter<'t>>,

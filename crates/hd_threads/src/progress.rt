@@ -53,7 +53,7 @@ impl Progress {
     /// That of a worker which has not begun: it has room for its tickets.
     ///
     /// # Errors
-    /// `NoMemory` where there is no room for them.
+    /// - `NoMemory`: there is no room for them.
     pub fn begin(alloc: Global) -> Result<Progress, NoMemory>
         ensures { IfOk result (λ p. p.held.items ≡ []) }
     {

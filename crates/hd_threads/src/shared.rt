@@ -91,7 +91,7 @@ impl<'t, L: Ledger, A: Ledger> SharedBook<'t, L, A> {
     /// the acknowledged entries end.
     ///
     /// # Errors
-    /// The room again, where nothing waits, or a group is out: nothing has changed.
+    /// - The room again, where nothing waits, or a group is out: nothing has changed.
     pub fn take_pending(&mut self, share: &mut Share<A>, room: Room) -> Result<Group, Room>
         requires whole { share.old.parts ≡ A.parts }
         ensures task { self.new.state.task ≡ self.old.state.task }
@@ -111,8 +111,8 @@ impl<'t, L: Ledger, A: Ledger> SharedBook<'t, L, A> {
     /// of its pairs. The share counts them.
     ///
     /// # Errors
-    /// `NotOut` where this group is not the one that is out: what said that it was appended is
-    /// spent, and the book is halted.
+    /// - `NotOut`: this group is not the one that is out: what said that it was appended is spent,
+    ///   and the book is halted.
     #[tactic(auto, using(crate::proofs::Begins::begins_same))]
     pub fn acknowledge(
         &mut self,
@@ -176,7 +176,7 @@ impl<'t, L: Ledger, A: Ledger> SharedBook<'t, L, A> {
     /// Takes a batch, as [`Book::commit`] does. A book that refuses one is halted.
     ///
     /// # Errors
-    /// Why it is refused, as there; the batch is dropped.
+    /// - Why it is refused, as there; the batch is dropped.
     #[tactic(auto, using(crate::proofs::Begins::begins_same))]
     pub fn commit(
         &mut self,
@@ -209,7 +209,7 @@ impl<'t, L: Ledger, A: Ledger> SharedBook<'t, L, A> {
     /// Redeems a ticket, as [`Book::redeem`] does, and presents the receipt.
     ///
     /// # Errors
-    /// `NotOut` where no such ticket is out: it is spent, and the book is halted.
+    /// - `NotOut`: no such ticket is out: it is spent, and the book is halted.
     #[tactic(auto, using(crate::proofs::Begins::begins_same, crate::proofs::Redeeming::receipt_acknowledged))]
     pub fn redeem(&mut self, ticket: Ticket) -> Result<Given<'t>, NotOut>
         ensures task { self.new.state.task ≡ self.old.state.task }
@@ -298,7 +298,7 @@ impl<'t, L: Ledger, A: Ledger> SharedBook<'t, L, A> {
     /// Returns the answer, as [`Book::verdict`] says it.
     ///
     /// # Errors
-    /// `NoMemory` where there is no room for a plan.
+    /// - `NoMemory`: there is no room for a plan.
     pub fn verdict(&self) -> Result<Option<Verdict>, NoMemory>
         ensures over { IfOk result (λ v. is_some v
             ≡ (is_over self.now.state && is_idle self.now.batches.queue)) }
@@ -312,7 +312,7 @@ impl<'t, L: Ledger, A: Ledger> SharedBook<'t, L, A> {
     /// Returns the plan of the bound, if there is a bound, as [`Book::extract`] gives it.
     ///
     /// # Errors
-    /// `NoMemory` where there is no room for the plan.
+    /// - `NoMemory`: there is no room for the plan.
     pub fn extract(&self) -> Result<Option<Plan>, NoMemory>
         ensures plan { IfOk result (IsBoundPlanOf self.now.state.task (expansions self.now.state)) }
         ensures valid { IfOk result (IsValidPlan self.now.state.task) }

@@ -92,7 +92,7 @@ fn finish<'t, L: Ledger, A: Ledger, R: Wait>(
 /// or had nothing else to do.
 ///
 /// # Errors
-/// How the search ends for the worker.
+/// - How the search ends for the worker.
 fn redeem_oldest<'t, L: Ledger, A: Ledger, R: Wait>(
     rt: &R,
     desk: &Desk<'t, L, A>,
@@ -124,7 +124,7 @@ fn redeem_oldest<'t, L: Ledger, A: Ledger, R: Wait>(
 /// Redeems a worker's tickets from the oldest on, as long as they are released: whether one was.
 ///
 /// # Errors
-/// How the search ends for the worker.
+/// - How the search ends for the worker.
 fn redeem_all<'t, L: Ledger, A: Ledger, R: Wait>(
     rt: &R,
     desk: &Desk<'t, L, A>,
@@ -174,7 +174,7 @@ fn send_all<'t, L: Ledger, A: Ledger>(
 /// Takes the parcels that came to a worker: whether one came.
 ///
 /// # Errors
-/// `NoMemory` where there is no room for one.
+/// - `NoMemory`: there is no room for one.
 fn take_all<'t, L: Ledger, A: Ledger>(
     desk: &Desk<'t, L, A>,
     place: &mut Workplace<'t, L, A>,
@@ -198,7 +198,7 @@ fn take_all<'t, L: Ledger, A: Ledger>(
 /// Sends what is in a worker's outbox, and takes what came to it: whether there was something.
 ///
 /// # Errors
-/// `NoMemory` where there is no room for a parcel that came.
+/// - `NoMemory`: there is no room for a parcel that came.
 fn exchange<'t, L: Ledger, A: Ledger, G: Gate>(
     desk: &Desk<'t, L, A>,
     place: &mut Workplace<'t, L, A>,
@@ -217,7 +217,7 @@ fn exchange<'t, L: Ledger, A: Ledger, G: Gate>(
 /// Settles a worker's best open node between the calls of the gate.
 ///
 /// # Errors
-/// `NoMemory` where there is no room for an outcome, or for what is kept of estimates.
+/// - `NoMemory`: there is no room for an outcome, or for what is kept of estimates.
 fn settle_next<'t, L: Ledger, A: Ledger, R: Wait, G: Gate>(
     rt: &R,
     desk: &Desk<'t, L, A>,
@@ -243,7 +243,7 @@ fn settle_next<'t, L: Ledger, A: Ledger, R: Wait, G: Gate>(
 /// commit, or to wait for its tickets, nothing is settled.
 ///
 /// # Errors
-/// `NoMemory` where there is no room for an outcome, or for what is kept of estimates.
+/// - `NoMemory`: there is no room for an outcome, or for what is kept of estimates.
 fn settle_one<'t, L: Ledger, A: Ledger, R: Wait, G: Gate>(
     rt: &R,
     desk: &Desk<'t, L, A>,
@@ -272,7 +272,7 @@ fn settle_one<'t, L: Ledger, A: Ledger, R: Wait, G: Gate>(
 /// many these are.
 ///
 /// # Errors
-/// Those of settling one.
+/// - Those of settling one.
 fn settle_some<'t, L: Ledger, A: Ledger, R: Wait, G: Gate>(
     rt: &R,
     desk: &Desk<'t, L, A>,
@@ -298,7 +298,7 @@ fn settle_some<'t, L: Ledger, A: Ledger, R: Wait, G: Gate>(
 /// Reports the gate how a worker stands, if it asks.
 ///
 /// # Errors
-/// `NoMemory` where there is no room for what is kept of estimates.
+/// - `NoMemory`: there is no room for what is kept of estimates.
 fn tell<'t, L: Ledger, A: Ledger, G: Gate>(
     desk: &Desk<'t, L, A>,
     place: &mut Workplace<'t, L, A>,
@@ -344,7 +344,7 @@ fn worked_of<G: Gate>(settled: usize, progress: &Progress, role: &Role<'_, G>) -
 /// came to it is estimated. Before that only a part of that is estimated, which is something done.
 ///
 /// # Errors
-/// `NoMemory` where there is no room for an outcome, or for what is kept of estimates.
+/// - `NoMemory`: there is no room for an outcome, or for what is kept of estimates.
 fn open_and_settle<'t, L: Ledger, A: Ledger, R: Wait, G: Gate>(
     rt: &R,
     desk: &Desk<'t, L, A>,
@@ -374,7 +374,7 @@ fn open_and_settle<'t, L: Ledger, A: Ledger, R: Wait, G: Gate>(
 /// where it is asked. Whether nodes are left that it may settle.
 ///
 /// # Errors
-/// `NoMemory` where there is no room for a parcel that came, or an outcome.
+/// - `NoMemory`: there is no room for a parcel that came, or an outcome.
 fn go_on<'t, L: Ledger, A: Ledger, R: Wait, G: Gate>(
     rt: &R,
     desk: &Desk<'t, L, A>,
@@ -397,7 +397,7 @@ fn go_on<'t, L: Ledger, A: Ledger, R: Wait, G: Gate>(
 /// Does what [`go_on`] does; where there is no memory for it, the book is halted.
 ///
 /// # Errors
-/// How the search ends for the worker: by `NoMemory`.
+/// - How the search ends for the worker: by `NoMemory`.
 fn go_on_or_stop<'t, L: Ledger, A: Ledger, R: Wait, G: Gate>(
     rt: &R,
     desk: &Desk<'t, L, A>,
@@ -444,7 +444,7 @@ fn puts_off<'t, L: Ledger, A: Ledger>(
 /// Commits a worker's next batch: whether there was one.
 ///
 /// # Errors
-/// How the search ends for the worker.
+/// - How the search ends for the worker.
 fn commit_some<'t, L: Ledger, A: Ledger, R: Wait>(
     rt: &R,
     desk: &Desk<'t, L, A>,
@@ -482,7 +482,7 @@ fn commit_some<'t, L: Ledger, A: Ledger, R: Wait>(
 /// Commits a worker's next batch, if it is due and is not put off: whether there was one.
 ///
 /// # Errors
-/// How the search ends for the worker.
+/// - How the search ends for the worker.
 fn commit_due<'t, L: Ledger, A: Ledger, R: Wait, G: Gate>(
     rt: &R,
     desk: &Desk<'t, L, A>,
@@ -528,7 +528,7 @@ fn commit_due<'t, L: Ledger, A: Ledger, R: Wait, G: Gate>(
 /// time.
 ///
 /// # Errors
-/// How the search ends for the worker.
+/// - How the search ends for the worker.
 fn take_turn<'t, L: Ledger, A: Ledger, R: Wait, G: Gate>(
     rt: &R,
     desk: &Desk<'t, L, A>,
@@ -556,7 +556,7 @@ fn take_turn<'t, L: Ledger, A: Ledger, R: Wait, G: Gate>(
 /// the search is over.
 ///
 /// # Errors
-/// How the search ends for the worker.
+/// - How the search ends for the worker.
 fn turn_or_end<'t, L: Ledger, A: Ledger, R: Wait, G: Gate>(
     rt: &R,
     desk: &Desk<'t, L, A>,

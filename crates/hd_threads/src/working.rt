@@ -102,7 +102,7 @@ fn count_kids(outcomes: &[Outcome]) -> usize
 /// Settles a worker's best open node by the bound as it is now: outside the lock.
 ///
 /// # Errors
-/// `NoMemory` where there is no room for it; the node is open again.
+/// - `NoMemory`: there is no room for it; the node is open again.
 pub fn settle_best<'t>(
     bound: &BoundWord,
     seat: &mut BoundSeat,
@@ -143,7 +143,7 @@ fn offer(word: &BoundWord, seat: &mut BoundSeat, bound: Option<u64>)
 /// refuses it is halted.
 ///
 /// # Errors
-/// Why it is refused: as by a book that is halted, where the limit is reached.
+/// - Why it is refused: as by a book that is halted, where the limit is reached.
 fn commit_batch<'t, L: Ledger, A: Ledger, R: Wait>(
     rt: &R,
     lock: &Lock<SharedBook<'t, L, A>>,
@@ -194,9 +194,10 @@ fn commit_batch<'t, L: Ledger, A: Ledger, R: Wait>(
 /// says, and then, outside the lock, offers the bound that the book has after it.
 ///
 /// # Errors
-/// `NoMemory` where there is no room for the batch's numbers, or in the book; `Full` where there
-/// would be more entries than there may be; `NotOut` where the book refuses the batch for what it
-/// says. The book is halted, but in the first case.
+/// - `NoMemory`: there is no room for the batch's numbers, or in the book.
+/// - `Full`: there would be more entries than there may be.
+/// - `NotOut`: the book refuses the batch for what it says. The book is halted, but in the first
+///   case.
 #[tactic(auto, using(crate::proofs::Begins::begins_itself))]
 pub fn commit_next<'t, L: Ledger, A: Ledger, R: Wait>(
     rt: &R,
@@ -276,7 +277,7 @@ fn enter<'t, L: Ledger, A: Ledger, R: Wait>(
 /// ticket comes back.
 ///
 /// # Errors
-/// `NotOut` where no such ticket is out; the book is halted.
+/// - `NotOut`: no such ticket is out; the book is halted.
 fn redeem_inside<'t, L: Ledger, A: Ledger, R: Wait>(
     rt: &R,
     lock: &Lock<SharedBook<'t, L, A>>,
@@ -307,8 +308,7 @@ fn redeem_inside<'t, L: Ledger, A: Ledger, R: Wait>(
 /// acknowledged. Where it does not wait for the lock, and that is not free, the ticket waits.
 ///
 /// # Errors
-/// `NotOut` where no such ticket is out, or it releases more than its batch has; the book is
-/// halted.
+/// - `NotOut`: no such ticket is out, or it releases more than its batch has; the book is halted.
 #[tactic(auto, using(crate::proofs::Begins::begins_along))]
 pub fn redeem_next<'t, L: Ledger, A: Ledger, R: Wait>(
     rt: &R,

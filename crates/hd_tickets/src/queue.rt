@@ -105,7 +105,7 @@ impl Queue {
     /// Makes room for one more batch.
     ///
     /// # Errors
-    /// Lack of memory: nothing has changed.
+    /// - Lack of memory: nothing has changed.
     pub(crate) fn reserve(&mut self) -> Result<(), AllocError>
         ensures batches { self.new.batches ≡ self.old.batches }
         ensures room { OnOk result (self.new.room ≡ true) }

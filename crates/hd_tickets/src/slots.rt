@@ -76,7 +76,7 @@ impl<R: Drop> Slots<R> {
     /// Makes room for one more ticket.
     ///
     /// # Errors
-    /// Lack of memory: nothing has changed.
+    /// - Lack of memory: nothing has changed.
     pub(crate) fn reserve(&mut self) -> Result<(), AllocError>
         ensures tickets { self.new.tickets ≡ self.old.tickets }
         ensures room { OnOk result (self.new.room ≡ true) }

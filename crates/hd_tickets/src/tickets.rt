@@ -125,7 +125,7 @@ impl<R: Drop> Tickets<R> {
     /// Makes room for one more batch.
     ///
     /// # Errors
-    /// Lack of memory: nothing has changed.
+    /// - Lack of memory: nothing has changed.
     pub fn reserve(&mut self) -> Result<(), AllocError>
         ensures batches { self.new.batches ≡ self.old.batches }
         ensures room { OnOk result (self.new.room ≡ true) }
@@ -175,7 +175,7 @@ impl<R: Drop> Tickets<R> {
     /// Acknowledges the entries of the group that is out.
     ///
     /// # Errors
-    /// `NotOut` where no group is out, or it has other entries: nothing has changed.
+    /// - `NotOut`: no group is out, or it has other entries: nothing has changed.
     pub fn acknowledge(&mut self, first: u64, end: u64) -> Result<(), NotOut>
         ensures out { is_ok result ≡ is_out self.old.batches.queue first end }
         ensures flushed { OnOk result (self.new.batches ≡ flushed self.old.batches) }
@@ -192,7 +192,7 @@ impl<R: Drop> Tickets<R> {
     /// batches are accepted.
     ///
     /// # Errors
-    /// `NotOut` where no group is out, or it has other entries: nothing has changed.
+    /// - `NotOut`: no group is out, or it has other entries: nothing has changed.
     pub fn hand_back(&mut self, first: u64, end: u64) -> Result<(), NotOut>
         ensures out { is_ok result ≡ is_out self.old.batches.queue first end }
         ensures handed_back { OnOk result (self.new.batches ≡ handed_back self.old.batches) }
@@ -211,7 +211,7 @@ impl<R: Drop> Tickets<R> {
     /// back.
     ///
     /// # Errors
-    /// `NotOut` where no such ticket is out: the ticket is spent, and nothing has changed.
+    /// - `NotOut`: no such ticket is out: the ticket is spent, and nothing has changed.
     pub fn redeem(&mut self, ticket: Ticket) -> Result<Redeemed<R>, NotOut>
         ensures given { result ≡ redeemed_for self.old.batches ticket }
         ensures redeemed { OnOk result (self.new.batches ≡ redeemed ticket self.old.batches) }
@@ -236,7 +236,7 @@ impl<R: Drop> Tickets<R> {
     /// Spends a receipt: the numbers of its entries.
     ///
     /// # Errors
-    /// `NotOut` where these are not acknowledged; none always are. The receipt is spent.
+    /// - `NotOut`: these are not acknowledged; none always are. The receipt is spent.
     pub fn present(&self, receipt: Receipt) -> Result<Range<u64>, NotOut>
         ensures acknowledged { is_ok result
             ≡ are_acknowledged self.now.batches.queue receipt.first receipt.end }

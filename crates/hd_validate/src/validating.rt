@@ -116,10 +116,10 @@ fn cost_of(alloc: Global, seed: Seed, checked: &Checked, steps: &[Step]) -> Resu
 /// The tables hash by the seed.
 ///
 /// # Errors
-/// The first fault, in the order of the steps, with the goal after them. Of each step it is asked
-/// whether there is such an instance, then its conditions on atoms and objects, first values, a
-/// cost that is negative in each state, its comparisons, and its effects; and of the goal the same.
-/// Or lack of memory.
+/// - The first fault, in the order of the steps, with the goal after them. Of each step it is asked
+///   whether there is such an instance, then its conditions on atoms and objects, first values, a
+///   cost that is negative in each state, its comparisons, and its effects; and of the goal the
+///   same. Or lack of memory.
 pub fn validate(
     alloc: Global,
     seed: Seed,

@@ -352,8 +352,8 @@ fn request_of(alloc: Global, matches: &ArgMatches<'_>) -> Result<Option<Request>
 /// Reads the words of a command line, of which the first is the program's name.
 ///
 /// # Errors
-/// The text to show, where the words ask for help or the version; the text of the fault, where they
-/// are no request; or `NoMemory`.
+/// - The text to show, where the words ask for help or the version; the text of the fault, where
+///   they are no request; or `NoMemory`.
 pub fn read_words<'a>(alloc: Global, words: &'a [String]) -> Result<Request, WordsError>
     ensures { IfOk result IsWithin }
 {

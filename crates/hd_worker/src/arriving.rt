@@ -20,7 +20,7 @@ use std::collections::VecDeque;
 /// Returns a place in the closed list, in 32 bits.
 ///
 /// # Errors
-/// `NoMemory` where it has more.
+/// - `NoMemory`: it has more.
 fn short(place: usize) -> Result<u32, NoMemory>
     ensures { IfOk result (λ short. short ≡ place) }
 {
@@ -33,7 +33,7 @@ fn short(place: usize) -> Result<u32, NoMemory>
 /// Returns the node of a parcel, whose state is in the closed list from then on, with its estimate.
 ///
 /// # Errors
-/// `NoMemory` where there is no room for them.
+/// - `NoMemory`: there is no room for them.
 fn node_for<'t>(
     alloc: Global,
     known: &mut ClosedList<'t>,
@@ -66,7 +66,7 @@ fn node_for<'t>(
 /// The node of the first parcel that came is open, after the others; the parcel is dropped.
 ///
 /// # Errors
-/// `NoMemory` where there is no room for it; nothing has changed.
+/// - `NoMemory`: there is no room for it; nothing has changed.
 fn open_first<'t>(
     nodes: &mut OpenList<Node>,
     fresh: &mut VecDeque<Parcel<'t>>,
@@ -94,7 +94,7 @@ fn open_first<'t>(
 /// unless its state was before. Room for so many to come is kept.
 ///
 /// # Errors
-/// `NoMemory` where there is no room for a node; those before it are open nodes.
+/// - `NoMemory`: there is no room for a node; those before it are open nodes.
 pub(crate) fn open_all<'t>(
     alloc: Global,
     known: &mut ClosedList<'t>,
@@ -130,7 +130,7 @@ pub(crate) fn open_all<'t>(
 /// are open nodes now.
 ///
 /// # Errors
-/// As there.
+/// - As there.
 pub(crate) fn open_some<'t>(
     alloc: Global,
     known: &mut ClosedList<'t>,

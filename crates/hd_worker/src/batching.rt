@@ -43,7 +43,7 @@ fn kids_of(outcomes: &[Outcome]) -> usize
 /// Of each outcome, how many expansions stand before it.
 ///
 /// # Errors
-/// `NoMemory` where there is no room for the numbers.
+/// - `NoMemory`: there is no room for the numbers.
 fn ranks_of(alloc: Global, outcomes: &[Outcome]) -> Result<Vec<u64>, NoMemory>
     requires few { length outcomes.now ≤ MAX_OUTCOMES }
     ensures { IfOk result (λ v. v.items ≡ ranks 0 outcomes.now) }
@@ -63,7 +63,7 @@ fn ranks_of(alloc: Global, outcomes: &[Outcome]) -> Result<Vec<u64>, NoMemory>
 /// keeps room for as many to come.
 ///
 /// # Errors
-/// `NoMemory` where there is no room for the others; the list is as it was.
+/// - `NoMemory`: there is no room for the others; the list is as it was.
 fn split_first<'t>(
     alloc: Global,
     outcomes: &mut Vec<Outcome<'t>>,
@@ -107,7 +107,7 @@ impl<'t> Worker<'t> {
     /// outcomes. It makes the room for what the batch releases, and for its numbers.
     ///
     /// # Errors
-    /// `NoMemory` where there is none; the worker is as it was.
+    /// - `NoMemory`: there is none; the worker is as it was.
     pub fn next_batch(&mut self) -> Result<Option<Batch<'t>>, NoMemory>
         requires numbered { self.old.given ≡ [] }
         ensures none { IfOk result (λ r. IfNone r (self.old.outcomes ≡ [])) }
@@ -144,7 +144,7 @@ impl<'t> Worker<'t> {
     /// Makes room for so many parcels more, so that they may be released without memory.
     ///
     /// # Errors
-    /// `NoMemory` where there is none; the worker is as it was.
+    /// - `NoMemory`: there is none; the worker is as it was.
     pub fn make_room(&mut self, count: usize) -> Result<(), NoMemory>
         ensures ok { OnOk result (self.new ≡ with_room_for count self.old) }
         ensures err { OnErr result (self.new ≡ self.old) }

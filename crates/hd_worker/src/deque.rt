@@ -9,7 +9,7 @@ use std::collections::VecDeque;
 /// Makes room for so many items more than one that has room already.
 ///
 /// # Errors
-/// `NoMemory` where there is none; the room is as it was.
+/// - `NoMemory`: there is none; the room is as it was.
 pub(crate) fn reserve_more<T>(
     queue: &mut VecDeque<T>,
     room: usize,
@@ -70,7 +70,7 @@ pub(crate) fn push_front_reserved<T: Drop>(queue: &mut VecDeque<T>, item: T)
 /// Adds one item more, after the others, which leaves room for so many.
 ///
 /// # Errors
-/// The item, where there is no room for it; the room is as it was.
+/// - The item, where there is no room for it; the room is as it was.
 pub(crate) fn push_beside<T>(
     queue: &mut VecDeque<T>,
     room: usize,

@@ -55,7 +55,7 @@ impl<'t> Worker<'t> {
     /// caller that is not to be away for long calls this one first, until it answers true.
     ///
     /// # Errors
-    /// `NoMemory` where there is no room for what is kept of estimates.
+    /// - `NoMemory`: there is no room for what is kept of estimates.
     pub fn open_some(&mut self, lookup: &mut Lookup<'t>, most: usize) -> Result<bool, NoMemory>
         requires { IsLookupOf self.old.task lookup.old }
         ensures lookup { IsLookupOf self.old.task lookup.new }
@@ -69,7 +69,7 @@ impl<'t> Worker<'t> {
     /// estimate yet are estimated, unless their state was before.
     ///
     /// # Errors
-    /// `NoMemory` where there is no room for what is kept of estimates.
+    /// - `NoMemory`: there is no room for what is kept of estimates.
     pub fn best(&mut self, lookup: &mut Lookup<'t>) -> Result<Option<usize>, NoMemory>
         requires { IsLookupOf self.old.task lookup.old }
         ensures lookup { IsLookupOf self.old.task lookup.new }
@@ -85,7 +85,7 @@ impl<'t> Worker<'t> {
     /// answers. None where each estimate is infinite, or nothing is open.
     ///
     /// # Errors
-    /// `NoMemory` where there is no room for what is kept of estimates.
+    /// - `NoMemory`: there is no room for what is kept of estimates.
     pub fn least(&mut self, lookup: &mut Lookup<'t>) -> Result<Option<u128>, NoMemory>
         requires { IsLookupOf self.old.task lookup.old }
         ensures lookup { IsLookupOf self.old.task lookup.new }
@@ -100,7 +100,7 @@ impl<'t> Worker<'t> {
     /// expanded. Where there is no such place, nothing happens.
     ///
     /// # Errors
-    /// `NoMemory` where there is no room for it; the node is open again.
+    /// - `NoMemory`: there is no room for it; the node is open again.
     pub fn expand(&mut self, lookup: &mut Lookup<'t>, pick: usize) -> Result<(), NoMemory>
         requires { IsLookupOf self.old.task lookup.old }
         ensures lookup { IsLookupOf self.old.task lookup.new }
@@ -119,7 +119,7 @@ impl<'t> Worker<'t> {
     /// Does what `expand` does at the answer of `best`, in one step; nothing where nothing is open.
     ///
     /// # Errors
-    /// `NoMemory` where there is no room for it; the node is open again.
+    /// - `NoMemory`: there is no room for it; the node is open again.
     pub fn expand_best(&mut self, lookup: &mut Lookup<'t>) -> Result<(), NoMemory>
         requires { IsLookupOf self.old.task lookup.old }
         ensures lookup { IsLookupOf self.old.task lookup.new }

@@ -84,7 +84,7 @@ impl<'t> Frontier<'t> {
     /// A parcel is the last open node.
     ///
     /// # Errors
-    /// The parcel, where there is no room for it.
+    /// - The parcel, where there is no room for it.
     pub(crate) fn take(&mut self, parcel: Parcel<'t>) -> Result<(), (Parcel<'t>, NoMemory)>
         requires of_task { parcel.task ≡ self.old.task }
         ensures ok { OnOk result (self.new ≡ arrived (parcel_of parcel.entry) self.old) }
@@ -107,7 +107,7 @@ impl<'t> Frontier<'t> {
     /// Makes room for so many parcels more.
     ///
     /// # Errors
-    /// `NoMemory` where there is none.
+    /// - `NoMemory`: there is none.
     pub(crate) fn reserve(&mut self, more: usize) -> Result<(), NoMemory>
         ensures ok { OnOk result (self.new ≡ with_room (self.old.room + more) self.old) }
         ensures err { OnErr result (self.new ≡ self.old) }
@@ -131,7 +131,7 @@ impl<'t> Frontier<'t> {
     /// are open are estimated now.
     ///
     /// # Errors
-    /// `NoMemory` where there is no room for the estimates.
+    /// - `NoMemory`: there is no room for the estimates.
     pub(crate) fn open_some(
         &mut self,
         estimates: &mut Hmax<'t>,
@@ -156,7 +156,7 @@ impl<'t> Frontier<'t> {
     /// ones; none where nothing is open.
     ///
     /// # Errors
-    /// `NoMemory` where there is no room for the estimates.
+    /// - `NoMemory`: there is no room for the estimates.
     pub(crate) fn best(&mut self, estimates: &mut Hmax<'t>) -> Result<Option<usize>, NoMemory>
         requires { estimates.old.task ≡ self.old.task }
         ensures same { self.new ≡ self.old }
@@ -180,7 +180,7 @@ impl<'t> Frontier<'t> {
     /// infinite, or nothing is open.
     ///
     /// # Errors
-    /// `NoMemory` where there is no room for the estimates.
+    /// - `NoMemory`: there is no room for the estimates.
     pub(crate) fn least(&mut self, estimates: &mut Hmax<'t>) -> Result<Option<u128>, NoMemory>
         requires { estimates.old.task ≡ self.old.task }
         ensures same { self.new ≡ self.old }
@@ -208,7 +208,7 @@ impl<'t> Frontier<'t> {
     /// its outcome has.
     ///
     /// # Errors
-    /// `NoMemory` where there is no room for it; the node is open again.
+    /// - `NoMemory`: there is no room for it; the node is open again.
     pub(crate) fn settle_at(
         &mut self,
         lookup: &mut Lookup<'t>,
@@ -251,7 +251,7 @@ impl<'t> Frontier<'t> {
     /// is one.
     ///
     /// # Errors
-    /// `NoMemory` where there is no room for it; the node is open again.
+    /// - `NoMemory`: there is no room for it; the node is open again.
     pub(crate) fn settle_best(
         &mut self,
         lookup: &mut Lookup<'t>,
@@ -292,7 +292,7 @@ impl<'t> Frontier<'t> {
     /// An entry more in the closed list.
     ///
     /// # Errors
-    /// `NoMemory` where there is no room for it.
+    /// - `NoMemory`: there is no room for it.
     pub(crate) fn close(&mut self, entry: u64, state: &Hashed, cost: u64) -> Result<(), NoMemory>
         requires { IsStateOf self.old.task state.now }
         ensures ok { OnOk result (self.new ≡ closed_too entry state.now cost self.old) }

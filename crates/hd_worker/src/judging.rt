@@ -34,7 +34,7 @@ fn is_reached(bound: Option<u64>, total: Option<u128>) -> bool
 /// Returns the parcel of a node: its state is copied from the closed list.
 ///
 /// # Errors
-/// `NoMemory` where there is no room for the state.
+/// - `NoMemory`: there is no room for the state.
 fn parcel_at<'t>(
     alloc: Global,
     task: &'t Task,
@@ -57,7 +57,7 @@ fn parcel_at<'t>(
 /// infinite; else its expansion.
 ///
 /// # Errors
-/// `NoMemory` where there is no room for its state or its expansion.
+/// - `NoMemory`: there is no room for its state or its expansion.
 fn outcome_of<'t>(
     alloc: Global,
     task: &'t Task,
@@ -95,7 +95,7 @@ fn outcome_of<'t>(
 /// outcome has.
 ///
 /// # Errors
-/// `NoMemory` where there is no room for its state or its expansion; nothing is closed.
+/// - `NoMemory`: there is no room for its state or its expansion; nothing is closed.
 fn settle<'t>(
     alloc: Global,
     task: &'t Task,
@@ -128,8 +128,8 @@ fn settle<'t>(
 /// Settles the node that was taken out of the open nodes last.
 ///
 /// # Errors
-/// `NoMemory` where there is no room for its state or its expansion: the node is open again, at its
-/// place, and nothing is closed.
+/// - `NoMemory`: there is no room for its state or its expansion: the node is open again, at its
+///   place, and nothing is closed.
 pub(crate) fn settle_taken<'t>(
     alloc: Global,
     task: &'t Task,

@@ -22,7 +22,7 @@ impl<'t> Lookup<'t> {
     /// Returns what is looked up for a task.
     ///
     /// # Errors
-    /// `NoMemory` where there is no room for it.
+    /// - `NoMemory`: there is no room for it.
     pub fn of(alloc: Global, task: &'t Task) -> Result<Lookup<'t>, NoMemory>
         ensures { IfOk result (IsLookupOf task.now) }
     {

@@ -34,7 +34,7 @@ impl Total {
     /// Returns a total, or none.
     ///
     /// # Errors
-    /// `NoMemory` where it has more than 64 bits, and there is no room for it.
+    /// - `NoMemory`: it has more than 64 bits, and there is no room for it.
     pub(crate) fn of(alloc: Global, total: Option<u128>) -> Result<Total, NoMemory>
         ensures { IfOk result (λ t. t ≡ total) }
     {

@@ -100,7 +100,7 @@ impl<'t> Worker<'t> {
     /// A parcel is the last open node.
     ///
     /// # Errors
-    /// The parcel, where there is no room for it; the worker is as it was.
+    /// - The parcel, where there is no room for it; the worker is as it was.
     pub fn take(&mut self, parcel: Parcel<'t>) -> Result<(), (Parcel<'t>, NoMemory)>
         requires of_task { parcel.task ≡ self.old.task }
         ensures ok { OnOk result (self.new ≡ with_parcel (parcel_of parcel.entry) self.old) }
@@ -160,7 +160,7 @@ impl<'t> Worker<'t> {
     /// An entry of the book is in the closed list, after the others.
     ///
     /// # Errors
-    /// `NoMemory` where there is no room for it; the worker is as it was.
+    /// - `NoMemory`: there is no room for it; the worker is as it was.
     pub fn close(&mut self, entry: u64, state: &Hashed, cost: u64) -> Result<(), NoMemory>
         requires of_task { IsStateOf self.old.task state.now }
         ensures ok { OnOk result (self.new ≡ after_closing entry state.now cost self.old) }

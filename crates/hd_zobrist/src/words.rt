@@ -84,7 +84,7 @@ impl Words {
     /// Returns the words of a task.
     ///
     /// # Errors
-    /// `NoMemory` where there is no room for eight bytes an atom and a fluent.
+    /// - `NoMemory`: there is no room for eight bytes an atom and a fluent.
     pub fn new(alloc: Global, task: &Task) -> Result<Words, NoMemory>
         ensures { IfOk result (λ w. w
             ≡ (length task.now.initial.atoms, length task.now.initial.fluents)) }

@@ -133,9 +133,9 @@ fn write_told<W: Write>(
 /// its limit says, if it has one. The search is kept in memory.
 ///
 /// # Errors
-/// The first fault of the texts, or why the search fails, or what is reported of the error that the
-/// writer has answered. A beginning of the text has then been written, and not all of it, and
-/// else nothing.
+/// - The first fault of the texts, or why the search fails, or what is reported of the error that
+///   the writer has answered. A beginning of the text has then been written, and not all of it, and
+///   else nothing.
 pub fn solve<W: Write, R: Threads + Wait + Sync + Eprint + Clock>(
     rt: &R,
     alloc: Global,
@@ -170,8 +170,8 @@ pub fn solve<W: Write, R: Threads + Wait + Sync + Eprint + Clock>(
 /// empty; one that is there goes on from the entries that are found in it, in its version.
 ///
 /// # Errors
-/// The same, and, after the faults of the texts, that the file can't be had, begun or gone on
-/// with.
+/// - The same, and, after the faults of the texts, that the file can't be had, begun or gone on
+///   with.
 pub fn solve_kept<P: Places, W: Write, R: Threads + Wait + Sync + Eprint + Clock>(
     rt: &R,
     alloc: Global,

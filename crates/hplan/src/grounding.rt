@@ -34,8 +34,8 @@ fn print_of(alloc: Global, domain: &[u8], problem: &[u8]) -> Result<Vec<u8>, Fau
 /// actions in the order of their numbers, a line each.
 ///
 /// # Errors
-/// The first fault of the texts, or why the writer fails. After a fault of the writer a beginning
-/// of the text has been written, and else nothing.
+/// - The first fault of the texts, or why the writer fails. After a fault of the writer a beginning
+///   of the text has been written, and else nothing.
 pub fn ground<W: Write>(
     alloc: Global,
     domain: &[u8],

@@ -47,9 +47,9 @@ fn told_of_file<P: Places>(alloc: Global, places: &mut P, name: &str) -> Result<
 /// that a header is not there yet. The file is read, and left alone.
 ///
 /// # Errors
-/// That the file can't be read; why its bytes are no journal, or a damaged one; or what is reported
-/// of the error that the writer has answered. A beginning of the text has then been written, and
-/// not all of it, and else nothing.
+/// - That the file can't be read; why its bytes are no journal, or a damaged one; or what is
+///   reported of the error that the writer has answered. A beginning of the text has then been
+///   written, and not all of it, and else nothing.
 pub fn inspect<P: Places, W: Write>(
     alloc: Global,
     places: &mut P,

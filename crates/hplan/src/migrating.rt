@@ -207,12 +207,12 @@ fn migration<P: Places>(
 /// they are. The first file is read, and left alone; the other has to be empty, or is made.
 ///
 /// # Errors
-/// The first fault of the texts; that the first file can't be read; why its bytes are no journal
-/// of theirs; the first entry that is no step of a search of the task; that the other file is not
-/// empty, or is the same by its name, and then it is as it was; that it can't be had or written,
-/// and then it has a header that is still to be made, or a journal of the first of the entries;
-/// or what is reported of the error that the writer has answered. A beginning of the text has then
-/// been written, and not all of it, and else nothing.
+/// - The first fault of the texts; that the first file can't be read; why its bytes are no journal
+///   of theirs; the first entry that is no step of a search of the task; that the other file is not
+///   empty, or is the same by its name, and then it is as it was; that it can't be had or written,
+///   and then it has a header that is still to be made, or a journal of the first of the entries;
+///   or what is reported of the error that the writer has answered. A beginning of the text has
+///   then been written, and not all of it, and else nothing.
 pub fn migrate<P: Places, W: Write>(
     alloc: Global,
     places: &mut P,

@@ -11,8 +11,8 @@ use std::io::Write;
 /// Writes bytes, whole.
 ///
 /// # Errors
-/// What is reported of the error that the writer has then answered. A beginning of the bytes has
-/// been written, and not all of them.
+/// - What is reported of the error that the writer has then answered. A beginning of the bytes has
+///   been written, and not all of them.
 pub fn write_out<W: Write>(out: &mut Watched<'_, W>, bytes: &[u8]) -> Result<(), Fault>
     ensures whole { OnOk result (Appends (W.contents out.old.writer.now)
         (W.contents out.new.writer.now) bytes.now) }

@@ -33,7 +33,7 @@ pub trait Places {
     /// back. All others are as they were.
     ///
     /// # Errors
-    /// A failure where it can't be had. Lack of memory. All files are then as they were.
+    /// - A failure where it can't be had. Lack of memory. All files are then as they were.
     fn store(&mut self, alloc: Global, name: &str, make: bool) -> Result<Self::Disk, StoreError>
         ensures lent { IfOk result (λ disk. IfSome (file_of self.old name.now)
             (λ bytes. content_of (Self.Disk.device disk) ≡ bytes)) }
@@ -159,7 +159,7 @@ impl Shelf {
     /// Adds one file more, whose bytes are those of a disk.
     ///
     /// # Errors
-    /// `AllocError` where there is no room for it; the shelf is then as it was.
+    /// - `AllocError`: there is no room for it; the shelf is then as it was.
     pub fn put_disk(
         &mut self,
         alloc: Global,
@@ -178,7 +178,7 @@ impl Shelf {
     /// Adds one file more.
     ///
     /// # Errors
-    /// `AllocError` where there is no room for it; the shelf is then as it was.
+    /// - `AllocError`: there is no room for it; the shelf is then as it was.
     pub fn put(&mut self, alloc: Global, name: &str, bytes: &[u8]) -> Result<(), AllocError>
         ensures ok { OnOk result (self.new ≡ self.old ++ (name.now, bytes.now) ∷ []) }
         ensures err { OnErr result (self.new ≡ self.old) }

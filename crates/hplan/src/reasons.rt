@@ -50,7 +50,7 @@ fn is_in_texts(fault: &TaskFault) -> bool
 /// and `20`.
 ///
 /// # Errors
-/// Lack of memory.
+/// - Lack of memory.
 pub fn explain(
     alloc: Global,
     domain: &[u8],

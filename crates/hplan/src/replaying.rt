@@ -72,9 +72,9 @@ fn report_text(alloc: Global, report: &Report) -> Result<Vec<u8>, NoMemory>
 /// journal is, and the verdict, a line each. The journal is in memory, and empty at first.
 ///
 /// # Errors
-/// The first fault: of the first two texts; the first line of the third that is no move; why the
-/// schedule was not played to its end; or what is reported of the error that the writer has
-/// answered. A beginning of the lines has then been written, and else nothing.
+/// - The first fault: of the first two texts; the first line of the third that is no move; why the
+///   schedule was not played to its end; or what is reported of the error that the writer has
+///   answered. A beginning of the lines has then been written, and else nothing.
 #[tactic(auto, using(crate::proofs::Replays::memory_unreported))]
 pub fn replay<W: Write>(
     alloc: Global,

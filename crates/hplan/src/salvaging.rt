@@ -191,8 +191,8 @@ fn salvaged<P: Places>(
 /// second line: `dropped from byte P`. The first file is read, and left alone.
 ///
 /// # Errors
-/// Those of `migrate`, but not that the bytes are damaged. An entry that is no step of a search of
-/// the task is refused still.
+/// - Those of `migrate`, but not that the bytes are damaged. An entry that is no step of a search
+///   of the task is refused still.
 pub fn salvage<P: Places, W: Write>(
     alloc: Global,
     places: &mut P,

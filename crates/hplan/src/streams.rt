@@ -21,7 +21,7 @@ impl HeldStreams {
     /// A closed stream stays of no use: what is opened can't be written to.
     ///
     /// # Errors
-    /// Those of the system: nothing can be opened.
+    /// - Those of the system: nothing can be opened.
     pub fn hold<R: Files<File = File>>(rt: &R) -> io::Result<HeldStreams> {
         Ok(HeldStreams {
             files: [hold_one(rt)?, hold_one(rt)?, hold_one(rt)?],

@@ -125,10 +125,10 @@ fn survey_of<P: Places>(
 /// alone.
 ///
 /// # Errors
-/// The first fault of the texts; that the file can't be read; why its bytes are no journal of
-/// theirs; the first entry that is no step of a search of the task; or what is reported of the
-/// error that the writer has answered. A beginning of the text has then been written, and not all
-/// of it, and else nothing.
+/// - The first fault of the texts; that the file can't be read; why its bytes are no journal of
+///   theirs; the first entry that is no step of a search of the task; or what is reported of the
+///   error that the writer has answered. A beginning of the text has then been written, and not all
+///   of it, and else nothing.
 pub fn survey<P: Places, W: Write>(
     alloc: Global,
     places: &mut P,

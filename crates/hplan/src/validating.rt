@@ -55,9 +55,9 @@ fn cost_of_texts(alloc: Global, domain: &[u8], problem: &[u8], plan: &[u8]) -> R
 /// writes `valid; cost = N`.
 ///
 /// # Errors
-/// The first fault: of the domain's text, of the problem's, of their names, types and metric; the
-/// first bad line of the plan's text; the first fault of the plan; or why the writer fails. After
-/// a fault of the writer a beginning of the verdict has been written, and else nothing.
+/// - The first fault: of the domain's text, of the problem's, of their names, types and metric; the
+///   first bad line of the plan's text; the first fault of the plan; or why the writer fails. After
+///   a fault of the writer a beginning of the verdict has been written, and else nothing.
 #[tactic(auto, using(crate::proofs::Explaining::memory_without_verdict))]
 pub fn validate<W: Write>(
     alloc: Global,
