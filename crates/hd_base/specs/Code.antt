@@ -65,6 +65,7 @@ given_back (binary o x y) =
     ap (top (first x)) (put_back x (inl (first y) ∷ (others y ++ inr (inr o) ∷ [])) []
     ∙ put_back y (inr (inr o) ∷ []) (x ∷ []))
 
+-- the code of an expression: its first leaf, then the signs after it, operands first
 abbrev pub expression_code : {L : Type 0} → Coded L → Coded (Expression L)
 expression_code c =
     code_by (_ × List (Sign _))

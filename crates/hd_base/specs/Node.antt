@@ -3,6 +3,7 @@ use Rattle.hd_base.specs.Expression.{Expression, leaf, negate, binary}
 use Rattle.hd_base.specs.declared.expression.Node.{Node}
 use Rattle.hd_base.specs.declared.expression.Node.TheVariants.{Leaf, Negate, Binary}
 
+-- the expression of a node: a leaf, a negated expression, or an operation on two
 abbrev pub expression_of : {L : Type 0} → Node L → Expression L
 expression_of (Leaf l) = leaf l
 expression_of (Negate x) = negate x.value

@@ -18,7 +18,7 @@ impl<T> Model for Boxed<T> {
 }
 
 impl<T: Drop> Boxed<T> {
-    /// This value in memory of its own.
+    /// Puts `value` into memory of its own.
     ///
     /// # Errors
     /// - Lack of memory.

@@ -166,9 +166,9 @@ impl<'t, L: Ledger> Book<'t, L> {
         }
     }
 
-    /// The next group goes out, to be appended to a journal: whole batches in the order of their
-    /// commits, from the oldest on, as many as fit into a group. Its pairs are put into the room
-    /// that is handed in. It does not allocate.
+    /// Puts the next group out, to be appended to a journal, and returns it in `room`.
+    /// It is whole batches in the order of their commits, from the oldest on, as many as fit into a
+    /// group. The call does not allocate.
     ///
     /// # Errors
     /// - The room again, where nothing waits, or a group is out: nothing has changed.
@@ -245,7 +245,7 @@ impl<'t, L: Ledger> Book<'t, L> {
         self.content.tickets.present(receipt)
     }
 
-    /// From now on each commit is refused. It does not allocate.
+    /// Halts: from now on each commit is refused. It does not allocate.
     pub fn halt(&mut self)
         ensures task { self.new.state.task ≡ self.old.state.task }
         ensures begins { BeginsWith self.new.state.entries self.old.state.entries }
@@ -295,8 +295,7 @@ impl<'t, L: Ledger> Book<'t, L> {
         self.content.entries.entry(number)
     }
 
-    /// Where the plan of the entry with this number leads, and what it costs, if there is such an
-    /// entry.
+    /// Returns where the plan of entry `number` leads and what it costs, if there is such an entry.
     pub fn node(&self, number: u64) -> Option<(HashedRow<'_>, u64)>
         ensures { option_map (λ r. node r.0 r.1) result
             ≡ entry_node self.now.state number }

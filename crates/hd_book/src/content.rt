@@ -167,7 +167,7 @@ impl<'t> Content<'t> {
         }
     }
 
-    /// The next group goes out, as [`crate::Book::take_pending`] says.
+    /// Puts the next group out and returns it, as [`crate::Book::take_pending`] says.
     pub(crate) fn take_pending(&mut self, room: Room) -> Result<Group, Room>
         ensures due { is_ok result ≡ is_due self.old.batches.queue }
         ensures group { IfOk result (λ g. Some g ≡ next_group self.old) }
@@ -224,7 +224,7 @@ impl<'t> Content<'t> {
         self.tickets.redeem(ticket)
     }
 
-    /// From now on each commit is refused.
+    /// Halts: from now on each commit is refused.
     pub(crate) fn halt(&mut self)
         ensures { self.new ≡ after_halt self.old }
     {

@@ -16,7 +16,8 @@ pub struct Room {
 }
 
 impl Room {
-    /// Room for a group: one block of a mebibyte, of which a system gives only what is written to.
+    /// Returns room for a group: one block of a mebibyte.
+    /// A system gives only what is written to of it.
     ///
     /// # Errors
     /// - `NoMemory`: there is none.
@@ -57,7 +58,7 @@ pub struct Rooms {
 }
 
 impl Rooms {
-    /// With nothing kept yet.
+    /// Returns rooms with nothing kept yet.
     pub fn new(alloc: Global) -> Rooms {
         Rooms { alloc, kept: None }
     }

@@ -57,7 +57,7 @@ pub(crate) fn is_spared<'t>(
     Ok(is_bounded(entries.bound(), parcel.cost(), value))
 }
 
-/// The expansion of an entry is closed.
+/// Closes the expansion of entry `number` in `closed`.
 ///
 /// # Errors
 /// - `NoMemory`: there is no room for it.

@@ -41,7 +41,7 @@ pub fn kids_of(alloc: Global, entries: &[Entry]) -> Result<Vec<Kid>, NoMemory>
     Ok(kids)
 }
 
-/// The entry of this number is faulty, which is reported with its place.
+/// Returns the error that entry `number` is faulty, with its place.
 fn damaged_at(entries: &[Entry], number: u64) -> RecoverError
     requires { number < length entries.now }
     ensures { (at : ℕ) × (result ≡ Damaged at)

@@ -107,10 +107,12 @@ lifted_condition s ps cs = record {
 
 -- ---- what calls answer
 
+-- the literal of an atom or its negation, with names resolved, or a stop at its first fault
 abbrev pub LiftsLiteral : Result Literal Stop → Context → Bool → Atom → Type 0
 LiftsLiteral result c positive a =
     Checks StopsAt result (within c (applied_fault c.scope.now.predicates) a) (within c lifted_literal positive a)
 
+-- the equality or inequality of two terms, with names resolved, or a stop at its first fault
 abbrev pub LiftsEquality : Result Equality Stop → Context → Bool → Term → Term → Type 0
 LiftsEquality result c positive t u =
     Checks StopsAt result (within c equality_fault t u) (within c lifted_equality positive t u)
@@ -120,10 +122,12 @@ abbrev pub GathersLiterals : {R : Type 0} → Result R Stop → Found → Found 
 GathersLiterals result old new c part =
     ChecksInto StopsAt result new.literals.items (within c part_fault part) (old.literals.items ++ within c literals_of part)
 
+-- the equalities found so far, and then that of a part, if it is one; or a stop at its fault
 abbrev pub GathersEqualities : {R : Type 0} → Result R Stop → Found → Found → Context → trees.Condition → Type 0
 GathersEqualities result old new c part =
     ChecksInto StopsAt result new.equalities.items (within c part_fault part) (old.equalities.items ++ within c equalities_of part)
 
+-- the comparisons found so far, and then that of a part, if it is one; or a stop at its fault
 abbrev pub GathersComparisons : {R : Type 0} → Result R Stop → Found → Found → Context → trees.Condition → Type 0
 GathersComparisons result old new c part =
     ChecksInto StopsAt result new.comparisons.items (within c part_fault part) (old.comparisons.items ++ within c comparisons_of part)

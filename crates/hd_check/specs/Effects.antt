@@ -97,14 +97,17 @@ lifted_effects s ps es = record { deletes = deletes_in s ps es; adds = adds_in s
 
 -- ---- what calls answer: what was found of an effect, with what a part stands for after it
 
+-- the deleted atoms found so far, and then that of a part, if any; or a stop at its fault
 abbrev pub GathersDeletes : {R : Type 0} → Result R Stop → Found → Found → Context → Effect → Type 0
 GathersDeletes result old new c e =
     ChecksInto StopsAt result new.deletes.items (within c effect_fault e) (old.deletes.items ++ within c deletes_of e)
 
+-- the added atoms found so far, and then that of a part, if any; or a stop at its fault
 abbrev pub GathersAdds : {R : Type 0} → Result R Stop → Found → Found → Context → Effect → Type 0
 GathersAdds result old new c e =
     ChecksInto StopsAt result new.adds.items (within c effect_fault e) (old.adds.items ++ within c adds_of e)
 
+-- the changes of numbers found so far, and then that of a part, if any; or a stop at its fault
 abbrev pub GathersChanges : {R : Type 0} → Result R Stop → Found → Found → Context → Effect → Type 0
 GathersChanges result old new c e =
     ChecksInto StopsAt result new.changes.items (within c effect_fault e) (old.changes.items ++ within c changes_of e)

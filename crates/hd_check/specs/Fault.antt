@@ -43,6 +43,7 @@ error_text errors.NoMemory = codes "NoMemory"
 abbrev pub name_fault : Option NameFault → Option Fault
 name_fault fault = option_map OfName fault
 
+-- a wrong use of the metric's function, as a fault of a text
 abbrev pub metric_use_fault : Option BadMetric → Option Fault
 metric_use_fault fault = option_map OfMetric fault
 

@@ -104,6 +104,7 @@ value_in s v =
     if is_metric s.metric (number_in s.functions.names v.fluent.name.name) then []
     else record { fluent = fluent_of s v; value = v.value } ∷ []
 
+-- the first value that an initial fact gives, if any; the metric's function gets none
 abbrev pub value_said : Scope → Init → List InitialValue
 value_said s (inits.Atom a) = []
 value_said s (inits.NotAtom a) = []
@@ -120,6 +121,7 @@ lifted_initial s is = record { atoms = atoms_in s is; values = values_in s is }
 
 -- ---- what calls answer
 
+-- an atom or a fluent of objects, with names resolved, or a stop at its first fault
 abbrev pub LiftsGround : Result Ground Stop → Table (List ℕ) → Scope → Atom → Type 0
 LiftsGround result symbols s a = Checks StopsAt result (applied_fault symbols s no_parameters a) (ground_of symbols s a)
 
@@ -131,6 +133,7 @@ Notes result old new g a = ChecksInto StopsAt result new (second_value old (key_
 abbrev pub LiftsFluent : Result Ground Stop → List (List ℕ) → Scope → trees.InitialValue → Type 0
 LiftsFluent result given s v = Checks StopsAt result (value_fault s given v) (fluent_of s v)
 
+-- the fluents with a first value so far, and then that of this one; or a stop at its first fault
 abbrev pub NotesFluent : {R : Type 0} → Result R Stop → List (List ℕ) → List (List ℕ) → Scope → trees.InitialValue → Type 0
 NotesFluent result old new s v = ChecksInto StopsAt result new (value_fault s old v) (with_value s old v)
 
@@ -143,13 +146,16 @@ Gathers result old new given s v = ChecksInto StopsAt result new (value_fault s 
 abbrev pub NotesSaid : {R : Type 0} → Result R Stop → Found → Found → Scope → Init → Type 0
 NotesSaid result old new s i = ChecksInto StopsAt result new.given (said_fault s old.given i) (given_after s old.given i)
 
+-- the true atoms found so far, and then that of an initial fact, if any; or a stop at its fault
 abbrev pub GathersAtoms : {R : Type 0} → Result R Stop → Found → Found → Scope → Init → Type 0
 GathersAtoms result old new s i =
     ChecksInto StopsAt result new.atoms.items (said_fault s old.given i) (old.atoms.items ++ atom_in s i)
 
+-- the first values found so far, and then that of a fact, if any; or a stop at its fault
 abbrev pub GathersValues : {R : Type 0} → Result R Stop → Found → Found → Scope → Init → Type 0
 GathersValues result old new s i =
     ChecksInto StopsAt result new.values.items (said_fault s old.given i) (old.values.items ++ value_said s i)
 
+-- the atoms and first values of a problem, with names resolved, or a stop at the first fault
 abbrev pub LiftsInitial : Result Initial Stop → Scope → List Init → Type 0
 LiftsInitial result s is = Checks StopsAt result (initial_fault s [] is) (lifted_initial s is)

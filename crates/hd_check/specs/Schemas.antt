@@ -63,8 +63,10 @@ lifted_schemas s as' = map (lifted_schema s) as'
 
 -- ---- what calls answer
 
+-- the schema of an action with these parameters, or a stop at the first fault of what stands in it
 abbrev pub LiftsBody : Result Schema Stop → Scope → Table ℕ → Action → Type 0
 LiftsBody result s ps a = Checks StopsAt result (body_fault s ps a) (schema_with s ps a)
 
+-- the schemas of a domain's actions, or a stop at the first fault of an action
 abbrev pub LiftsActions : Result (List Schema) Stop → Scope → List Action → Type 0
 LiftsActions result s as' = Checks StopsAt result (actions_fault s [] as') (lifted_schemas s as')

@@ -73,6 +73,7 @@ arguments_fault s ps (t ∷ ts) (u ∷ us) = argument_fault s ps t u or argument
 abbrev pub parameters_at : Table (List ℕ) → ℕ → List ℕ
 parameters_at symbols k = slice_index_or symbols.items k []
 
+-- the types of the parameters of the predicate or the function with this name
 abbrev pub parameters_of : Table (List ℕ) → NameAt → List ℕ
 parameters_of symbols n = parameters_at symbols (number_in symbols.names n.name)
 
@@ -116,6 +117,7 @@ lifted_expression s ps (binary o x y) = binary o (lifted_expression s ps x) (lif
 abbrev pub LiftsArgument : Result Argument Stop → Context → Term → ℕ → Type 0
 LiftsArgument result c t wanted = Checks StopsAt result (within c argument_fault t wanted) (within c lifted_term t)
 
+-- the arguments for parameters of these types, or a stop at their first fault
 abbrev pub LiftsArguments : Result (List Argument) Stop → Context → List Term → List ℕ → Type 0
 LiftsArguments result c ts wanted = Checks StopsAt result (within c arguments_fault ts wanted) (map (within c lifted_term) ts)
 

@@ -54,6 +54,7 @@ lifted_signature types s = record { name = s.name.name; parameters = types_of ty
 abbrev pub lifted_objects : List (List ℕ) → List Typed → List Object
 lifted_objects types ts = map (lifted_object types) ts
 
+-- predicates or functions, each with the types of its parameters
 abbrev pub lifted_signatures : List (List ℕ) → List Signature → List lifted.Signature
 lifted_signatures types ss = map (lifted_signature types) ss
 
@@ -70,9 +71,11 @@ lifted_domain types parents d metric = domain_in (scope_of types parents d metri
 abbrev pub goal_in : Scope → ProblemAst → Condition
 goal_in s p = lifted_condition s no_parameters p.goal
 
+-- the initial state and the goal of a problem, with names resolved in this scope
 abbrev pub ends_in : Scope → ProblemAst → Ends
 ends_in s p = record { initial = lifted_initial s p.init; goal = goal_in s p }
 
+-- a problem's scope, which has its objects, with its initial state and its goal
 unfoldable pub problem_in : Scope → ProblemAst → ProblemPart
 problem_in s p = record { scope = s; ends = ends_in s p }
 

@@ -103,7 +103,7 @@ fn check_domain_name(domain: &DomainAst, problem: &ProblemAst) -> Result<(), Che
     }
 }
 
-/// The names of a domain's types.
+/// Returns the names of a domain's types: `object`, those in `listed`, and their supertypes.
 #[tactic(auto, using(crate::proofs::Telling::told_names))]
 fn type_names(alloc: Global, seed: Seed, listed: &[Typed]) -> Result<Names, CheckError>
     ensures { ChecksNames result listed.now }
@@ -111,7 +111,7 @@ fn type_names(alloc: Global, seed: Seed, listed: &[Typed]) -> Result<Names, Chec
     names_in(Source::Domain, types_of(alloc, seed, listed))
 }
 
-/// The hierarchy of the types of these names.
+/// Returns the hierarchy of the types of `names`, by the supertypes in `listed`.
 #[tactic(auto, using(crate::proofs::Telling::told_cycle))]
 fn hierarchy_in(alloc: Global, names: &Names, listed: &[Typed]) -> Result<Hierarchy, CheckError>
     requires { names.now ≡ type_names listed.now }
@@ -396,8 +396,8 @@ fn task_by_uses(
     }
 }
 
-/// The lifted task of a domain and a problem without a fault. Its six parts are asked in the order
-/// of the faults, and each but the first takes over what the one before it found.
+/// Returns the lifted task of `domain` and `problem`, if they have no fault. Its six parts are
+/// asked in the order of the faults, and each but the first takes over what the one before found.
 fn lifted_task(
     alloc: Global,
     seed: Seed,

@@ -12,7 +12,7 @@ use hd_lifted::{Comparison, Condition, Equality, Literal};
 use hd_terms::{Atom, Term};
 use std::alloc::Global;
 
-/// That an atom is true, or that it is false.
+/// Returns the literal that `atom` is true, or, if not `positive`, that it is false.
 fn literal_of(
     alloc: Global,
     context: Context<'_>,
@@ -25,7 +25,7 @@ fn literal_of(
     Ok(Literal { atom, positive })
 }
 
-/// That two terms are the same object, or that they are not.
+/// Returns the condition that `left` and `right` are one object, or, if not `positive`, are not.
 fn equality_of(
     alloc: Global,
     context: Context<'_>,

@@ -25,7 +25,7 @@ pub struct Initial {
     pub values: Sequence<InitialValue>,
 }
 
-/// Outside of actions there are no parameters.
+/// Returns a table of no parameters: outside of actions there are none.
 pub fn no_parameters(alloc: Global, scope: &Scope) -> Table<usize>
     ensures { result ≡ no_parameters }
 {

@@ -11,5 +11,6 @@ abbrev pub numbered : ℕ → List ℕ → By → By
 numbered first given (Entry n) = Entry n
 numbered first given (Here i) = if nat_lt i (length given) then Entry (first + slice_index given i) else Here (i - length given)
 
+-- an expansion, once the batch that was given last is numbered from `first` on
 abbrev pub closed_numbered : ℕ → List ℕ → Closed → Closed
 closed_numbered first given c = record { by = numbered first given c.by; state = c.state; cost = c.cost }

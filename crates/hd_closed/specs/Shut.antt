@@ -14,6 +14,7 @@ use Rattle.hd_closed.specs.Closed.{Closed, closed_at}
 use Rattle.hd_closed.specs.Notes.{IsTable}
 use Rattle.hd_closed.specs.Numbering.{numbered}
 
+-- an expansion as contracts see it: with its state instead of the state's number
 abbrev pub closed_of : List State → Shut → Closed
 closed_of states s = closed_at states s.state s.by s.cost
 
@@ -26,6 +27,7 @@ IsEntered (Here i) = ⊥
 abbrev pub HasNumbered : List Shut → ℕ → Type 0
 HasNumbered shuts place = (k : ℕ) (s : Shut) → k < place → slice_get shuts k ≡ Some s → IsEntered s.by
 
+-- an expansion, once the batch that was given last is numbered from `first` on
 abbrev pub shut_numbered : ℕ → List ℕ → Shut → Shut
 shut_numbered first given s = record { by = numbered first given s.by; state = s.state; cost = s.cost }
 
@@ -38,6 +40,7 @@ abbrev pub is_cheaper_than : Option Shut → ℕ → Bool
 is_cheaper_than None cost = true
 is_cheaper_than (Some s) cost = nat_lt cost s.cost
 
+-- an expansion of this cost is cheaper than the one at a place, if there is one
 abbrev pub is_cheaper : List Shut → Option ℕ → ℕ → Bool
 is_cheaper shuts None cost = true
 is_cheaper shuts (Some place) cost = is_cheaper_than (slice_get shuts place) cost
@@ -47,6 +50,7 @@ abbrev pub no_dearer_than : Option Shut → ℕ → Option By
 no_dearer_than None cost = None
 no_dearer_than (Some s) cost = if nat_le s.cost cost then Some s.by else None
 
+-- the name of the expansion at a place, if there is one, and it costs no more than `cost`
 abbrev pub no_dearer : List Shut → Option ℕ → ℕ → Option By
 no_dearer shuts None cost = None
 no_dearer shuts (Some place) cost = no_dearer_than (slice_get shuts place) cost

@@ -72,8 +72,8 @@ impl<'t> Model for ClosedList<'t> {
         × (c.ready ≡ true → vec_len c.shuts < MAX_PLACES) };
 }
 
-/// Names the expansions from a place on again, once the batch that was given last is numbered from
-/// `first` on. Those before it are entries, which keep their names.
+/// Renames the expansions from place `from` on, once the batch that was given last is numbered from
+/// `first` on. Those before `from` are entries, which keep their names.
 fn number_from(shuts: &mut [Shut], from: usize, first: u64, given: &[u64])
     requires fits { (k : ℕ) → first + slice_index given.now k < 2 ^ 64 }
     requires entered { HasNumbered shuts.old from }
@@ -216,7 +216,7 @@ impl<'t> ClosedList<'t> {
         self.notes[place].hash
     }
 
-    /// The estimate of the state at a place. It is made where it is asked for first, and kept.
+    /// Returns the estimate of the state at `place`. It is made when first asked for, and kept.
     pub fn estimate(&mut self, estimates: &mut Hmax<'t>, place: usize) -> EstimateValue
         requires place { place < length self.old.states }
         requires of_task { estimates.old.task ≡ self.old.task }
@@ -289,7 +289,7 @@ impl<'t> ClosedList<'t> {
         }
     }
 
-    /// Names all expansions again, once the batch that was given last is numbered from `first` on:
+    /// Renames all expansions, once the batch that was given last is numbered from `first` on:
     /// of each outcome of that batch, `given` has how many expansions stand before it. It takes no
     /// memory, and looks only at expansions from the first one on that had no number before.
     pub fn number(&mut self, first: u64, given: &[u64])

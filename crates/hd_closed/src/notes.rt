@@ -77,7 +77,7 @@ fn link_all(notes: &mut Vec<Note>, heads: &mut Vec<Place>)
     }
 }
 
-/// So many empty buckets.
+/// Returns `count` empty buckets.
 ///
 /// # Errors
 /// - `NoMemory`: there is no room for them.

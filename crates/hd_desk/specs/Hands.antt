@@ -22,11 +22,13 @@ pub record HandsView (K A : Type 0) : Type 0 where
   pub of : K
   pub posts : List (PostView A)
 
+-- the code of a pass, from a code of the items
 abbrev pub post_code : {A : Type 0} → Coded A → Coded (PostView A)
 post_code {A} c =
     code_by (TableId × (ℕ × (List A × List A))) (coded× table_id_coded (coded× coded_ℕ (coded× (coded_list c) (coded_list c))))
     (λ p. (p.mailbox, (p.parts, (p.put, p.taken)))) (λ q. record { mailbox = q.0; parts = q.1.0; put = q.1.1.0; taken = q.1.1.1 }) (λ _. refl)
 
+-- the code of a thread's passes, from codes of the items and of what they are of
 abbrev pub hands_code : {K A : Type 0} → Coded K → Coded A → Coded (HandsView K A)
 hands_code {K} {A} k c = code_by (K × List (PostView A)) (coded× k (coded_list (post_code c))) (λ h. (h.of, h.posts)) (λ q. record { of = q.0; posts = q.1 }) (λ _. refl)
 
@@ -59,9 +61,11 @@ IsEvened {A} p = (h : A → ℕ) → sum_by h p.put ≡ sum_by h p.taken
 -- ---- what a call makes of them
 
 module _ {A : Type 0} where
+  -- a pass that has put one more item
   abbrev pub with_put : A → PostView A → PostView A
   with_put x p = record p { put = p.put ++ x ∷ [] }
 
+  -- a pass that has taken one more item
   abbrev pub with_taken : A → PostView A → PostView A
   with_taken x p = record p { taken = p.taken ++ x ∷ [] }
 
@@ -131,6 +135,7 @@ abbrev pub name_of : {T V Q A : Type 0} → Slotted (Option T) (Doing T V) Q A �
 name_of q = q.table.shared.table_id
 
 module _ {K A : Type 0} where
+  -- a pass of a mailbox, as contracts see it
   abbrev pub post_of : Pass A (Post K A) → PostView A
   post_of p = record { mailbox = p.table_id; parts = (view p).parts; put = (view p).put; taken = (view p).taken }
 

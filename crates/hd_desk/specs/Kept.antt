@@ -8,6 +8,7 @@ use Rattle.hd_desk.specs.declared.view.View.{View}
 use Rattle.hd_desk.specs.Views.{GoesOnFrom}
 
 module _ {T I : Type 0} where
+  -- how many parts a pass has
   abbrev pub parts_of : View T I → ℕ
   parts_of v = v.parts
 

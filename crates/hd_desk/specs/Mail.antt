@@ -29,6 +29,7 @@ module _ {K A : Type 0} where
   abbrev pub weight_put : (A → ℕ) → Post K A → ℕ
   weight_put h v = sum_by h v.put
 
+  -- the weights of the items that a pass has taken, added up
   abbrev pub weight_taken : (A → ℕ) → Post K A → ℕ
   weight_taken h v = sum_by h v.taken
 

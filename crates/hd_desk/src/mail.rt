@@ -121,8 +121,8 @@ fn join<K, T: Sent<K>>(
     boxes[number].absorb::<Part>(pass, other);
 }
 
-/// Empty mailboxes, so many, and the passes that have all parts of them. An item reports what all
-/// items are of.
+/// Returns `count` empty mailboxes, and the passes that have all parts of them. `seed` reports what
+/// all items are of.
 fn open_all<K, T: Sent<K>, R: Wait>(
     rt: &R,
     alloc: Global,
@@ -224,8 +224,8 @@ impl<K, T: Sent<K>> Mailboxes<K, T> {
         self.boxes[from].try_pop_as::<Taken>(pass)
     }
 
-    /// Empty mailboxes, so many, and the passes that have all parts of them. An item reports what
-    /// all items are of; it is not put into any.
+    /// Returns `count` empty mailboxes, and the hands that have all parts of them. `seed` reports
+    /// what all items are of; it is not put into any.
     ///
     /// # Errors
     /// - `NoMemory`: there is no room for them.
@@ -303,8 +303,8 @@ impl<K, T: Sent<K>> Mailboxes<K, T> {
         self.boxes[from].pop_as::<Taken, R>(rt, pass)
     }
 
-    /// Of a mailbox of which these hands have all parts: what was put in is what was taken out and
-    /// what is left, each item as often.
+    /// Shows that what was put into mailbox `from` is what was taken out and what is left, each
+    /// item as often: `hands` have all parts of it.
     pub fn tally(&self, hands: &mut Hands<K, T>, from: usize)
         requires of { IsFor self.now hands.old }
         requires there { from < length self.now }

@@ -77,9 +77,11 @@ SettlesEach old new outcomes = settled_count new ≡ settled_count old + length 
 abbrev pub parcel_of : ParcelView → Released
 parcel_of p = record { kid = p.kid; state = p.state; cost = p.cost }
 
+-- the successor that an entry is
 abbrev pub kid_at : Entry → Kid
 kid_at e = e.kid
 
+-- the node that an entry's plan leads to: its state and its cost
 abbrev pub node_at : Entry → Node
 node_at e = node e.state e.cost
 
@@ -95,6 +97,7 @@ posted_count b = length (generated b.task (expansions b))
 abbrev pub state_by : Task → List Entry → List Bool → BookState
 state_by t entries marks = record { task = t; entries = map kid_at entries; marks = marks }
 
+-- the state of the book that has these expanded plans, and these marks for their successors
 abbrev pub state_with : ExpandedPlans → List Bool → BookState
 state_with x marks = state_by x.task.now x.entries.items marks
 
@@ -102,9 +105,11 @@ state_with x marks = state_by x.task.now x.entries.items marks
 abbrev pub unmarked : ExpandedPlans → BookState
 unmarked x = state_with x []
 
+-- the state of the book that the parts keep: its entries, and the marks of their successors
 abbrev pub state_of : Content → BookState
 state_of c = state_with c.expanded c.kids.marks
 
+-- the search that the parts keep, as contracts see it
 abbrev pub view_of : Content → EntriesView
 view_of c = record { state = state_of c; most = c.most }
 
@@ -135,6 +140,7 @@ pub record AreExpanded (t : Task) (entries : List Entry) (best : Option Best) (d
   pub best_is : IsBestOf t (plans_at (map kid_at entries)) best
   pub departure_is : departure ≡ slice_get (departures_of t (plans_at (map kid_at entries))) 0
 
+-- what expanded plans keep: entries that name plans, their nodes, the best and the first departure
 abbrev pub IsExpanded : ExpandedPlans → Type 0
 IsExpanded x = AreExpanded x.task.now x.entries.items x.best x.departure
 
@@ -151,5 +157,6 @@ pub record IsHeldBy (t : Task) (entries : List Entry) (best : Option Best) (depa
   pub within : length entries ≤ most
   pub numbered : most < ROOT_PARENT
 
+-- the parts of a search agree: its entries, the successors that they post, and the limits
 abbrev pub IsHeld : Content → Type 0
 IsHeld c = IsHeldBy c.expanded.task.now c.expanded.entries.items c.expanded.best c.expanded.departure c.kids c.most

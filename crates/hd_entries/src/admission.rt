@@ -45,8 +45,8 @@ impl<'t> ExpandedPlans<'t> {
             || (kid.parent as usize) < self.entries.len()
     }
 
-    /// The place becomes where a posted successor leads, by the book's own application. It is
-    /// posted, so its action is applicable.
+    /// Sets `reached` to where the posted successor `kid` leads, by the book's own application.
+    /// It is posted, so its action is applicable.
     ///
     /// # Errors
     /// - `NoMemory`: there is no room for the state: only for the root, or where the place was of

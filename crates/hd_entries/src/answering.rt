@@ -15,7 +15,7 @@ use crate::hashed_row::HashedRow;
 use hd_task::{ActionId, NoMemory, Plan, ROOT_PARENT};
 
 impl<'t> ExpandedPlans<'t> {
-    /// Where an entry's plan leads, and what it costs, if there is such an entry.
+    /// Returns where the plan of entry `number` leads and what it costs, if there is such an entry.
     pub(crate) fn node(&self, number: u64) -> Option<(HashedRow<'_>, u64)>
         requires held { IsExpanded self.now }
         ensures { option_map (λ r. node r.0 r.1) result

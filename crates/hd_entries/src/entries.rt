@@ -55,8 +55,9 @@ impl<'t> Entries<'t> {
         })
     }
 
-    /// Exactly these entries, with no other successor settled; and the parcels of all posted
-    /// successors that are no entries, in posting order. The listener hears how far it is.
+    /// Returns exactly `entries`, with no other successor settled, and the parcels that are open.
+    /// They are those of all posted successors that are no entries, in posting order. `heard` hears
+    /// how far it is.
     ///
     /// # Errors
     /// - `Full` with the number 0 where there are more entries than `most`; else the number of the
@@ -164,8 +165,7 @@ impl<'t> Entries<'t> {
         }
     }
 
-    /// Where the plan of the entry with this number leads, and what it costs, if there is such an
-    /// entry.
+    /// Returns where the plan of entry `number` leads and what it costs, if there is such an entry.
     pub fn node(&self, number: u64) -> Option<(HashedRow<'_>, u64)>
         ensures { option_map (λ r. node r.0 r.1) result
             ≡ entry_node self.now.state number }

@@ -35,7 +35,7 @@ pub(crate) struct Place {
 }
 
 impl Place {
-    /// Nowhere yet. It does not allocate.
+    /// Returns a place that leads nowhere yet. It does not allocate.
     pub(crate) fn empty(alloc: Global) -> Place
         ensures { result.cost ≡ 0 }
     {

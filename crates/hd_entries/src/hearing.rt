@@ -5,7 +5,7 @@ const HEARD_EACH: usize = 1024;
 
 /// Who hears how far the entries of a journal are made again.
 pub trait Listener {
-    /// So many of all entries are made again.
+    /// Hears that `done` of `all` entries are made again.
     fn hear(&self, done: u64, all: u64);
 }
 

@@ -30,6 +30,7 @@ use Rattle.hd_explain.specs.Readings.{reading_at, fluents_of}
 abbrev pub atom_text : LiftedTask → Ground → List ℕ
 atom_text t g = form_text (name_of_function (slice_get t.predicates g.symbol)) t.objects g.objects
 
+-- an atom, or an atom in `(not ..)`
 abbrev pub literal_text : LiftedTask → List ℕ → Literal → List ℕ
 literal_text t objects l =
     if l.positive then atom_text t (ground_form_of objects l.atom)
@@ -41,24 +42,29 @@ same_text t objects e =
     codes "(= " ++ name_of_object (slice_get t.objects (object_of objects e.left))
     ++ codes " " ++ name_of_object (slice_get t.objects (object_of objects e.right)) ++ codes ")"
 
+-- an equality of two objects, or one in `(not ..)`
 abbrev pub equality_text : LiftedTask → List ℕ → Equality → List ℕ
 equality_text t objects e = if e.positive then same_text t objects e else codes "(not " ++ same_text t objects e ++ codes ")"
 
+-- how an operation begins: a parenthesis, its sign and a space
 abbrev pub operation_sign : Operation → List ℕ
 operation_sign Add = codes "(+ "
 operation_sign Subtract = codes "(- "
 operation_sign Multiply = codes "(* "
 
+-- a number in decimal, or a fluent
 abbrev pub leaf_text : LiftedTask → List ℕ → Operand Applied → List ℕ
 leaf_text t objects (Number n) = signed_decimal n
 leaf_text t objects (Fluent f) = fluent_text t (ground_form_of objects f)
 
+-- an expression in parentheses, each sign before its operands
 abbrev pub expression_text : LiftedTask → List ℕ → Expression (Operand Applied) → List ℕ
 expression_text t objects (leaf l) = leaf_text t objects l
 expression_text t objects (negate x) = codes "(- " ++ expression_text t objects x ++ codes ")"
 expression_text t objects (binary o x y) =
     operation_sign o ++ expression_text t objects x ++ codes " " ++ expression_text t objects y ++ codes ")"
 
+-- how a comparison begins: a parenthesis, the sign of its relation and a space
 abbrev pub relation_sign : Relation → List ℕ
 relation_sign Less = codes "(< "
 relation_sign LessOrEqual = codes "(<= "
@@ -66,6 +72,7 @@ relation_sign Equal = codes "(= "
 relation_sign GreaterOrEqual = codes "(>= "
 relation_sign Greater = codes "(> "
 
+-- a comparison in parentheses: its sign, then its two sides
 abbrev pub comparison_text : LiftedTask → List ℕ → Comparison → List ℕ
 comparison_text t objects c =
     relation_sign c.relation ++ expression_text t objects c.left ++ codes " " ++ expression_text t objects c.right ++ codes ")"
@@ -90,6 +97,7 @@ said_text t objects (reasons.PlanCost c) =
 
 -- ---- values
 
+-- the value of a fluent after ` = `, or that it has none
 abbrev pub value_text : Option ℤ → List ℕ
 value_text None = codes " has no value"
 value_text (Some v) = codes " = " ++ signed_decimal v

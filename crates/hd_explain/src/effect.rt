@@ -112,7 +112,7 @@ fn explain_cost<'a>(before: u64, step: i128, effects: &'a [NumericEffect]) -> Op
     }
 }
 
-/// The cost of a step by the sum of the amounts of its costs: without a metric it is 1.
+/// Returns the cost of a step: `sum`, that of the amounts of its costs, or 1 without a metric.
 fn step_cost(task: &LiftedTask, sum: i128) -> i128
     ensures { result ≡ (if is_some task.now.metric then sum else pos 1) }
 {

@@ -49,7 +49,7 @@ fn take_all(
     Ok(())
 }
 
-/// Where these steps of a plan lead, from its beginning on, in tables that hash by the seed.
+/// Returns where `steps`, the first steps of a plan, lead, in tables that hash by `seed`.
 ///
 /// # Errors
 /// - The first fault of the steps, which is that of each plan that begins with them; or want of

@@ -22,8 +22,8 @@ impl Model for Place {
 }
 
 impl Place {
-    /// This place. No memory holds a text that has a place of 2^48 or more, so that is want of
-    /// memory.
+    /// Returns the place `at`. No memory holds a text that has a place of 2^48 or more, so that is
+    /// want of memory.
     pub fn of(at: usize) -> Result<Place, AllocError>
         ensures { IfOk result (λ p. p ≡ at) }
     {

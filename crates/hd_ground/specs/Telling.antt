@@ -13,6 +13,7 @@ use Rattle.hd_ground.specs.declared.error.GroundError.TheVariants.{TooMany, Unde
 abbrev pub fluent_text : LiftedTask → Ground → List ℕ
 fluent_text t g = form_text (names_in t).functions (names_in t).objects (form_of g)
 
+-- an action in its ground form: the name of its schema, and those of its objects
 abbrev pub action_text : LiftedTask → Instance → List ℕ
 action_text t i = form_text (names_in t).schemas (names_in t).objects (form_of_instance i)
 

@@ -39,6 +39,7 @@ abbrev pub met_with : Option Schema → List ℕ → List Ground
 met_with None objects = []
 met_with (Some a) objects = met_by objects a
 
+-- the fluents that an instance meets, in the text's order; none if it has no schema
 abbrev pub met_by_instance : LiftedTask → Instance → List Ground
 met_by_instance t i = met_with (slice_get t.schemas i.schema) i.objects
 
@@ -67,6 +68,7 @@ abbrev pub costs_negative : LiftedTask → Option Schema → List ℕ → Bool
 costs_negative t None objects = false
 costs_negative t (Some a) objects = has_constant_costs t a && is_negative (sum_of_costs (first_value t.values) a objects)
 
+-- an instance costs the same in each state, and less than 0
 abbrev pub is_negative_instance : LiftedTask → Instance → Bool
 is_negative_instance t i = costs_negative t (slice_get t.schemas i.schema) i.objects
 

@@ -33,6 +33,7 @@ names_in t = record {
 abbrev pub form_of : Ground → GroundForm
 form_of g = record { symbol = g.symbol; objects = g.objects }
 
+-- an action, by the numbers of its schema and of its objects
 abbrev pub form_of_instance : Instance → GroundForm
 form_of_instance i = record { symbol = i.schema; objects = i.objects }
 

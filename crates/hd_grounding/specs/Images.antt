@@ -46,6 +46,7 @@ numbers_of atoms objects xs = flat_map (λ a. if_any (number_of atoms (ground_fo
 
 -- ---- conditions
 
+-- the literal that the atom of this number is true, or that it is false
 abbrev pub literal_at : Bool → ℕ → Literal
 literal_at positive i = record { atom = i; positive = positive }
 
@@ -67,6 +68,7 @@ expression_of fluents objects (leaf l) = leaf (operand_of fluents objects l)
 expression_of fluents objects (negate x) = negate (expression_of fluents objects x)
 expression_of fluents objects (binary o x y) = binary o (expression_of fluents objects x) (expression_of fluents objects y)
 
+-- a comparison, each fluent by its number
 abbrev pub comparison_of : List Ground → List ℕ → lifted_comparison.Comparison → Comparison
 comparison_of fluents objects c = record {
   left = expression_of fluents objects c.left;
@@ -114,6 +116,7 @@ term_by lifted_changes.Increase x = Increase x
 term_by lifted_changes.Decrease x = Decrease x
 term_by lifted_changes.Cost x = Increase x
 
+-- an effect as a part of a sum, each fluent of its amount by its number
 abbrev pub term_of : List Ground → List ℕ → NumericEffect → Term
 term_of fluents objects e = term_by e.change (expression_of fluents objects e.amount)
 

@@ -8,6 +8,7 @@ use Rattle.std.specs.declared.cmp.Reverse.{Reverse}
 abbrev pub Ready : Type 0
 Ready = Reverse (ℕ × ℕ)
 
+-- a rule, by its number, that can be taken at this cost
 abbrev pub ready : ℕ → ℕ → Ready
 ready cost rule = record { 0 = (cost, rule) }
 
@@ -15,6 +16,7 @@ ready cost rule = record { 0 = (cost, rule) }
 abbrev pub by_cost : Ready → Ready → Ordering
 by_cost x y = ordering_then (nat_cmp y.0.0 x.0.0) (nat_cmp y.0.1 x.0.1)
 
+-- the default if a list has nothing at a place: rule 0 at cost 0
 abbrev pub none : Ready
 none = ready 0 0
 

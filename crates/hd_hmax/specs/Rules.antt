@@ -67,9 +67,12 @@ row rows r = slice_index_or rows r []
 abbrev pub is_asked : List (List ℕ) → ℕ → Bool
 is_asked askers p = not (length (row askers p) == 0)
 
+-- the places of the atoms that an action adds, if a rule needs them
 abbrev pub added_places : ℕ → List (List ℕ) → List ℕ → List ℕ
 added_places n askers adds = filter (λ i. nat_lt i n && is_asked askers i) adds
 
+-- the places of the negations of deleted atoms, if a rule needs them
+-- and the action does not add the atom too
 abbrev pub deleted_places : ℕ → List (List ℕ) → List ℕ → List ℕ → List ℕ
 deleted_places n askers adds deletes = map (λ i. n + 1 + i) (filter (λ i. nat_lt i n && (is_asked askers (n + 1 + i) && not (names_atom adds i))) deletes)
 

@@ -25,6 +25,7 @@ value_at t s p = cost_in (table_after t s (2 * length t.atoms)) (literal_at (len
 abbrev pub dearest_at : Task → State → List ℕ → Option ℕ
 dearest_at t s ps = fold (λ c p. greater c (value_at t s p)) (Some 0) ps
 
+-- the price of an action; the goal, which is no action, has the price 0
 abbrev pub price_by : Task → Option Action → ℕ
 price_by t None = 0
 price_by t (Some a) = price t a
@@ -35,6 +36,7 @@ rule_cost t s r = plus_price (price_by t (slice_get t.actions r)) (dearest_at t 
 
 -- ---- open places
 
+-- a place is open: it is not closed yet
 abbrev pub is_open : List Bool → ℕ → Bool
 is_open pending p = slice_index_or pending p false
 
@@ -96,12 +98,15 @@ HasStarted t s pending = (b : Bool) (i : ℕ) → i ≤ length t.atoms → liter
 abbrev pub Waits : Queue → Ready → Type 0
 Waits q = WaitsIn q.run.items q.taken (heap_items q.heap)
 
+-- each rule's count is that of its open places, and of those that it is still to be told of
 abbrev pub Counted : Task → Work → List ℕ → Type 0
 Counted t w rest = IsCounted t w.pending.items w.left.items rest
 
+-- closed places cost at most the level, and a rule that waits in the queue costs what it says
 abbrev pub Fair : Task → State → Work → ℕ → List ℕ → Type 0
 Fair t s w level rest = IsFair t s w.pending.items (Waits w.queue) level rest
 
+-- a rule that needs no open place waits in the queue or was taken, but for the one that is `busy`
 abbrev pub IsAllReady : Task → List (List ℕ) → Work → ℕ → Type 0
 IsAllReady t brings w busy = AreReady t brings w.pending.items w.left.items (Waits w.queue) busy
 

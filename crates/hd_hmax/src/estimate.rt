@@ -60,7 +60,7 @@ impl<'t> Estimate<'t> {
         &self.state
     }
 
-    /// Its value.
+    /// Returns the value of the estimate.
     pub fn value(&self) -> EstimateValue
         ensures value { result ≡ self.now.value }
         ensures estimates { estimated result ≡ hmax self.now.task self.now.state }

@@ -73,7 +73,7 @@ fn asked_by(task: &Task, rule: usize) -> &[Literal]
     }
 }
 
-/// So many lists of no numbers.
+/// Returns `count` empty lists.
 fn no_lists(alloc: Global, count: usize) -> Result<Vec<Sequence<u32>>, NoMemory>
     ensures { IfOk result (λ v. v.items ≡ replicate count []) }
 {
@@ -153,7 +153,7 @@ fn add_rule(
     Ok(literals.len())
 }
 
-/// Rows of these lists.
+/// Returns a copy of `lists` as rows.
 fn rows_of(alloc: Global, lists: &[Sequence<u32>]) -> Result<Rows, NoMemory>
     ensures { IfOk result (λ rows. rows ≡ lists.now) }
 {
@@ -164,7 +164,7 @@ fn rows_of(alloc: Global, lists: &[Sequence<u32>]) -> Result<Rows, NoMemory>
     Ok(rows)
 }
 
-/// By place the rules that need it, and by rule how many places it needs.
+/// Returns by place the rules that need it, and by rule how many places it needs.
 fn askers_of(alloc: Global, task: &Task) -> Result<(Rows, Vec<usize>), NoMemory>
     ensures { IfOk result (λ r. IsTransposed task.now r.0 r.1.items) }
 {
@@ -246,7 +246,7 @@ fn brings_of(
     Ok(row)
 }
 
-/// By action the places of what it brings about.
+/// Returns by action the places of what it brings about, if a rule needs them.
 fn all_brings(
     alloc: Global,
     atoms: usize,

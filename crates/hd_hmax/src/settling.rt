@@ -170,7 +170,7 @@ impl Work {
         None
     }
 
-    /// Room for a task's places and rules.
+    /// Returns room for the places and the rules of `rules`.
     ///
     /// # Errors
     /// - `NoMemory`: there is no room for a byte a place and seven numbers a rule.

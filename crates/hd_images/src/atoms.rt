@@ -7,7 +7,7 @@ use hd_base::{NoMemory, Seed};
 use hd_lifted::{Ground, LiftedTask, Literal};
 use std::alloc::Global;
 
-/// Atoms more, those that are not there yet.
+/// Adds to `forms` those of `atoms` that are not there yet.
 fn add_all(alloc: Global, forms: &mut Forms, atoms: &[Ground]) -> Result<(), NoMemory>
     ensures { IfOk result (λ _. forms.new ≡ with_forms forms.old atoms.now) }
 {
@@ -17,7 +17,7 @@ fn add_all(alloc: Global, forms: &mut Forms, atoms: &[Ground]) -> Result<(), NoM
     Ok(())
 }
 
-/// The atom of a goal's literal more, if it is not there yet.
+/// Adds the atom of the goal's `literal` to `forms`, if it is not there yet.
 fn add_wanted(alloc: Global, forms: &mut Forms, literal: &Literal) -> Result<(), NoMemory>
     ensures { IfOk result (λ _. forms.new ≡ with_form forms.old (atom_of literal.now)) }
 {
@@ -25,7 +25,7 @@ fn add_wanted(alloc: Global, forms: &mut Forms, literal: &Literal) -> Result<(),
     forms.add_at(alloc, none.as_slice(), &literal.atom)
 }
 
-/// The atoms of a goal's literals more, those that are not there yet.
+/// Adds the atoms of the goal's `literals` to `forms`, those that are not there yet.
 fn add_goal(alloc: Global, forms: &mut Forms, literals: &[Literal]) -> Result<(), NoMemory>
     ensures { IfOk result (λ _. forms.new ≡ with_forms forms.old (map atom_of literals.now)) }
 {

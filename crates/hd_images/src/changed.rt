@@ -27,7 +27,7 @@ pub(crate) fn is_cost(change: Change) -> bool
 }
 
 impl Changed {
-    /// The function that an effect changes, if it changes one.
+    /// Adds the function that `effect` changes, if it changes one.
     fn note(&mut self, effect: &NumericEffect) -> Result<(), NoMemory>
         ensures { IfOk result (λ _. (f : ℕ) → has_function self.new f
             ≡ (has_function self.old f || changes_function f effect.now)) }
@@ -38,7 +38,7 @@ impl Changed {
         Ok(())
     }
 
-    /// The functions that a schema changes.
+    /// Adds the functions that `schema` changes.
     fn note_all(&mut self, schema: &Schema) -> Result<(), NoMemory>
         ensures { IfOk result (λ _. (f : ℕ) → has_function self.new f
             ≡ (has_function self.old f || is_changed_by f schema.now)) }

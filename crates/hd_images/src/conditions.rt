@@ -30,7 +30,7 @@ pub fn numbers_of(
     Ok(Sequence::from_vec(numbers))
 }
 
-/// Literals by their atoms' numbers: one of an atom without a number is left out.
+/// Returns the literals `said` by their atoms' numbers, without those whose atom has no number.
 fn literals_of(
     alloc: Global,
     atoms: &Numbers,
@@ -74,7 +74,7 @@ fn comparison_of(
     }
 }
 
-/// Comparisons, each fluent by its number.
+/// Returns the comparisons `said`, each fluent by its number.
 fn comparisons_of(
     alloc: Global,
     fluents: &Numbers,

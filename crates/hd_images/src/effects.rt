@@ -28,7 +28,7 @@ fn term_by(change: hd_lifted::Change, amount: Expr) -> Term
     }
 }
 
-/// Terms, and one more.
+/// Returns `terms` with `term` at the end.
 fn with_term(terms: Sequence<Term>, term: Term) -> Result<Sequence<Term>, NoMemory>
     ensures { IfOk result (λ s. s ≡ terms ++ term ∷ []) }
 {
@@ -64,7 +64,7 @@ fn change_with(
     }
 }
 
-/// The changes by number, with an effect on the fluent of this number.
+/// Adds an effect on the fluent `number` to `changes`: `change` by `amount`.
 fn put(
     alloc: Global,
     changes: &mut BTreeMap<u32, Change>,
@@ -82,7 +82,7 @@ fn put(
     Ok(())
 }
 
-/// The changes by number, with an effect: a cost changes no fluent.
+/// Adds `effect` to `changes`, unless it is a cost or its fluent has no number.
 fn gather(
     alloc: Global,
     changes: &mut BTreeMap<u32, Change>,

@@ -14,7 +14,7 @@ use hd_lifted::{Comparison, Expr, Instance, Leaf, LiftedTask, NumericEffect, Sch
 use hd_task::MAX_FLUENTS;
 use std::alloc::Global;
 
-/// The fluent that a leaf reads.
+/// Adds the fluent that the leaf `said` reads, if it reads one, to `forms`.
 fn meet_leaf(
     alloc: Global,
     forms: &mut Forms,
@@ -30,7 +30,7 @@ fn meet_leaf(
     }
 }
 
-/// The fluents that an expression reads.
+/// Adds the fluents that the expression `said` reads to `forms`.
 fn meet_expression(
     alloc: Global,
     forms: &mut Forms,
@@ -50,7 +50,7 @@ fn meet_expression(
     }
 }
 
-/// The fluents that a comparison reads.
+/// Adds the fluents that the comparison `said` reads to `forms`.
 fn meet_comparison(
     alloc: Global,
     forms: &mut Forms,
@@ -64,7 +64,7 @@ fn meet_comparison(
     meet_expression(alloc, forms, objects, &said.right)
 }
 
-/// The fluents that comparisons read.
+/// Adds the fluents that the comparisons `said` read to `forms`.
 fn meet_comparisons(
     alloc: Global,
     forms: &mut Forms,
@@ -80,7 +80,7 @@ fn meet_comparisons(
     Ok(())
 }
 
-/// The fluent that an effect changes, if it changes one.
+/// Adds the fluent that `effect` changes, if it changes one, to `forms`.
 fn meet_target(
     alloc: Global,
     forms: &mut Forms,
@@ -96,7 +96,7 @@ fn meet_target(
     forms.add_at(alloc, objects, &effect.fluent)
 }
 
-/// The fluent that an effect changes, and then those that its amount reads.
+/// Adds the fluent that `effect` changes, and then those that its amount reads, to `forms`.
 fn meet_effect(
     alloc: Global,
     forms: &mut Forms,
@@ -110,7 +110,7 @@ fn meet_effect(
     meet_expression(alloc, forms, objects, &effect.amount)
 }
 
-/// The fluents that effects meet.
+/// Adds the fluents that `effects` change or read to `forms`.
 fn meet_effects(
     alloc: Global,
     forms: &mut Forms,
@@ -126,7 +126,7 @@ fn meet_effects(
     Ok(())
 }
 
-/// The fluents that a schema with objects meets.
+/// Adds the fluents that `schema` with `objects` meets to `forms`.
 fn meet_schema(
     alloc: Global,
     forms: &mut Forms,
@@ -144,7 +144,7 @@ fn meet_schema(
     meet_effects(alloc, forms, objects, schema.effects.as_slice())
 }
 
-/// The fluents that an instance meets.
+/// Adds the fluents that `instance` meets to `forms`.
 fn meet_instance(
     alloc: Global,
     forms: &mut Forms,
@@ -160,7 +160,7 @@ fn meet_instance(
     }
 }
 
-/// The fluents that an instance meets, unless there are too many already.
+/// Adds the fluents that `instance` meets to `forms`, unless there are too many already.
 fn meet_instance_too(
     alloc: Global,
     forms: &mut Forms,
@@ -176,7 +176,7 @@ fn meet_instance_too(
     meet_instance(alloc, forms, task, instance)
 }
 
-/// The fluents that the goal meets.
+/// Adds the fluents that the goal meets to `forms`.
 fn meet_goal(alloc: Global, forms: &mut Forms, task: &LiftedTask) -> Result<(), NoMemory>
     ensures { IfOk result (λ _. forms.new ≡ with_forms forms.old (met_by_goal task.now)) }
 {
@@ -189,7 +189,7 @@ fn meet_goal(alloc: Global, forms: &mut Forms, task: &LiftedTask) -> Result<(), 
     )
 }
 
-/// The fluents that the goal meets, unless there are too many already.
+/// Adds the fluents that the goal meets to `forms`, unless there are too many already.
 fn meet_goal_too(alloc: Global, forms: &mut Forms, task: &LiftedTask) -> Result<(), NoMemory>
     ensures { IfOk result (λ _. (met : List Ground) → IsMet MAX_FLUENTS met forms.old
         → IsMet MAX_FLUENTS (met ++ met_by_goal task.now) forms.new) }

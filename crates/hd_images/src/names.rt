@@ -57,7 +57,7 @@ pub fn forms_of(alloc: Global, numbers: &Numbers) -> Result<Sequence<GroundForm>
     Ok(Sequence::from_vec(forms))
 }
 
-/// The names of schemas, in order.
+/// Returns the names of `schemas`, in order.
 fn schema_names(alloc: Global, schemas: &[Schema]) -> Result<Sequence<Name>, NoMemory>
     ensures { IfOk result (λ s. s ≡ map (λ a. a.name) schemas.now) }
 {
@@ -68,7 +68,7 @@ fn schema_names(alloc: Global, schemas: &[Schema]) -> Result<Sequence<Name>, NoM
     Ok(Sequence::from_vec(names))
 }
 
-/// The names of predicates or functions, in order.
+/// Returns the names of `signatures`, which are of predicates or functions, in order.
 fn symbol_names(alloc: Global, signatures: &[Signature]) -> Result<Sequence<Name>, NoMemory>
     ensures { IfOk result (λ s. s ≡ map (λ p. p.name) signatures.now) }
 {
@@ -79,7 +79,7 @@ fn symbol_names(alloc: Global, signatures: &[Signature]) -> Result<Sequence<Name
     Ok(Sequence::from_vec(names))
 }
 
-/// The names of objects, in order.
+/// Returns the names of `objects`, in order.
 fn object_names(alloc: Global, objects: &[Object]) -> Result<Sequence<Name>, NoMemory>
     ensures { IfOk result (λ s. s ≡ map (λ o. o.name) objects.now) }
 {
@@ -90,7 +90,7 @@ fn object_names(alloc: Global, objects: &[Object]) -> Result<Sequence<Name>, NoM
     Ok(Sequence::from_vec(names))
 }
 
-/// The names of schemas, and those of objects.
+/// Returns the names of the schemas of `task`, and those of its objects.
 fn schemas_and_objects(
     alloc: Global,
     task: &LiftedTask,
@@ -108,7 +108,7 @@ fn schemas_and_objects(
     }
 }
 
-/// The names of predicates, and those of functions.
+/// Returns the names of the predicates of `task`, and those of its functions.
 fn predicates_and_functions(
     alloc: Global,
     task: &LiftedTask,
@@ -126,7 +126,7 @@ fn predicates_and_functions(
     }
 }
 
-/// The names that ground forms are printed with.
+/// Returns the names with which ground forms of `task` are printed.
 ///
 /// # Errors
 /// - Lack of memory.

@@ -49,7 +49,7 @@ impl Numbers {
         Ok(Numbers { keys })
     }
 
-    /// Each form comes before the next, so that it has one number: nothing is computed.
+    /// Law: each form comes before the next, so that it has one number. Nothing is computed.
     pub fn are_rising(&self)
         ensures { IsRising self.now }
     {

@@ -9,7 +9,7 @@ use hd_lifted::Ground;
 use hd_task::State;
 use std::alloc::Global;
 
-/// Which atoms are listed.
+/// Returns for each of `atoms`, by number, whether it is in `listed`.
 fn bits_of(alloc: Global, atoms: &Numbers, listed: &[Ground]) -> Result<Sequence<bool>, NoMemory>
     ensures { IfOk result (λ s. s ≡ map (is_listed listed.now) atoms.now) }
 {

@@ -35,6 +35,7 @@ MayRead device result = GoesAsForetold result device.failures (foretold_by devic
 abbrev pub LengthFails : Device → Device → Type 0
 LengthFails old new = MayTellLength old (Err store.Failed) × (new ≡ refused old)
 
+-- the device reported its length, and failed to read its bytes
 abbrev pub ReadFails : Device → Device → Type 0
 ReadFails old new = MayTellLength old (Ok tt) × MayRead old (Err store.Failed) × (new ≡ looked_at (refused old))
 

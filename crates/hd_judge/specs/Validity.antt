@@ -29,6 +29,7 @@ abbrev pub StepsAreDefined : LiftedTask → List Instance → Type 0
 StepsAreDefined t p =
     (i : Instance) (is : IsInstance t i) (g : Ground) → Contains p i → Contains (met_by i.objects is.schema) g → is_defined t g ≡ true
 
+-- each fluent that the goal meets has a first value
 abbrev pub GoalIsDefined : LiftedTask → Type 0
 GoalIsDefined t = (g : Ground) → Contains (met_by_goal t) g → is_defined t g ≡ true
 

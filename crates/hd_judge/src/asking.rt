@@ -20,7 +20,7 @@ use crate::undefined::{undefined_goal, undefined_schema};
 use hd_lifted::{Condition, Instance, Schema};
 use std::alloc::Global;
 
-/// Do the conditions on atoms and objects hold? If not, this fault is reported.
+/// Refuses with `fails` if what `condition` says of atoms and objects does not hold.
 fn ask_literals(
     alloc: Global,
     place: &Place,
@@ -38,7 +38,7 @@ fn ask_literals(
     }
 }
 
-/// Do all fluents that a schema with objects meets have a first value?
+/// Refuses a fluent that `schema` with `objects` meets, if it has no first value.
 fn ask_fluents(
     alloc: Global,
     lookups: &Lookups<'_>,
@@ -53,7 +53,7 @@ fn ask_fluents(
     }
 }
 
-/// Do all fluents that the goal meets have a first value?
+/// Refuses a fluent that the goal meets, if it has no first value.
 fn ask_goal_fluents(alloc: Global, lookups: &Lookups<'_>) -> Result<(), Stop>
     ensures { Asks result (asked_of_fluents lookups.now (met_by_goal lookups.now)) }
 {
@@ -63,7 +63,7 @@ fn ask_goal_fluents(alloc: Global, lookups: &Lookups<'_>) -> Result<(), Stop>
     }
 }
 
-/// Does a schema with objects cost the same in each state, and less than 0?
+/// Refuses `instance`, one of `schema`, if it costs the same in each state, and less than 0.
 fn ask_cost(
     alloc: Global,
     lookups: &Lookups<'_>,
@@ -79,8 +79,8 @@ fn ask_cost(
     Ok(())
 }
 
-/// Do the comparisons stay in the range, and then, do they hold? If not, the one or the other fault
-/// is reported.
+/// Refuses with `departs` if the comparisons leave the range, and with `fails` if they stay in it
+/// and do not hold.
 fn ask_comparisons(
     alloc: Global,
     place: &Place,
@@ -101,7 +101,7 @@ fn ask_comparisons(
     }
 }
 
-/// The questions about a step before it is taken.
+/// Asks whether the step `number` may be taken, and reports the first fault if it may not.
 #[tactic(auto, unfolding(crate::specs::Asking::asked_before), using(crate::proofs::Telling::asks_first, crate::proofs::Telling::asks_then))]
 pub(crate) fn ask_before(
     alloc: Global,
@@ -125,7 +125,7 @@ pub(crate) fn ask_before(
     ask_comparisons(alloc, place, objects, condition, departs, fails)
 }
 
-/// The questions about the goal, where a plan leads: the number is one more than that of its steps.
+/// Asks whether the goal holds where a plan leads: `number` is one more than that of its steps.
 #[tactic(auto, unfolding(crate::specs::Asking::asked_of_goal), using(crate::proofs::Telling::asks_first, crate::proofs::Telling::asks_then))]
 pub(crate) fn ask_goal(
     alloc: Global,

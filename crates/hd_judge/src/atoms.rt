@@ -9,7 +9,7 @@ use hd_base::NoMemory;
 use hd_lifted::{Applied, Schema, ground_form_of};
 use std::alloc::Global;
 
-/// These atoms are false from now on.
+/// Makes `atoms` with `objects` false in `truths`.
 fn take_out(
     alloc: Global,
     truths: &mut Truths,
@@ -25,7 +25,7 @@ fn take_out(
     Ok(())
 }
 
-/// These atoms are true from now on.
+/// Makes `atoms` with `objects` true in `truths`.
 fn put_in(
     alloc: Global,
     truths: &mut Truths,
@@ -41,7 +41,7 @@ fn put_in(
     Ok(())
 }
 
-/// The atoms after a step: first it deletes, and then it adds.
+/// Changes `truths` as a step of `schema` does: first it deletes, and then it adds.
 pub(crate) fn change_atoms(
     alloc: Global,
     truths: &mut Truths,

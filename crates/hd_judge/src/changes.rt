@@ -37,7 +37,7 @@ impl Changes {
         self.values.get(fluent).copied()
     }
 
-    /// A fluent has this new value from now on.
+    /// Sets the new value of `fluent` to `value`.
     pub(crate) fn set(&mut self, fluent: Ground, value: i128) -> Result<(), NoMemory>
         ensures value { OnOk result ((g : Ground) → new_value_in self.new g
             ≡ (if same fluent g then Some value else new_value_in self.old g)) }
@@ -47,7 +47,7 @@ impl Changes {
         Ok(())
     }
 
-    /// The sum of the costs so far.
+    /// Returns the sum of the costs so far.
     pub fn cost(&self) -> i128
         ensures { result ≡ self.now.cost }
     {

@@ -255,8 +255,9 @@ fn put_values(
     Ok(true)
 }
 
-/// The values after effects and the sum of their costs, if each subexpression of an amount and each
-/// new value is in the range. Else, and on an error, the values may be anything.
+/// Changes `numbers` by the effects of `schema`, and returns the sum of their costs. Returns `None`
+/// if a subexpression of an amount or a new value leaves the range. On `None`, and on an error,
+/// `numbers` may be anything.
 pub(crate) fn change_values(
     alloc: Global,
     numbers: &mut Numbers,

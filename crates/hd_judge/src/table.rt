@@ -50,7 +50,7 @@ impl Truths {
         self.truths.get(atom).copied().unwrap_or(false)
     }
 
-    /// An atom is true from now on, or it is not.
+    /// Makes `atom` true or false, as `truth` says.
     pub(crate) fn set(&mut self, atom: Ground, truth: bool) -> Result<(), NoMemory>
         ensures { OnOk result ((g : Ground) → truth_in self.new g
             ≡ (if same atom g then truth else truth_in self.old g)) }
@@ -59,7 +59,7 @@ impl Truths {
         Ok(())
     }
 
-    /// The listed atoms are true, in a table that hashes by the seed.
+    /// Returns a table that hashes by `seed`, in which the atoms of `listed` alone are true.
     pub(crate) fn listed(alloc: Global, seed: Seed, listed: &[Ground]) -> Result<Truths, NoMemory>
         ensures { IfOk result (λ table. (g : Ground) → truth_in table g ≡ is_listed listed.now g) }
     {
@@ -81,7 +81,7 @@ impl Numbers {
         self.numbers.get(fluent).copied()
     }
 
-    /// A fluent has this value from now on.
+    /// Sets the value of `fluent` to `value`.
     pub(crate) fn set(&mut self, fluent: Ground, value: i64) -> Result<(), NoMemory>
         ensures { OnOk result ((g : Ground) → value_in self.new g
             ≡ (if same fluent g then Some value else value_in self.old g)) }

@@ -60,8 +60,10 @@ pub record HasMore {X : Type 0} (Is : X → Type 0) (limit : ℕ) : Type 0 where
 abbrev pub NumbersInstances : LiftedTask → List Instance → Type 0
 NumbersInstances t instances = HasExactly (IsKept t) instance_key instances
 
+-- a list has exactly the atoms of the task, in their order
 abbrev pub NumbersAtoms : LiftedTask → List Ground → Type 0
 NumbersAtoms t atoms = HasExactly (IsTaskAtom t) form_key atoms
 
+-- a list has exactly the fluents of the task, in their order
 abbrev pub NumbersFluents : LiftedTask → List Ground → Type 0
 NumbersFluents t fluents = HasExactly (IsTaskFluent t) form_key fluents

@@ -125,9 +125,11 @@ AreTypes t us = AllByRecursion (IsType t) us
 abbrev pub HasType : LiftedTask → declared.Object → Type 0
 HasType t o = IsType t o.of
 
+-- each parameter of a predicate or a function has a type of the task
 abbrev pub SignatureHasTypes : LiftedTask → Signature → Type 0
 SignatureHasTypes t s = AreTypes t s.parameters
 
+-- each parameter of a schema has a type of the task
 abbrev pub SchemaHasTypes : LiftedTask → Schema → Type 0
 SchemaHasTypes t a = AreTypes t a.parameters
 

@@ -112,8 +112,8 @@ fn fill(parents: &[usize], depths: &mut [usize], jumps: &mut [usize], kind: usiz
     jumps[kind - 1] = jump;
 }
 
-/// Where the jump from a type with this parent leads: over the next two jumps, if these are equally
-/// long, else to the parent.
+/// Returns where the jump from a child of `parent` leads: over the next two jumps, if these are
+/// equally long, else to `parent`.
 fn jump_over(depths: &[usize], jumps: &[usize], parent: usize) -> usize
     ensures { (parents : List ℕ) → AreJumps parents jumps.now → IsSubtype parents parent result }
 {

@@ -140,6 +140,7 @@ ChecksTypes result ts = Checks StopsAt result (types_fault (codes "object" ∷ [
 abbrev pub ChecksTable : Result (Table ℕ) NameStop → ItemKind → List (List ℕ) → List Typed → Type 0
 ChecksTable result k types ts = Checks StopsAt result (declared_fault k types [] ts) (typed_table types ts)
 
+-- the table of predicates or functions, or a stop at their first fault
 abbrev pub ChecksSignatures : Result (Table (List ℕ)) NameStop → List (List ℕ) → List Signature → Type 0
 ChecksSignatures result types ss = Checks StopsAt result (signatures_fault types [] ss) (signature_table types ss)
 
@@ -147,6 +148,7 @@ ChecksSignatures result types ss = Checks StopsAt result (signatures_fault types
 abbrev pub ChecksScope : Result Scope NameStop → List (List ℕ) → List ℕ → DomainAst → Option NameAt → Type 0
 ChecksScope result types parents d metric = Checks StopsAt result (scope_fault types d) (scope_of types parents d metric)
 
+-- a scope with these objects after its own, or a stop at their first fault
 abbrev pub ChecksObjects : Result Scope NameStop → Scope → List Typed → Type 0
 ChecksObjects result s os =
     Checks StopsAt result (declared_fault kinds.Name s.types s.objects.names os) (with_objects s os)

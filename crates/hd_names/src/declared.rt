@@ -33,7 +33,7 @@ pub fn declare_all(
     Ok(Sequence::from_vec(numbers))
 }
 
-/// The table of declared names, with the numbers of their types.
+/// Returns the table of the names `declared`, with the numbers of their types.
 pub fn table_of(
     alloc: Global,
     kind: ItemKind,

@@ -14,7 +14,7 @@ use hd_lifted::Hierarchy;
 use hd_terms::{ItemKind, TypeName, Typed};
 use std::alloc::{AllocError, Global};
 
-/// The names that are there before any type is listed: `object` alone.
+/// Returns the names that are there before any type is listed: `object` alone.
 fn object_alone(alloc: Global, seed: Seed) -> Result<Names, AllocError>
     ensures { IfOk result (λ names. names ≡ codes "object" ∷ []) }
 {
@@ -24,7 +24,7 @@ fn object_alone(alloc: Global, seed: Seed) -> Result<Names, AllocError>
     Ok(names)
 }
 
-/// A type that is named as a supertype is known.
+/// Adds the supertype `of`, if one is named, to `names`, unless it is there already.
 fn add_supertype(alloc: Global, names: &mut Names, of: &Option<TypeName>) -> Result<(), AllocError>
     ensures { IfOk result (λ _. names.new ≡ with_supertype names.old of.now) }
 {
@@ -38,7 +38,7 @@ fn add_supertype(alloc: Global, names: &mut Names, of: &Option<TypeName>) -> Res
     Ok(())
 }
 
-/// The supertypes, after the names that are there.
+/// Adds the supertypes in `listed` to `names`, those that are not there yet.
 fn add_supertypes(alloc: Global, names: &mut Names, listed: &[Typed]) -> Result<(), AllocError>
     ensures { IfOk result (λ _. names.new ≡ with_supertypes names.old listed.now) }
 {
@@ -50,7 +50,7 @@ fn add_supertypes(alloc: Global, names: &mut Names, listed: &[Typed]) -> Result<
     Ok(())
 }
 
-/// The types that are listed, after those that are there.
+/// Declares the types in `listed`, after those that are in `names`.
 fn declare_types(alloc: Global, names: &mut Names, listed: &[Typed]) -> Result<(), NameStop>
     ensures { DeclaresListed result names.new names.old listed.now }
 {
@@ -62,7 +62,7 @@ fn declare_types(alloc: Global, names: &mut Names, listed: &[Typed]) -> Result<(
     Ok(())
 }
 
-/// The names of all types, by number, in a table that hashes by this seed.
+/// Returns the names of all types, by number, in a table that hashes by `seed`.
 pub fn types_of(alloc: Global, seed: Seed, listed: &[Typed]) -> Result<Names, NameStop>
     ensures { ChecksTypes result listed.now }
 {
@@ -82,7 +82,7 @@ pub fn number_of_type(types: &Names, of: &Option<TypeName>) -> usize
     }
 }
 
-/// The numbers of the types of declared names.
+/// Returns the numbers of the types of the names `declared`.
 pub fn numbers_of_types(
     alloc: Global,
     types: &Names,

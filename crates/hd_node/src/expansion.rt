@@ -148,7 +148,7 @@ impl<'t> Expansion<'t> {
         self.state.hash()
     }
 
-    /// That state with its hash.
+    /// Returns that state with its hash.
     pub fn hashed(&self) -> &Hashed
         ensures { result.now ≡ self.now.state }
     {
@@ -162,7 +162,7 @@ impl<'t> Expansion<'t> {
         self.cost
     }
 
-    /// Where each applicable action leads, in order.
+    /// Returns where each applicable action leads, in order.
     pub fn children(&self) -> &[Child]
         ensures { result.now ≡ self.now.children }
     {

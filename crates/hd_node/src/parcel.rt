@@ -86,8 +86,9 @@ impl<'t> Parcel<'t> {
         }
     }
 
-    /// The parcel of an entry's child. It does not allocate, since the child has all that a parcel
-    /// has; so what a batch releases can be made where nothing may fail any more.
+    /// Returns the parcel of `child`, a child of entry `parent`.
+    /// It does not allocate, since the child has all that a parcel has; so what a batch releases
+    /// can be made where nothing may fail any more.
     pub fn of_child(task: &'t Task, parent: u64, child: Child) -> Parcel<'t>
         requires { IsStateOf task.now child.state }
         ensures task { result.task ≡ task.now }
@@ -126,7 +127,7 @@ impl<'t> Parcel<'t> {
         self.state.hash()
     }
 
-    /// That state with its hash.
+    /// Returns that state with its hash.
     pub fn hashed(&self) -> &Hashed
         ensures { result.now ≡ self.now.state }
     {

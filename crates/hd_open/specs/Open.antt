@@ -10,6 +10,7 @@ pub record Open (A : Type 0) : Type 0 where
   pub nodes : List A
   pub gap : Option (ℕ × Option ℕ)
 
+-- the code of an open list, from a code of its nodes
 abbrev pub open_code : {A : Type 0} → Coded A → Coded (Open A)
 open_code {A} c =
     code_by (List A × Option (ℕ × Option ℕ)) (coded× (coded_list c) (coded_option (coded× coded_ℕ (coded_option coded_ℕ))))

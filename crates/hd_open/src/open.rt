@@ -62,7 +62,7 @@ impl<T: Waits> OpenList<T> {
         self.counts.all
     }
 
-    /// A node more, after the others.
+    /// Adds `node` after the others.
     ///
     /// # Errors
     /// - The node, where there is no room for it; no other node has come or gone.

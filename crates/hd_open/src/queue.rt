@@ -56,8 +56,8 @@ fn first_waiting(arrivals: &mut Arrivals, words: &[u64]) -> Option<usize>
     None
 }
 
-/// From a total on, the first one whose bucket has an arrival whose slot is marked, and the first
-/// such arrival there. Those before it are dropped.
+/// Returns the first total from `from` on whose bucket has a marked arrival, and the first such.
+/// An arrival is marked if its slot is. Those before it are dropped.
 fn first_small(small: &mut Vec<Arrivals>, from: usize, words: &[u64]) -> Option<(usize, usize)>
     ensures cleared { (t : ℕ) → AreCleared words.now (bucket small.old.items t)
         (bucket small.new.items t) }

@@ -27,7 +27,7 @@ pub(crate) struct Gap {
     pub(crate) total: Option<u128>,
 }
 
-/// From a slot on, the node before which there are so many.
+/// Returns the slot of the node that has `more` nodes before it, from slot `from` on.
 fn filled_after<T>(slots: &[Option<T>], counts: &Counts, from: usize, more: usize) -> usize
     requires marked { AreMarks slots.now counts.now.marks.items }
     requires within { place_at slots.now from + more < length (live slots.now) }
@@ -144,7 +144,7 @@ pub(crate) fn arrival_by<T>(
     arrival_of(slots, counts, place)
 }
 
-/// A word more, if the next slot is the first of a group.
+/// Adds a word to `words`, if the next slot is the first of a group.
 ///
 /// # Errors
 /// - `NoMemory`: there is no room for it.

@@ -15,8 +15,8 @@ const IN_PLACE: usize = 16;
 /// back where states go from worker to worker.
 pub(crate) type Bytes = SmallVec<u8, IN_PLACE>;
 
-/// A copy of bytes. Where they are too many to stand in place, they are copied into their block
-/// alone.
+/// Returns a copy of `bytes`. If they are too many to stand in place, they are copied into their
+/// block alone.
 ///
 /// # Errors
 /// - `NoMemory`: there is no room for the block.

@@ -17,7 +17,7 @@ pub struct Layout {
 }
 
 impl Layout {
-    /// The layout of a task's states. It does not allocate.
+    /// Returns the layout of the states of `task`. It does not allocate.
     pub fn new(task: &Task) -> Layout
         ensures atoms { result.atoms ≡ length task.now.initial.atoms }
         ensures fluents { result.fluents ≡ length task.now.initial.fluents }

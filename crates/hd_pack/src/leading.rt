@@ -130,7 +130,7 @@ fn write_effects(
     set_fluents(words, kid, hash, state, action.effects.as_slice())
 }
 
-/// Where an action leads where its condition holds.
+/// Returns where `action`, whose condition holds, leads from `state`.
 fn take_effect(
     alloc: Global,
     task: &Task,

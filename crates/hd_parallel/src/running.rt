@@ -156,8 +156,8 @@ fn run_opened<
     }
 }
 
-/// The same as [`run`], where the commits are counted in one ledger, and the entries that are
-/// acknowledged in another.
+/// Searches as [`run`] does, with one ledger for the commits and another for the acknowledged
+/// entries.
 #[tactic(auto, using(crate::proofs::Stopping::tells_later, crate::proofs::Stopping::tells_faulty))]
 fn run_as<
     L: Ledger + Send + Sync,

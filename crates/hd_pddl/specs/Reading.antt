@@ -46,6 +46,7 @@ abbrev pub items_or : {A : Type 0} → (Forms → Option (List A)) → Option (F
 items_or read (Some s) forms = read s.0 >>= λ xs. Some (xs, s.1)
 items_or read None forms = Some ([], forms)
 
+-- requirements, each one of the seven that may be named
 unfoldable pub requirements_of : Forms → Option (Unit {0})
 requirements_of none = Some tt
 requirements_of (word at w rest) = keyword_in w >>= λ n. if is_requirement n then requirements_of rest else None
@@ -56,6 +57,7 @@ abbrev pub requirements_or : Option (Forms × Forms) → Forms → Option Forms
 requirements_or (Some s) forms = requirements_of s.0 >>= λ _. Some s.1
 requirements_or None forms = Some forms
 
+-- what follows the section of requirements, or everything if there is no such section
 unfoldable pub behind_requirements : Forms → Option Forms
 behind_requirements forms = requirements_or (section_at (codes "requirements") forms) forms
 
@@ -69,17 +71,20 @@ names_at text forms = items_or names_of (section_at text forms) forms
 
 -- ---- predicates and functions
 
+-- the name of a predicate or a function, and its parameters with types
 unfoldable pub signature_of : Forms → Option Signature
 signature_of inside = do
   n ← name_at inside
   ps ← typed_after kinds.Variable n.1 [] []
   Some (made_signature n.0 ps)
 
+-- predicates or functions, one after the other: those found so far, and theirs
 unfoldable pub signatures_after : Forms → List Signature → Option (List Signature)
 signatures_after none found = Some found
 signatures_after (word at w rest) found = None
 signatures_after (list a inside b rest) found = signature_of inside >>= λ s. signatures_after rest (found ++ s ∷ [])
 
+-- predicates or functions, one after the other, and nothing else
 unfoldable pub signatures_of : Forms → Option (List Signature)
 signatures_of forms = signatures_after forms []
 
@@ -103,6 +108,7 @@ unfoldable mutual
       name_in w >>= λ n. if bytes_eq n (codes "number") then functions_after false rest found else None
   numbers_after (list a inside b rest) found = None
 
+-- functions, one after the other; `- number` may follow each of them
 unfoldable pub functions_of : Forms → Option (List Signature)
 functions_of forms = functions_after false forms []
 
@@ -117,6 +123,7 @@ abbrev pub condition_or : Option Forms → Forms → Option (List Condition × F
 condition_or (Some rest) forms = condition_at rest
 condition_or None forms = Some ([], forms)
 
+-- the condition after `:precondition`, or the empty one if it is absent, and what follows
 unfoldable pub precondition_at : Forms → Option (List Condition × Forms)
 precondition_at forms = condition_or (behind_keyword (codes "precondition") forms) forms
 
@@ -125,6 +132,7 @@ abbrev pub effect_or : Option Forms → Forms → Option (List Effect × Forms)
 effect_or (Some rest) forms = effect_at rest
 effect_or None forms = Some ([], forms)
 
+-- the effect after `:effect`, or the empty one if it is absent, and what follows
 unfoldable pub action_effect_at : Forms → Option (List Effect × Forms)
 action_effect_at forms = effect_or (behind_keyword (codes "effect") forms) forms
 
@@ -138,6 +146,7 @@ action_head_at inside = do
   vs ← typed_after kinds.Variable g.0 [] []
   Some (n.0, vs, g.1)
 
+-- an action: its name, its parameters, and its precondition and effect, if they are there
 unfoldable pub action_of : Forms → Option Action
 action_of inside = do
   head ← action_head_at inside
@@ -146,6 +155,7 @@ action_of inside = do
   _ ← end_at eff.1
   Some (made_action head.0 head.1 pre.0 eff.0)
 
+-- actions, one after the other: those found so far, and theirs
 unfoldable pub actions_after : Forms → List Action → Option (List Action)
 actions_after none found = Some found
 actions_after (word at w rest) found = None
@@ -165,6 +175,7 @@ domain_in inside = do
   acts ← actions_after fs.1 []
   Some (made_domain head.0 ts.0 cs.0 ps.0 fs.0 acts)
 
+-- a domain in parentheses, and nothing else
 unfoldable pub domain_of : Forms → Option DomainAst
 domain_of forms = do
   g ← group_at forms
@@ -203,12 +214,14 @@ initial_after none found = Some found
 initial_after (word at w rest) found = None
 initial_after (list a inside b rest) found = initial_of inside >>= λ i. initial_after rest (found ++ i ∷ [])
 
+-- the initial facts of a section `:init`, and what follows
 unfoldable pub init_at : Forms → Option (List Init × Forms)
 init_at forms = do
   s ← section_at (codes "init") forms
   is ← initial_after s.0 []
   Some (is, s.1)
 
+-- the condition of a section `:goal`, and what follows
 unfoldable pub goal_at : Forms → Option (List Condition × Forms)
 goal_at forms = do
   s ← section_at (codes "goal") forms
@@ -248,6 +261,7 @@ problem_in inside = do
   m ← metric_of goal.1
   Some (made_problem head.0 its.0 os.0 is.0 goal.0 m)
 
+-- a problem in parentheses, and nothing else
 unfoldable pub problem_of : Forms → Option ProblemAst
 problem_of forms = do
   g ← group_at forms

@@ -13,7 +13,7 @@ use hd_forms::{Form, ReadError, Word, first_refusal, form_refusal, name_at};
 use hd_terms::{ItemKind, Typed, is_minus, typed_of};
 use std::alloc::Global;
 
-/// The names with their types after this keyword, none where that section is absent, and what
+/// Returns the names with their types after `keyword`, none if that section is absent, and what
 /// follows.
 #[tactic(auto, unfolding(crate::specs::Reading::names_at, crate::specs::Reading::names_of))]
 pub fn names_at<'a>(

@@ -25,6 +25,7 @@ name_in (words.Number n) = None
 name_in (words.SignedNumber n) = None
 name_in (words.Operator o) = None
 
+-- a token is an opening parenthesis
 abbrev pub is_open : Word → Bool
 is_open words.OpenParenthesis = true
 is_open words.CloseParenthesis = false
@@ -35,6 +36,7 @@ is_open (words.Number n) = false
 is_open (words.SignedNumber n) = false
 is_open (words.Operator o) = false
 
+-- a token is a closing parenthesis
 abbrev pub is_close : Word → Bool
 is_close words.OpenParenthesis = false
 is_close words.CloseParenthesis = true
@@ -66,6 +68,7 @@ unfoldable pub args_of : List Word → Option (List (List ℕ))
 args_of [] = None
 args_of (w ∷ ws) = args_by (name_in w) (is_close w && is_none ws) (args_of ws)
 
+-- the step of a name and arguments, if both are there and a parenthesis opens it
 abbrev pub step_by : Bool → Option (List ℕ) → Option (List (List ℕ)) → Option Step
 step_by false name args = None
 step_by true None args = None

@@ -39,7 +39,7 @@ fn is_close(word: &Word) -> bool
     matches!(word, Word::CloseParenthesis)
 }
 
-/// The names in front of a closing parenthesis with which the tokens end.
+/// Returns the names in `tokens`, if they are names and a closing parenthesis at the end.
 #[tactic(auto, unfolding(crate::specs::Reading::args_of), using(crate::proofs::Shapes::behind_args_more, crate::proofs::Shapes::behind_args_nil))]
 fn args_of(alloc: Global, tokens: &[Token]) -> Result<Option<Sequence<Name>>, NoMemory>
     ensures { IfOk result (λ found. found ≡ args_of (words_of tokens.now)) }

@@ -19,7 +19,7 @@ fn push_arg(text: &mut Vec<u8>, arg: &Name) -> Result<(), NoMemory>
     text.extend_from_slice(arg.as_str().as_bytes())
 }
 
-/// Objects, each after a space, after a text.
+/// Appends `args` to `text`, each after a space.
 fn push_args(text: &mut Vec<u8>, args: &[Name]) -> Result<(), NoMemory>
     ensures { OnOk result (text.new.items ≡ text.old.items ++ flat_map arg_text args.now) }
 {

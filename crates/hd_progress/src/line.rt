@@ -51,7 +51,7 @@ impl fmt::Display for Line {
     }
 }
 
-/// So many in so many milliseconds: how many these are a second, rounded down.
+/// Returns how many a second `count` in `milliseconds` are, rounded down.
 pub(crate) fn rate_of(count: u64, milliseconds: u64) -> u64
     ensures { result ≡ rate count milliseconds }
 {

@@ -51,8 +51,9 @@ pub struct Watch<'r, R: Eprint + Clock> {
 }
 
 impl<'r, R: Eprint + Clock> Watch<'r, R> {
-    /// That of a search that begins now, by so many workers, with so many entries, which count as
-    /// none of those that it makes. Where the clock can't be read, the last line alone is reported.
+    /// Returns the watch of a search that begins now, by `workers` workers, with `entries` entries,
+    /// which count as none of those that it makes. If the clock can't be read, the last line alone
+    /// is reported.
     ///
     /// # Errors
     /// - `AllocError`: there is no room for what workers tell.

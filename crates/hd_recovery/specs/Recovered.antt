@@ -21,6 +21,7 @@ abbrev pub closed_as : ℕ → Option Node → List Closed
 closed_as n None = []
 closed_as n (Some r) = record { by = Entry n; state = r.state; cost = r.cost } ∷ []
 
+-- the entry of this number, closed with the state and the cost that its plan leads to
 abbrev pub closed_at : BookState → ℕ → List Closed
 closed_at b n = closed_as n (entry_node b n)
 
@@ -33,6 +34,7 @@ abbrev pub open_as : Kid → Option Node → List Released
 open_as k None = []
 open_as k (Some r) = record { kid = k; state = r.state; cost = r.cost } ∷ []
 
+-- a successor, open with the state and the cost that its plan leads to
 abbrev pub open_at : BookState → Kid → List Released
 open_at b k = open_as k (node_of b k)
 

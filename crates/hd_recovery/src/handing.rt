@@ -18,7 +18,7 @@ use hd_zobrist::owner;
 use std::alloc::Global;
 use std::sync::ledger::Ledger;
 
-/// So many workers, with nothing open and nothing closed.
+/// Returns `count` workers with nothing open and nothing closed.
 ///
 /// # Errors
 /// - `NoMemory`: there is no room for them.
@@ -37,7 +37,7 @@ pub(crate) fn idle_workers<'t>(
     Ok(workers)
 }
 
-/// An entry is closed at the worker that owns its state.
+/// Closes entry `number` at the worker that owns `state`.
 ///
 /// # Errors
 /// - `NoMemory`: there is no room for it.
@@ -61,7 +61,7 @@ fn close_at_owner<'t>(
     workers[id].close(number, state, cost)
 }
 
-/// An entry of a book is closed at the worker that owns its state.
+/// Closes entry `number` of `book`, if there is one, at the worker that owns its state.
 ///
 /// # Errors
 /// - `NoMemory`: there is no room for it.
@@ -89,7 +89,7 @@ fn close_one<'t, L: Ledger>(
     }
 }
 
-/// Each entry of a book is closed at the worker that owns its state.
+/// Closes each entry of `book` at the worker that owns its state.
 ///
 /// # Errors
 /// - `NoMemory`: there is no room for one.
@@ -111,7 +111,7 @@ pub(crate) fn close_all<'t, L: Ledger>(
     Ok(())
 }
 
-/// A parcel is a worker's last open node.
+/// Makes `parcel` the last open node of `worker`.
 ///
 /// # Errors
 /// - `NoMemory`: there is no room for it.
@@ -125,7 +125,7 @@ fn take<'t>(worker: &mut Worker<'t>, parcel: Parcel<'t>) -> Result<(), NoMemory>
     }
 }
 
-/// A parcel is the last open node of the worker that owns its state.
+/// Makes `parcel` the last open node of the worker that owns its state.
 ///
 /// # Errors
 /// - `NoMemory`: there is no room for it.
@@ -149,7 +149,7 @@ fn take_at_owner<'t>(
     take(&mut workers[id], parcel)
 }
 
-/// Parcels are open nodes, each of the worker that owns its state, in their order.
+/// Makes each of `parcels`, in order, the last open node of the worker that owns its state.
 ///
 /// # Errors
 /// - `NoMemory`: there is no room for one.

@@ -31,8 +31,8 @@ pub struct Recovered<'t, L: Ledger> {
     pub workers: Vec<Worker<'t>>,
 }
 
-/// So many workers of a book that has just been made again: each entry is closed and each parcel
-/// is open, at the worker that owns its state.
+/// Returns `count` workers of a `book` that has just been made again.
+/// Each entry is closed, and each of `parcels` is open, at the worker that owns its state.
 ///
 /// # Errors
 /// - `NoMemory`: there is no room for one.

@@ -31,6 +31,7 @@ pulled_in Nothing = None
 pulled_in (Pulled g) = Some g
 pulled_in (Flushed g) = None
 
+-- the group that is appended and not acknowledged yet, if there is one
 abbrev pub flushed_in : Out → Option GroupView
 flushed_in Nothing = None
 flushed_in (Pulled g) = None

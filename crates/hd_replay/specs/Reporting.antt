@@ -41,6 +41,7 @@ IsTrueSaid t (Optimal cost) =
 IsTrueSaid t NoPlan = (p : List ℕ) (cost : ℕ) → IsValidAt t p cost → ⊥
 IsTrueSaid t (RangeLeft entry) = Unit {0}
 
+-- a verdict, if there is one, is true of all plans
 abbrev pub IsTrueOf : Task → Option Says → Type 0
 IsTrueOf t None = Unit {0}
 IsTrueOf t (Some says) = IsTrueSaid t says

@@ -127,6 +127,7 @@ abbrev pub seat_redeemed : BookView → Seat → List TicketView → Seat
 seat_redeemed b s [] = s
 seat_redeemed b s (ticket ∷ rest) = seat_redeemed_for s ticket rest (redeemed_for b.batches ticket)
 
+-- the book after the oldest ticket was redeemed, if there is one
 abbrev pub book_redeemed : BookView → List TicketView → BookView
 book_redeemed b [] = b
 book_redeemed b (ticket ∷ rest) = book_redeemed_for b ticket (redeemed_for b.batches ticket)

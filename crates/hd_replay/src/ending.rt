@@ -16,7 +16,7 @@ use hd_store::MemoryDisk;
 use std::alloc::Global;
 use std::sync::ledger::Ledger;
 
-/// The group that is out is spent.
+/// Spends the group in `out`, if there is one.
 fn end_out(out: Out) {
     match out {
         Out::Nothing => {}
@@ -25,7 +25,7 @@ fn end_out(out: Out) {
     }
 }
 
-/// All workers' places are ended.
+/// Ends each of `seats`: spends its tickets in `book`, and drops the rest.
 fn end_seats<'t, L: Ledger>(book: &mut Book<'t, L>, seats: Vec<Seat<'t>>)
     requires { book.old.batches.halted ≡ true }
 {
@@ -36,7 +36,7 @@ fn end_seats<'t, L: Ledger>(book: &mut Book<'t, L>, seats: Vec<Seat<'t>>)
     seats.destroy_empty();
 }
 
-/// A run ends.
+/// Ends `run`: spends the group that is out and all tickets, and drops the rest.
 pub(crate) fn end<L: Ledger>(run: Run<'_, L>) {
     let Run {
         mut book,
@@ -79,7 +79,7 @@ fn open_until(
     }
 }
 
-/// A group is appended to a journal, and the machine stops in one of the calls: what that leaves.
+/// Returns the disk that is left if the machine stops in one of the calls that append `group`.
 ///
 /// # Errors
 /// - `NoMemory`, or what the journal answers.

@@ -11,7 +11,7 @@ use hd_zobrist::owner;
 use std::sync::ledger::Ledger;
 
 impl<'t, L: Ledger> Run<'t, L> {
-    /// The worker pops its mailbox into its hand, if that is empty.
+    /// Pops the mailbox of worker `number` into its hand, if that is empty.
     pub(crate) fn pop(&mut self, number: usize)
         requires sound { IsSoundRun self.old }
         ensures { TurnsTo self.old.book.state.task self.old (moves.Pop number) self.new }
@@ -27,7 +27,7 @@ impl<'t, L: Ledger> Run<'t, L> {
         seats[number].pop(&mut mailboxes[number]);
     }
 
-    /// The worker takes the parcel in its hand.
+    /// Makes the parcel in the hand of worker `number`, if any, its last open node.
     ///
     /// # Errors
     /// - `NoMemory`: there is no room for it: it is in the hand still.
@@ -43,7 +43,7 @@ impl<'t, L: Ledger> Run<'t, L> {
         Ok(())
     }
 
-    /// The worker expands its open node at a place, in the order of arrival.
+    /// Expands the open node of worker `number` at `place`, in the order of arrival.
     ///
     /// # Errors
     /// - `NoMemory`: there is no room for its outcome: it is open still.
@@ -61,8 +61,8 @@ impl<'t, L: Ledger> Run<'t, L> {
         Ok(())
     }
 
-    /// The worker's first outcomes are committed, if it has any, and may hold another ticket. A
-    /// batch that is refused for what it says is dropped.
+    /// Commits the first outcomes of worker `number`, if it has any and may hold another ticket.
+    /// A batch that is refused for what it says is dropped.
     ///
     /// # Errors
     /// - `Full`: the book takes no more, or `NoMemory`.
@@ -86,7 +86,7 @@ impl<'t, L: Ledger> Run<'t, L> {
         Ok(())
     }
 
-    /// The worker redeems its oldest ticket: what it releases is open, or in the outbox.
+    /// Redeems the oldest ticket of worker `number`: what it releases is open, or in the outbox.
     pub(crate) fn redeem(&mut self, number: usize)
         requires sound { IsSoundRun self.old }
         ensures { TurnsTo self.old.book.state.task self.old (moves.Redeem number) self.new }
@@ -98,7 +98,7 @@ impl<'t, L: Ledger> Run<'t, L> {
         seats[number].redeem(book);
     }
 
-    /// The next parcel of the worker's outbox goes to its owner's mailbox, if that is not full.
+    /// Pushes the next parcel of the outbox of worker `number` to its owner's mailbox, if not full.
     ///
     /// # Errors
     /// - `NoMemory`: the mailbox can't grow.
@@ -126,7 +126,7 @@ impl<'t, L: Ledger> Run<'t, L> {
         Ok(())
     }
 
-    /// The worker offers the bound that the book had after its last commit.
+    /// Offers the bound that the book had after the last commit of worker `number`.
     pub(crate) fn offer(&mut self, number: usize)
         ensures { TurnsTo self.old.book.state.task self.old (moves.Offer number) self.new }
     {
@@ -141,7 +141,7 @@ impl<'t, L: Ledger> Run<'t, L> {
         }
     }
 
-    /// The worker sees the least bound that was offered.
+    /// Shows worker `number` the least bound that was offered.
     pub(crate) fn load(&mut self, number: usize)
         ensures { TurnsTo self.old.book.state.task self.old (moves.Load number) self.new }
     {

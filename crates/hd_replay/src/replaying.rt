@@ -21,7 +21,7 @@ use std::marker::Brand;
 use std::mem;
 use std::sync::ledger::Blank;
 
-/// So many workers, and where a resumption stops, if it is possible.
+/// Returns `workers` and `stop`, if a resumption with them is possible.
 fn possible(workers: u32, stop: Option<StopAt>) -> Option<(u32, Option<StopAt>)>
     ensures workers { IfSome result (λ r. r.0 ≡ workers) }
     ensures stop { IfSome result (λ r. r.1 ≡ stop) }

@@ -84,7 +84,7 @@ impl<'t, L: Ledger> Run<'t, L> {
         mem::replace(&mut self.out, Out::Nothing)
     }
 
-    /// A group is out, where none was.
+    /// Sets what is out to `out`; nothing was out before.
     pub(crate) fn put_out(&mut self, out: Out)
         requires group { self.old.group ≡ None }
         requires flushed { self.old.flushed ≡ None }

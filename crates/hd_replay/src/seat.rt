@@ -86,8 +86,8 @@ fn ends(refusal: CommitRefusal) -> Option<ReplayFault>
     }
 }
 
-/// Returns a batch that a worker gave is committed: its ticket. None where it is refused for what
-/// it says: it is dropped.
+/// Commits `batch`, and returns its ticket. `None` means that it is refused for what it says, and
+/// dropped.
 ///
 /// # Errors
 /// - `Full`: the book takes no more, or `NoMemory`.
@@ -191,7 +191,7 @@ impl<'t> Seat<'t> {
         }
     }
 
-    /// The first parcel of a mailbox is in the hand, if that is empty.
+    /// Pops the first parcel of `mailbox` into the hand, if that is empty.
     pub(crate) fn pop(&mut self, mailbox: &mut VecDeque<Parcel<'t>>)
         requires of_task { AllByRecursion (IsParcelOf self.old.worker.task) mailbox.old.items }
         ensures seat { self.new ≡ seat_popped self.old (map parcel_of mailbox.old.items) }
@@ -204,7 +204,7 @@ impl<'t> Seat<'t> {
         }
     }
 
-    /// The parcel in the hand is the worker's last open node.
+    /// Makes the parcel in the hand, if any, the worker's last open node.
     ///
     /// # Errors
     /// - `NoMemory`: there is no room for it: it is in the hand still.
@@ -224,7 +224,7 @@ impl<'t> Seat<'t> {
         }
     }
 
-    /// The worker's open node at a place is an outcome, if there is one at it.
+    /// Expands the worker's open node at `place` to an outcome, if there is one.
     ///
     /// # Errors
     /// - `NoMemory`: there is no room for it: the node is open still.
@@ -239,8 +239,8 @@ impl<'t> Seat<'t> {
         self.worker.expand(lookup, place)
     }
 
-    /// The worker's first outcomes are committed, if it has any, and may hold another ticket. A
-    /// batch that is refused for what it says is dropped.
+    /// Commits the worker's first outcomes, if it has any and may hold another ticket.
+    /// A batch that is refused for what it says is dropped.
     ///
     /// # Errors
     /// - `Full`: the book takes no more, or `NoMemory`.
@@ -276,7 +276,7 @@ impl<'t> Seat<'t> {
         Ok(())
     }
 
-    /// The worker redeems its oldest ticket: what it releases is open, or in the outbox.
+    /// Redeems the worker's oldest ticket: what it releases is open, or in the outbox.
     pub(crate) fn redeem<L: Ledger>(&mut self, book: &mut Book<'t, L>)
         requires of_task { self.old.worker.task ≡ book.old.state.task }
         requires room { HasRoom book.old self.old }
@@ -297,7 +297,7 @@ impl<'t> Seat<'t> {
         }
     }
 
-    /// The next parcel of the outbox. It leaves room for the parcel to come back.
+    /// Removes and returns the outbox's next parcel, and keeps room for it to come back.
     pub(crate) fn next_out(&mut self) -> Option<Parcel<'t>>
         ensures sent { IfSome result (λ p. slice_get self.old.worker.outbox 0
             ≡ Some (parcel_of p)) }
@@ -310,7 +310,7 @@ impl<'t> Seat<'t> {
         self.worker.next_out()
     }
 
-    /// A parcel that left the outbox last goes to a mailbox, or comes back where that is full.
+    /// Puts `parcel`, which left the outbox last, into `mailbox`, or back if that is full.
     ///
     /// # Errors
     /// - `NoMemory`: the mailbox can't grow: the parcel comes back.
@@ -341,7 +341,7 @@ impl<'t> Seat<'t> {
         }
     }
 
-    /// The worker's tickets are spent, and all else of it is let go.
+    /// Spends the worker's tickets in `book`, and drops the rest.
     pub(crate) fn end<L: Ledger>(self, book: &mut Book<'t, L>)
         requires { book.old.batches.halted ≡ true }
         ensures { book.new.batches.halted ≡ true }

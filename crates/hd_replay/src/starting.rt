@@ -37,7 +37,7 @@ fn seats_of<'t>(alloc: Global, workers: Vec<Worker<'t>>) -> Result<Vec<Seat<'t>>
     Ok(seats)
 }
 
-/// So many empty mailboxes.
+/// Returns `workers` empty mailboxes.
 ///
 /// # Errors
 /// - `NoMemory`: there is no room for them.

@@ -13,7 +13,7 @@ use hd_schedule::{Move, StopAt};
 use hd_store::MemoryDisk;
 use std::sync::ledger::Ledger;
 
-/// A move that touches no disk. One that is not possible changes nothing.
+/// Makes the move `next`, if it touches no disk and is possible; else changes nothing.
 ///
 /// # Errors
 /// - `Full`: the book takes no more entries, or `NoMemory`.
@@ -63,7 +63,7 @@ pub(crate) fn stop_in<L: Ledger>(run: &Run<'_, L>, next: Move) -> Option<StopAt>
     }
 }
 
-/// A move that does not end the run. One that is not possible changes nothing.
+/// Makes the move `next`, which does not end the run; one that is not possible changes nothing.
 ///
 /// # Errors
 /// - `Full` or `NoMemory`, or what the journal answers.

@@ -28,7 +28,7 @@ impl<'t, L: Ledger> Run<'t, L> {
         !matches!(&self.out, Out::Nothing)
     }
 
-    /// Returns what is pending is pulled out of the book, if no group is out.
+    /// Pulls what is pending out of the book, if no group is out.
     ///
     /// # Errors
     /// - `NoMemory`: there is no room for a group.
@@ -53,7 +53,7 @@ impl<'t, L: Ledger> Run<'t, L> {
         }
     }
 
-    /// What was appended is acknowledged.
+    /// Acknowledges the group that was appended, if there is one.
     pub(crate) fn ack(&mut self)
         ensures { TurnsTo self.old.book.state.task self.old moves.Ack self.new }
     {
@@ -67,7 +67,7 @@ impl<'t, L: Ledger> Run<'t, L> {
         }
     }
 
-    /// Returns what was pulled is appended to the journal.
+    /// Appends what was pulled to `journal`.
     ///
     /// # Errors
     /// - Why it is not appended: it is pulled still.

@@ -193,7 +193,8 @@ impl Draft {
         self.set_fluents(before, action.effects.as_slice())
     }
 
-    /// Where an action leads where its condition holds.
+    /// Makes the draft the state that `action`, whose condition holds, leads to from `before`, and
+    /// returns the plan's cost; none if that state or cost is out of range.
     fn take_effect(
         &mut self,
         alloc: Global,

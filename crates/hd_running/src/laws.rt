@@ -66,9 +66,9 @@ pub fn tickets_and_groups_stay_out()
         → IsSound t f r → r.flushed ≡ Some g → is_group_out r.book g ≡ true }
 {}
 
-/// A run is sound right after a resumption from the entries of a journal, where these are not too
-/// many and none is faulty; and it stays sound over each move and over a flush, which appends a
-/// group that may be appended.
+/// Law: a run is sound after a resumption, and stays sound over each move and each flush.
+/// The resumption is from the entries of a journal, which are not too many and none of which is
+/// faulty; a flush appends a group that may be appended.
 pub fn runs_stay_sound()
     ensures starts { (t : Task) (f : File) (workers : ℕ)
         → AllByRecursion (IsGroup f.version) f.groups

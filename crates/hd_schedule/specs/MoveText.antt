@@ -63,5 +63,6 @@ IsShort (Stop stop) = IsShortStop stop
 abbrev pub move_line : Move → List ℕ
 move_line move = move_text move ++ (10 ∷ [])
 
+-- the text of moves: the line of each, in order
 abbrev pub moves_text : List Move → List ℕ
 moves_text moves = flat_map move_line moves

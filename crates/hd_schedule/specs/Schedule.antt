@@ -102,11 +102,13 @@ is_line_feed byte = byte == 10
 abbrev pub all_said : List ℕ → List Said
 all_said text = map said_of (slice_split is_line_feed text)
 
+-- a line is bad: it has words that are no comment and no move
 abbrev pub is_bad : Said → Bool
 is_bad said.Silent = false
 is_bad (said.Move move) = false
 is_bad said.Bad = true
 
+-- the move that a line says, if it says one
 abbrev pub move_in : Said → Option Move
 move_in said.Silent = None
 move_in (said.Move move) = Some move

@@ -21,7 +21,7 @@ impl Model for History {
 }
 
 impl History {
-    /// Of a disk that holds this for sure.
+    /// Returns the history of a disk that holds `_held` for sure.
     pub(crate) fn of(_held: &Platter) -> History
         ensures { (result.start ≡ content_of _held.now) × (result.steps ≡ []) }
     {

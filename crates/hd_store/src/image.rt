@@ -25,7 +25,7 @@ impl Image {
     ghost use Rattle.hd_store.specs.Platter.{IsAllSure};
     ghost use Rattle.hd_store.specs.Image.{content, CanHold, IsLike, IsStarted, Steps};
 
-    /// Nothing, and no past. It does not allocate.
+    /// Returns an image of no bytes, with no past. It does not allocate.
     pub(crate) fn new(alloc: Global) -> Image
         ensures { IsStarted result [] }
     {
@@ -64,7 +64,7 @@ impl Image {
         self.held.make_room(end)
     }
 
-    /// A write was done, for which there is room.
+    /// Writes `bytes` at `at`, for which there is room.
     pub(crate) fn write(&mut self, at: usize, bytes: &[u8])
         requires within { at ≤ length (content self.old) }
         requires small { at + length bytes.now < 2 ^ 63 }
@@ -77,7 +77,7 @@ impl Image {
         self.history = History::and(&self.history, &change, &self.held);
     }
 
-    /// A write was begun that failed, of so many bytes; what is read stays.
+    /// Records a write of `count` bytes at `at` that was begun and failed; what is read stays.
     pub(crate) fn break_write(&mut self, at: usize, count: usize)
         requires within { at ≤ length (content self.old) }
         requires small { at + count < 2 ^ 63 }
@@ -88,7 +88,7 @@ impl Image {
         self.history = History::and(&self.history, &change, &self.held);
     }
 
-    /// A cut was done.
+    /// Cuts what is read to `len` bytes.
     pub(crate) fn cut(&mut self, len: usize)
         requires { len ≤ length (content self.old) }
         ensures { Steps self.old (Cut len) (take len (content self.old)) self.new }
@@ -97,7 +97,7 @@ impl Image {
         self.history = History::and(&self.history, &Change::Cut(len as u64), &self.held);
     }
 
-    /// A cut was begun that failed; what is read stays.
+    /// Records a cut to `len` bytes that was begun and failed; what is read stays.
     pub(crate) fn break_cut(&mut self, len: usize)
         ensures { Steps self.old (Cut len) (content self.old) self.new }
     {
@@ -105,7 +105,7 @@ impl Image {
         self.history = History::and(&self.history, &Change::Cut(len as u64), &self.held);
     }
 
-    /// A sync was done.
+    /// Syncs the image: all that is read is sure from now on.
     pub(crate) fn sync(&mut self)
         ensures { Steps self.old Sync (content self.old) self.new }
     {
@@ -113,7 +113,7 @@ impl Image {
         self.history = History::and(&self.history, &Change::Sync, &self.held);
     }
 
-    /// A sync failed.
+    /// Records a sync that failed.
     pub(crate) fn break_sync(&mut self)
         ensures { Steps self.old FailedSync (content self.old) self.new }
     {
@@ -124,8 +124,7 @@ impl Image {
 impl Image {
     ghost use Rattle.hd_store.specs.Image.{IsFilledWith, IsLike};
 
-    /// A stop, at which each byte that is not sure is this one and the length is the greatest; and
-    /// a new start.
+    /// Stops and starts again: each byte that is not sure is `fill`, and the length the greatest.
     pub(crate) fn settle(&mut self, fill: u8) -> Result<(), NoMemory>
         ensures ok { OnOk result (IsFilledWith self.old fill self.new) }
         ensures err { OnErr result (IsLike self.old self.new) }

@@ -25,7 +25,7 @@ pub struct MemoryDisk {
     plan: Plan,
 }
 
-/// Where so many bytes from a place on end, if a machine can count so far.
+/// Returns where `count` bytes from `at` on end, if that is at most `MOST_BYTES`.
 pub(crate) fn end_of(at: usize, count: usize) -> Option<usize>
     ensures { SomeIff result (at + count < 2 ^ 63) (at + count) }
 {
@@ -38,7 +38,7 @@ pub(crate) fn end_of(at: usize, count: usize) -> Option<usize>
 impl MemoryDisk {
     ghost use Rattle.hd_store.specs.MemoryDisk.{device_of, IsStarted, IsStopped};
 
-    /// An empty disk. It does not allocate.
+    /// Returns an empty disk. It does not allocate.
     pub fn new(alloc: Global) -> MemoryDisk
         ensures { IsStarted result [] }
     {
@@ -101,8 +101,8 @@ impl MemoryDisk {
         self.plan = Plan::well(self.plan.failures);
     }
 
-    /// A stop, and a new start: each byte that is not sure then reads `fill`, and the length is the
-    /// greatest that it may be. Nothing that was planned is left.
+    /// Stops and starts again: bytes that are not sure read `fill`, and the length is the greatest.
+    /// Nothing that was planned is left.
     ///
     /// # Errors
     /// - Lack of memory, and then nothing is changed.

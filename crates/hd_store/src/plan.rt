@@ -16,7 +16,7 @@ pub(crate) struct Plan {
 }
 
 impl Plan {
-    /// Each call goes well.
+    /// Returns a plan by which each call goes well, with `failures` failures so far.
     pub(crate) fn well(failures: u64) -> Plan
         ensures { result
             ≡ record { failures = failures; changes = Ahead.Well; reads = Ahead.Well } }
@@ -52,7 +52,7 @@ impl Plan {
         Ok(())
     }
 
-    /// A read is asked for: whether it fails.
+    /// Reports whether the read that is asked for fails, and moves the plan past it.
     pub(crate) fn read(&mut self) -> bool
         ensures fails { result ≡ is_failing self.old.failures self.old.reads }
         ensures changes { self.new.changes ≡ self.old.changes }
@@ -68,7 +68,7 @@ impl Plan {
         fails
     }
 
-    /// A change was begun and failed.
+    /// Records that a change was begun and failed.
     pub(crate) fn break_off(&mut self)
         ensures { self.new ≡ record {
           failures = one_more self.old.failures;
@@ -81,7 +81,7 @@ impl Plan {
         self.changes = self.changes.behind_failure();
     }
 
-    /// A change was done.
+    /// Records that a change was done.
     pub(crate) fn go_on(&mut self)
         ensures { self.new ≡ record self.old { changes = later self.old.changes } }
     {

@@ -75,7 +75,7 @@ fn fill_marked(bytes: &mut [u8], marks: &[bool], fill: u8)
 impl Platter {
     ghost use Rattle.hd_store.specs.Platter.{content_of, HasRoom, IsAllSure, IsFilledUp, IsUnchanged};
 
-    /// Nothing is held, and no memory is taken.
+    /// Returns a platter that holds nothing. It does not allocate.
     pub(crate) fn new(alloc: Global) -> Platter
         ensures sure { IsAllSure result }
         ensures bytes { result.bytes.items ≡ [] }
@@ -123,7 +123,7 @@ impl Platter {
             .reserve(wanted.saturating_sub(self.written.len()))
     }
 
-    /// A range was written, or may have been.
+    /// Records that the range from `at` to `end` was written, or may have been.
     pub(crate) fn touch(&mut self, at: usize, end: usize)
         requires order { at ≤ end }
         requires within { at ≤ self.old.len }
@@ -181,7 +181,7 @@ impl Platter {
         self.least = self.least.min(len);
     }
 
-    /// A cut may have been done, but is not read.
+    /// Records that a cut to `len` may have been done, but is not read.
     pub(crate) fn shrink(&mut self, len: usize)
         ensures bytes { self.new.bytes.items ≡ self.old.bytes.items }
         ensures marks { self.new.written.items ≡ self.old.written.items }
@@ -192,7 +192,7 @@ impl Platter {
         self.least = self.least.min(len);
     }
 
-    /// What is read is sure from now on.
+    /// Makes what is read sure from now on.
     pub(crate) fn make_sure(&mut self)
         ensures sure { IsAllSure self.new }
         ensures content { self.new.bytes.items ≡ content_of self.old }
@@ -207,8 +207,7 @@ impl Platter {
         self.greatest = self.len;
     }
 
-    /// Each byte that is not sure is this one, up to the greatest length, for which there is room;
-    /// all of it is sure.
+    /// Fills each byte that is not sure with `fill`, up to the greatest length; all of it is sure.
     fn fill_up(&mut self, fill: u8)
         requires room { HasRoom self.old self.old.greatest }
         ensures { IsFilledUp self.old fill self.new }
@@ -227,8 +226,8 @@ impl Platter {
         self.least = self.greatest;
     }
 
-    /// Returns what a stop leaves where each byte that is not sure is this one then, and the length
-    /// is the greatest: all of it is sure.
+    /// Keeps what a stop leaves if each unsafe byte is `fill` then and the length is the greatest.
+    /// All of it is safe.
     pub(crate) fn stop(&mut self, fill: u8) -> Result<(), NoMemory>
         ensures ok { OnOk result (IsFilledUp self.old fill self.new) }
         ensures err { OnErr result (IsUnchanged self.old self.new) }

@@ -24,7 +24,7 @@ fn push_object(text: &mut String, objects: &[Name], object: usize) -> Result<(),
     text.push_str(name_at(objects, object))
 }
 
-/// Objects, each after a space, after a text.
+/// Appends the objects at `numbers` to `text`, each after a space.
 fn push_objects(text: &mut String, objects: &[Name], numbers: &[usize]) -> Result<(), NoMemory>
     ensures { OnOk result (string_bytes text.new
         ≡ string_bytes text.old ++ objects_text objects.now numbers.now) }

@@ -51,6 +51,7 @@ sign_in (words.Variable n) = None
 sign_in (words.Operator o) = Some o
 sign_in (words.Number v) = None
 
+-- an operator, if there is one, is `-`
 abbrev pub is_minus_sign : Option signs.Operator → Bool
 is_minus_sign None = false
 is_minus_sign (Some operators.Plus) = false
@@ -138,11 +139,13 @@ term_at none = None
 term_at (word at w rest) = term_in at w >>= λ t. Some (t, rest)
 term_at (list a inside b rest) = None
 
+-- terms, one after the other: those found so far, and theirs
 unfoldable pub terms_after : Forms → List Term → Option (List Term)
 terms_after none found = Some found
 terms_after (word at w rest) found = term_in at w >>= λ t. terms_after rest (found ++ t ∷ [])
 terms_after (list a inside b rest) found = None
 
+-- a name and its terms, and nothing else
 unfoldable pub atom_of : Forms → Option Atom
 atom_of inside = do
   n ← name_at inside

@@ -35,7 +35,7 @@ pub enum Round {
     Idle,
 }
 
-/// Room for a group; where there is none, the book is halted, in a turn of its own under the lock.
+/// Takes room for a group from `rooms`; if there is none, halts the book in a turn of its own.
 ///
 /// # Errors
 /// - `NoMemory`: there is none.

@@ -16,10 +16,10 @@ pub struct Standing {
 /// A search has a gate that does nothing ([`OpenGate`]), or one that reports a user how the search
 /// stands; a test has one of its own, which may wait.
 pub trait Gate {
-    /// The worker of this number is about to settle its `nth` node, counted from 1.
+    /// Hears that worker `worker` is about to settle its `nth` node, counted from 1.
     fn before<R: Wait>(&self, rt: &R, worker: usize, nth: u64);
 
-    /// The worker of this number has settled its `nth` node, or had no room for it.
+    /// Hears that worker `worker` has settled its `nth` node, or had no room for it.
     fn after<R: Wait>(&self, rt: &R, worker: usize, nth: u64);
 
     /// Reports whether the worker of this number is to report how it stands; it is asked once a
@@ -28,7 +28,7 @@ pub trait Gate {
         false
     }
 
-    /// The worker of this number has open nodes of this least cost plus estimate; none where each
+    /// Hears the least cost plus estimate of worker `_worker`'s open nodes. It is `None` if each
     /// estimate is infinite, or nothing is open.
     fn hear_worker(&self, _worker: usize, _least: Option<u128>) {}
 
@@ -38,10 +38,10 @@ pub trait Gate {
         false
     }
 
-    /// The search stands so.
+    /// Hears how the search stands.
     fn hear_committer(&self, _standing: Standing) {}
 
-    /// So many of all entries of the journal are made again, before the search goes on.
+    /// Hears that `_done` of `_all` journal entries are made again, before the search goes on.
     fn hear_rebuilding(&self, _done: u64, _all: u64) {}
 }
 

@@ -29,14 +29,14 @@ impl<'t> Sent<Task> for Letter<'t> {
 }
 
 impl<'t> Letter<'t> {
-    /// A parcel is to be sent.
+    /// Returns the letter of `parcel`, which is to be sent.
     pub fn of(parcel: Parcel<'t>) -> Letter<'t>
         ensures { result ≡ parcel.entry }
     {
         Letter { parcel }
     }
 
-    /// Returns the parcel came.
+    /// Returns the parcel that came.
     pub fn into_parcel(self) -> Parcel<'t>
         ensures { result ≡ self.entry }
     {

@@ -30,7 +30,7 @@ impl Pause {
         Pause { waits: 0 }
     }
 
-    /// There was something to do: the next wait is short again.
+    /// Makes the next wait short again: there was something to do.
     pub fn reset(&mut self) {
         self.waits = 0;
     }

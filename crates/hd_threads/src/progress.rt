@@ -50,7 +50,7 @@ pub struct Progress {
 }
 
 impl Progress {
-    /// That of a worker which has not begun: it has room for its tickets.
+    /// Returns the progress of a worker which has not begun, with room for its tickets.
     ///
     /// # Errors
     /// - `NoMemory`: there is no room for them.
@@ -80,14 +80,14 @@ impl Progress {
         self.idle || self.is_full()
     }
 
-    /// The worker has done something beside its tickets, or nothing.
+    /// Notes by `any` whether the worker did something beside its tickets in this turn.
     pub(crate) fn note(&mut self, any: bool)
         ensures { self.new.held ≡ self.old.held }
     {
         self.idle = !any;
     }
 
-    /// What came to the worker is all estimated, or not yet.
+    /// Notes by `all` whether everything that came to the worker is estimated.
     pub(crate) fn note_opened(&mut self, all: bool)
         ensures { self.new.held ≡ self.old.held }
     {
@@ -160,7 +160,7 @@ impl Progress {
         self.is_full() || self.holds_much()
     }
 
-    /// A node more is an outcome: the number of this node, from 1.
+    /// Counts one more node that became an outcome, and returns its number, from 1.
     pub(crate) fn count(&mut self) -> u64
         ensures { self.new.held ≡ self.old.held }
     {
@@ -169,15 +169,15 @@ impl Progress {
         self.settled
     }
 
-    /// The last outcome leads to states of so many bytes.
+    /// Counts `bytes` more: those of the states that the last outcome leads to.
     pub(crate) fn hold_bytes(&mut self, bytes: usize)
         ensures { self.new.held ≡ self.old.held }
     {
         self.bytes = self.bytes.saturating_add(bytes);
     }
 
-    /// The next batch was made of the outcomes. Where some are left behind it, what they hold is
-    /// not counted any more.
+    /// Subtracts the outcomes of the next batch, which was made. If some are left behind it, what
+    /// they hold is not counted any more.
     pub(crate) fn batched(&mut self)
         ensures { self.new.held ≡ self.old.held }
     {
@@ -185,7 +185,7 @@ impl Progress {
         self.bytes = 0;
     }
 
-    /// A ticket is the youngest.
+    /// Appends `ticket` as the youngest.
     pub(crate) fn hold(&mut self, ticket: Held)
         requires { deque_len self.old.held < MOST_TICKETS }
         ensures { self.new.held.items ≡ self.old.held.items ++ ticket ∷ [] }
@@ -202,7 +202,7 @@ impl Progress {
         self.held.pop_front()
     }
 
-    /// A ticket is the oldest again.
+    /// Puts `ticket` back as the oldest.
     pub(crate) fn keep(&mut self, ticket: Held)
         requires { deque_len self.old.held < MOST_TICKETS }
         ensures { self.new.held.items ≡ ticket ∷ self.old.held.items }

@@ -87,8 +87,8 @@ impl<'t, L: Ledger, A: Ledger> SharedBook<'t, L, A> {
         (SharedBook { book, appended }, share)
     }
 
-    /// The next group goes out, as from [`Book::take_pending`]. It begins where the share says that
-    /// the acknowledged entries end.
+    /// Returns the next group, which goes out, as [`Book::take_pending`] does. It begins where
+    /// `share` says that the acknowledged entries end.
     ///
     /// # Errors
     /// - The room again, where nothing waits, or a group is out: nothing has changed.
@@ -164,7 +164,7 @@ impl<'t, L: Ledger, A: Ledger> SharedBook<'t, L, A> {
         let _ = self.book.counts();
     }
 
-    /// From now on each commit is refused. It does not allocate.
+    /// Halts the book: each later commit is refused. It does not allocate.
     pub fn halt(&mut self)
         ensures task { self.new.state.task ≡ self.old.state.task }
         ensures begins { BeginsWith self.new.state.entries self.old.state.entries }

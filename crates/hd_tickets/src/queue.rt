@@ -40,7 +40,7 @@ impl Model for Queue {
     }) };
 }
 
-/// Where the last of the first `count` batches ends, which begin after `from`.
+/// Returns where the last of the first `count` batches ends, or `from` if `count` is 0.
 fn end_among(ends: &VecDeque<u64>, count: usize, from: u64) -> u64
     requires { count ≤ length ends.now.items }
     ensures { result ≡ end_of from (take count ends.now.items) }
@@ -128,15 +128,15 @@ impl Queue {
         self.ends.push_back_reserved(end);
     }
 
-    /// Where the group that is out ends.
+    /// Returns where the group that is out ends.
     fn group_end(&self) -> u64
         ensures { result ≡ group_end self.now.batches }
     {
         end_among(&self.ends, self.out, self.acknowledged)
     }
 
-    /// The next group goes out, if there is one and none is out: whole batches from the oldest on,
-    /// as many as fit together.
+    /// Puts the next group out and returns it, if there is one and none is out.
+    /// It is whole batches from the oldest on, as many as fit together.
     pub(crate) fn take(&mut self) -> Option<Range<u64>>
         ensures group { result ≡ group_next self.old.batches }
         ensures some { IfSome result (λ g. g.start < g.end) }
@@ -166,7 +166,7 @@ impl Queue {
         self.out > 0 && first == self.acknowledged && end == group_end
     }
 
-    /// The group that is out is acknowledged.
+    /// Acknowledges the group that is out.
     pub(crate) fn acknowledge(&mut self)
         ensures { self.new.batches ≡ without_group self.old.batches }
     {
@@ -177,7 +177,7 @@ impl Queue {
         self.out = 0;
     }
 
-    /// The group that is out waits again.
+    /// Hands back the group that is out: its batches wait again.
     pub(crate) fn hand_back(&mut self)
         ensures { self.new.batches ≡ with_none_out self.old.batches }
     {

@@ -59,7 +59,7 @@ impl Ticket {
         Receipt { first, end }
     }
 
-    /// The ticket is spent for nothing.
+    /// Spends the ticket for nothing.
     pub(crate) fn spend(self) {
         let Ticket {
             number: _,

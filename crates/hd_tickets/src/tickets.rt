@@ -250,7 +250,7 @@ impl<R: Drop> Tickets<R> {
         }
     }
 
-    /// From now on no more batches are accepted.
+    /// Halts: from now on no more batches are accepted.
     pub fn halt(&mut self)
         ensures { self.new.batches ≡ with_halt self.old.batches }
     {

@@ -96,6 +96,7 @@ after_releasing rs w = record w {
   room = w.room - length rs;
 }
 
+-- `released` of parcels: its own are open nodes, the others are in the outbox
 abbrev pub after_release : List ParcelView → WorkerView → WorkerView
 after_release parcels w = after_releasing (map parcel_of parcels) w
 
@@ -109,8 +110,10 @@ after_return r w = record w { outbox = r ∷ w.outbox; lent = false }
 
 -- ---- `see` and `close`
 
+-- `see`: this is the bound that the worker saw last
 abbrev pub after_seeing : Option ℕ → WorkerView → WorkerView
 after_seeing bound w = record w { seen = bound }
 
+-- `close`: the entry of this number, with its state and cost, is closed
 abbrev pub after_closing : ℕ → State → ℕ → WorkerView → WorkerView
 after_closing n s cost w = record w { closed = w.closed ++ record { by = Entry n; state = s; cost = cost } ∷ [] }

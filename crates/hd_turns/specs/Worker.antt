@@ -25,6 +25,7 @@ pub record WorkerView : Type 0 where
   pub room : ℕ
   pub lent : Bool
 
+-- a worker that has no nodes, no outcomes and no parcels, and saw no bound
 abbrev pub empty_worker : Task → ℕ → ℕ → WorkerView
 empty_worker t id workers = record {
   task = t;
@@ -44,5 +45,6 @@ empty_worker t id workers = record {
 abbrev pub is_own : ℕ → ℕ → Released → Bool
 is_own id workers r = state_hash r.state % workers == id
 
+-- another worker owns the state of a parcel
 abbrev pub is_foreign : ℕ → ℕ → Released → Bool
 is_foreign id workers r = not (is_own id workers r)

@@ -13,6 +13,7 @@ use Rattle.hd_validate.specs.Naming.{HasNamesOf}
 abbrev pub names_of_objects : List declared.Object → List (List ℕ)
 names_of_objects objects = map (λ (o : declared.Object). o.name) objects
 
+-- the names of schemas, by number
 abbrev pub names_of_schemas : List Schema → List (List ℕ)
 names_of_schemas schemas = map (λ (a : Schema). a.name) schemas
 

@@ -13,10 +13,12 @@ abbrev pub name_of_object : Option declared.Object → List ℕ
 name_of_object None = []
 name_of_object (Some o) = o.name
 
+-- the name of a predicate or a function, or nothing if it is missing
 abbrev pub name_of_function : Option Signature → List ℕ
 name_of_function None = []
 name_of_function (Some f) = f.name
 
+-- the name of a schema, or nothing if it is missing
 abbrev pub name_of_schema : Option Schema → List ℕ
 name_of_schema None = []
 name_of_schema (Some a) = a.name

@@ -53,7 +53,7 @@ impl<'a> NameTable<'a> {
     }
 }
 
-/// The names of schemas, by number.
+/// Returns the names of `schemas`, by number.
 fn schema_names<'a>(
     alloc: Global,
     seed: Seed,
@@ -71,7 +71,7 @@ fn schema_names<'a>(
     Ok(names)
 }
 
-/// The names of objects, by number.
+/// Returns the names of `objects`, by number.
 fn object_names<'a>(
     alloc: Global,
     seed: Seed,
@@ -135,14 +135,14 @@ impl<'a> TaskNames<'a> {
         }
     }
 
-    /// The names of the schemas, by number.
+    /// Returns the names of the schemas, by number.
     pub(crate) fn schemas(&self) -> &NameTable<'a>
         ensures { result.now ≡ names_of_schemas self.now.schemas }
     {
         &self.schemas
     }
 
-    /// The names of the objects, by number.
+    /// Returns the names of the objects, by number.
     pub(crate) fn objects(&self) -> &NameTable<'a>
         ensures { result.now ≡ names_of_objects self.now.objects }
     {

@@ -9,7 +9,7 @@ use hd_plan::Step;
 use smallvec::SmallVec;
 use std::alloc::Global;
 
-/// The numbers of names, unless one is not in the table.
+/// Returns the numbers of `names`, unless one is not in `table`.
 #[tactic(auto, using(crate::proofs::Finding::behind_more, crate::proofs::Finding::behind_nil))]
 fn numbers_of(
     alloc: Global,

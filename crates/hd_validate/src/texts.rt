@@ -45,7 +45,7 @@ fn push_object(text: &mut String, objects: &[Object], number: usize) -> Result<(
     text.push_str(object_name(objects, number))
 }
 
-/// Objects, each after a space, after a text.
+/// Appends the names of the objects `numbers` to `text`, each after a space.
 fn push_objects(text: &mut String, objects: &[Object], numbers: &[usize]) -> Result<(), NoMemory>
     ensures { OnOk result (string_bytes text.new
         ≡ string_bytes text.old ++ flat_map (object_text objects.now) numbers.now) }

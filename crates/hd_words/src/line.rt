@@ -174,7 +174,7 @@ fn journal<'a>(alloc: Global, help: &'a str, required: bool) -> Arg<'a> {
         .required(required)
 }
 
-/// `solve DOMAIN PROBLEM [--journal FILE] [--workers N] [--limit N] [--progress]`.
+/// Returns `solve DOMAIN PROBLEM [--journal FILE] [--workers N] [--limit N] [--progress]`.
 fn solve<'a>(alloc: Global) -> Result<Command<'a>, AllocError> {
     of_task(alloc, "solve")?
         .about("Prints an optimal plan")
@@ -189,7 +189,7 @@ fn solve<'a>(alloc: Global) -> Result<Command<'a>, AllocError> {
         .arg(progress(alloc))
 }
 
-/// `resume DOMAIN PROBLEM --journal FILE [--workers N] [--limit N] [--progress]`.
+/// Returns `resume DOMAIN PROBLEM --journal FILE [--workers N] [--limit N] [--progress]`.
 fn resume<'a>(alloc: Global) -> Result<Command<'a>, AllocError> {
     of_task(alloc, "resume")?
         .about("Continues a search that was stopped")
@@ -200,7 +200,7 @@ fn resume<'a>(alloc: Global) -> Result<Command<'a>, AllocError> {
         .arg(progress(alloc))
 }
 
-/// `certify DOMAIN PROBLEM --journal FILE`.
+/// Returns `certify DOMAIN PROBLEM --journal FILE`.
 fn certify<'a>(alloc: Global) -> Result<Command<'a>, AllocError> {
     of_task(alloc, "certify")?
         .about("Prints the verdict that a journal shows")
@@ -216,7 +216,7 @@ fn salvage<'a>(alloc: Global) -> Arg<'a> {
         .action(ArgAction::SetTrue)
 }
 
-/// `migrate DOMAIN PROBLEM --journal OLD --to NEW [--salvage]`.
+/// Returns `migrate DOMAIN PROBLEM --journal OLD --to NEW [--salvage]`.
 fn migrate<'a>(alloc: Global) -> Result<Command<'a>, AllocError> {
     of_task(alloc, "migrate")?
         .about("Copies a journal to a new one of version 2")
@@ -237,7 +237,7 @@ fn file_if<'a>(alloc: Global, id: &'a str, name: &'a str, help: &'a str) -> Arg<
     Arg::new(alloc, id).value_name(name).help(help)
 }
 
-/// `inspect [DOMAIN PROBLEM] --journal FILE`.
+/// Returns `inspect [DOMAIN PROBLEM] --journal FILE`.
 fn inspect<'a>(alloc: Global) -> Result<Command<'a>, AllocError> {
     Command::new(alloc, "inspect")
         .arg(file_if(alloc, "domain", "DOMAIN", "The file with the domain"))?
@@ -247,7 +247,7 @@ fn inspect<'a>(alloc: Global) -> Result<Command<'a>, AllocError> {
         .arg(journal(alloc, "The file that the search is kept in", true))
 }
 
-/// `ground DOMAIN PROBLEM`.
+/// Returns `ground DOMAIN PROBLEM`.
 fn ground<'a>(alloc: Global) -> Result<Command<'a>, AllocError> {
     Ok(
         of_task(alloc, "ground")?
@@ -264,7 +264,7 @@ fn explain<'a>(alloc: Global) -> Arg<'a> {
         .action(ArgAction::SetTrue)
 }
 
-/// `validate DOMAIN PROBLEM PLAN [--explain]`.
+/// Returns `validate DOMAIN PROBLEM PLAN [--explain]`.
 fn validate<'a>(alloc: Global) -> Result<Command<'a>, AllocError> {
     of_task(alloc, "validate")?
         .about("Checks a plan, and prints its cost")
@@ -273,7 +273,7 @@ fn validate<'a>(alloc: Global) -> Result<Command<'a>, AllocError> {
         .arg(explain(alloc))
 }
 
-/// `replay DOMAIN PROBLEM SCHEDULE`.
+/// Returns `replay DOMAIN PROBLEM SCHEDULE`.
 fn replay<'a>(alloc: Global) -> Result<Command<'a>, AllocError> {
     of_task(alloc, "replay")?
         .about("Plays a schedule of a search, with stops at any moment")

@@ -189,7 +189,7 @@ fn solve_request(
     }))
 }
 
-/// The request to go on, if its journal is named, and its number of workers is one of 1 to 64.
+/// Returns the request to resume, if its journal is named, and its numbers are within their ranges.
 fn resume_request(
     alloc: Global,
     domain: &str,

@@ -22,9 +22,11 @@ pub record FrontierView : Type 0 where
   pub closed : List Closed
   pub room : ℕ
 
+-- a frontier with no open nodes, nothing closed and no room for parcels
 abbrev pub empty_frontier : Task → FrontierView
 empty_frontier t = record { task = t; waiting = []; closed = []; room = 0 }
 
+-- a frontier with this room for parcels, and otherwise the same
 abbrev pub with_room : ℕ → FrontierView → FrontierView
 with_room room f = record { task = f.task; waiting = f.waiting; closed = f.closed; room = room }
 

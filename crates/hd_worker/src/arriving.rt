@@ -63,7 +63,7 @@ fn node_for<'t>(
     })
 }
 
-/// The node of the first parcel that came is open, after the others; the parcel is dropped.
+/// Opens `node`, that of the first parcel of `fresh`, after the others, and drops the parcel.
 ///
 /// # Errors
 /// - `NoMemory`: there is no room for it; nothing has changed.
@@ -90,8 +90,8 @@ fn open_first<'t>(
     }
 }
 
-/// The parcels that came become open nodes, in their order, after the others. Each is estimated,
-/// unless its state was before. Room for so many to come is kept.
+/// Opens the nodes of the parcels of `fresh`, in their order, after the others. Each is estimated,
+/// unless its state was before. Room for `room` parcels to come is kept.
 ///
 /// # Errors
 /// - `NoMemory`: there is no room for a node; those before it are open nodes.

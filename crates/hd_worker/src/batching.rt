@@ -40,7 +40,7 @@ fn kids_of(outcomes: &[Outcome]) -> usize
     count
 }
 
-/// Of each outcome, how many expansions stand before it.
+/// Returns, for each of `outcomes`, how many expansions stand before it.
 ///
 /// # Errors
 /// - `NoMemory`: there is no room for the numbers.
@@ -82,7 +82,7 @@ fn split_first<'t>(
     Ok(mem::replace(outcomes, rest))
 }
 
-/// Names an outcome again.
+/// Updates what `outcome` names as its expansion, if it is a duplicate, as [`numbered`] does.
 fn number_one<'t>(outcome: &mut Outcome<'t>, first: u64, given: &[u64])
     requires { (k : ℕ) → first + slice_index given.now k < 2 ^ 64 }
     ensures { outcome.new ≡ outcome_numbered first given.now outcome.old }
@@ -92,7 +92,7 @@ fn number_one<'t>(outcome: &mut Outcome<'t>, first: u64, given: &[u64])
     }
 }
 
-/// Names outcomes again.
+/// Updates what the duplicates of `outcomes` name as their expansions, as [`numbered`] does.
 fn number_all<'t>(outcomes: &mut [Outcome<'t>], first: u64, given: &[u64])
     requires { (k : ℕ) → first + slice_index given.now k < 2 ^ 64 }
     ensures { outcomes.new ≡ map (outcome_numbered first given.now) outcomes.old }
@@ -154,7 +154,7 @@ impl<'t> Worker<'t> {
         self.frontier.reserve(count)
     }
 
-    /// The batch that was given last is numbered from `first` on: its expansions are these entries.
+    /// Numbers the batch that was given last: its expansions are the entries from `first` on.
     /// It does not allocate. A batch that was refused is numbered from a number on that no entry
     /// has.
     pub fn committed(&mut self, first: u64)

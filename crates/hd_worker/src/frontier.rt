@@ -81,7 +81,7 @@ impl<'t> Frontier<'t> {
         self.room
     }
 
-    /// A parcel is the last open node.
+    /// Adds `parcel` as the last open node.
     ///
     /// # Errors
     /// - The parcel, where there is no room for it.
@@ -94,7 +94,7 @@ impl<'t> Frontier<'t> {
         push_beside(&mut self.fresh, self.room, parcel)
     }
 
-    /// A parcel is the last open node. There is room for it.
+    /// Adds `parcel` as the last open node, in room that was kept for it.
     pub(crate) fn receive(&mut self, parcel: Parcel<'t>)
         requires of_task { parcel.task ≡ self.old.task }
         requires room { 0 < self.old.room }
@@ -289,7 +289,7 @@ impl<'t> Frontier<'t> {
         Ok(Some(outcome))
     }
 
-    /// An entry more in the closed list.
+    /// Adds entry `entry`, which expands `state` at `cost`, to the closed list.
     ///
     /// # Errors
     /// - `NoMemory`: there is no room for it.
@@ -304,7 +304,7 @@ impl<'t> Frontier<'t> {
         Ok(())
     }
 
-    /// Names all expansions again, once the batch that was given last is numbered from `first` on.
+    /// Renames all expansions, once the batch that was given last is numbered from `first` on.
     pub(crate) fn number(&mut self, first: u64, given: &[u64])
         requires { (k : ℕ) → first + slice_index given.now k < 2 ^ 64 }
         ensures { self.new ≡ all_numbered first given.now self.old }

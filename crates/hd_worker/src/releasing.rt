@@ -22,8 +22,8 @@ fn is_own(id: usize, workers: usize, parcel: &Parcel<'_>) -> bool
     owner(parcel.hash(), workers) == id
 }
 
-/// A parcel whose state the worker owns is an open node, another is in the outbox. There is room
-/// for it.
+/// Adds `parcel` to the open nodes if worker `id` owns its state, and to `outbox` if not. There is
+/// room for it.
 fn place<'t>(
     frontier: &mut Frontier<'t>,
     outbox: &mut VecDeque<Parcel<'t>>,
@@ -54,8 +54,8 @@ fn place<'t>(
     }
 }
 
-/// Parcels whose states the worker owns are open nodes, in their order, the others are in the
-/// outbox. There is room for them.
+/// Adds the `parcels` whose states worker `id` owns to the open nodes, in their order, and the
+/// others to `outbox`. There is room for them.
 pub(crate) fn place_all<'t>(
     frontier: &mut Frontier<'t>,
     outbox: &mut VecDeque<Parcel<'t>>,

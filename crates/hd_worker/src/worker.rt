@@ -97,7 +97,7 @@ impl<'t> Worker<'t> {
         }
     }
 
-    /// A parcel is the last open node.
+    /// Adds `parcel` as the last open node.
     ///
     /// # Errors
     /// - The parcel, where there is no room for it; the worker is as it was.
@@ -110,8 +110,8 @@ impl<'t> Worker<'t> {
         self.frontier.take(parcel)
     }
 
-    /// Parcels that a batch has released: those whose states this worker owns are open nodes, the
-    /// others are in the outbox. It does not allocate: the calls of `next_batch` made the room.
+    /// Opens the `parcels` whose states this worker owns, and puts the others into the outbox. A
+    /// batch has released them. It does not allocate: the calls of `next_batch` made the room.
     pub fn released(&mut self, parcels: Vec<Parcel<'t>>)
         requires room { length parcels.items ≤ self.old.room }
         requires of_task { AllByRecursion (IsParcelOf self.old.task) parcels.items }
@@ -140,7 +140,7 @@ impl<'t> Worker<'t> {
         Some(parcel)
     }
 
-    /// The parcel that left the outbox last is its first again. It does not allocate.
+    /// Puts `parcel`, which left the outbox last, back as its first. It does not allocate.
     pub fn put_back(&mut self, parcel: Parcel<'t>)
         requires lent { self.old.lent ≡ true }
         requires of_task { parcel.task ≡ self.old.task }
@@ -150,14 +150,14 @@ impl<'t> Worker<'t> {
         push_front_reserved(&mut self.outbox, parcel);
     }
 
-    /// The bound from now on.
+    /// Sets the bound that the worker sees from now on.
     pub fn see(&mut self, bound: Option<u64>)
         ensures { self.new ≡ after_seeing bound self.old }
     {
         self.seen = bound;
     }
 
-    /// An entry of the book is in the closed list, after the others.
+    /// Adds entry `entry` of the book to the closed list, after the others.
     ///
     /// # Errors
     /// - `NoMemory`: there is no room for it; the worker is as it was.

@@ -115,6 +115,7 @@ MayBeLeftBy b group (Some g) left = left ≡ group_end b.batches.queue
 MayBeLeftBy b (Some g) None left = (left ≡ b.batches.queue.acknowledged) ⊎ (left ≡ group_end b.batches.queue)
 MayBeLeftBy b None None left = left ≡ b.batches.queue.acknowledged
 
+-- how many entries a stop of this run may leave
 abbrev pub MayBeLeft : Run → ℕ → Type 0
 MayBeLeft r left = MayBeLeftBy r.book r.group r.flushed left
 

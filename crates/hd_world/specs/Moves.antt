@@ -53,6 +53,7 @@ abbrev pub taken_by : ℕ → Run → Seat → Option Released → Run
 taken_by k r s None = r
 taken_by k r s (Some p) = with_seat k (record s { worker = with_parcel p s.worker; hand = None }) r
 
+-- `take`: the parcel in the hand of a worker, if any, is its last open node
 abbrev pub taken : ℕ → Run → Option Seat → Run
 taken k r None = r
 taken k r (Some s) = taken_by k r s s.hand
@@ -104,6 +105,7 @@ abbrev pub committed_by : ℕ → Run → Seat → Option CommitRefusal → Opti
 committed_by k r s None = Some (with_commit k (batch_of s.worker) s r)
 committed_by k r s (Some why) = if is_dropped why then Some (with_drop k s r) else None
 
+-- `commit`: a worker's batch, if it may commit one, is accepted or dropped; none if it ends the run
 abbrev pub committed : ℕ → Run → Option Seat → Option Run
 committed k r None = Some r
 committed k r (Some s) = if may_commit s then committed_by k r s (refusal_to r.book (batch_of s.worker)) else Some r
@@ -127,6 +129,7 @@ abbrev pub redeemed_of : ℕ → Run → Seat → List TicketView → Run
 redeemed_of k r s [] = r
 redeemed_of k r s (ticket ∷ rest) = redeemed_by k r s ticket rest (redeemed_for r.book.batches ticket)
 
+-- `redeem`: the oldest ticket of a worker, if any, is redeemed
 abbrev pub redeemed : ℕ → Run → Option Seat → Run
 redeemed k r None = r
 redeemed k r (Some s) = redeemed_of k r s s.tickets
@@ -153,6 +156,7 @@ abbrev pub pushed_of : ℕ → Run → Seat → List Released → Run
 pushed_of k r s [] = r
 pushed_of k r s (p ∷ rest) = mailed k r s p (owner_of (length r.seats) p) (slice_get r.mailboxes (owner_of (length r.seats) p))
 
+-- `push`: the next parcel of a worker's outbox, if any, goes to its owner's mailbox
 abbrev pub pushed : ℕ → Run → Option Seat → Run
 pushed k r None = r
 pushed k r (Some s) = pushed_of k r s s.worker.outbox
@@ -176,6 +180,7 @@ abbrev pub pulled_to : Run → Option GroupView → Run
 pulled_to r None = r
 pulled_to r (Some g) = record r { book = after_take r.book; group = Some g }
 
+-- `pull`: the next group of the book goes out, if one is due
 abbrev pub pulled : Run → Run
 pulled r = pulled_to r (next_group r.book)
 
@@ -186,6 +191,7 @@ acked_of r (Some g) =
     if is_group_out r.book g then record r { book = after_flush r.book; flushed = None }
     else record r { flushed = None }
 
+-- `ack`: the appended group, if any, is acknowledged if it is still out
 abbrev pub acked : Run → Run
 acked r = acked_of r r.flushed
 

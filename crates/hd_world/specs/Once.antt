@@ -19,22 +19,28 @@ total weigh (x ∷ xs) = weigh x + total weigh xs
 
 -- ---- what the successors in each place weigh
 
+-- the weight of the successors in some parcels
 abbrev pub in_parcels : (Kid → ℕ) → List Released → ℕ
 in_parcels weigh parcels = total (λ (p : Released). weigh p.kid) parcels
 
+-- the weight of the successors that some outcomes settle
 abbrev pub in_outcomes : (Kid → ℕ) → List Outcome → ℕ
 in_outcomes weigh outcomes = total (λ (o : Outcome). weigh (kid_of o)) outcomes
 
+-- the weight of the successor in a hand, if one is there
 abbrev pub in_hand : (Kid → ℕ) → Option Released → ℕ
 in_hand weigh None = 0
 in_hand weigh (Some p) = weigh p.kid
 
+-- the weight of a worker's open nodes, its outcomes and its outbox
 abbrev pub in_worker : (Kid → ℕ) → WorkerView → ℕ
 in_worker weigh w = in_parcels weigh w.waiting + in_outcomes weigh w.outcomes + in_parcels weigh w.outbox
 
+-- the weight of the successors in a seat's hand and with its worker
 abbrev pub in_seat : (Kid → ℕ) → Seat → ℕ
 in_seat weigh s = in_hand weigh s.hand + in_worker weigh s.worker
 
+-- the weight of the successors that a ticket releases, if it is out
 abbrev pub in_ticket : (Kid → ℕ) → Option (Outgoing ParcelsView) → ℕ
 in_ticket weigh None = 0
 in_ticket weigh (Some o) = in_parcels weigh o.released.kids

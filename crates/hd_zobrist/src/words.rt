@@ -165,7 +165,7 @@ impl Words {
         hash
     }
 
-    /// The hash of a state. It does not allocate.
+    /// Returns the hash of `state`. It does not allocate.
     #[tactic(auto, unfolding(crate::specs::Hash::state_hash))]
     pub fn hash(&self, state: &State) -> u64
         ensures { result ≡ state_hash state.now }

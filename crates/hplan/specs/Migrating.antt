@@ -95,6 +95,7 @@ pub record Moving : Type 0 where
   pub before : Option (List ℕ)
   pub after : Option (List ℕ)
 
+-- two files with these names and contents
 abbrev pub moving : List ℕ → List ℕ → Option (List ℕ) → Option (List ℕ) → Option (List ℕ) → Moving
 moving from to held before after = record { from = from; to = to; held = held; before = before; after = after }
 

@@ -8,7 +8,7 @@ use hd_base::NoMemory;
 use hd_task::{ActionId, Plan, Reached, State, Task, step};
 use std::alloc::Global;
 
-/// Where an action leads from a node, if it is applicable there.
+/// Returns the state and the cost that `action` leads to, if it is applicable at this node.
 fn step_from(
     alloc: Global,
     task: &Task,

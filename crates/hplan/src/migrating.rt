@@ -47,7 +47,8 @@ fn named_in(
     }
 }
 
-/// The same of a file. It is read, and left alone.
+/// Returns the pairs of the entries of the file `name`, which name a legal list of `task`. The file
+/// is read, and left alone.
 fn named_in_file<P: Places>(
     alloc: Global,
     places: &mut P,

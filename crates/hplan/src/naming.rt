@@ -28,7 +28,7 @@ fn name_at(alloc: Global, names: &[Name], number: usize) -> Result<Name, NoMemor
     }
 }
 
-/// The names of these numbers.
+/// Returns the names at `numbers` in `names`.
 fn names_at(alloc: Global, names: &[Name], numbers: &[usize]) -> Result<Sequence<Name>, NoMemory>
     ensures { IfOk result (λ found. found ≡ map (name_at names.now) numbers.now) }
 {
@@ -73,8 +73,7 @@ fn steps_of(alloc: Global, task: &Task, plan: &Plan) -> Result<Sequence<Step>, N
     Ok(Sequence::from_vec(steps))
 }
 
-/// A plan by the names of its steps, with its cost; none where a step of the plan is not
-/// applicable.
+/// Returns `plan` by the names of its steps, with its cost; none if a step is not applicable.
 pub fn named_plan(alloc: Global, task: &Task, plan: &Plan) -> Result<Option<NamedPlan>, NoMemory>
     ensures { IfOk result (λ found. MatchOption found
         (goes_through task.now plan.now ≡ false)

@@ -212,7 +212,7 @@ fn migrate_files<P: Places, O: Write>(
     flush(out)
 }
 
-/// The same, up to the journal's damage.
+/// Writes the entries up to the damage of the journal `from` to `to`, as [`migrate_files`] does.
 fn salvage_files<P: Places, O: Write>(
     alloc: Global,
     places: &mut P,

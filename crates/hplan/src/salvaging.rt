@@ -60,7 +60,8 @@ fn front_in(
     }
 }
 
-/// The same of a file. It is read, and left alone.
+/// Returns the pairs of the entries of the file `name` up to its damage, which name a legal list of
+/// `task`. The file is read, and left alone.
 fn front_in_file<P: Places>(
     alloc: Global,
     places: &mut P,

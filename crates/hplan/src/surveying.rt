@@ -70,7 +70,8 @@ fn surveyed_in(
     }
 }
 
-/// The same of a file. It is read, and left alone.
+/// Returns what is reported of the content of the file `name`, and of the search in it. The file is
+/// read, and left alone.
 fn surveyed_in_file<P: Places>(
     alloc: Global,
     places: &mut P,

@@ -33,7 +33,7 @@ pub fn push_action(text: &mut String, task: &Task, action: usize) -> Result<(), 
     }
 }
 
-/// Returns what leaves the range, after a text.
+/// Appends what leaves the range to `text`.
 fn push_departing(text: &mut String, task: &Task, by: DepartsBy) -> Result<(), NoMemory>
     ensures { OnOk result (string_bytes text.new
         ≡ string_bytes text.old ++ departing_text task.now by) }

@@ -31,7 +31,7 @@ pub struct Told {
     pub plan: Option<NamedPlan>,
 }
 
-/// An answer's plan by its names.
+/// Returns `plan`, that of an answer, by the names of its steps.
 fn plan_of(alloc: Global, task: &Task, plan: &Plan) -> Result<NamedPlan, NoMemory>
     requires { goes_through task.now plan.now ≡ true }
     ensures { IfOk result (λ named.

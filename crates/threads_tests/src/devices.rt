@@ -112,7 +112,7 @@ fn broken_off<R: Threads + Wait + Sync>(
 /// group takes four.
 const CALLS: u64 = 40;
 
-/// Returns what was in the journal when the device failed is found there again, and stays; some
+/// Shows that what was in the journal when the device failed is found there again, and stays. Some
 /// searches had begun to write and were not at their end.
 #[test]
 fn searches_go_on_behind_each_failing_call(rt: HostRuntime) -> Result<(), Fail> {

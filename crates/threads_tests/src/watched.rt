@@ -68,7 +68,8 @@ impl Eprint for Screen {
     }
 }
 
-/// So many entries, successors posted and settled, and entries acknowledged; and the best cost.
+/// Returns a standing with the best cost `bound`. `counted` has the entries, the successors posted
+/// and settled, and the entries acknowledged.
 fn standing(counted: [u64; 4], bound: Option<u64>) -> Standing {
     let [entries, posted, settled, acknowledged] = counted;
     let counts = Counts {
@@ -81,9 +82,9 @@ fn standing(counted: [u64; 4], bound: Option<u64>) -> Standing {
     Standing { counts, bound }
 }
 
-/// The search by two workers begins at 5 seconds, with 10 entries. A line is reported once a second
-/// has passed since the one before, and the workers are asked a tenth of a second before; the
-/// last line is reported when the search ends.
+/// Checks that a line is reported once a second has passed since the one before, and that the
+/// workers are asked a tenth of a second before. The search by two workers begins at 5 seconds,
+/// with 10 entries; the last line is reported when the search ends.
 #[test]
 fn a_line_is_told_each_second(rt: HostRuntime) -> Result<(), Fail> {
     let screen = Screen::new(rt.alloc(), 5000);
