@@ -22,7 +22,8 @@ use Rattle.hd_book.specs.Refusing.{refusal_to, IsRefusalTo}
 use Rattle.hd_book.specs.Steps.{after_commit, ticket_after}
 use Rattle.hd_turns.specs.Worker.{WorkerView}
 use Rattle.hd_turns.specs.Calls.{ranks, batch_of, after_batch, after_numbering, after_sending, after_return}
-use Rattle.hd_world.specs.declared.limits.TheConstants.{MAILBOX_PLACES, MAX_TICKETS}
+use Rattle.hd_desk.specs.declared.mail.TheConstants.{MAILBOX_PLACES}
+use Rattle.hd_tickets.specs.declared.ticket.TheConstants.{MAX_TICKETS}
 use Rattle.hd_world.specs.Seats.{Seat, Run}
 use Rattle.hd_world.specs.Moves.{with_seat, bound_in, popped, taken_by, taken, may_commit, is_dropped, with_drop, committed_by, committed, redeemed_by, redeemed_of, redeemed, mailed, pushed_of, pushed, owner_of}
 use Rattle.hd_replay.specs.declared.fault.ReplayFault.{ReplayFault}

@@ -16,7 +16,7 @@ use Rattle.hd_book.specs.Refusing.{refusal_to}
 use Rattle.hd_book.specs.Steps.{after_commit, ticket_after, after_redeem}
 use Rattle.hd_turns.specs.Worker.{WorkerView}
 use Rattle.hd_turns.specs.Calls.{with_parcel, batch_of, after_batch, after_numbering, after_releasing, after_return}
-use Rattle.hd_world.specs.declared.limits.TheConstants.{MAILBOX_PLACES}
+use Rattle.hd_desk.specs.declared.mail.TheConstants.{MAILBOX_PLACES}
 use Rattle.hd_world.specs.Seats.{Seat}
 use Rattle.hd_world.specs.Moves.{bound_in, may_commit, is_dropped}
 use Rattle.hd_replay.specs.declared.fault.ReplayFault.{ReplayFault}

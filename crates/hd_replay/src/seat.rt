@@ -18,10 +18,11 @@ ghost use Rattle.hd_replay.specs.Seats.{seat_with, seat_popped, box_popped, with
 use crate::fault::ReplayFault;
 use hd_base::NoMemory;
 use hd_book::{Book, CommitRefusal, Parcels, Redeemed, Refusal, Ticket};
+use hd_desk::MAILBOX_PLACES;
 use hd_node::{Batch, Parcel};
 use hd_task::ROOT_PARENT;
+use hd_tickets::MAX_TICKETS;
 use hd_worker::{Lookup, Worker};
-use hd_world::{MAILBOX_PLACES, MAX_TICKETS};
 use std::alloc::{AllocError, Global};
 use std::collections::VecDeque;
 use std::marker::Model;

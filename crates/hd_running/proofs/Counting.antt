@@ -27,7 +27,7 @@ use Rattle.hd_journal.specs.Group.{GroupView}
 use Rattle.hd_turns.specs.Settling.{IsOutcomeOf, Again, Beyond, Anew}
 use Rattle.hd_turns.specs.Worker.{WorkerView, is_own}
 use Rattle.hd_turns.specs.Calls.{with_parcel, ExpandsTo, Expands, batch_of, after_batch, outcome_numbered, ranks, after_numbering, after_releasing, after_sending, after_return}
-use Rattle.hd_world.specs.declared.limits.TheConstants.{MAILBOX_PLACES}
+use Rattle.hd_desk.specs.declared.mail.TheConstants.{MAILBOX_PLACES}
 use Rattle.hd_world.specs.Seats.{Seat, Run}
 use Rattle.hd_world.specs.Moves.{with_seat, bound_in, popped, taken_by, taken, Expanded, with_commit, redeemed_by, redeemed_of, redeemed, mailed, pushed_of, pushed, owner_of, offered, loaded, pulled_to, acked_of}
 use Rattle.hd_world.specs.Once.{total, in_parcels, in_outcomes, in_hand, in_worker, in_seat, in_ticket, in_run}

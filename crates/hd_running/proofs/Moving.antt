@@ -45,7 +45,7 @@ use Rattle.hd_turns.proofs.Numbering.{all_of_task, split_right}
 use Rattle.hd_turns.proofs.Turning.{expands_true, taken_true, released_true, sent_true, returned_true, seen_true, admissible, commit_grows, commit_releases, committed_true}
 use Rattle.hd_schedule.specs.declared.moves.Move.{Move}
 use Rattle.hd_schedule.specs.declared.moves.Move.TheVariants as moves
-use Rattle.hd_world.specs.declared.limits.TheConstants.{MAILBOX_PLACES}
+use Rattle.hd_desk.specs.declared.mail.TheConstants.{MAILBOX_PLACES}
 use Rattle.hd_world.specs.Seats.{Seat, Run}
 use Rattle.hd_world.specs.Moves.{with_seat, bound_in, popped, taken_by, taken, Expanded, may_commit, with_commit, with_drop, is_dropped, committed_by, committed, redeemed_by, redeemed_of, redeemed, mailed, pushed_of, pushed, owner_of, offered, loaded, pulled_to, acked_of, TurnsTo}
 use Rattle.hd_running.specs.Truth.{IfTrueOf, IsTrueOut, IsTrueSeat, IsTrueRun}

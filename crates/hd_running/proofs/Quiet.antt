@@ -8,7 +8,7 @@ use Rattle.hd_closed.proofs.Keeping.{map-set_same}
 use Rattle.hd_tickets.specs.Batches.{TicketView}
 use Rattle.hd_turns.specs.Worker.{WorkerView}
 use Rattle.hd_turns.specs.Calls.{ExpandsTo, Expands, with_parcel, after_sending, after_return, after_seeing}
-use Rattle.hd_world.specs.declared.limits.TheConstants.{MAILBOX_PLACES}
+use Rattle.hd_desk.specs.declared.mail.TheConstants.{MAILBOX_PLACES}
 use Rattle.hd_world.specs.Seats.{Seat, Run}
 use Rattle.hd_world.specs.Moves.{with_seat, popped, taken_by, taken, Expanded, mailed, pushed_of, pushed, owner_of, offered, loaded}
 

@@ -36,7 +36,7 @@ pub use letter::Letter;
 pub use pausing::Pause;
 pub use placing::{Desk, Workplace};
 pub use posting::{Sending, send_next, take_next};
-pub use progress::{MOST_TICKETS, Progress};
+pub use progress::Progress;
 pub use shared::{Given, SharedBook};
 pub use turning::{Role, work};
 pub use working::{Committed, Held, Redemption, commit_next, redeem_next, settle_best};

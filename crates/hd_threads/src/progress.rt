@@ -2,7 +2,8 @@
 ghost use Rattle.std.specs.Prelude.{◌≡◌, ◌<◌, ◌≤◌, true, false, [], ◌∷◌, ◌++◌, IfOk, IfSome, IfNone};
 ghost use Rattle.std.specs.VecDeque.{deque_len, deque_capacity};
 ghost use Rattle.crossbeam_queue.specs.Passes.{view};
-ghost use Rattle.hd_threads.specs.declared.progress.TheConstants.{MOST_TICKETS, MOST_UNCOMMITTED, MOST_BYTES};
+ghost use Rattle.hd_tickets.specs.declared.ticket.TheConstants.{MAX_TICKETS};
+ghost use Rattle.hd_threads.specs.declared.progress.TheConstants.{MOST_UNCOMMITTED, MOST_BYTES};
 ghost use Rattle.hd_desk.specs.Passes.{IsOutside};
 ghost use Rattle.hd_desk.specs.Views.{BeginsWith};
 
@@ -12,13 +13,11 @@ use crate::working::Held;
 use hd_base::NoMemory;
 use hd_desk::{Lock, Pass};
 use hd_node::MAX_OUTCOMES;
+use hd_tickets::MAX_TICKETS;
 use std::alloc::Global;
 use std::collections::VecDeque;
 use std::sync::Wait;
 use std::sync::ledger::Ledger;
-
-/// How many tickets a worker holds at most.
-pub const MOST_TICKETS: usize = 4;
 
 /// How many outcomes of a worker are left uncommitted before it waits for the lock, or settles no
 /// further node where it holds as many tickets as it may: two batches.
@@ -45,8 +44,8 @@ pub struct Progress {
     idle: bool,
     /// The last turn did not estimate all that came to the worker.
     opening: bool,
-    ghost few: { deque_len held ≤ MOST_TICKETS },
-    ghost room: { MOST_TICKETS ≤ deque_capacity held },
+    ghost few: { deque_len held ≤ MAX_TICKETS },
+    ghost room: { MAX_TICKETS ≤ deque_capacity held },
 }
 
 impl Progress {
@@ -57,7 +56,7 @@ impl Progress {
     pub fn begin(alloc: Global) -> Result<Progress, NoMemory>
         ensures { IfOk result (λ p. p.held.items ≡ []) }
     {
-        let held = VecDeque::with_capacity(alloc, MOST_TICKETS)?;
+        let held = VecDeque::with_capacity(alloc, MAX_TICKETS)?;
         Ok(Progress {
             held,
             uncommitted: 0,
@@ -72,9 +71,9 @@ impl Progress {
     /// before it is redeemed, or had nothing else to do.
     pub(crate) fn waits(&self) -> bool
         ensures idle { self.now.idle ≡ true → result ≡ true }
-        ensures full { deque_len self.now.held ≡ MOST_TICKETS
+        ensures full { deque_len self.now.held ≡ MAX_TICKETS
             → MOST_UNCOMMITTED ≤ self.now.uncommitted → result ≡ true }
-        ensures much { deque_len self.now.held ≡ MOST_TICKETS
+        ensures much { deque_len self.now.held ≡ MAX_TICKETS
             → MOST_BYTES < self.now.bytes → result ≡ true }
     {
         self.idle || self.is_full()
@@ -110,24 +109,24 @@ impl Progress {
     /// Reports whether a batch is to be committed: there is room for its ticket, and there are so
     /// many outcomes, or some that hold much, or some and no node is open.
     pub(crate) fn is_due(&self, open: bool, together: usize) -> bool
-        ensures { result ≡ true → deque_len self.now.held < MOST_TICKETS }
+        ensures { result ≡ true → deque_len self.now.held < MAX_TICKETS }
     {
         let enough = self.uncommitted >= together || !open || self.holds_much();
-        self.held.len() < MOST_TICKETS && self.uncommitted > 0 && enough
+        self.held.len() < MAX_TICKETS && self.uncommitted > 0 && enough
     }
 
     /// Reports whether the worker is to wait for its tickets before it settles a further node: it
     /// holds as many as it may, and outcomes enough are uncommitted, or they hold much.
     pub(crate) fn is_full(&self) -> bool
-        ensures tickets { result ≡ true → deque_len self.now.held ≡ MOST_TICKETS }
+        ensures tickets { result ≡ true → deque_len self.now.held ≡ MAX_TICKETS }
         ensures many { result ≡ true → self.now.bytes ≤ MOST_BYTES
             → MOST_UNCOMMITTED ≤ self.now.uncommitted }
-        ensures full { deque_len self.now.held ≡ MOST_TICKETS
+        ensures full { deque_len self.now.held ≡ MAX_TICKETS
             → MOST_UNCOMMITTED ≤ self.now.uncommitted → result ≡ true }
-        ensures much { deque_len self.now.held ≡ MOST_TICKETS
+        ensures much { deque_len self.now.held ≡ MAX_TICKETS
             → MOST_BYTES < self.now.bytes → result ≡ true }
     {
-        self.held.len() == MOST_TICKETS && self.has_many()
+        self.held.len() == MAX_TICKETS && self.has_many()
     }
 
     /// Reports whether so many outcomes are uncommitted, or hold so much, that a batch is worth a
@@ -153,7 +152,7 @@ impl Progress {
     /// Reports whether the worker settles no further node now: it is first to wait for its tickets,
     /// or to commit what it has.
     pub(crate) fn rests(&self) -> bool
-        ensures full { deque_len self.now.held ≡ MOST_TICKETS
+        ensures full { deque_len self.now.held ≡ MAX_TICKETS
             → MOST_UNCOMMITTED ≤ self.now.uncommitted → result ≡ true }
         ensures much { MOST_BYTES < self.now.bytes → result ≡ true }
     {
@@ -187,7 +186,7 @@ impl Progress {
 
     /// Appends `ticket` as the youngest.
     pub(crate) fn hold(&mut self, ticket: Held)
-        requires { deque_len self.old.held < MOST_TICKETS }
+        requires { deque_len self.old.held < MAX_TICKETS }
         ensures { self.new.held.items ≡ self.old.held.items ++ ticket ∷ [] }
     {
         self.held.push_back_reserved(ticket);
@@ -196,7 +195,7 @@ impl Progress {
     /// Returns the oldest ticket, which leaves.
     pub(crate) fn oldest(&mut self) -> Option<Held>
         ensures ticket { IfSome result (λ h. self.old.held.items ≡ h ∷ self.new.held.items) }
-        ensures room { IfSome result (λ _. deque_len self.new.held < MOST_TICKETS) }
+        ensures room { IfSome result (λ _. deque_len self.new.held < MAX_TICKETS) }
         ensures none { IfNone result (self.new.held.items ≡ self.old.held.items) }
     {
         self.held.pop_front()
@@ -204,7 +203,7 @@ impl Progress {
 
     /// Puts `ticket` back as the oldest.
     pub(crate) fn keep(&mut self, ticket: Held)
-        requires { deque_len self.old.held < MOST_TICKETS }
+        requires { deque_len self.old.held < MAX_TICKETS }
         ensures { self.new.held.items ≡ ticket ∷ self.old.held.items }
     {
         self.held.push_front_reserved(ticket);

@@ -2,7 +2,7 @@
 ghost use Rattle.std.specs.Prelude.{◌≡◌, ◌<◌, ◌≤◌, length, IfErr, IfSome, OnOk};
 ghost use Rattle.std.specs.VecDeque.{deque_len};
 ghost use Rattle.hd_zobrist.specs.declared.owners.TheConstants.{MAX_WORKERS};
-ghost use Rattle.hd_threads.specs.declared.progress.TheConstants.{MOST_TICKETS};
+ghost use Rattle.hd_tickets.specs.declared.ticket.TheConstants.{MAX_TICKETS};
 ghost use Rattle.hd_threads.specs.Faults.{IsOfWorker};
 ghost use Rattle.hd_threads.specs.Placing.{IsSeated, IsAt, Keeps, IsStill};
 ghost use Rattle.hd_threads.specs.Turning.{kids_held, IsEnd};
@@ -16,10 +16,11 @@ use crate::placing::{
     Desk, Workplace, commit, has_open, least, open_some, redeem, send, settle, take,
 };
 use crate::posting::Sending;
-use crate::progress::{MOST_TICKETS, Progress, end};
+use crate::progress::{Progress, end};
 use crate::working::{Committed, Redemption};
 use hd_base::NoMemory;
 use hd_desk::MAILBOX_PLACES;
+use hd_tickets::MAX_TICKETS;
 use std::alloc::Global;
 use std::sync::Wait;
 use std::sync::ledger::Ledger;
@@ -139,7 +140,7 @@ fn redeem_all<'t, L: Ledger, A: Ledger, R: Wait>(
     ensures told { IfErr result IsEnd }
 {
     let mut released = false;
-    for _ticket in 0..MOST_TICKETS {
+    for _ticket in 0..MAX_TICKETS {
         if !redeem_oldest(rt, desk, place, progress)? {
             break;
         }
@@ -454,7 +455,7 @@ fn commit_some<'t, L: Ledger, A: Ledger, R: Wait>(
 ) -> Result<bool, Option<RunFault>>
     requires at { IsAt desk.now place.old }
     requires tickets { kids_held progress.old ≤ place.old.worker.room }
-    requires few { deque_len progress.old.held < MOST_TICKETS }
+    requires few { deque_len progress.old.held < MAX_TICKETS }
     ensures seated { IsSeated desk.now place.new }
     ensures keeps { Keeps place.old place.new }
     ensures at { OnOk result (IsAt desk.now place.new) }
@@ -519,7 +520,7 @@ fn commit_due<'t, L: Ledger, A: Ledger, R: Wait, G: Gate>(
 /// - It settles its best open nodes, as many as its role says, unless it is first to wait for its
 ///   tickets ([`Progress`]) or its outcomes hold much. It reports the gate how it stands, if that
 ///   asks.
-/// - It commits its next batch, if it holds fewer than [`MOST_TICKETS`] tickets and has outcomes
+/// - It commits its next batch, if it holds fewer than [`MAX_TICKETS`] tickets and has outcomes
 ///   enough, or some that hold much, or some and no node open. While the lock is taken it puts that
 ///   off, unless no node is open or its outcomes are many: it settles further nodes rather than
 ///   wait. No batch is committed once the book has as many entries as the limit says.

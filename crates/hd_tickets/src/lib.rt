@@ -24,5 +24,5 @@ pub use not_out::NotOut;
 pub use outgoing::Outgoing;
 pub use queue::MAX_GROUP;
 pub use redeemed::Redeemed;
-pub use ticket::{Receipt, Ticket};
+pub use ticket::{MAX_TICKETS, Receipt, Ticket};
 pub use tickets::Tickets;

@@ -2,6 +2,9 @@
 use std::marker::Model;
 use std::ops::Range;
 
+/// Number of tickets that a worker may hold.
+pub const MAX_TICKETS: usize = 4;
+
 /// Names a batch that was accepted, and is redeemed for what the batch releases.
 ///
 /// It must be spent: it can't be let go. Only [`crate::Tickets`] makes one.

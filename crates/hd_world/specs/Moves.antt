@@ -26,7 +26,8 @@ use Rattle.hd_turns.specs.Worker.{WorkerView}
 use Rattle.hd_turns.specs.Calls.{with_parcel, Expands, batch_of, after_batch, after_numbering, after_releasing, after_sending, after_return, after_seeing}
 use Rattle.hd_schedule.specs.declared.moves.Move.{Move}
 use Rattle.hd_schedule.specs.declared.moves.Move.TheVariants as moves
-use Rattle.hd_world.specs.declared.limits.TheConstants.{MAILBOX_PLACES, MAX_TICKETS}
+use Rattle.hd_desk.specs.declared.mail.TheConstants.{MAILBOX_PLACES}
+use Rattle.hd_tickets.specs.declared.ticket.TheConstants.{MAX_TICKETS}
 use Rattle.hd_world.specs.Seats.{Seat, Run}
 
 -- a seat in another's place

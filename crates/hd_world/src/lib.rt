@@ -1,8 +1,7 @@
 //! The world of schedules: a search with its disk as plain data, and the effect of each move.
 //!
-//! This crate has definitions and two limits, and no code that runs. `specs/Headline` states what
-//! holds of every schedule; hd_headline proves it. [`limits::limits_are`] gives the limits as
-//! numbers.
+//! This crate has definitions, and no code that runs. `specs/Headline` states what holds of every
+//! schedule; hd_headline proves it. [`limits::limits_are`] gives the limits of a run as numbers.
 //!
 //! A world is either stopped, with the bytes of a disk, or running, with a journal and a run. A run
 //! has the book, the workers, their mailboxes, the shared bound and the group that is out.
@@ -12,5 +11,3 @@
 #![tactic(auto)]
 
 pub mod limits;
-
-pub use limits::{MAILBOX_PLACES, MAX_TICKETS};

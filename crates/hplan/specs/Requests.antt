@@ -1,4 +1,4 @@
--- Which requests are of searches. (Our own.)
+-- Which requests are of searches, and which of journals. (Our own.)
 use Rattle.hd_words.specs.declared.request.Request.{Request}
 use Rattle.hd_words.specs.declared.request.Request.TheVariants.{Solve, Resume, Certify, Migrate, Inspect, Survey, Ground, Validate, Replay}
 
@@ -13,3 +13,15 @@ AsksNoSearch (Survey domain problem journal) = Unit {0}
 AsksNoSearch (Ground domain problem) = Unit {0}
 AsksNoSearch (Validate domain problem plan explain) = Unit {0}
 AsksNoSearch (Replay domain problem schedule) = Unit {0}
+
+-- a request asks something of a journal that it names, and is no search
+abbrev pub AsksOfJournal : Request → Type 0
+AsksOfJournal (Solve domain problem journal search) = ⊥
+AsksOfJournal (Resume domain problem journal search) = ⊥
+AsksOfJournal (Certify domain problem journal) = Unit {0}
+AsksOfJournal (Migrate domain problem journal to salvage) = Unit {0}
+AsksOfJournal (Inspect journal) = Unit {0}
+AsksOfJournal (Survey domain problem journal) = Unit {0}
+AsksOfJournal (Ground domain problem) = ⊥
+AsksOfJournal (Validate domain problem plan explain) = ⊥
+AsksOfJournal (Replay domain problem schedule) = ⊥

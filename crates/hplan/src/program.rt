@@ -1,7 +1,7 @@
 //! The program: from the words of a command line to an exit status.
 ghost use Rattle.std.specs.Prelude.{◌≡◌, MatchResult};
 ghost use Rattle.hd_words.specs.Request.{IsWithin, IsWorkers};
-ghost use Rattle.hplan.specs.Requests.{AsksNoSearch};
+ghost use Rattle.hplan.specs.Requests.{AsksNoSearch, AsksOfJournal};
 ghost use Rattle.hplan.specs.Status.{status_of_ending, status_of_certificate};
 ghost use Rattle.hplan.specs.declared.program.TheConstants.{DONE, REFUSED};
 
@@ -374,18 +374,17 @@ fn answer_plan<P: Places, O: Write, E: Write>(
     }
 }
 
-/// Does what a request asks that is no search.
-fn answer_of_files<P: Places, O: Write, E: Write>(
+/// Does what a request asks of a journal.
+fn answer_of_journal<P: Places, O: Write, E: Write>(
     alloc: Global,
     request: &Request,
     places: &mut P,
     out: &mut O,
     err: &mut E,
 ) -> u8
-    requires { AsksNoSearch request.now }
+    requires { AsksOfJournal request.now }
 {
     match request {
-        Request::Solve { .. } | Request::Resume { .. } => unreachable!(),
         Request::Certify {
             domain,
             problem,
@@ -424,6 +423,30 @@ fn answer_of_files<P: Places, O: Write, E: Write>(
             let done = survey_files(alloc, places, names.0, names.1, names.2, out);
             status_of(err, done)
         }
+        Request::Solve { .. }
+        | Request::Resume { .. }
+        | Request::Ground { .. }
+        | Request::Validate { .. }
+        | Request::Replay { .. } => unreachable!(),
+    }
+}
+
+/// Does what a request asks that is no search.
+fn answer_of_files<P: Places, O: Write, E: Write>(
+    alloc: Global,
+    request: &Request,
+    places: &mut P,
+    out: &mut O,
+    err: &mut E,
+) -> u8
+    requires { AsksNoSearch request.now }
+{
+    match request {
+        Request::Solve { .. } | Request::Resume { .. } => unreachable!(),
+        Request::Certify { .. }
+        | Request::Migrate { .. }
+        | Request::Inspect { .. }
+        | Request::Survey { .. } => answer_of_journal(alloc, request, places, out, err),
         Request::Ground { domain, problem } => {
             let done = ground_files(alloc, places, domain.as_str(), problem.as_str(), out);
             status_of(err, done)

@@ -8,7 +8,7 @@ use Rattle.hd_book.specs.declared.refusal.CommitRefusal.{CommitRefusal}
 use Rattle.hd_book.specs.Refusing.{refusal_to}
 use Rattle.hd_book.specs.Steps.{after_commit, ticket_after}
 use Rattle.hd_turns.specs.Calls.{batch_of, after_batch, after_numbering}
-use Rattle.hd_world.specs.declared.limits.TheConstants.{MAX_TICKETS}
+use Rattle.hd_tickets.specs.declared.ticket.TheConstants.{MAX_TICKETS}
 use Rattle.hd_world.specs.Seats.{Seat}
 use Rattle.hd_world.specs.Moves.{is_dropped}
 use Rattle.hd_replay.specs.Seats.{committed_in}
