@@ -27,9 +27,9 @@ abbrev pub Leaves : {X Y E : Type 0} → (E → Option Y → Type 0) → Result 
 Leaves Refuses (Ok x) left expected = expected ≡ Some left
 Leaves Refuses (Err e) left expected = Refuses e expected
 
--- ---- an answer that is there where there is no fault
+-- ---- an answer that is there if there is no fault
 
--- the call answers this value where there is no fault; an error reports `StopsAt` of the fault
+-- the call answers this value if there is no fault; an error reports `StopsAt` of the fault
 abbrev pub Checks : {X E F : Type 0} → (E → Option F → Type 0) → Result X E → Option F → X → Type 0
 Checks StopsAt (Ok x) fault value = (fault ≡ None) × (x ≡ value)
 Checks StopsAt (Err e) fault value = StopsAt e fault

@@ -73,7 +73,7 @@ impl<L: Drop> Expr<L> {
         }
     }
 
-    /// Returns an expression with its sign turned. It fails only where memory runs out.
+    /// Returns an expression with its sign turned. It fails only if memory runs out.
     pub fn negate(alloc: Global, expr: Expr<L>) -> Result<Expr<L>, AllocError>
         ensures { IfOk result (λ e. e ≡ negate expr) }
     {
@@ -83,7 +83,7 @@ impl<L: Drop> Expr<L> {
         })
     }
 
-    /// Returns what an operation makes of two expressions. It fails only where memory runs out.
+    /// Returns what an operation makes of two expressions. It fails only if memory runs out.
     pub fn binary(
         alloc: Global,
         operation: Operation,

@@ -16,7 +16,7 @@ abbrev pub group_of : List Kid → Range ℕ → GroupView
 group_of entries g = record { first = g.start; kids = entries_between entries g.start g.end }
 
 -- the group that goes out next: whole batches from the oldest on, as many as fit together; none
--- where nothing waits or a group is out
+-- if nothing waits or a group is out
 abbrev pub next_group : BookView → Option GroupView
 next_group b = option_map (group_of b.state.entries) (group_next b.batches.queue)
 

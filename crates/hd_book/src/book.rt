@@ -97,7 +97,7 @@ impl<'t, L: Ledger> Book<'t, L> {
     /// how far it is.
     ///
     /// # Errors
-    /// - `Full` with the number 0 where there are more entries than `most`; else the number of the
+    /// - `Full` with the number 0 if there are more entries than `most`; else the number of the
     ///   first entry that can't be the next one after those before it, with `UnknownParent`,
     ///   `NotAKid` or `SettledBefore`; or `NoMemory`, never in place of `Full`.
     pub fn resume<H: Listener>(
@@ -171,7 +171,7 @@ impl<'t, L: Ledger> Book<'t, L> {
     /// group. The call does not allocate.
     ///
     /// # Errors
-    /// - The room again, where nothing waits, or a group is out: nothing has changed.
+    /// - The room again, if nothing waits, or a group is out: nothing has changed.
     pub fn take_pending(&mut self, room: Room) -> Result<Group, Room>
         ensures task { self.new.state.task ≡ self.old.state.task }
         ensures begins { BeginsWith self.new.state.entries self.old.state.entries }

@@ -101,7 +101,7 @@ fn push_entries(kids: &mut Vec<Kid>, entries: &Entries, first: u64, end: u64)
 }
 
 /// Makes room for the ticket of a batch; or refuses it, where the book is halted. Whether the
-/// entries have room is asked only where there is no memory: else their own commit asks it.
+/// entries have room is asked only if there is no memory: else their own commit asks it.
 fn make_room<'t>(
     entries: &Entries<'t>,
     tickets: &mut Tickets<Parcels<'t>>,

@@ -79,7 +79,7 @@ impl Rooms {
         self.kept = Some(room);
     }
 
-    /// Keeps the list of a group that is over, where it has room for any group.
+    /// Keeps the list of a group that is over, if it has room for any group.
     pub fn reuse(&mut self, kids: Vec<Kid>) {
         if let Some(room) = Room::of(kids) {
             self.kept = Some(room);

@@ -92,7 +92,7 @@ module _ (b : BookState) (closed : List Closed) (have : AreAllClosed b closed) w
       let this : IsNamedBy closed p.state cost by = subst (λ (o : Option State). IfSome o (λ s. IsNamedBy closed s cost by)) at named in
       inl (named_dominates p.state p.cost by (subst (λ (c : ℕ). IsNamedBy closed p.state c by) is this))
 
-  -- where none is found, the bound and the estimate tell
+  -- if none is found, the bound and the estimate tell
   pub estimate_spares :
       (states : List State) (place : ℕ) (p : ParcelView) (cost : ℕ) (o : Option By) (bound v : Option ℕ) (answer : Bool) → is_some o ≡ false
       → IfNone o (IfSome (slice_get states place) (λ s. IsDearer closed s cost)) → slice_get states place ≡ Some p.state → cost ≡ p.cost → bound ≡ bound_of b.task E → v ≡ hmax b.task p.state

@@ -113,7 +113,7 @@ module _ (t : Task) (most : ℕ) (few : most < ROOT_PARENT) (entries : List Entr
   abbrev kids : List Kid
   kids = map kid_of entries
 
-  -- what is reported where there is a first fault
+  -- what is reported if there is a first fault
   record IsTold (r : Refusal) : Type 0 where
     le : length entries ≤ most
     first : first_fault t [] kids ≡ Some (n, r)

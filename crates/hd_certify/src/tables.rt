@@ -8,7 +8,7 @@ use crate::surveyed::Row;
 use hd_base::{NoMemory, Sequence};
 use std::alloc::Global;
 
-/// Counts one value more: in the last row, where it has that value, or else in a new one.
+/// Counts one value more: in the last row, if it has that value, or else in a new one.
 ///
 /// # Errors
 /// - `NoMemory`: there is no room for the row.

@@ -61,7 +61,7 @@ told_name ts e tells = by_name e tells
 pub told_later_cycle : (ts : List Typed) (e : CheckError) → in_text Domain (listed_fault ts) ≡ None → TellsCycleIn ts e → TellsTypes ts e
 told_later_cycle ts e none tells = by_cycle e none tells
 
--- ---- where nothing is reported
+-- ---- if nothing is reported
 
 pub text_none : (source : Source) (f : Option Fault) → in_text source f ≡ None → f ≡ None
 text_none source None e = refl

@@ -1,4 +1,4 @@
--- What calls answer that lift a part of a text: what the part stands for where it has no fault,
+-- What calls answer that lift a part of a text: what the part stands for if it has no fault,
 -- else a stop at its first fault.
 use Rattle.std.specs.Prelude.{ℕ, Option, Result}
 use Rattle.hd_base.specs.Answers.{Checks}

@@ -238,7 +238,7 @@ pub record AreTypes (types : TypesPart) (ts : List Typed) : Type 0 where
   pub hierarchy : types.hierarchy ≡ parents_of ts
   pub acyclic : IsAcyclic (parents_of ts)
 
--- an error reports the first fault of the types' names, or where there is none a type on a cycle;
+-- an error reports the first fault of the types' names, or if there is none a type on a cycle;
 -- lack of memory says nothing
 pub data TellsTypes (ts : List Typed) : CheckError → Type 0 where
   by_name : (e : CheckError) → TellsOf e (in_text Domain (listed_fault ts)) → TellsTypes ts e

@@ -81,7 +81,7 @@ empty_push [] empty (suc b) = refl
 empty_push (o ∷ heads) empty zero = empty zero
 empty_push (o ∷ heads) empty (suc b) = empty_push heads (λ i. empty (suc i)) b
 
--- what holds holds where there is an error
+-- what holds holds if there is an error
 pub on_err : {T E P : Type 0} (r : Result T E) → P → OnErr r P
 on_err (Ok x) p = tt
 on_err (Err e) p = p

@@ -106,7 +106,7 @@ fn entered_from(shuts: &[Shut], from: usize) -> usize
     entered
 }
 
-/// Adds one expansion more, where there is room for it.
+/// Adds one expansion more, if there is room for it.
 fn push_shut(shuts: &mut Vec<Shut>, shut: Shut)
     requires { vec_len shuts.old < vec_capacity shuts.old }
     ensures { shuts.new.items ≡ shuts.old.items ++ shut ∷ [] }

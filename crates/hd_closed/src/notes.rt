@@ -92,7 +92,7 @@ fn buckets_of(alloc: Global, count: usize) -> Result<Vec<Place>, NoMemory>
     Ok(buckets)
 }
 
-/// Makes a bucket for one note more: as many again as there are, where there are as many notes.
+/// Makes a bucket for one note more: as many again as there are, if there are as many notes.
 ///
 /// # Errors
 /// - `NoMemory`: there is no room for them.

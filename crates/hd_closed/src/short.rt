@@ -63,7 +63,7 @@ impl Place {
 /// The value of an estimate, or none, in 64 bits.
 #[derive(Debug, Drop)]
 pub(crate) struct Known {
-    /// 0 for none, 1 where there is no way to the goal, else two more than the cost.
+    /// 0 for none, 1 if there is no way to the goal, else two more than the cost.
     code: u64,
 }
 

@@ -382,7 +382,7 @@ module _ {K A : Type 0} where
       ap (λ (k : ℕ). joined (changed_at k (with_other (post_of other)) posts) (map post_of others)) (sym same)
       ∙ (joined-push posts (map post_of others) (post_of other) (omega arith) ∙ ap (joined posts) (sym (map-append post_of others (other ∷ []))))
 
-  -- where nothing is left of the others
+  -- if nothing is left of the others
   pub joined_none : (posts : List (PostView A)) (others : List (Pass A (Post K A))) → length others ≡ 0 → posts ≡ joined posts (map post_of others)
   joined_none posts [] none = refl
   joined_none posts (o ∷ others) none = absurd (omega arith)

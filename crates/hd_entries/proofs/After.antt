@@ -211,7 +211,7 @@ few_generated t (p ∷ expanded) =
 pub posted_small : (t : Task) (expanded : List (List ℕ)) → length expanded < ROOT_PARENT → length (generated t expanded) < 2 ^ 61
 posted_small t expanded short = omega (arith, few_generated t expanded, short)
 
--- ---- where there is room
+-- ---- if there is room
 
 full : (room : Bool) (why : Option Refusal) → room ≡ false → cond (not room) (Some Full) why ≡ Some Full
 full false why e = refl

@@ -324,7 +324,7 @@ right_one true true false o s cost k p m e =
 pub expansion_free : (b : BookState) (e : ExpansionView) → knows_parent b e.kid ≡ true → is_posted b e.kid ≡ true → is_marked b e.kid ≡ false → node_of b e.kid ≡ Some (node e.state e.cost) → refusal_of b [] (Expanded e) ≡ None
 expansion_free b e known posted unmarked leads = right_one (knows_parent b e.kid) (is_posted b e.kid) (is_marked b e.kid) (node_of b e.kid) e.state e.cost known posted unmarked leads
 
--- and a batch of it alone neither, where there is room
+-- and a batch of it alone neither, if there is room
 pub alone_free : (v : EntriesView) (e : ExpansionView) → length v.state.entries < v.most → refusal_of v.state [] (Expanded e) ≡ None → refusal_to v (Expanded e ∷ []) ≡ None
 alone_free v e room right =
     ap (λ (b : Bool). cond (not b) (Some Full) (first_refusal v.state [] (Expanded e ∷ []))) (le-leb (length v.state.entries + 1) v.most (omega (arith, room)))

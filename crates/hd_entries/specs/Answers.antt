@@ -23,7 +23,7 @@ pub record IsBoundPlan (t : Task) (expanded : List (List ℕ)) (p : List ℕ) : 
   pub meets : goal_cost t (exec t p) ≡ Some cost
   pub first : (n : ℕ) → n < number → goal_cost t (exec t (slice_index_or expanded n [])) ≢ Some cost
 
--- the plan of the bound, exactly where there is a bound
+-- the plan of the bound, exactly if there is a bound
 abbrev pub IsBoundPlanOf : Task → List (List ℕ) → Option (List ℕ) → Type 0
 IsBoundPlanOf t expanded None = bound_of t expanded ≡ None
 IsBoundPlanOf t expanded (Some p) = IsBoundPlan t expanded p

@@ -42,7 +42,7 @@ AreLegal t entries = (expanded : List (List ℕ)) × (plans_of entries ≡ Some 
 abbrev pub resumed_state : Task → List Kid → BookState
 resumed_state t entries = record { task = t; entries = entries; marks = map (has entries) (posted_by t (plans_at entries)) }
 
--- the same, where there may be so many entries
+-- the same, if there may be so many entries
 abbrev pub resumed : Task → ℕ → List Kid → EntriesView
 resumed t most entries = record { state = resumed_state t entries; most = most }
 

@@ -193,7 +193,7 @@ impl<'t> ExpandedPlans<'t> {
     }
 
     /// Settles the successors of the outcomes from a number on, each before the next outcome is
-    /// judged; or none of them, where one is refused.
+    /// judged; or none of them, if one is refused.
     ///
     /// # Errors
     /// - Why the first that is not right is refused, or `NoMemory`; the table is as it was.

@@ -60,7 +60,7 @@ impl<'t> Entries<'t> {
     /// how far it is.
     ///
     /// # Errors
-    /// - `Full` with the number 0 where there are more entries than `most`; else the number of the
+    /// - `Full` with the number 0 if there are more entries than `most`; else the number of the
     ///   first entry that can't be the next one after those before it, with `UnknownParent`,
     ///   `NotAKid` or `SettledBefore`; or `NoMemory`, never in place of `Full`.
     pub fn resume<H: Listener>(

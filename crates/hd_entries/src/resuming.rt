@@ -222,7 +222,7 @@ impl<'t> Content<'t> {
         Ok(())
     }
 
-    /// Returns what waits where there are no entries: the parcel of the root.
+    /// Returns what waits if there are no entries: the parcel of the root.
     fn only_root(&self, alloc: Global) -> Result<Vec<Option<Parcel<'t>>>, NoMemory>
         requires none { state_of self.now ≡ resumed_state self.now.expanded.task.now [] }
         ensures { IfOk result (λ w. IsAgain (state_of self.now) w.items) }

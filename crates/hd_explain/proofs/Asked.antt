@@ -1,4 +1,4 @@
--- Which fault the questions about a step and the goal tell, where there is a reason, and where
+-- Which fault the questions about a step and the goal tell, if there is a reason, and where
 -- there is none.
 use Rattle.std.proofs.Common.{◌≡◌, ℕ, Bool, true, false, not, ◌&&◌, List, [], Option, Some, None, inl, inr, refl, sym, ap, ap₂, ◌∙◌, pos}
 use Rattle.std.specs.Prelude.{◌⊎◌, slice_get, option_map, if◌then◌else◌, ℤ, ◌+ℤ◌}

@@ -1,4 +1,4 @@
--- Where no first element fails a test, all pass it, and where there is one, they do not.
+-- Where no first element fails a test, all pass it, and if there is one, they do not.
 use Rattle.std.proofs.Common.{◌≡◌, Bool, true, false, List, [], ◌∷◌, Option, Some, None, not, refl, sym, ap, ◌∙◌, ◌&&◌, cond, length, ◌<◌, arith}
 use Rattle.std.proofs.lemmas.Option.{none-some}
 use Rattle.std.specs.Prelude.{find}

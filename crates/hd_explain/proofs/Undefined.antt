@@ -1,5 +1,5 @@
 -- Where the goal's literals and equalities hold, a fluent without a first value is reported exactly
--- where there is one.
+-- if there is one.
 use Rattle.std.proofs.Common.{◌≡◌, ℕ, Bool, true, false, [], Option, Some, None, refl, sym, ap, ◌∙◌}
 use Rattle.std.specs.Prelude.{is_some, option_map}
 use Rattle.std.specs.Option.{option_or}

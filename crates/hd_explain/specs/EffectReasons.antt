@@ -1,4 +1,4 @@
--- Why a step departs from the range, where its condition holds and stays in it. (Our own: PDDL 2.1
+-- Why a step departs from the range, if its condition holds and stays in it. (Our own: PDDL 2.1
 -- has no range.)
 use Rattle.std.specs.Prelude.{◌≡◌, ℕ, Bool, true, false, not, ◌||◌, List, Option, Some, MatchOption, find, ℤ, pos, ◌+ℤ◌}
 use Rattle.std.specs.List.{list_all}
@@ -44,7 +44,7 @@ pub record StaysWithin (t : LiftedTask) (r : Reached) (a : Schema) (objects : Li
   pub total : fits (cost_after t r a objects) ≡ true
 
 -- this is why they don't: the first departure of the first amount that departs; or, where none
--- does, the first new value that is out of the range; or, where there is none, the step's cost,
+-- does, the first new value that is out of the range; or, if there is none, the step's cost,
 -- which is negative; or else the plan's cost
 abbrev pub IsReasonOfEffects : LiftedTask → Reached → Schema → List ℕ → Reason → Type 0
 IsReasonOfEffects t r a objects (reasons.Literal l) = ⊥

@@ -106,7 +106,7 @@ abbrev pub HaltsFrom : LiftedTask → Reached → ℕ → List Step → Reached 
 HaltsFrom t r n steps here halts.Untold = NeedsNoReasonFrom t r n steps
 HaltsFrom t r n steps here (halts.Told p) = HasReasonFrom t r n steps here p
 
--- what becomes of the n-th step, where it has no reason: it passes and leads here, or has a fault
+-- what becomes of the n-th step, if it has no reason: it passes and leads here, or has a fault
 -- that says all that there is to say
 abbrev pub MeansTaken : LiftedTask → Reached → ℕ → Instance → Reached → Bool → Type 0
 MeansTaken t r n i here true = Passes t r n i here × IsOnWay t here

@@ -20,7 +20,7 @@ pub(crate) enum Compared<'a> {
     Departs(Departure<'a>),
 }
 
-/// Reports whether two values compare in this way: where one is missing, they don't.
+/// Reports whether two values compare in this way: if one is missing, they don't.
 fn relation_holds(relation: Relation, left: Option<i64>, right: Option<i64>) -> bool
     ensures { result ≡ relation_holds_if relation left right }
 {

@@ -63,7 +63,7 @@ size (list from inside to rest) = 1 + size inside + size rest
 
 -- the first fault of the parentheses in these marks, where so many forms are open before them and
 -- the text ends at this place: the end while a form is open, a '(' that would be one open form too
--- many, or a ')' where none is open (own)
+-- many, or a ')' if none is open (own)
 abbrev pub fault_from : ℕ → ℕ → List Mark → Option ReadError
 fault_from end zero [] = None
 fault_from end (suc depth) [] = Some (errors.Unbalanced end)
@@ -73,7 +73,7 @@ fault_from end depth (opening at ∷ marks) =
 fault_from end zero (closing at ∷ marks) = Some (errors.Unbalanced at)
 fault_from end (suc depth) (closing at ∷ marks) = fault_from end depth marks
 
--- the first fault of the parentheses of a text that ends at this place, where nothing is open at
+-- the first fault of the parentheses of a text that ends at this place, if nothing is open at
 -- first (own)
 abbrev pub parenthesis_fault : ℕ → List Mark → Option ReadError
 parenthesis_fault end marks = fault_from end 0 marks

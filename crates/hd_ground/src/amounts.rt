@@ -1,4 +1,4 @@
-//! Amounts of the cost, where there are more than an action may have.
+//! Amounts of the cost, if there are more than an action may have.
 ghost use Rattle.std.specs.Prelude.{◌≡◌, nat_lt, true, false};
 ghost use Rattle.hd_task.specs.declared.task.TheConstants.{MAX_AMOUNTS};
 ghost use Rattle.hd_fitting.specs.Counted.{HaveFewAmounts};

@@ -1,4 +1,4 @@
-//! What a task has, counted: where there is too much, or a fault, no action is made.
+//! What a task has, counted: if there is too much, or a fault, no action is made.
 ghost use Rattle.std.specs.Prelude.{◌≡◌, ◌≤◌, ◌↔◌, Contains, length, IfOk, IfErr, OnOk};
 ghost use Rattle.hd_lifted.specs.declared.schema.Ground.{Ground};
 ghost use Rattle.hd_task.specs.declared.task.TheConstants.{MAX_ACTIONS, MAX_ATOMS, MAX_FLUENTS};

@@ -135,7 +135,7 @@ fn task_with(printed: Printed, ends: Ends, actions: Sequence<Action>, metric: bo
     }
 }
 
-/// Returns the task to search of what was counted, where nothing is at fault.
+/// Returns the task to search of what was counted, if nothing is at fault.
 ///
 /// # Errors
 /// - Lack of memory.

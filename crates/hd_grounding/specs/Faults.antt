@@ -78,14 +78,14 @@ negative_in t instances = find (is_negative_instance t) instances
 
 -- ---- what is reported, in the order in which it is looked for
 
--- a fluent is the first undefined one, where nothing is too large
+-- a fluent is the first undefined one, if nothing is too large
 pub record IsUndefined (t : LiftedTask) (g : Ground) : Type 0 where
   pub fits : IsTooLarge t → ⊥
   pub instances : List Instance
   pub numbers_instances : NumbersInstances t instances
   pub is_first : undefined_in t instances ≡ Some g
 
--- an instance is the first of a negative cost, where nothing is too large and each fluent that is
+-- an instance is the first of a negative cost, if nothing is too large and each fluent that is
 -- met has a first value
 pub record IsNegative (t : LiftedTask) (i : Instance) : Type 0 where
   pub fits : IsTooLarge t → ⊥

@@ -134,7 +134,7 @@ change_of fluents objects [] = None
 change_of fluents objects (e ∷ es) =
     Some (change_by e.change (expression_of fluents objects e.amount) (map (term_of fluents objects) (e ∷ es)))
 
--- what a change makes of a value, where there is one
+-- what a change makes of a value, if there is one
 abbrev pub changed_value : List ℤ → Option Change → ℤ → ℤ
 changed_value f None z = z
 changed_value f (Some c) z = value_by_change f c z

@@ -223,7 +223,7 @@ brings-below t brings right q p h m =
 
 -- ---- the rules, one after the other
 
--- where nothing was put into the lists
+-- if nothing was put into the lists
 pub no_rules_yet : (lists : List (List ℕ)) (count p q k : ℕ) → lists ≡ replicate count [] → p < count → times q (row lists p) ≡ cond (nat_lt q 0) k 0
 no_rules_yet lists count p q k are h =
     let empty : times q (row lists p) ≡ 0 = ap (λ (xs : List (List ℕ)). times q (row xs p)) are ∙ (ap (times q) (get_or-replicate count p [] [] h) ∙ times-nil q) in

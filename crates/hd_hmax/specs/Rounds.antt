@@ -38,7 +38,7 @@ table_by n f = record {
 
 -- ---- a round
 
--- literals together cost as much as the dearest of them, and nothing where there are none
+-- literals together cost as much as the dearest of them, and nothing if there are none
 unfoldable pub dearest : Table → List Literal → Option ℕ
 dearest table literals = fold (λ c l. greater c (cost_in table l)) (Some 0) literals
 

@@ -4,7 +4,7 @@ ghost use Rattle.hd_task.specs.Covers.{IsAdmissible};
 ghost use Rattle.hd_hmax.specs.Rounds.{hmax};
 
 /// Law: the estimate is admissible: no steps from a state to the goal cost less, and it is infinite
-/// only where there are none.
+/// only if there are none.
 pub fn hmax_is_admissible()
     ensures { (t : Task) → IsAdmissible t (hmax t) }
 {}

@@ -18,7 +18,7 @@ change_with (Some (Assign y)) c x = Assign y
 change_with (Some (ScaleUp y)) c x = ScaleUp y
 change_with (Some (Sum terms)) c x = Sum (terms ++ term_by c x ∷ [])
 
--- the change of a fluent, where there is one, with one effect more
+-- the change of a fluent, if there is one, with one effect more
 abbrev pub change_on : List Ground → List ℕ → NumericEffect → Option Change → Option Ground → Option Change
 change_on fluents objects e before None = before
 change_on fluents objects e before (Some g) =

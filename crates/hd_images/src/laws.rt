@@ -43,7 +43,7 @@ pub fn gathered_atoms_are_numbered()
         → NumbersAtoms t numbers }
 {}
 
-/// Law: where there are more of them than a task may have, the task is too large.
+/// Law: if there are more of them than a task may have, the task is too large.
 pub fn many_atoms_are_too_many()
     ensures { (t : LiftedTask) (atoms : List Ground)
         → ((g : Ground) → IsReachable t g ↔ Contains atoms g)

@@ -12,7 +12,7 @@ use hd_base::NoMemory;
 use hd_image::{Contents, DIGEST_LEN, FIRST_GATE, Found, ImageError, read};
 use std::alloc::Global;
 
-/// Returns the bytes where a header has its digest, or zeros where there are too few.
+/// Returns the bytes where a header has its digest, or zeros if there are too few.
 fn digest_in(content: &[u8]) -> [u8; DIGEST_LEN]
     ensures { FIRST_GATE < length content.now → result ≡ slice_range content.now 6 FIRST_GATE }
 {

@@ -140,7 +140,7 @@ pub no_more : (P : List ℕ → Type 0) (old : Device) (result : Result (Unit {0
 no_more P old result new settled holds ran =
     at_start P old new (ap (λ (d : Device). d.start) ran.1) (ap (λ (d : Device). d.steps) ran.1) (leaves_rest P old settled holds)
 
--- where nothing was begun
+-- if nothing was begun
 pub unchanged : (P : List ℕ → Type 0) (old new : Device) → new.start ≡ old.start → new.steps ≡ old.steps → IsSettled old → P (content_of old)
     → LeavesSince P old new
 unchanged P old new start steps settled holds = at_start P old new start steps (leaves_rest P old settled holds)

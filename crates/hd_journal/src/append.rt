@@ -133,7 +133,7 @@ impl<S: Store> Journal<S> {
     /// opened. At `Ok` it stays, whatever happens.
     ///
     /// # Errors
-    /// - The group, and why: `Failed` where the device failed in an earlier call; else `NotOut`
+    /// - The group, and why: `Failed` if the device failed in an earlier call; else `NotOut`
     ///   where the group does not begin where the entries end, or names a parent that is neither
     ///   the root's nor below [`Journal::most`]; else `NoMemory`. After these nothing is changed.
     /// - `Device`: the device failed: whether the group stays is open until the file is opened

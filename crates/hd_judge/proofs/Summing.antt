@@ -71,7 +71,7 @@ sum-more t objects effects i e sum next lt at was now =
     ∙ (ap (λ (o : Option ℤ). constant_cost t objects o (get_or effects i e)) was
     ∙ (ap (constant_cost t objects (Some sum)) (sym at) ∙ sym now))
 
--- where there is no sum so far, there is none
+-- if there is no sum so far, there is none
 pub no_sum : (t : LiftedTask) (a : Schema) (objects : List ℕ) (i : ℕ)
     → fold (constant_cost t objects) (Some (pos 0)) (take i a.effects) ≡ None → costs_negative t a objects ≡ false
 no_sum t a objects i none =

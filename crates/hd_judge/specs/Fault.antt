@@ -13,7 +13,7 @@ abbrev pub StopsAt : Stop → Option Fault → Type 0
 StopsAt (stops.At f) fault = fault ≡ Some f
 StopsAt stops.NoMemory fault = Unit {0}
 
--- the answer is there where there is no fault, and otherwise the stop reports the fault
+-- the answer is there if there is no fault, and otherwise the stop reports the fault
 abbrev pub Asks : {X : Type 0} → Result X Stop → Option Fault → Type 0
 Asks (Ok x) fault = fault ≡ None
 Asks (Err e) fault = StopsAt e fault

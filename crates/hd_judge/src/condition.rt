@@ -60,7 +60,7 @@ pub(crate) fn literals_hold(
     Ok(equalities_hold(objects, said.equalities.as_slice()))
 }
 
-/// Reports whether two values compare in this way: where one is missing, they don't.
+/// Reports whether two values compare in this way: if one is missing, they don't.
 fn relation_holds(relation: Relation, left: Option<i64>, right: Option<i64>) -> bool
     ensures { result ≡ relation_holds_if relation left right }
 {

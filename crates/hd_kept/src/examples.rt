@@ -12,7 +12,7 @@ ghost use Rattle.hd_kept.specs.Example.{with_fuel, need, need_bc, at_a, at_b, at
 /// Law: the definitions on small tasks: of hd_lifted's journey the predicates are `at` and `road`,
 /// and the functions the fuel, what a road needs, and the cost.
 pub fn examples_compute()
-    // Roads stay; where one is changes.
+    // Roads stay; if one is changes.
     ensures at_changes { is_static with_fuel 0 ≡ false }
     ensures road_stays { is_static with_fuel 1 ≡ true }
 

@@ -57,7 +57,7 @@ sign_of (x ∷ y ∷ []) =
     else None)
 sign_of (x ∷ y ∷ z ∷ rest) = None
 
--- the sign, or a fault where there is none
+-- the sign, or a fault if there is none
 abbrev pub sign_or_fault : ℕ → Option Word → Result Word LexError
 sign_or_fault at None = Err (BadByte at)
 sign_or_fault at (Some word) = Ok word

@@ -80,7 +80,7 @@ pub record IsFirstFault (words : List Placed) (error : LexError) : Type 0 where
   pub good : AllByRecursion IsGood before
   pub fault : IsBad bad.at bad.bytes error
 
--- the text from this place on begins with this token, or with a blank or a comment where there is
+-- the text from this place on begins with this token, or with a blank or a comment if there is
 -- none, and this rest follows at that place: whatever words the rest has, the text has them, and
 -- before them the word of the token if there is one (own)
 abbrev pub BeginsWith : ℕ → List ℕ → Option Token → ℕ → List ℕ → Type 0

@@ -6,7 +6,7 @@ use Rattle.hd_lifted.specs.declared.task.LiftedTask.{LiftedTask}
 use Rattle.hd_lifted.specs.MetricUse.{HasNoCost, IsCostFunction}
 use Rattle.hd_lifted.specs.WellFormed.{IsWellFormed, HasDistinctNames, AreOfDifferentFluents}
 
--- the metric, where there is one, is a function that is used as a cost alone
+-- the metric, if there is one, is a function that is used as a cost alone
 abbrev pub HasCostMetric : LiftedTask → Type 0
 HasCostMetric t = (f : ℕ) → t.metric ≡ Some f → IsCostFunction t f
 

@@ -24,7 +24,7 @@ equality_holds objects e =
     if e.positive then object_of objects e.left == object_of objects e.right
     else not (object_of objects e.left == object_of objects e.right)
 
--- how two values compare: where one is missing, no relation holds
+-- how two values compare: if one is missing, no relation holds
 abbrev pub relation_holds_if : Relation → Option ℤ → Option ℤ → Bool
 relation_holds_if r None y = false
 relation_holds_if r (Some x) None = false

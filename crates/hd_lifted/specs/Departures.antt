@@ -19,7 +19,7 @@ abbrev pub cost_stays : Option Reached → Bool
 cost_stays None = false
 cost_stays (Some r) = fits r.cost
 
--- a schema with objects departs where its condition does, or where its condition holds and its cost
+-- a schema with objects departs where its condition does, or if its condition holds and its cost
 -- is negative, or a subexpression of an effect, a new value or the new plan's cost is out of the
 -- range
 abbrev pub departs_by : LiftedTask → Reached → Option Schema → List ℕ → Bool

@@ -107,7 +107,7 @@ abbrev pub bad_metric : ℕ → BadMetric
 bad_metric at = record { at = at }
 
 -- the first place in a problem where the metric's function is misused: a first value that is not 0,
--- the goal, and the metric where there is no first value
+-- the goal, and the metric if there is no first value
 abbrev pub misused_by_problem : NameAt → ProblemAst → Option ℕ
 misused_by_problem m p = nonzero_in m.name p.init or read_by_condition m.name p.goal or missing_in m p.init
 

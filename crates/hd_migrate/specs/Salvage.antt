@@ -6,7 +6,7 @@ use Rattle.hd_image.specs.declared.error.ImageError.{ImageError}
 use Rattle.hd_image.specs.declared.error.ImageError.TheVariants.{NotAJournal, OtherTask, Damaged, NoMemory}
 use Rattle.hd_image.specs.Reading.{IsFound, IsNoJournal, IsOtherTask, IsDamaged, contents_of}
 
--- what is found in a content: all that it is, where nothing is dropped; else it is damaged at
+-- what is found in a content: all that it is, if nothing is dropped; else it is damaged at
 -- this place, and found is a journal of just the groups that stand before it, with a closed gate
 -- after them
 abbrev pub IsFoundUpTo : List ℕ → List ℕ → Option ℕ → Found → Type 0

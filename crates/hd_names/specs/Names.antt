@@ -18,7 +18,7 @@ use Rattle.hd_names.specs.Fault.{StopsAt}
 abbrev pub with_name : List (List ℕ) → List ℕ → List (List ℕ)
 with_name names n = if is_named names n then names else names ++ n ∷ []
 
--- a number, 0 where there is none
+-- a number, 0 if there is none
 abbrev pub or_zero : Option ℕ → ℕ
 or_zero None = 0
 or_zero (Some i) = i
@@ -40,7 +40,7 @@ unknown_in k names n = if is_named names n.name then None else Some (UnknownName
 abbrev pub duplicate_in : ItemKind → List (List ℕ) → NameAt → Option NameFault
 duplicate_in k names n = if is_named names n.name then Some (Duplicate (spelled k n.name) n.at) else None
 
--- a type, where one is given, has to be one of these
+-- a type, if one is given, has to be one of these
 abbrev pub unknown_type : List (List ℕ) → Option NameAt → Option NameFault
 unknown_type types None = None
 unknown_type types (Some n) = unknown_in kinds.Name types n
@@ -64,13 +64,13 @@ names_of ts = map (λ t. t.name.name) ts
 abbrev pub types_of : List (List ℕ) → List Typed → List ℕ
 types_of types ts = map (λ t. type_number types t.of) ts
 
--- ---- what calls answer: a value where there is no fault, else a stop at the fault
+-- ---- what calls answer: a value if there is no fault, else a stop at the fault
 
 -- a name that is used is known by its number
 abbrev pub Knows : Result ℕ NameStop → ItemKind → List (List ℕ) → NameAt → Type 0
 Knows result k names n = Checks StopsAt result (unknown_in k names n) (number_in names n.name)
 
--- so is a type, where one is given
+-- so is a type, if one is given
 abbrev pub KnowsType : Result ℕ NameStop → List (List ℕ) → Option NameAt → Type 0
 KnowsType result types n = Checks StopsAt result (unknown_type types n) (type_number types n)
 

@@ -126,7 +126,7 @@ scope_fault types d =
     declared_fault kinds.Name types [] d.constants or signatures_fault types [] d.predicates
     or signatures_fault types [] d.functions
 
--- ---- what calls answer: a value where there is no fault, else a stop at the fault
+-- ---- what calls answer: a value if there is no fault, else a stop at the fault
 
 -- listed types are declared after the old names, and leave the new ones
 abbrev pub DeclaresListed : {R : Type 0} → Result R NameStop → List (List ℕ) → List (List ℕ) → List Typed → Type 0

@@ -152,7 +152,7 @@ pub fn declare(
     }
 }
 
-/// Returns the number of a type that is named: `object`, which is 0, where none is.
+/// Returns the number of a type that is named: `object`, which is 0, if none is.
 pub fn type_of(alloc: Global, types: &Names, of: &Option<TypeName>) -> Result<usize, NameStop>
     ensures { KnowsType result types.now of.now }
 {

@@ -72,7 +72,7 @@ pub fn types_of(alloc: Global, seed: Seed, listed: &[Typed]) -> Result<Names, Na
     Ok(names)
 }
 
-/// Returns the number of a type: `object`, which is 0, where none is named.
+/// Returns the number of a type: `object`, which is 0, if none is named.
 pub fn number_of_type(types: &Names, of: &Option<TypeName>) -> usize
     ensures { result ≡ type_number types.now of.now }
 {

@@ -50,6 +50,6 @@ module _ (t : Task) (r : Node) (ws : List Watch) (watched : IsWatchedBy t.action
       let many = watched.each_action in
       (skipped_by (n - from) from n (omega (arith, le)) first.2, le, omega (arith, first.1, many))
 
-  -- from a number up to the end, where there is no candidate from there on
+  -- from a number up to the end, if there is no candidate from there on
   pub to_end : (from : ℕ) → find (nat_le from) (candidates ws r.state) ≡ None → from ≤ length t.actions → FindsAlike t r from (length t.actions)
   to_end from is le = skipped_by (length t.actions - from) from (length t.actions) (omega (arith, le)) (λ m after lt. no_candidate ws r.state from m is after)

@@ -77,11 +77,11 @@ pub struct ExpansionParts {
 impl<'t> Expansion<'t> {
     /// Returns the expansion of a parcel of a task: tries the actions that may apply, by an index
     /// of the task, and tests the goal, at the parcel's state and cost. It takes memory once for
-    /// the children's list, where there are any, for the packed states that don't stand in place,
-    /// and for the departures, where there are any.
+    /// the children's list, if there are any, for the packed states that don't stand in place,
+    /// and for the departures, if there are any.
     ///
     /// # Errors
-    /// - The parcel and `NoMemory` where there is no room for them.
+    /// - The parcel and `NoMemory` if there is no room for them.
     pub fn of(
         alloc: Global,
         task: &'t Task,

@@ -57,7 +57,7 @@ first_least (x ∷ xs) a k up at among =
     let is : x ≡ a = same_Some x a at in
     ⊎_elim (λ here. omega arith) (λ later. let le = all_among x xs k up.0 later in omega arith) among
 
--- a list has nothing where it has no first
+-- a list has nothing if it has no first
 pub none_among : (xs : List ℕ) (k : ℕ) → xs ≡ [] → IsAmong xs k → ⊥
 none_among [] k is among = among
 none_among (x ∷ xs) k is among = absurd (cc)

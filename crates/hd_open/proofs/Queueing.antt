@@ -232,7 +232,7 @@ least_large q total arrival none least (Some t) k has =
     (λ in_large. entry_cmp_not_greater total arrival t k (least (t, k) in_large)) has
 least_large q total arrival none least None k has = inl refl
 
--- the first one of those without a total, where there are no others
+-- the first one of those without a total, if there are no others
 pub least_dead :
     (q : Queue) (arrival : ℕ) → IsOrderly q → ((t : ℕ) → bucket q.small.items t ≡ []) → q.large.keys ≡ [] → slice_get q.dead 0 ≡ Some arrival
     → (g : Option ℕ) (k : ℕ) → Has q g k → IsNotAfter None arrival g k
@@ -377,7 +377,7 @@ bucket_within small t a at =
 pub no_first : (xs : List ℕ) → xs ≡ [] → slice_get xs 0 ≡ None
 no_first xs none = ap (λ (ys : List ℕ). slice_get ys 0) none
 
--- the first one of those without a total, where there are no others, is the first of all
+-- the first one of those without a total, if there are no others, is the first of all
 pub found_dead :
     (words : List ℕ) (q : Queue) (found : Option ℕ) → IsOrderly q → ((t : ℕ) → bucket q.small.items t ≡ []) → q.large.keys ≡ []
     → IfSome found (λ a. slice_get q.dead 0 ≡ Some a) → IfSome found (λ a. mark_at words a ≡ 1) → IfSome found (IsFirst words q)

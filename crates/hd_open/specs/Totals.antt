@@ -2,7 +2,7 @@
 -- A*: Hart, Nilsson and Raphael 1968.)
 use Rattle.std.specs.Prelude.{◌≡◌, ◌⊎◌, ℕ, ◌≤◌, Bool, true, false, nat_lt, List, Option, Some, None, slice_get}
 
--- whether a total is less than another; where there is none, that is the greatest
+-- whether a total is less than another; if there is none, that is the greatest
 abbrev pub is_less : Option ℕ → Option ℕ → Bool
 is_less (Some a) (Some b) = nat_lt a b
 is_less (Some a) None = true

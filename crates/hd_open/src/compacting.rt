@@ -105,7 +105,7 @@ fn cut<T>(slots: &mut Vec<Option<T>>, count: usize)
     }
 }
 
-/// Moves the nodes together, so that no slot between them is empty. Nothing happens where there is
+/// Moves the nodes together, so that no slot between them is empty. Nothing happens if there is
 /// no memory for what counts and sorts them there.
 #[inline(never)]
 fn compact<T: Waits>(slots: &mut Vec<Option<T>>, counts: &mut Counts, queue: &mut Queue)

@@ -65,7 +65,7 @@ impl<T: Waits> OpenList<T> {
     /// Adds `node` after the others.
     ///
     /// # Errors
-    /// - The node, where there is no room for it; no other node has come or gone.
+    /// - The node, if there is no room for it; no other node has come or gone.
     pub fn push(&mut self, node: T) -> Result<(), (T, NoMemory)>
         ensures nodes { OnOk result (self.new.nodes ≡ self.old.nodes ++ node ∷ []) }
         ensures back { IfErr result (λ r. r.0 ≡ node) }
@@ -129,7 +129,7 @@ impl<T: Waits> OpenList<T> {
         self.slots[arrival].as_ref()
     }
 
-    /// Takes the node at a place out; nothing happens where there is none.
+    /// Takes the node at a place out; nothing happens if there is none.
     pub fn remove(&mut self, place: usize) -> Option<T>
         ensures taken { IfSome result (λ n. TakesAt T.total self.old place n self.new) }
         ensures none { IfNone result (slice_get self.old.nodes place ≡ None) }

@@ -29,11 +29,11 @@ led_by cost Answer.Departs = Departs
 
 -- ---- writes
 
--- a state whose atom of this number is true or false, where it has the atom
+-- a state whose atom of this number is true or false, if it has the atom
 abbrev pub with_atom : Bool → State → ℕ → State
 with_atom v s i = record { atoms = set s.atoms i v; fluents = s.fluents }
 
--- a state whose fluent of this number has a value, where it has the fluent
+-- a state whose fluent of this number has a value, if it has the fluent
 abbrev pub with_value : State → ℕ → ℤ → State
 with_value s j v = record { atoms = s.atoms; fluents = set s.fluents j v }
 

@@ -7,7 +7,7 @@ pub all_many : (left n parts : ℕ) → left < parts → AllByRecursion (λ k. l
 all_many left zero parts lt = tt
 all_many left (suc n) parts lt = (lt, all_many left n parts lt)
 
--- where there is room for one place more, each pass can be cut
+-- if there is room for one place more, each pass can be cut
 pub all_shareable : (left : ℕ) (ns : List ℕ) → AllByRecursion (λ k. left + 1 < k) ns → AllByRecursion (λ k. 1 < k) ns
 all_shareable left [] all = tt
 all_shareable left (n ∷ ns) all = (omega (arith, all.0), all_shareable left ns all.1)

@@ -51,7 +51,7 @@ module _ {S : Type 0} {G : Ghosts S} (old new : Journal S G) where
   first_stops (Ok d) (Err fault) grows told threads = threads_stop fault grows threads
   first_stops (Err fault) joined grows told threads = committer_stops fault told
 
-  -- where nothing is reported the committer has ended without a fault
+  -- if nothing is reported the committer has ended without a fault
   pub first_grows : (done : Result (Unit {0}) RunFault) (joined : Result (Unit {0}) ThreadsFault) → OnOk done (Grows old new) → OnOk (first_of done joined) (Grows old new)
   first_grows (Ok d) (Ok j) grows = grows
   first_grows (Ok d) (Err fault) grows = tt

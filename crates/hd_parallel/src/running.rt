@@ -203,11 +203,11 @@ fn run_as<
 }
 
 /// Searches a task to the end by so many workers, each in a thread of its own, over a journal:
-/// the search goes on from the entries that the journal has, from the root where it has none.
+/// the search goes on from the entries that the journal has, from the root if it has none.
 /// This thread appends the entries of the workers' batches to the journal, and what these lead to
 /// is open only then. Each worker has the states that it owns by their hashes, and sends what
 /// leads to others to their owners. It settles its best open nodes and commits what comes of
-/// them, that of `together` nodes at a time, or of fewer where no more are open; while its
+/// them, that of `together` nodes at a time, or of fewer if no more are open; while its
 /// batches wait to be appended it goes on with the nodes that are open. The gate is called around
 /// each.
 ///

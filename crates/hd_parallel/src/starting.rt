@@ -92,7 +92,7 @@ fn start<
 /// Starts a thread for each worker.
 ///
 /// # Errors
-/// - `NoThread`: one does not start, `NoMemory` where there is no room for its handle; those that
+/// - `NoThread`: one does not start, `NoMemory` if there is no room for its handle; those that
 ///   run are left to end.
 pub(crate) fn start_all<
     's,

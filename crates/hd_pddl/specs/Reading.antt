@@ -118,7 +118,7 @@ functions_at forms = items_or functions_of (section_at (codes "functions") forms
 
 -- ---- actions
 
--- one condition where there is one
+-- one condition if there is one
 abbrev pub condition_or : Option Forms → Forms → Option (List Condition × Forms)
 condition_or (Some rest) forms = condition_at rest
 condition_or None forms = Some ([], forms)
@@ -127,7 +127,7 @@ condition_or None forms = Some ([], forms)
 unfoldable pub precondition_at : Forms → Option (List Condition × Forms)
 precondition_at forms = condition_or (behind_keyword (codes "precondition") forms) forms
 
--- one effect where there is one
+-- one effect if there is one
 abbrev pub effect_or : Option Forms → Forms → Option (List Effect × Forms)
 effect_or (Some rest) forms = effect_at rest
 effect_or None forms = Some ([], forms)

@@ -23,7 +23,7 @@ keeps_none None new k = tt
 keeps_none (Some xs) None k = k
 keeps_none (Some xs) (Some ys) k = k ∙ sym (append-nil xs)
 
--- a plan's text is never empty: where nothing was written, that is not all
+-- a plan's text is never empty: if nothing was written, that is not all
 pub nothing_appended : (old new : Option (List ℕ)) (steps : List Step) (cost : ℕ) → Keeps old new → AppendsShort old new (plan_text steps cost)
 nothing_appended old new steps cost k =
     (0, omega (arith, length-append (flat_map step_line steps) (cost_line cost)), keeps_none old new k)

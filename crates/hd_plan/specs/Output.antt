@@ -17,11 +17,11 @@ AppendsShort old new bytes = (n : ℕ) × (n < length bytes) × Appends old new 
 abbrev pub IsPartOf : List ℕ → ℕ → Type 0
 IsPartOf bytes n = (0 < n) × (n ≤ length bytes)
 
--- what is noted of a writer is the error that is reported, and stays as it was where none is
+-- what is noted of a writer is the error that is reported, and stays as it was if none is
 abbrev pub NotesFault : {X Kind : Type 0} → Option Kind → Option Kind → Result X Kind → Type 0
 NotesFault old new result = MatchResult result (λ _. new ≡ old) (λ kind. new ≡ Some kind)
 
--- where memory ran out, nothing was written
+-- if memory ran out, nothing was written
 abbrev pub KeepsFor : Option (List ℕ) → Option (List ℕ) → WriteError → Type 0
 KeepsFor old new NoMemory = Keeps old new
 KeepsFor old new (Device kind) = Unit {0}

@@ -45,7 +45,7 @@ IsGood line = IsSilent line ⊎ ((step : Step) × IsStepLine line step)
 pub data IsFirstLine : List ℕ → List ℕ → List ℕ → Type 0 where
   -- it ends with a line feed (10)
   ended : {line rest : List ℕ} → list_all is_line_byte line ≡ true → IsFirstLine (line ++ (10 ∷ rest)) line rest
-  -- it ends with the text, where it has a byte
+  -- it ends with the text, if it has a byte
   last : {line : List ℕ} → list_all is_line_byte line ≡ true → 0 < length line → IsFirstLine line line []
 
 -- the text reads as these steps: each of its lines is silent or the next step

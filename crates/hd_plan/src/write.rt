@@ -81,13 +81,13 @@ pub fn write_plan<W: Write>(
         (W.contents out.new.writer.now) (plan_text steps.now cost)) }
 
     // What an error leaves: a beginning of that text, which is not all of it, and nothing of it
-    // where memory ran out.
+    // if memory ran out.
     ensures short { OnErr result (AppendsShort (W.contents out.old.writer.now)
         (W.contents out.new.writer.now) (plan_text steps.now cost)) }
     ensures no_memory { IfErr result (KeepsFor (W.contents out.old.writer.now)
         (W.contents out.new.writer.now)) }
 
-    // A fault of the writer is reported only where it has answered that error, and none that it
+    // A fault of the writer is reported only if it has answered that error, and none that it
     // answers is passed over.
     ensures fault { NotesError out.old.fault out.new.fault result }
 {

@@ -21,7 +21,7 @@ pub struct Line {
     pub acknowledged: u64,
 }
 
-/// A cost, where there is one.
+/// A cost, if there is one.
 #[derive(Clone, Copy)]
 struct Cost(Option<u64>);
 

@@ -31,7 +31,7 @@ struct Last {
     entries: AtomicU64,
     open: AtomicU64,
     acknowledged: AtomicU64,
-    /// `NOTHING` where no plan was found.
+    /// `NOTHING` if no plan was found.
     bound: AtomicU64,
 }
 

@@ -23,7 +23,7 @@ use Rattle.hd_replay.specs.Seats.{seat_with}
 use Rattle.hd_replay.specs.Held.{AreParcelsOf, AreBoxesOf}
 use Rattle.hd_replay.specs.Opening.{IsRunOf}
 
--- the run of a book and of workers at their places, where nothing is on its way
+-- the run of a book and of workers at their places, if nothing is on its way
 abbrev pub run_with : BookView → List Seat → ℕ → Run
 run_with b seats workers = record {
   book = b;

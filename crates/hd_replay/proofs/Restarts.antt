@@ -44,7 +44,7 @@ use Rattle.hd_replay.proofs.Stopping.{planned, quiet, IsCutIn, cut_in, went_thro
 
 -- ---- what is sure
 
--- where nothing is pending a stop leaves what a read gives
+-- if nothing is pending a stop leaves what a read gives
 pub left_sure : (d : Device) (byte : ℕ) (content : List ℕ) → IsSettled d → Filled d byte content → content ≡ content_of d
 left_sure d byte content settled filled = rests_there d.start d.steps settled content filled.left
 
@@ -150,7 +150,7 @@ module _ {S : Type 0} {G : Ghosts S} (digest : List ℕ) (f : File) (journal : J
   pub stands_in : (content : List ℕ) → content ≡ bytes_of digest f → StandsIn f.version digest f.groups content
   stands_in content is = record { gate = 0; behind = []; sound = sound_groups; ends = λ e. omega (arith, e); whole = is }
 
--- a journal that is opened where these groups stand, and where nothing is pending
+-- a journal that is opened where these groups stand, and if nothing is pending
 pub stands_again : {T : Type 0} {H : Ghosts T} (digest : List ℕ) (f : File) (again : Journal T H) → again.version ≡ f.version → IsOf digest f.groups again
     → IsSettled (device_of again) → StandsAs digest f again
 stands_again digest f again version is settled = record { is_of = is; version = version; settled = settled }
@@ -158,7 +158,7 @@ stands_again digest f again version is settled = record { is_of = is; version = 
 -- ---- a stop within an opening
 
 module _ (digest content : List ℕ) (at : StopAt) (old new : Device) (some : 1 ≤ at.call) (is : old ≡ planned content [] (at.call - 1)) where
-  -- nothing but a change fails where one is foretold
+  -- nothing but a change fails if one is foretold
   pub broke : IsNotOpened digest old Broken new → BreaksMending digest old store.Failed new
   broke not =
       elim (subst (λ (d : Device). IsNotOpened digest d Broken new) is not) [

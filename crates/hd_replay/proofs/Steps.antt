@@ -96,7 +96,7 @@ pub pulled_not : (t : Task) (f : File) (r : Run) → IsSound t f r → (is_some 
 pulled_not t f r x e =
     ap (pulled_to r) (out_none r.book.state.entries r.book.batches.queue (some_out f r.book.state.entries r.book.batches.queue r.group r.flushed x.order.stands e))
 
--- where none is next, nothing is taken
+-- if none is next, nothing is taken
 abbrev taken_if : QueueView → Bool → QueueView
 taken_if q b = record q { out = cond b (fitting q) q.out }
 

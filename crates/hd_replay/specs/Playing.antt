@@ -19,7 +19,7 @@ use Rattle.hd_replay.specs.Reporting.{IsReportOf, IsTrueOf}
 -- ---- a schedule's end
 
 -- A schedule that is played from a world comes to this run over this journal: at its last move,
--- or, where nothing runs after that, at a resumption with one worker.
+-- or, if nothing runs after that, at a resumption with one worker.
 pub data ComesTo (t : Task) (digest : List ℕ) (w : World) (moves : List Move) (f : File) (r : Run) : Type 0 where
   AtTheEnd : Plays Filled t digest w moves (Running f r) → ComesTo t digest w moves f r
   IsFollowed :

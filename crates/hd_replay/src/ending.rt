@@ -135,7 +135,7 @@ fn stop_within(
     }
 }
 
-/// Returns a stop, in a call of an append where one is named: what it leaves.
+/// Returns a stop, in a call of an append if one is named: what it leaves.
 ///
 /// # Errors
 /// - `NoMemory`, or what the journal answers.

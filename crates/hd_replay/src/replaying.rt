@@ -121,7 +121,7 @@ fn play_all(
     play_last::<Brand>(Blank::new(1), alloc, task, digest, held)
 }
 
-/// Plays a schedule on a disk, where nothing runs at first: what stands at its end. One that ends
+/// Plays a schedule on a disk, if nothing runs at first: what stands at its end. One that ends
 /// while nothing runs is followed by a resumption with one worker. What was on the disk and not
 /// sure reads 0 at first.
 ///

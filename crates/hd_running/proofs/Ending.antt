@@ -113,7 +113,7 @@ module _ (b : BookState) (kept : IsKept b) where
       in
       eq-eqb (settled_count b) (posted_count b) (full ∙ kept.marked.one_each)
 
--- where nothing is left to do, all is settled
+-- if nothing is left to do, all is settled
 pub nothing_left : (r : Run) → IsKept r.book.state → IsWhole r → in_run (λ (k : Kid). 1) r ≡ 0 → is_over r.book.state ≡ true
 nothing_left r kept whole none =
     over_when r.book.state kept (λ k. omega (arith, whole k, none, run_most (only k) (λ (q : Kid). 1) (only_most k) r))

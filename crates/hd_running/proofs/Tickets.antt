@@ -80,7 +80,7 @@ newest [] o = refl
 newest (t ∷ ts) o = newest ts o
 
 module _ (q : Batches ParcelsView) where
-  -- a ticket that is out is so where there is one more
+  -- a ticket that is out is so if there is one more
   pub still_out : (o : Option (Outgoing ParcelsView)) (k : TicketView) → is_its k (ticket_at q.tickets k.number) ≡ true → is_its k (ticket_at (q.tickets ++ o ∷ []) k.number) ≡ true
   still_out o k e =
       elim (slice_get q.tickets k.number) as (λ slot. slice_get q.tickets k.number ≡ slot → is_its k (option_flatten slot) ≡ true → is_its k (ticket_at (q.tickets ++ o ∷ []) k.number) ≡ true) [

@@ -110,7 +110,7 @@ pub fn moves_move_the_search()
 pub fn no_kid_is_lost()
     ensures turns { (t : Task) (f : File) (r r' : Run) (m : Move)
         → IsSound t f r → IsWhole r → TurnsTo t r m r' → IsWhole r' }
-    // So where nothing is left to do, all is settled.
+    // So if nothing is left to do, all is settled.
     ensures ends { (t : Task) (f : File) (r : Run)
         → IsSound t f r → IsWhole r → IsIdle r → is_over r.book.state ≡ true }
 {}

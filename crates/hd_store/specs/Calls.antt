@@ -5,13 +5,13 @@ use Rattle.hd_store.specs.declared.error.StoreError.{StoreError}
 use Rattle.hd_store.specs.declared.error.StoreError.TheVariants.{NoMemory, Failed}
 use Rattle.hd_store.specs.Device.{Device, is_closed, broken, refused}
 
--- where the device failed, this is so
+-- if the device failed, this is so
 abbrev pub OnFailed : {X : Type 0} → Result X StoreError → Type 0 → Type 0
 OnFailed (Ok x) P = Unit {0}
 OnFailed (Err NoMemory) P = Unit {0}
 OnFailed (Err Failed) P = P
 
--- where memory ran out, this is so
+-- if memory ran out, this is so
 abbrev pub OnNoMemory : {X : Type 0} → Result X StoreError → Type 0 → Type 0
 OnNoMemory (Ok x) P = Unit {0}
 OnNoMemory (Err NoMemory) P = P

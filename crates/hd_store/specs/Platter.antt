@@ -7,7 +7,7 @@ use Rattle.hd_store.specs.declared.platter.Platter.{Platter}
 abbrev pub content_of : Platter → List ℕ
 content_of platter = take platter.len platter.bytes.items
 
--- there is room for so many bytes, where there are not so many
+-- there is room for so many bytes, if there are not so many
 abbrev pub HasRoom : Platter → ℕ → Type 0
 HasRoom held end = held.len < end → (end ≤ vec_capacity held.bytes) × (end ≤ vec_capacity held.written)
 

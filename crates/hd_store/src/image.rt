@@ -55,7 +55,7 @@ impl Image {
         &self.held.bytes[..self.held.len]
     }
 
-    /// Makes room for so many bytes, where there are not so many.
+    /// Makes room for so many bytes, if there are not so many.
     pub(crate) fn make_room(&mut self, end: usize) -> Result<(), NoMemory>
         ensures same { IsLike self.old self.new }
         ensures room { OnOk result (CanHold self.new end) }

@@ -33,7 +33,7 @@ pub(crate) struct Platter {
         → slice_index_or written.items place false ≡ false },
 }
 
-/// Writes bytes over what is held, and past its end, where there is room for them.
+/// Writes bytes over what is held, and past its end, if there is room for them.
 fn write_over(held: &mut Vec<u8>, at: usize, bytes: &[u8])
     requires within { at ≤ length held.old.items }
     requires room { length held.old.items < at + length bytes.now
@@ -108,7 +108,7 @@ impl Platter {
         })
     }
 
-    /// Makes room for so many bytes, where there are not so many; what is held stays.
+    /// Makes room for so many bytes, if there are not so many; what is held stays.
     pub(crate) fn make_room(&mut self, end: usize) -> Result<(), NoMemory>
         ensures same { IsUnchanged self.old self.new }
         ensures room { OnOk result (HasRoom self.new end) }
@@ -144,7 +144,7 @@ impl Platter {
         self.greatest = self.greatest.max(end);
     }
 
-    /// Writes bytes where there is room for them.
+    /// Writes bytes if there is room for them.
     pub(crate) fn write(&mut self, at: usize, bytes: &[u8])
         requires within { at ≤ self.old.len }
         requires small { at + length bytes.now < 2 ^ 63 }

@@ -189,7 +189,7 @@ next_bit words count byte base from bit is fits first =
           (λ k far lt. own_mark words byte base k (k - base) is fits (omega (arith, far)) ∙ first.none_before (k - base) (omega (arith, far)) (omega (arith, far, lt)))));
     }
 
--- no bit of a byte is set from a number on, where nothing is marked in one word
+-- no bit of a byte is set from a number on, if nothing is marked in one word
 pub last_bit : (words : List ℕ) (count byte base from : ℕ) → words ≡ byte ∷ [] → byte < 256 → ((m : ℕ) → from ≤ m → is_marked words m ≡ false)
     → (a : ℕ) → passing_below count (is_in_byte byte base) (base + from) a ≡ (nat_lt a count && is_in_byte byte base a)
 last_bit words count byte base from is fits none =

@@ -88,7 +88,7 @@ none_before_found f (suc k) a from n m e le far lt =
           ]
     ] refl e
 
--- where nothing is found, nothing passes from there on
+-- if nothing is found, nothing passes from there on
 pub none_where_none_found : (f : ℕ → Bool) (k from m : ℕ) → find (nat_le from) (filter f (range_with_len 0 k)) ≡ None → from ≤ m → m < k → f m ≡ false
 none_where_none_found f k from m e far lt =
     false_from_ne_true (f m) (λ is.
@@ -118,7 +118,7 @@ left_all f (suc k) a from le =
       | false ↦ λ e. left_step f k a from false (ap (λ b. b && f a) reached ∙ e) ∙ more
     ] refl
 
--- where nothing is found, nothing is left
+-- if nothing is found, nothing is left
 pub left_none : (f : ℕ → Bool) (k a from : ℕ) → find (nat_le from) (filter f (range_with_len a k)) ≡ None → left_from f k a from ≡ 0
 left_none f zero a from e = refl
 left_none f (suc k) a from e =

@@ -24,7 +24,7 @@ pub fn candidates_suffice()
         → action_departs t r n ≡ false }
 {}
 
-/// Law: the first candidate from a number on: those before it are none, and where there is no first
+/// Law: the first candidate from a number on: those before it are none, and if there is no first
 /// one, none follows.
 pub fn first_candidates()
     ensures some { (watched : List Watch) (s : State) (from n : ℕ)

@@ -81,7 +81,7 @@ fn mark_if_always(watch: Watch, action: usize, marks: &mut [u64])
     }
 }
 
-/// Marks the actions that watch nothing, where there are no marks yet.
+/// Marks the actions that watch nothing, if there are no marks yet.
 fn mark_always(watched: &[Watch], marks: &mut [u64])
     requires room { length watched.now ≤ 64 * length marks.old }
     requires none { (i : ℕ) → is_marked marks.old i ≡ false }

@@ -8,7 +8,7 @@ use Rattle.hd_task.specs.declared.task.Task.{Task}
 use Rattle.hd_task.specs.Plans.{exec}
 use Rattle.hd_task.specs.Expansions.{lesser, goal_cost, bound_of}
 
--- ---- costs in order, where none is greater than any
+-- ---- costs in order, if none is greater than any
 
 abbrev pub AtMost : Option ℕ → Option ℕ → Type 0
 AtMost None None = Unit {0}

@@ -32,7 +32,7 @@ zero_admissible t from p to of e goal = (0, refl, omega (arith, exec_from-dearer
 
 -- ---- nothing departs
 
--- where nothing is recorded of a list, nothing departs at its plans
+-- if nothing is recorded of a list, nothing departs at its plans
 none_recorded : (t : Task) (expanded : List (List ℕ)) (n : ℕ) → departures_from t n expanded ≡ [] → (p : List ℕ) → Contains expanded p → departing_at t (exec t p) ≡ []
 none_recorded t [] n none p among = absurd (Contains-nil p among)
 none_recorded t (first ∷ expanded) n none p among =

@@ -14,7 +14,7 @@ abbrev pub Estimate : Type 0
 Estimate = State → Option ℕ
 
 -- an estimate is admissible if from no state of the task steps to the goal cost less, and it is
--- infinite only where there are none
+-- infinite only if there are none
 abbrev pub IsAdmissible : Task → Estimate → Type 0
 IsAdmissible t h =
     (from : Node) (p : List ℕ) (to : Node)

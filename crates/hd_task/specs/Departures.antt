@@ -17,7 +17,7 @@ abbrev pub cost_stays : Option Node → Bool
 cost_stays None = false
 cost_stays (Some r) = cost_in_range r.cost
 
--- an action departs where its condition does, or where its condition holds and a subexpression of
+-- an action departs where its condition does, or if its condition holds and a subexpression of
 -- an effect, a new value or the new plan's cost is out of the range
 abbrev pub departs_by : Task → Node → Option Action → Bool
 departs_by t r None = false

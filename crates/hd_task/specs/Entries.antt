@@ -5,7 +5,7 @@ use Rattle.hd_task.specs.declared.plan.Kid.{Kid}
 use Rattle.hd_task.specs.declared.plan.TheConstants.{ROOT_PARENT, ROOT_ACTION}
 use Rattle.hd_task.specs.Expansions.{followed_by}
 
--- the plan of the parent, where there is one, followed by the action
+-- the plan of the parent, if there is one, followed by the action
 abbrev pub plan_from : Option (List ℕ) → ℕ → Option (List ℕ)
 plan_from None n = None
 plan_from (Some p) n = Some (followed_by p n)

@@ -50,7 +50,7 @@ IsLegal t expanded =
 
 -- ---- the bound
 
--- the lesser of two costs, where none is greater than any
+-- the lesser of two costs, if none is greater than any
 abbrev pub lesser : Option ℕ → Option ℕ → Option ℕ
 lesser None b = b
 lesser (Some a) None = Some a

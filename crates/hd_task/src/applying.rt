@@ -96,7 +96,7 @@ pub fn step_cost<R: Reads>(task: &Task, state: &R, action: &Action) -> Option<u1
     }
 }
 
-/// Returns what an action does where its condition holds.
+/// Returns what an action does if its condition holds.
 #[tactic(auto, unfolding(crate::specs::Applying::test_of, crate::specs::Applying::applied_of, crate::specs::Applying::departs_aside, crate::specs::Effects::effects_stay, crate::specs::Effects::state_after))]
 fn take_effect(
     alloc: Global,

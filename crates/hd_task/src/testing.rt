@@ -31,7 +31,7 @@ fn do_effects_stay(state: &State, effects: &[Effect]) -> bool
         .all(|effect| new_value(state, effect).is_some())
 }
 
-/// Returns what an action does where its condition holds, without the state after it.
+/// Returns what an action does if its condition holds, without the state after it.
 #[tactic(auto, unfolding(crate::specs::Applying::test_of, crate::specs::Applying::applied_of, crate::specs::Applying::departs_aside, crate::specs::Effects::effects_stay))]
 fn effect_test(task: &Task, state: &State, action: &Action) -> ActionTest
     requires holds { test_of state.now action.now.condition ≡ GoalTest.Yes }

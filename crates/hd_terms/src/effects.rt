@@ -19,7 +19,7 @@ use hd_forms::{Change, Form, ReadError, Word, first_refusal, form_refusal, group
 use std::alloc::Global;
 use std::slice;
 
-/// Returns the place of the first token of these forms, or 0 where there are none.
+/// Returns the place of the first token of these forms, or 0 if there are none.
 fn place_of(forms: &[Form]) -> usize
     ensures { result ≡ place_of (forms_view forms.now) }
 {

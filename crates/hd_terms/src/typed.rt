@@ -67,7 +67,7 @@ fn behind_items(kind: ItemKind, forms: &[Form]) -> &[Form]
 }
 
 /// Returns the type of the items that these forms follow, if one is given, and what follows it. The
-/// list ends, or a type is given where there are items. The place `end` is that after the forms.
+/// list ends, or a type is given if there are items. The place `end` is that after the forms.
 #[tactic(auto, unfolding(crate::specs::Reading::type_behind))]
 fn type_behind(
     alloc: Global,

@@ -10,7 +10,7 @@ use Rattle.hd_turns.specs.Calls.{with_parcel, after_sending, after_return}
 use Rattle.hd_threads.specs.declared.posting.Sending.{Sending}
 use Rattle.hd_threads.specs.declared.posting.Sending.TheVariants.{Sent, Full, Empty}
 
--- what became of the first parcel of a worker's outbox, where there are so many workers: it is in
+-- what became of the first parcel of a worker's outbox, if there are so many workers: it is in
 -- the mailbox of its state's owner; it is the first again, and nothing is in a mailbox that was
 -- not; or there is none
 abbrev pub HasSent : ℕ → HandsView Task ParcelView → WorkerView → HandsView Task ParcelView → WorkerView → Sending → Type 0

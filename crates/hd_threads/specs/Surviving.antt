@@ -24,7 +24,7 @@ abbrev pub kids_of_groups : Version → List (List Kid) → List Kid
 kids_of_groups v groups = map kid_of (entries_in v FIRST_GATE groups)
 
 -- These groups stand in a content, and maybe more after them: whoever opens it finds just these
--- and those. All their pairs begin with the pairs that are wanted there; and where there are more
+-- and those. All their pairs begin with the pairs that are wanted there; and if there are more
 -- than those of the groups, all together name a legal list.
 pub record StillStand (t : Task) (v : Version) (digest : List ℕ) (groups : List (List Kid)) (kids : List Kid) (content : List ℕ) : Type 0 where
   pub more : List (List Kid)

@@ -64,7 +64,7 @@ fn room_for<'t, L: Ledger, A: Ledger, R: Wait>(
 /// Takes the next group out of the book, if one is due.
 ///
 /// # Errors
-/// - The room again, where none is.
+/// - The room again, if none is.
 fn take_group<'t, L: Ledger, A: Ledger, R: Wait>(
     rt: &R,
     lock: &Lock<SharedBook<'t, L, A>>,
@@ -218,7 +218,7 @@ fn append_group<'t, L: Ledger, A: Ledger, S: Store, R: Wait>(
 
 /// Returns one round of the committer: takes the next group out of the book under the lock, if one
 /// is due, appends it to the journal outside the lock, and acknowledges it under the lock. What the
-/// group is put into is asked for before the lock is taken, also where none is due, and kept for
+/// group is put into is asked for before the lock is taken, also if none is due, and kept for
 /// the next round: so no memory is taken under the lock, and none is given back there but where the
 /// group is not appended.
 ///

@@ -91,7 +91,7 @@ impl<'t, L: Ledger, A: Ledger> SharedBook<'t, L, A> {
     /// `share` says that the acknowledged entries end.
     ///
     /// # Errors
-    /// - The room again, where nothing waits, or a group is out: nothing has changed.
+    /// - The room again, if nothing waits, or a group is out: nothing has changed.
     pub fn take_pending(&mut self, share: &mut Share<A>, room: Room) -> Result<Group, Room>
         requires whole { share.old.parts ≡ A.parts }
         ensures task { self.new.state.task ≡ self.old.state.task }

@@ -395,7 +395,7 @@ fn go_on<'t, L: Ledger, A: Ledger, R: Wait, G: Gate>(
     Ok(worked.open)
 }
 
-/// Does what [`go_on`] does; where there is no memory for it, the book is halted.
+/// Does what [`go_on`] does; if there is no memory for it, the book is halted.
 ///
 /// # Errors
 /// - How the search ends for the worker: by `NoMemory`.

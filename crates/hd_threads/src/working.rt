@@ -139,7 +139,7 @@ fn offer(word: &BoundWord, seat: &mut BoundSeat, bound: Option<u64>)
     }
 }
 
-/// Commits a batch under the lock, where there are fewer entries than the limit says. A book that
+/// Commits a batch under the lock, if there are fewer entries than the limit says. A book that
 /// refuses it is halted.
 ///
 /// # Errors

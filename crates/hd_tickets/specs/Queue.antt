@@ -4,7 +4,7 @@ use Rattle.std.specs.declared.ops.Range.{Range}
 use Rattle.hd_tickets.specs.declared.queue.TheConstants.{MAX_GROUP}
 
 -- how many entries are acknowledged; where each batch after them ends, the oldest first; and how
--- many of these are in the group that is out, 0 where none is
+-- many of these are in the group that is out, 0 if none is
 pub record QueueView : Type 0 where
   pub acknowledged : ℕ
   pub ends : List ℕ
@@ -73,7 +73,7 @@ fitting q = length (take_while (fits q.acknowledged) q.ends)
 abbrev pub with_group : QueueView → QueueView
 with_group q = record q { out = if q.out == 0 then fitting q else q.out }
 
--- the group that goes out next, where none is out
+-- the group that goes out next, if none is out
 abbrev pub group_next : QueueView → Option (Range ℕ)
 group_next q = if q.out == 0 then group_out (with_group q) else None
 

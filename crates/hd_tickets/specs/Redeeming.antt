@@ -9,14 +9,14 @@ use Rattle.hd_tickets.specs.Slots.{ticket_at}
 use Rattle.hd_tickets.specs.Batches.{TicketView, Batches, is_its}
 
 -- a ticket that is out: what it releases, with a receipt, where its entries are acknowledged; else
--- nothing, where no more batches are accepted; else the ticket again
+-- nothing, if no more batches are accepted; else the ticket again
 abbrev pub given_for : {R : Type 0} → Batches R → TicketView → R → Redeemed R
 given_for b k released =
     if are_acknowledged b.queue k.first k.end then Released (record { first = k.first; end = k.end }) released
     else if b.halted then Void
     else NotYet k
 
--- what is given for a ticket with whose number this is out; it is not out where it has other
+-- what is given for a ticket with whose number this is out; it is not out if it has other
 -- entries
 abbrev pub answer_for : {R : Type 0} → Batches R → TicketView → Option (Outgoing R) → Result (Redeemed R) NotOut
 answer_for b k None = Err (record {})

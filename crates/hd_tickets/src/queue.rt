@@ -17,7 +17,7 @@ pub(crate) struct Queue {
     acknowledged: u64,
     /// Where each batch after them ends.
     ends: VecDeque<u64>,
-    /// How many of these are in the group that is out; 0 where none is.
+    /// How many of these are in the group that is out; 0 if none is.
     out: usize,
 }
 

@@ -135,7 +135,7 @@ impl<R: Drop> Tickets<R> {
         Ok(())
     }
 
-    /// Accepts a batch of so many entries: they wait to be appended, where there are any, and its
+    /// Accepts a batch of so many entries: they wait to be appended, if there are any, and its
     /// ticket is out. There is room for it.
     pub fn enter(&mut self, count: u64, released: R) -> Ticket
         requires going { self.old.batches.halted ≡ false }
@@ -207,7 +207,7 @@ impl<R: Drop> Tickets<R> {
     }
 
     /// Redeems a ticket: for what it releases, with a receipt, where the batch's entries are
-    /// acknowledged; else for nothing, where no more batches are accepted; else the ticket comes
+    /// acknowledged; else for nothing, if no more batches are accepted; else the ticket comes
     /// back.
     ///
     /// # Errors

@@ -39,11 +39,11 @@ abbrev pub ExpandsTo : Task → Estimate → ℕ → WorkerView → Option Relea
 ExpandsTo t h pick w None w' = w' ≡ w
 ExpandsTo t h pick w (Some r) w' = (o : Outcome) × IsOutcomeOf t h w.closed w.seen r o × (w' ≡ with_outcome pick o w)
 
--- `expand`; nothing happens where there is no such place
+-- `expand`; nothing happens if there is no such place
 abbrev pub Expands : Task → Estimate → ℕ → WorkerView → WorkerView → Type 0
 Expands t h pick w w' = ExpandsTo t h pick w (slice_get w.waiting pick) w'
 
--- `expand_best`: the same at the place of the best open node; nothing happens where none is open
+-- `expand_best`: the same at the place of the best open node; nothing happens if none is open
 pub data ExpandsBest (t : Task) (w w' : WorkerView) : Type 0 where
   AtBest : (pick : ℕ) → IsBest (total_at t) w.waiting pick → Expands t (hmax t) pick w w' → ExpandsBest t w w'
   AtNone : w.waiting ≡ [] → w' ≡ w → ExpandsBest t w w'

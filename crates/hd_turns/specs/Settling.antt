@@ -18,7 +18,7 @@ use Rattle.hd_closed.specs.Closed.{Closed, IsClosedAt, IsDearer}
 abbrev pub is_beyond : Estimate → Option ℕ → Released → Bool
 is_beyond h seen r = reaches seen (Some (node r.state r.cost)) (h r.state)
 
--- the outcome of an open node: a duplicate by an expansion of the closed list; where there is none,
+-- the outcome of an open node: a duplicate by an expansion of the closed list; if there is none,
 -- bounded by the bound that was seen last or by an infinite estimate; else its expansion
 pub data IsOutcomeOf (t : Task) (h : Estimate) (closed : List Closed) (seen : Option ℕ) (r : Released) (o : Outcome) : Type 0 where
   Again : (c : Closed) → IsClosedAt closed r.state r.cost c → o ≡ Duplicate r.kid c.by → IsOutcomeOf t h closed seen r o

@@ -13,7 +13,7 @@ IsWorkers workers = (1 ≤ workers) × (workers ≤ MAX_WORKERS)
 abbrev pub IsLimit : ℕ → Type 0
 IsLimit limit = (1 ≤ limit) × (limit ≤ MAX_LIMIT)
 
--- a search has 1 to 64 workers, and where it has a limit, one of 1 to 2^40 - 2
+-- a search has 1 to 64 workers, and if it has a limit, one of 1 to 2^40 - 2
 pub record IsSearchOf (s : Search) : Type 0 where
   pub workers : IsWorkers s.workers
   pub limit : IfSome s.limit IsLimit

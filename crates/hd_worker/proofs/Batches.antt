@@ -70,7 +70,7 @@ all_renamed t first given (Expanded e ∷ outcomes) all = (all.0, all_renamed t 
 all_renamed t first given (Duplicate k by ∷ outcomes) all = (tt, all_renamed t first given outcomes all.1)
 all_renamed t first given (Bounded k h ∷ outcomes) all = (all.0, all_renamed t first given outcomes all.1)
 
--- where there are outcomes there are numbers for them
+-- if there are outcomes there are numbers for them
 pub ranks-some : (n : ℕ) (outcomes : List Outcome) → 1 ≤ length outcomes → ranks n outcomes ≢ []
 ranks-some n [] some = λ e. absurd (let none : length {A = Outcome} [] ≡ 0 = refl in omega arith)
 ranks-some n (o ∷ outcomes) some = λ e. absurd (cc)

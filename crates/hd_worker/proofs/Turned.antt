@@ -64,7 +64,7 @@ module _ (t : Task) (id workers : ℕ) (given : List ℕ) (outbox : List Release
       (subst (λ (x : WorkerView). IsBest (total_at u) x.waiting settles.0) is (subst (λ (v : Task). IsBest (total_at v) f.waiting settles.0) own settles.1))
       (settled_to place settles.0 o u is own named more settles.2)
 
--- a batch is given, where there is room for its successors
+-- a batch is given, if there is room for its successors
 pub batch_given :
     (w v : WorkerView) (given : List ℕ) (outcomes : List Outcome) (kids : ℕ) → v ≡ with_room_for kids w → given ≡ ranks 0 (batch_of w) → outcomes ≡ drop MAX_OUTCOMES w.outcomes
     → kids ≡ kids_in (batch_of w) → record v { given = given; outcomes = outcomes } ≡ after_batch w

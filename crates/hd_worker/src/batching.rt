@@ -15,7 +15,7 @@ use hd_node::{Batch, MAX_OUTCOMES, Outcome};
 use std::alloc::Global;
 use std::mem;
 
-/// Adds one outcome more, where there is room for it.
+/// Adds one outcome more, if there is room for it.
 pub(crate) fn push_outcome<'t>(outcomes: &mut Vec<Outcome<'t>>, outcome: Outcome<'t>)
     requires { vec_len outcomes.old < vec_capacity outcomes.old }
     ensures { outcomes.new.items ≡ outcomes.old.items ++ outcome.entry ∷ [] }

@@ -41,7 +41,7 @@ pub(crate) fn give_back<T>(queue: &mut VecDeque<T>, room: usize)
     }
 }
 
-/// Adds one item more, after the others, where there is room for it.
+/// Adds one item more, after the others, if there is room for it.
 pub(crate) fn push_reserved<T: Drop>(queue: &mut VecDeque<T>, item: T)
     requires { deque_len queue.old < deque_capacity queue.old }
     ensures items { queue.new.items ≡ queue.old.items ++ item ∷ [] }
@@ -54,7 +54,7 @@ pub(crate) fn push_reserved<T: Drop>(queue: &mut VecDeque<T>, item: T)
     }
 }
 
-/// Adds one item more, before the others, where there is room for it.
+/// Adds one item more, before the others, if there is room for it.
 pub(crate) fn push_front_reserved<T: Drop>(queue: &mut VecDeque<T>, item: T)
     requires { deque_len queue.old < deque_capacity queue.old }
     ensures items { queue.new.items ≡ item ∷ queue.old.items }
@@ -70,7 +70,7 @@ pub(crate) fn push_front_reserved<T: Drop>(queue: &mut VecDeque<T>, item: T)
 /// Adds one item more, after the others, which leaves room for so many.
 ///
 /// # Errors
-/// - The item, where there is no room for it; the room is as it was.
+/// - The item, if there is no room for it; the room is as it was.
 pub(crate) fn push_beside<T>(
     queue: &mut VecDeque<T>,
     room: usize,

@@ -39,7 +39,7 @@ fn bytes_of(outcome: &Outcome<'_>) -> usize
 }
 
 impl<'t> Worker<'t> {
-    /// Returns the bytes of the states of the last outcome's children: 0 where it has none, or
+    /// Returns the bytes of the states of the last outcome's children: 0 if it has none, or
     /// there is no outcome.
     pub fn last_bytes(&self) -> usize
         ensures { result ≡ min (last_bytes self.now.outcomes) (2 ^ 64 - 1) }
@@ -116,7 +116,7 @@ impl<'t> Worker<'t> {
         Ok(())
     }
 
-    /// Does what `expand` does at the answer of `best`, in one step; nothing where nothing is open.
+    /// Does what `expand` does at the answer of `best`, in one step; nothing if nothing is open.
     ///
     /// # Errors
     /// - `NoMemory`: there is no room for it; the node is open again.

@@ -84,7 +84,7 @@ impl<'t> Frontier<'t> {
     /// Adds `parcel` as the last open node.
     ///
     /// # Errors
-    /// - The parcel, where there is no room for it.
+    /// - The parcel, if there is no room for it.
     pub(crate) fn take(&mut self, parcel: Parcel<'t>) -> Result<(), (Parcel<'t>, NoMemory)>
         requires of_task { parcel.task ≡ self.old.task }
         ensures ok { OnOk result (self.new ≡ arrived (parcel_of parcel.entry) self.old) }

@@ -100,7 +100,7 @@ impl<'t> Worker<'t> {
     /// Adds `parcel` as the last open node.
     ///
     /// # Errors
-    /// - The parcel, where there is no room for it; the worker is as it was.
+    /// - The parcel, if there is no room for it; the worker is as it was.
     pub fn take(&mut self, parcel: Parcel<'t>) -> Result<(), (Parcel<'t>, NoMemory)>
         requires of_task { parcel.task ≡ self.old.task }
         ensures ok { OnOk result (self.new ≡ with_parcel (parcel_of parcel.entry) self.old) }

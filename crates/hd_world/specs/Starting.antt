@@ -14,7 +14,7 @@ use Rattle.hd_recovery.specs.Recovered.{recovered_worker}
 abbrev pub seat_after : Task → List Kid → ℕ → ℕ → Seat
 seat_after t entries workers id = record { worker = recovered_worker t entries id workers; hand = None; tickets = []; told = None }
 
--- the search after these entries, with so many workers, where there may be so many entries: all
+-- the search after these entries, with so many workers, if there may be so many entries: all
 -- entries are acknowledged, no other successor is settled, nothing is on its way, and the workers
 -- share the bound of the entries
 abbrev pub run_after : Task → ℕ → ℕ → List Kid → Run

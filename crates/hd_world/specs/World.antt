@@ -31,7 +31,7 @@ flushed_to f r (Some g) =
 -- ---- `stop`
 
 -- a stop falls now, or within a call that appends the group that was pulled; it does nothing
--- where there is no such call
+-- if there is no such call
 pub data StopsIn (leaves : Leaving) (digest : List ℕ) (f : File) (r : Run) (stop : StopAt) (w' : World) : Type 0 where
   Falls :
       (content : List ℕ) → stop.call ≤ length (appending f digest r.group)

@@ -30,7 +30,7 @@ IsValidInDomain l t None = Unit {0}
 IsValidInDomain l t (Some p) = (cost : ℕ) × plans.IsValidAt l (plan_of t p) (pos cost)
 
 -- what an answer says is true of all plans of the domain, which its task is the grounding of: the
--- instances of an optimal plan are an optimal plan of the domain, where there is no plan the
+-- instances of an optimal plan are an optimal plan of the domain, if there is no plan the
 -- domain has none, and the plan beside a departure, or of a search that stopped, is valid in the
 -- domain
 abbrev pub IsTrueOfDomain : LiftedTask → Task → Outcome → Type 0
@@ -116,7 +116,7 @@ pub data HasNoAnswer (k : Keeping) (limit : Option ℕ) (domain problem : List �
   OfOutput : (f : Fault) → FailsToWrite (IsAnswerText k limit domain problem) old new noted f
       → HasNoAnswer k limit domain problem old new before noted f
 
--- the same, where nothing was to be written yet: whatever a writer holds, and is noted of it
+-- the same, if nothing was to be written yet: whatever a writer holds, and is noted of it
 abbrev pub HasNoAnswerYet : Keeping → Option ℕ → List ℕ → List ℕ → Fault → Type 0
 HasNoAnswerYet k limit domain problem f =
     (bytes : Option (List ℕ)) (noted : Option ErrorKind) → HasNoAnswer k limit domain problem bytes bytes noted noted f

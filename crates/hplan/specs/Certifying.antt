@@ -31,7 +31,7 @@ use Rattle.hplan.specs.Written.{IsUntouched, FailsToWrite}
 -- ---- what is shown, and how it is told
 
 -- what is shown is true of all plans of the domain, which its task is the grounding of: the
--- instances of an optimal plan are an optimal plan of the domain; and where there is no plan, the
+-- instances of an optimal plan are an optimal plan of the domain; and if there is no plan, the
 -- domain has none
 abbrev pub IsTrueThere : LiftedTask → Task → Certified → Type 0
 IsTrueThere l t (Optimal p) = plans.IsOptimal l (plan_of t p)
@@ -131,7 +131,7 @@ pub data HasNoCertificate (domain problem : List ℕ) (file old new : Option (Li
   OfOutput : (f : Fault) → FailsToWrite (IsCertificateText domain problem file) old new noted f
       → HasNoCertificate domain problem file old new before noted f
 
--- the same, where nothing was to be written yet: whatever a writer holds, and is noted of it
+-- the same, if nothing was to be written yet: whatever a writer holds, and is noted of it
 abbrev pub HasNoCertificateYet : List ℕ → List ℕ → Option (List ℕ) → Fault → Type 0
 HasNoCertificateYet domain problem file f =
     (bytes : Option (List ℕ)) (noted : Option ErrorKind) → HasNoCertificate domain problem file bytes bytes noted noted f

@@ -64,6 +64,6 @@ pub data HasNoInspection (file old new : Option (List ℕ)) (before noted : Opti
       → HasNoInspection file old new before noted f
   OfOutput : (f : Fault) → FailsToWrite (IsInspection file) old new noted f → HasNoInspection file old new before noted f
 
--- the same, where nothing was to be written yet: whatever a writer holds, and is noted of it
+-- the same, if nothing was to be written yet: whatever a writer holds, and is noted of it
 abbrev pub HasNoInspectionYet : Option (List ℕ) → Fault → Type 0
 HasNoInspectionYet file f = (bytes : Option (List ℕ)) (noted : Option ErrorKind) → HasNoInspection file bytes bytes noted noted f

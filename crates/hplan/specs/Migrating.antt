@@ -130,7 +130,7 @@ pub data HasNoMigration (domain problem : List ℕ) (m : Moving) (old new : Opti
       → HasNoMigration domain problem m old new before noted f
   OfOutput : (f : Fault) → FailsToWrite (IsMigration domain problem m) old new noted f → HasNoMigration domain problem m old new before noted f
 
--- the same, where nothing was to be written yet: whatever a writer holds, and is noted of it
+-- the same, if nothing was to be written yet: whatever a writer holds, and is noted of it
 abbrev pub HasNoMigrationYet : List ℕ → List ℕ → Moving → Fault → Type 0
 HasNoMigrationYet domain problem m f =
     (bytes : Option (List ℕ)) (noted : Option ErrorKind) → HasNoMigration domain problem m bytes bytes noted noted f

@@ -23,7 +23,7 @@ pub data IsNotPrinted (domain problem : List ℕ) (old new : Option (List ℕ)) 
       → IsNotPrinted domain problem old new before noted (task_in f)
   InOutput : (f : Fault) → FailsToWrite (IsPrintOf domain problem) old new noted f → IsNotPrinted domain problem old new before noted f
 
--- the same, where nothing was to be written yet: whatever a writer holds, and is noted of it
+-- the same, if nothing was to be written yet: whatever a writer holds, and is noted of it
 abbrev pub IsNotPrintedYet : List ℕ → List ℕ → Fault → Type 0
 IsNotPrintedYet domain problem f =
     (bytes : Option (List ℕ)) (noted : Option ErrorKind) → IsNotPrinted domain problem bytes bytes noted noted f

@@ -74,7 +74,7 @@ pub data HasNoReport (domain problem schedule : List ℕ) (old new : Option (Lis
   InOutput : (f : Fault) → FailsToWrite (IsReportText domain problem schedule) old new noted f
       → HasNoReport domain problem schedule old new before noted f
 
--- the same, where nothing was to be written yet: whatever a writer holds, and is noted of it
+-- the same, if nothing was to be written yet: whatever a writer holds, and is noted of it
 abbrev pub HasNoReportYet : List ℕ → List ℕ → List ℕ → Fault → Type 0
 HasNoReportYet domain problem schedule f =
     (bytes : Option (List ℕ)) (noted : Option ErrorKind) → HasNoReport domain problem schedule bytes bytes noted noted f

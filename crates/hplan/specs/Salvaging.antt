@@ -104,7 +104,7 @@ pub data HasNoSalvaging (domain problem : List ℕ) (m : Moving) (old new : Opti
       → HasNoSalvaging domain problem m old new before noted f
   OfOutput : (f : Fault) → FailsToWrite (IsSalvaging domain problem m) old new noted f → HasNoSalvaging domain problem m old new before noted f
 
--- the same, where nothing was to be written yet: whatever a writer holds, and is noted of it
+-- the same, if nothing was to be written yet: whatever a writer holds, and is noted of it
 abbrev pub HasNoSalvagingYet : List ℕ → List ℕ → Moving → Fault → Type 0
 HasNoSalvagingYet domain problem m f =
     (bytes : Option (List ℕ)) (noted : Option ErrorKind) → HasNoSalvaging domain problem m bytes bytes noted noted f

@@ -106,7 +106,7 @@ pub data HasNoSurvey (domain problem : List ℕ) (file old new : Option (List �
   OfOutput : (f : Fault) → FailsToWrite (IsSurveyText domain problem file) old new noted f
       → HasNoSurvey domain problem file old new before noted f
 
--- the same, where nothing was to be written yet: whatever a writer holds, and is noted of it
+-- the same, if nothing was to be written yet: whatever a writer holds, and is noted of it
 abbrev pub HasNoSurveyYet : List ℕ → List ℕ → Option (List ℕ) → Fault → Type 0
 HasNoSurveyYet domain problem file f =
     (bytes : Option (List ℕ)) (noted : Option ErrorKind) → HasNoSurvey domain problem file bytes bytes noted noted f

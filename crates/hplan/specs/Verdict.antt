@@ -59,7 +59,7 @@ pub data HasNoVerdict (domain problem plan : List ℕ) (old new : Option (List �
   InOutput : (f : Fault) → FailsToWrite (IsVerdictOf domain problem plan) old new noted f
       → HasNoVerdict domain problem plan old new before noted f
 
--- the same, where nothing was to be written yet: whatever a writer holds, and is noted of it
+-- the same, if nothing was to be written yet: whatever a writer holds, and is noted of it
 abbrev pub HasNoVerdictYet : List ℕ → List ℕ → List ℕ → Fault → Type 0
 HasNoVerdictYet domain problem plan f =
     (bytes : Option (List ℕ)) (noted : Option ErrorKind) → HasNoVerdict domain problem plan bytes bytes noted noted f

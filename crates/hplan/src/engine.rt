@@ -165,7 +165,7 @@ pub fn solve<W: Write, R: Threads + Wait + Sync + Eprint + Clock>(
     write_told(alloc, told, out)
 }
 
-/// Returns the same, where the search is kept in a file: once it has answered, the journal there
+/// Returns the same, if the search is kept in a file: once it has answered, the journal there
 /// has all of its entries, also where `out` fails. A new journal wants a file that is not there or
 /// empty; one that is there goes on from the entries that are found in it, in its version.
 ///

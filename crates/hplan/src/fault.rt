@@ -199,7 +199,7 @@ pub fn store_in(error: StoreError) -> Fault
     }
 }
 
-/// Returns a fault of a file, a reader or a writer, by its error's kind: `NoMemory` where memory
+/// Returns a fault of a file, a reader or a writer, by its error's kind: `NoMemory` if memory
 /// ran out, else `Device`.
 pub fn kind_fault(kind: io::ErrorKind) -> Fault
     ensures { TellsKind kind result }

@@ -29,7 +29,7 @@ pub fn steps_are_printed_as_ground_forms()
 {}
 
 /// Law: what is written of an answer is a plan file: it is valid in the task of the same two texts,
-/// as `validate` judges it, at the cost that stands in it. Nothing is written only where there is
+/// as `validate` judges it, at the cost that stands in it. Nothing is written only if there is
 /// no plan, and so not of an answer that ends with an optimal one.
 pub fn answers_are_validated()
     ensures optimal { (limit : Option ℕ) (domain problem text : List ℕ)

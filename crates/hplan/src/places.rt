@@ -82,7 +82,7 @@ impl<'r, R> SystemFiles<'r, R> {
     }
 }
 
-/// Makes an empty file where none is: reports whether it did.
+/// Makes an empty file if none is: reports whether it did.
 fn make_new<R: Files<File = File>>(rt: &R, name: &str) -> bool {
     File::create_new(rt, name).is_ok()
 }

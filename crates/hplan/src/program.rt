@@ -41,7 +41,7 @@ const REFUSED: u8 = 1;
 /// The exit status of a faulty command line.
 const MISUSED: u8 = 2;
 
-/// The exit status where there is no plan.
+/// The exit status if there is no plan.
 const NO_PLAN: u8 = 10;
 
 /// The exit status where a number left the range.

@@ -22,7 +22,7 @@ struct Left {
     says: Option<Says>,
 }
 
-/// Opens the journal on a disk, which is made where there is none, and searches on.
+/// Opens the journal on a disk, which is made if there is none, and searches on.
 fn go_on<R: Threads + Wait + Sync>(
     rt: &R,
     alloc: Global,
