@@ -1,5 +1,5 @@
 //! Laws over the definitions.
-ghost use Rattle.std.specs.Prelude.{◌≡◌, length, FitsSigned};
+ghost use Rattle.std.specs.Prelude.{◌≡◌, [], ◌∷◌, true, false, length, pos, FitsSigned};
 ghost use Rattle.std.specs.Int.{w64};
 ghost use Rattle.std.specs.List.{AllByRecursion};
 ghost use Rattle.hd_task.specs.declared.state.State.{State};
@@ -16,4 +16,16 @@ pub fn equal_packings_are_of_equal_states()
     ensures { (s t : State) → AllByRecursion (FitsSigned w64) s.fluents
         → AllByRecursion (FitsSigned w64) t.fluents → length s.atoms ≡ length t.atoms
         → packed_bytes s ≡ packed_bytes t → s ≡ t }
+{}
+
+/// Law: an example, computed by the definition.
+pub fn a_packing_computes()
+    // The atoms 0 and 2 of three are true.
+    ensures atoms { packed_bytes (record {
+      atoms = true ∷ false ∷ true ∷ [];
+      fluents = [];
+    }) ≡ 5 ∷ [] }
+    // A fluent is 258.
+    ensures fluents { packed_bytes (record { atoms = []; fluents = pos 258 ∷ [] })
+        ≡ 2 ∷ 1 ∷ 0 ∷ 0 ∷ 0 ∷ 0 ∷ 0 ∷ 0 ∷ [] }
 {}

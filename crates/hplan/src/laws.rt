@@ -14,6 +14,8 @@ ghost use Rattle.hd_journal.specs.Answers.{StandsIn};
 ghost use Rattle.hd_migrate.specs.Copy.{kids_in};
 ghost use Rattle.hd_entries.specs.Holding.{BeginsWith};
 ghost use Rattle.hd_printing.specs.Printing.{step_of};
+ghost use Rattle.hd_words.specs.declared.request.TheConstants as words;
+ghost use Rattle.hd_zobrist.specs.declared.owners.TheConstants as owners;
 ghost use Rattle.hplan.specs.declared.kept.Start.TheVariants.{Kept};
 ghost use Rattle.hplan.specs.declared.told.Ending.{Ending};
 ghost use Rattle.hplan.specs.declared.told.Ending.TheVariants.{Optimal};
@@ -60,4 +62,9 @@ pub fn what_stood_is_gone_on_with()
         (v : Version) (groups : List (List Kid)) → length digest ≡ DIGEST_LEN
         → IsKept Kept digest kids before after → StandsIn v digest groups before
         → BeginsWith kids (kids_in groups) }
+{}
+
+/// Law: the command line allows just as many workers as states may have owners.
+pub fn workers_have_owners()
+    ensures { words.MAX_WORKERS ≡ owners.MAX_WORKERS }
 {}
