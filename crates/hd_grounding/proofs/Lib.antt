@@ -2,10 +2,7 @@ pub mod Changing
 pub mod Faulty
 pub mod Grounded
 pub mod Holding
-pub mod Lantern
 pub mod Numbers
-pub mod Orders
-pub mod Ovens
 pub mod Paying
 pub mod Told
 pub mod Unique

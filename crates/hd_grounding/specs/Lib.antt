@@ -1,5 +1,4 @@
 pub mod Agreement
-pub mod Example
 pub mod Faults
 pub mod Grounding
 pub mod Images

@@ -8,8 +8,7 @@
 //!
 //! The number of an atom or a fluent is its place in a sorted list, and each part has an image by
 //! these numbers. A function of [`laws`] does nothing: its contract is the law. Start reading at
-//! `specs/Grounding`, then `specs/Images` and `specs/Faults`; [`examples`] has small cases.
+//! `specs/Grounding`, then `specs/Images` and `specs/Faults`.
 #![tactic(auto)]
 
-pub mod examples;
 pub mod laws;

@@ -1,12 +1,5 @@
-pub mod Cold
-pub mod Gate
-pub mod Hearth
-pub mod Journey
 pub mod Least
-pub mod Marking
-pub mod Pairing
 pub mod Passing
 pub mod Rising
-pub mod Small
 pub mod Sound
 pub mod Unchanged

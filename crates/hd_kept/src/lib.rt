@@ -11,5 +11,4 @@
 //! `specs/Kept`, then [`laws`].
 #![tactic(auto)]
 
-pub mod examples;
 pub mod laws;

@@ -10,5 +10,4 @@
 //! departs unseen. Start reading at `specs/Instances`, then `specs/Runs` and `src/laws.rt`.
 #![tactic(auto)]
 
-pub mod examples;
 pub mod laws;
