@@ -1,5 +1,5 @@
 //! How parcels that came become open nodes.
-ghost use Rattle.std.specs.Prelude.{◌≡◌, ◌==◌, ◌+◌, ◌<◌, ◌≤◌, ◌++◌, [], ◌∷◌, drop, length, IfOk, OnOk, OnErr};
+ghost use Rattle.std.specs.Prelude.{◌≡◌, ◌==◌, ◌+◌, ◌-◌, ◌<◌, ◌≤◌, ◌++◌, [], ◌∷◌, drop, length, IfOk, OnOk, OnErr};
 ghost use Rattle.std.specs.List.{AllByRecursion};
 ghost use Rattle.std.specs.VecDeque.{deque_len, deque_capacity};
 ghost use Rattle.hd_entries.specs.Holding.{parcel_of, IsParcelOf};
@@ -90,11 +90,55 @@ fn open_first<'t>(
     }
 }
 
-/// Opens the nodes of the parcels of `fresh`, in their order, after the others. Each is estimated,
-/// unless its state was before. Room for `room` parcels to come is kept.
+/// Opens the nodes of the first `most` parcels of `fresh`, in their order, after the others; returns
+/// whether all that came are open nodes now. Each is estimated, unless its state was before. Room
+/// for `room` parcels to come is kept.
 ///
 /// # Errors
 /// - `NoMemory`: there is no room for a node; those before it are open nodes.
+pub(crate) fn open_some<'t>(
+    alloc: Global,
+    known: &mut ClosedList<'t>,
+    nodes: &mut OpenList<Node>,
+    fresh: &mut VecDeque<Parcel<'t>>,
+    room: usize,
+    estimates: &mut Hmax<'t>,
+    most: usize,
+) -> Result<bool, NoMemory>
+    requires room { deque_len fresh.old + room ≤ deque_capacity fresh.old }
+    requires estimates { estimates.old.task ≡ known.old.task }
+    requires nodes { AllByRecursion (IsNodeOf known.old.task known.old.states) nodes.old.nodes }
+    requires parcels { AllByRecursion (IsParcelOf known.old.task) fresh.old.items }
+    ensures task { known.new.task ≡ known.old.task }
+    ensures closed { known.new.closed ≡ known.old.closed }
+    ensures begins { BeginsWith known.new.states known.old.states }
+    ensures estimates { estimates.new.task ≡ estimates.old.task }
+    ensures nodes { AllByRecursion (IsNodeOf known.old.task known.new.states) nodes.new.nodes }
+    ensures parcels { AllByRecursion (IsParcelOf known.old.task) fresh.new.items }
+    ensures waiting { waiting_by known.new.states nodes.new.nodes fresh.new.items
+        ≡ waiting_by known.old.states nodes.old.nodes fresh.old.items }
+    ensures room { deque_len fresh.new + room ≤ deque_capacity fresh.new }
+    ensures opened { OnOk result (length fresh.new.items ≡ length fresh.old.items - most) }
+    ensures all { IfOk result (λ all. all ≡ (length fresh.new.items == 0)) }
+{
+    let mut left = most;
+    while left > 0 {
+        let Some(parcel) = fresh.front() else {
+            break;
+        };
+        let node = node_for(alloc, known, estimates, parcel)?;
+        open_first(nodes, fresh, node)?;
+        left -= 1;
+    }
+    let all = fresh.is_empty();
+    give_back(fresh, room);
+    Ok(all)
+}
+
+/// Opens the nodes of all parcels of `fresh`, as [`open_some`] does.
+///
+/// # Errors
+/// - As there.
 pub(crate) fn open_all<'t>(
     alloc: Global,
     known: &mut ClosedList<'t>,
@@ -118,51 +162,7 @@ pub(crate) fn open_all<'t>(
     ensures room { deque_len fresh.new + room ≤ deque_capacity fresh.new }
     ensures all { OnOk result (fresh.new.items ≡ []) }
 {
-    while let Some(parcel) = fresh.front() {
-        let node = node_for(alloc, known, estimates, parcel)?;
-        open_first(nodes, fresh, node)?;
-    }
-    give_back(fresh, room);
+    let most = fresh.len();
+    open_some(alloc, known, nodes, fresh, room, estimates, most)?;
     Ok(())
-}
-
-/// Opens the first `most` parcels that came, as [`open_all`] does; returns whether all that came
-/// are open nodes now.
-///
-/// # Errors
-/// - As there.
-pub(crate) fn open_some<'t>(
-    alloc: Global,
-    known: &mut ClosedList<'t>,
-    nodes: &mut OpenList<Node>,
-    fresh: &mut VecDeque<Parcel<'t>>,
-    room: usize,
-    estimates: &mut Hmax<'t>,
-    most: usize,
-) -> Result<bool, NoMemory>
-    requires room { deque_len fresh.old + room ≤ deque_capacity fresh.old }
-    requires estimates { estimates.old.task ≡ known.old.task }
-    requires nodes { AllByRecursion (IsNodeOf known.old.task known.old.states) nodes.old.nodes }
-    requires parcels { AllByRecursion (IsParcelOf known.old.task) fresh.old.items }
-    ensures task { known.new.task ≡ known.old.task }
-    ensures closed { known.new.closed ≡ known.old.closed }
-    ensures begins { BeginsWith known.new.states known.old.states }
-    ensures estimates { estimates.new.task ≡ estimates.old.task }
-    ensures nodes { AllByRecursion (IsNodeOf known.old.task known.new.states) nodes.new.nodes }
-    ensures parcels { AllByRecursion (IsParcelOf known.old.task) fresh.new.items }
-    ensures waiting { waiting_by known.new.states nodes.new.nodes fresh.new.items
-        ≡ waiting_by known.old.states nodes.old.nodes fresh.old.items }
-    ensures room { deque_len fresh.new + room ≤ deque_capacity fresh.new }
-    ensures all { IfOk result (λ all. all ≡ (length fresh.new.items == 0)) }
-{
-    for _parcel in 0..most {
-        let Some(parcel) = fresh.front() else {
-            break;
-        };
-        let node = node_for(alloc, known, estimates, parcel)?;
-        open_first(nodes, fresh, node)?;
-    }
-    let all = fresh.is_empty();
-    give_back(fresh, room);
-    Ok(all)
 }

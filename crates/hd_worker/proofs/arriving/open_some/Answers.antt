@@ -7,11 +7,11 @@ use Rattle.hd_worker.specs.declared.node.Node.{Node}
 use Rattle.hd_worker.proofs.Settled.{first_there, waiting_moved, waiting_stays, parcels_moved, nodes_stay, begins_twice}
 use Rattle.hd_worker.proofs.arriving.open_some.Goals as goal
 
-pub loop-parcel-preserved : goal.loop-parcel-preserved
-loop-parcel-preserved c =
+pub loop-left-preserved : goal.loop-left-preserved
+loop-left-preserved c =
     let t = c.args.known.now.task in
-    let before = c.loop-parcel in
-    let inv = c.loop-parcel.invariant in
+    let before = c.loop-left in
+    let inv = c.loop-left.invariant in
     let states = c.node_for.new.known.states in
     let n = c.in_ok-node.node in
     let nodes = c.open_first.new.nodes.nodes in
@@ -33,32 +33,33 @@ loop-parcel-preserved c =
           waiting_moved t before.known.states states before.nodes.nodes nodes before.fresh.items fresh n c.in-Some.parcel.now begins inv.nodes more rest
           (first_there before.fresh.items c.in-Some.parcel.now c.in-Some.ensures.lookup c.in-Some.ensures.item.3.0) c.in_ok-node.ensures.released
           ∙ inv.waiting;
+      counted = omega (arith, c.in_ok-open_first.ensures.one_less, inv.counted);
       fewer = omega (arith, c.open_first.ensures.fewer, inv.fewer);
       capacity = c.open_first.ensures.capacity ∙ inv.capacity;
     }
 
 pub returns-in_err-node-clause-nodes : goal.returns-in_err-node-clause-nodes
 returns-in_err-node-clause-nodes c =
-    let before = c.loop-parcel in
+    let before = c.loop-left in
     nodes_stay c.args.known.now.task before.known.states c.node_for.new.known.states before.nodes.nodes c.node_for.ensures.begins before.invariant.nodes
 
 pub returns-in_err-node-clause-waiting : goal.returns-in_err-node-clause-waiting
 returns-in_err-node-clause-waiting c =
-    let before = c.loop-parcel in
+    let before = c.loop-left in
     waiting_stays c.args.known.now.task before.known.states c.node_for.new.known.states before.nodes.nodes before.fresh.items c.node_for.ensures.begins before.invariant.nodes
     ∙ before.invariant.waiting
 
 pub returns-in_err-open_first-clause-nodes : goal.returns-in_err-open_first-clause-nodes
 returns-in_err-open_first-clause-nodes c =
     let t = c.args.known.now.task in
-    let before = c.loop-parcel in
+    let before = c.loop-left in
     let states = c.node_for.new.known.states in
     subst (λ (ns : List Node). AllByRecursion (IsNodeOf t states) ns) (sym c.in_err-open_first.ensures.err)
     (nodes_stay t before.known.states states before.nodes.nodes c.node_for.ensures.begins before.invariant.nodes)
 
 pub returns-in_err-open_first-clause-waiting : goal.returns-in_err-open_first-clause-waiting
 returns-in_err-open_first-clause-waiting c =
-    let before = c.loop-parcel in
+    let before = c.loop-left in
     let states = c.node_for.new.known.states in
     ap₂ (waiting_by states) c.in_err-open_first.ensures.err c.in_err-open_first.ensures.parcels
     ∙ (waiting_stays c.args.known.now.task before.known.states states before.nodes.nodes before.fresh.items c.node_for.ensures.begins before.invariant.nodes

@@ -1,4 +1,4 @@
-use Rattle.std.proofs.Common.{◌≡◌, ◌≤◌}
+use Rattle.std.proofs.Common.{◌≡◌, ◌+◌, ◌≤◌, length}
 use Rattle.std.specs.List.{AllByRecursion}
 use Rattle.std.specs.VecDeque.{deque_len, deque_capacity}
 use Rattle.hd_entries.specs.Holding.{IsParcelOf}
@@ -7,8 +7,8 @@ use Rattle.hd_worker.specs.Nodes.{IsNodeOf, waiting_by}
 use Rattle.hd_worker.proofs.arriving.open_some.Given as goal
 
 -- the nodes that are open, and the parcels that are left
-abbrev pub invariant-loop-parcel : goal.invariant-loop-parcel
-invariant-loop-parcel l = record {
+abbrev pub invariant-loop-left : goal.invariant-loop-left
+invariant-loop-left l = record {
   same_task : l.known.task ≡ l.fn.known.task;
   closed : l.known.closed ≡ l.fn.known.closed;
   begins : BeginsWith l.known.states l.fn.known.states;
@@ -16,6 +16,10 @@ invariant-loop-parcel l = record {
   nodes : AllByRecursion (IsNodeOf l.fn.known.task l.known.states) l.nodes.nodes;
   parcels : AllByRecursion (IsParcelOf l.fn.known.task) l.fresh.items;
   waiting : waiting_by l.known.states l.nodes.nodes l.fresh.items ≡ waiting_by l.fn.known.states l.fn.nodes.nodes l.fn.fresh.items;
+  counted : length l.fresh.items + l.most ≡ length l.fn.fresh.items + l.left;
   fewer : deque_len l.fresh ≤ deque_len l.fn.fresh;
   capacity : deque_capacity l.fresh ≡ deque_capacity l.fn.fresh;
 }
+
+abbrev pub decreases-loop-left : goal.decreases-loop-left
+decreases-loop-left l = l.left
