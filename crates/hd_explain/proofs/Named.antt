@@ -1,6 +1,5 @@
 -- Why a plan of steps is not valid: of one step, of the goal, and of the whole.
 use Rattle.std.proofs.Common.{◌≡◌, ◌≤◌, ℕ, ◌+◌, ◌-◌, take, drop, List, [], ◌∷◌, Some, None, length, get_or, arith, inl, inr, refl, sym, ap, ◌∙◌, subst}
-use Rattle.std.specs.Prelude.{Bool, true, false, if◌then◌else◌}
 use Rattle.std.proofs.lemmas.List.{take_rest}
 use Rattle.hd_plan.specs.declared.step.Step.{Step}
 use Rattle.hd_lifted.specs.declared.task.LiftedTask.{LiftedTask}
@@ -10,45 +9,47 @@ use Rattle.hd_lifted.specs.Steps.{Reached, start}
 use Rattle.hd_judge.specs.declared.fault.Fault.{Fault}
 use Rattle.hd_judge.specs.declared.fault.Fault.TheVariants.{NoSuchAction, NotApplicable, Departs, GoalUnmet}
 use Rattle.hd_judge.specs.declared.fault.Stop.TheVariants as stops
+use Rattle.hd_judge.specs.Asking.{asked_of_goal}
+use Rattle.hd_judge.specs.Refusals.{fault_of, IsReasonOfStep, TellsUnexplained, IsReasonOfGoal, GoalUnexplained}
+use Rattle.hd_judge.specs.Validity.{Passes}
 use Rattle.hd_judge.specs.Way.{IsOnWay}
+use Rattle.hd_judge.proofs.Reasoned.{reason_asked, goal_reason_asked}
 use Rattle.hd_validate.specs.Naming.{HasNamesOf}
 use Rattle.hd_validate.specs.Plans.{PassesBy, names_none, fails_named, TellsFromBy}
 use Rattle.hd_validate.proofs.Judged.{validated_from}
 use Rattle.hd_validate.proofs.Stepping.{stops_named}
-use Rattle.hd_explain.specs.declared.reason.Reason.{Reason}
+use Rattle.hd_judge.specs.declared.reason.Reason.{Reason}
 use Rattle.hd_explain.specs.declared.plan.PlanReason.{PlanReason}
 use Rattle.hd_explain.specs.declared.plan.Halt.{Halt}
 use Rattle.hd_explain.specs.declared.plan.Halt.TheVariants as halts
-use Rattle.hd_explain.specs.Steps.{IsReasonOfStep, IsReasonOfGoal, GoalIsMet}
-use Rattle.hd_explain.specs.Plans.{fault_of, objects_of, ExplainsFrom, TellsReason, NeedsNoReason, HasReasonFrom, NeedsNoReasonFrom, HaltsAt, HaltsFrom, MeansTaken}
+use Rattle.hd_explain.specs.Plans.{objects_of, ExplainsFrom, TellsReason, NeedsNoReason, HasReasonFrom, NeedsNoReasonFrom, HaltsAt, HaltsFrom}
 use Rattle.hd_explain.specs.Texts.{text_of}
-use Rattle.hd_explain.proofs.Asked.{reason_asked, goal_reason_asked, goal_none_asked}
 
 -- ---- one step
 
 pub step_unnamed : (t : LiftedTask) (r here : Reached) (n : ℕ) (s : Step) → ((i : Instance) → HasNamesOf t s i → ⊥) → HaltsAt t r n s here halts.Untold
 step_unnamed t r here n s none = (NoSuchAction n, names_none (λ i step. none i step.names) refl, refl)
 
-pub step_told : (t : LiftedTask) (r : Reached) (n : ℕ) (s : Step) (i : Instance) (reason : Reason) → HasNamesOf t s i → IsReasonOfStep t r i reason
-    → HaltsAt t r n s r (halts.Told (record { instance = Some i; reason = reason }))
-step_told t r n s i reason names why = (
+pub step_told : (t : LiftedTask) (r here : Reached) (n : ℕ) (s : Step) (i : Instance) (reason : Reason) → HasNamesOf t s i → IsReasonOfStep t r i reason × (here ≡ r)
+    → HaltsAt t r n s here (halts.Told (record { instance = Some i; reason = reason }))
+step_told t r here n s i reason names why = (
   fault_of (NotApplicable n) (Departs n) reason,
   record {
     instance = i;
-    is_step = record { instance = why.0; names = names };
-    is_here = refl;
+    is_step = record { instance = why.0.0; names = names };
+    is_here = sym why.1;
     is_of = refl;
-    is_reason = why;
+    is_reason = why.0;
     is_fault = refl;
   },
 )
 
-pub step_passes : (t : LiftedTask) (r here : Reached) (n : ℕ) (s : Step) (i : Instance) → HasNamesOf t s i → MeansTaken t r n i here true → PassesBy t r n s here
-step_passes t r here n s i names taken = record { instance = i; is_step = record { instance = taken.0.instance; names = names }; passes = taken.0 }
+pub step_passes : (t : LiftedTask) (r here : Reached) (n : ℕ) (s : Step) (i : Instance) → HasNamesOf t s i → Passes t r n i here → PassesBy t r n s here
+step_passes t r here n s i names passes = record { instance = i; is_step = record { instance = passes.instance; names = names }; passes = passes }
 
-pub step_untold : (t : LiftedTask) (r here : Reached) (n : ℕ) (s : Step) (i : Instance) → HasDistinctNames t → HasNamesOf t s i → MeansTaken t r n i here false
-    → HaltsAt t r n s here halts.Untold
-step_untold t r here n s i distinct names taken = (taken.0, stops_named t r n s i (stops.At taken.0) distinct names taken.1, taken.2)
+pub step_untold : (t : LiftedTask) (r here : Reached) (n : ℕ) (s : Step) (i : Instance) (fault : Fault) → HasDistinctNames t → HasNamesOf t s i
+    → TellsUnexplained t r n i fault → HaltsAt t r n s here halts.Untold
+step_untold t r here n s i fault distinct names told = (fault, stops_named t r n s i (stops.At fault) distinct names told.0, told.1)
 
 -- where the way ends at the first step, it does so for the steps
 pub halts_first : (t : LiftedTask) (r here : Reached) (n : ℕ) (s : Step) (rest : List Step) (h : Halt) → HaltsAt t r n s here h → HaltsFrom t r n (s ∷ rest) here h
@@ -92,12 +93,11 @@ pub goal_told : (t : LiftedTask) (r : Reached) (reason : Reason) → IsReasonOfG
     → (n : ℕ) → HaltsFrom t r n [] r (halts.Told (record { instance = None; reason = reason }))
 goal_told t r reason why n = (fault_of GoalUnmet (Departs n) reason, (refl, refl, why, refl))
 
-pub goal_untold : (t : LiftedTask) (r : Reached) → IsOnWay t r → GoalIsMet t r → (n : ℕ) → HaltsFrom t r n [] r halts.Untold
-goal_untold t r way met n =
-    elim (goal_none_asked t r n met) [
-      | inl none ↦ inl (r, (refl, none), way)
-      | inr told ↦ inr told
-    ]
+pub goal_met : (t : LiftedTask) (r : Reached) → IsOnWay t r → ((n : ℕ) → asked_of_goal t r n ≡ None) → (n : ℕ) → HaltsFrom t r n [] r halts.Untold
+goal_met t r way met n = inl (r, (refl, met n), way)
+
+pub goal_untold : (t : LiftedTask) (r : Reached) (fault : Fault) → GoalUnexplained t r fault → (n : ℕ) → HaltsFrom t r n [] r halts.Untold
+goal_untold t r fault told n = inr (fault, told.0 n, told.1)
 
 -- ---- the whole
 

@@ -1,42 +1,20 @@
 -- Why a plan of steps is not valid: the reason of its first fault. (Our own.)
-use Rattle.std.specs.Prelude.{◌≡◌, ℕ, Bool, true, false, ◌+◌, ◌⊎◌, List, [], ◌∷◌, Option, Some, None}
+use Rattle.std.specs.Prelude.{◌≡◌, ℕ, false, ◌+◌, ◌⊎◌, List, [], ◌∷◌, Option, Some, None}
 use Rattle.hd_plan.specs.declared.step.Step.{Step}
 use Rattle.hd_lifted.specs.declared.task.LiftedTask.{LiftedTask}
 use Rattle.hd_lifted.specs.declared.instance.Instance.{Instance}
 use Rattle.hd_lifted.specs.Steps.{Reached, start}
 use Rattle.hd_judge.specs.declared.fault.Fault.{Fault}
-use Rattle.hd_judge.specs.declared.fault.Fault.TheVariants.{NoSuchAction, NotApplicable, Undefined, NegativeCost, Departs, GoalUnmet}
-use Rattle.hd_judge.specs.Validity.{Passes, TellsStep}
+use Rattle.hd_judge.specs.declared.fault.Fault.TheVariants.{NotApplicable, Departs, GoalUnmet}
+use Rattle.hd_judge.specs.declared.reason.Reason.{Reason}
+use Rattle.hd_judge.specs.Refusals.{fault_of, is_explained, IsReasonOfStep, IsReasonOfGoal}
 use Rattle.hd_judge.specs.Way.{IsOnWay}
 use Rattle.hd_validate.specs.Naming.{IsStep}
 use Rattle.hd_validate.specs.Plans.{IsValidatedBy, PassesBy, TellsStepBy, TellsFromBy, ClearsFromBy, IsFirstFaultBy}
-use Rattle.hd_explain.specs.declared.reason.Reason.{Reason}
-use Rattle.hd_explain.specs.declared.reason.Reason.TheVariants as reasons
 use Rattle.hd_explain.specs.declared.plan.PlanReason.{PlanReason}
 use Rattle.hd_explain.specs.declared.plan.Halt.{Halt}
 use Rattle.hd_explain.specs.declared.plan.Halt.TheVariants as halts
-use Rattle.hd_explain.specs.Steps.{IsReasonOfStep, IsReasonOfGoal}
 use Rattle.hd_explain.specs.Texts.{text_of}
-
--- the fault that a reason is one of: a part of a condition that does not hold is of the one, what
--- leaves the range of the other
-abbrev pub fault_of : Fault → Fault → Reason → Fault
-fault_of unmet departs (reasons.Literal l) = unmet
-fault_of unmet departs (reasons.Equality e) = unmet
-fault_of unmet departs (reasons.Comparison c) = unmet
-fault_of unmet departs (reasons.Subexpression d) = departs
-fault_of unmet departs (reasons.NewValue n) = departs
-fault_of unmet departs (reasons.NegativeCost c) = departs
-fault_of unmet departs (reasons.PlanCost c) = departs
-
--- a fault is one that a reason belongs to; the others say all that there is to say
-abbrev pub is_explained : Fault → Bool
-is_explained (NoSuchAction n) = false
-is_explained (NotApplicable n) = true
-is_explained (Undefined g) = false
-is_explained (NegativeCost i) = false
-is_explained (Departs n) = true
-is_explained GoalUnmet = true
 
 -- the n-th step, which is one of this instance, has the fault for this reason, and is taken here
 pub record IsReasonOfNamed (t : LiftedTask) (r : Reached) (n : ℕ) (s : Step) (fault : Fault) (here : Reached) (of : Option Instance) (reason : Reason) : Type 0 where
@@ -105,9 +83,3 @@ HaltsAt t r n s here (halts.Told p) = (fault : Fault) × IsReasonOfNamed t r n s
 abbrev pub HaltsFrom : LiftedTask → Reached → ℕ → List Step → Reached → Halt → Type 0
 HaltsFrom t r n steps here halts.Untold = NeedsNoReasonFrom t r n steps
 HaltsFrom t r n steps here (halts.Told p) = HasReasonFrom t r n steps here p
-
--- what becomes of the n-th step, if it has no reason: it passes and leads here, or has a fault
--- that says all that there is to say
-abbrev pub MeansTaken : LiftedTask → Reached → ℕ → Instance → Reached → Bool → Type 0
-MeansTaken t r n i here true = Passes t r n i here × IsOnWay t here
-MeansTaken t r n i here false = (fault : Fault) × TellsStep t r n i fault × (is_explained fault ≡ false)

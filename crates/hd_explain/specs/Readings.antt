@@ -6,8 +6,8 @@ use Rattle.hd_lifted.specs.declared.schema.NumericEffect.{NumericEffect}
 use Rattle.hd_lifted.specs.Effects.{is_cost}
 use Rattle.hd_kept.specs.Met.{fluents_in, met_by_comparison}
 use Rattle.hd_judge.specs.Effects.{changes_fluent}
-use Rattle.hd_explain.specs.declared.reason.Reason.{Reason}
-use Rattle.hd_explain.specs.declared.reason.Reason.TheVariants as reasons
+use Rattle.hd_judge.specs.declared.reason.Reason.{Reason}
+use Rattle.hd_judge.specs.declared.reason.Reason.TheVariants as reasons
 use Rattle.hd_explain.specs.declared.reading.Reading.{Reading}
 
 -- a fluent with its value

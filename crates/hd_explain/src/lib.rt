@@ -5,27 +5,15 @@
 //! literal, an equality, a comparison, a subexpression, a new value or a cost. Otherwise it returns
 //! `None`: the plan is valid, or its error needs no reason.
 //!
-//! It takes the plan's steps by hd_judge, and asks [`explain_step`] before each step and
-//! [`explain_goal`] at the end. Both ask in the order of the judge, and stop at the first reason. A
-//! [`Reason`] borrows its part of the task, and [`text_of`] prints it with the values there. Start
-//! reading at [`explain`], then `specs/Reasons`.
+//! It takes the plan's steps by hd_judge, which says why it refuses a step or the goal.
+//! [`text_of`] prints such a reason with the values where the plan leads. Start reading at
+//! [`explain`], then `specs/Plans`.
 #![tactic(auto)]
 
-mod comparison;
-mod condition;
-mod effect;
-mod explaining;
-mod goal;
 mod plan;
 mod reading;
-mod reason;
 mod text;
-mod trace;
 
-pub use effect::explain_effects;
-pub use explaining::{explain_step, place_after};
-pub use goal::explain_goal;
 pub use plan::explain;
 pub use reading::{Reading, readings_of};
-pub use reason::{Departure, NewValue, Reason, StepCost};
 pub use text::text_of;

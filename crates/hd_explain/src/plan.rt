@@ -5,17 +5,13 @@ ghost use Rattle.hd_lifted.specs.WellFormed.{HasDistinctNames};
 ghost use Rattle.hd_judge.specs.Tables.{reached_in};
 ghost use Rattle.hd_judge.specs.Way.{IsOnWay};
 ghost use Rattle.hd_validate.specs.Plans.{PassesBy};
-ghost use Rattle.hd_explain.specs.Steps.{GoesThrough};
 ghost use Rattle.hd_explain.specs.Texts.{text_of};
-ghost use Rattle.hd_explain.specs.Plans.{objects_of, TellsReason, NeedsNoReason, HaltsAt, HaltsFrom, MeansTaken};
+ghost use Rattle.hd_explain.specs.Plans.{objects_of, TellsReason, NeedsNoReason, HaltsAt, HaltsFrom};
 
-use crate::explaining::explain_step;
-use crate::goal::explain_goal;
-use crate::reason::Reason;
 use crate::text::text_of;
 use hd_base::{NoMemory, Seed};
-use hd_judge::{Lookups, Place, Stop, begin, judge_step};
-use hd_lifted::{Checked, Instance, LiftedTask};
+use hd_judge::{Lookups, Place, Reason, Refusal, Stop, begin, explain_goal, explain_step};
+use hd_lifted::{Checked, Instance};
 use hd_plan::Step;
 use hd_validate::{TaskNames, instance_of};
 use std::alloc::{AllocError, Global};
@@ -37,95 +33,72 @@ pub(crate) enum Halt<'a> {
     Told(PlanReason<'a>),
 }
 
-/// Takes a step for whose refusal there is no reason, and says whether it passes. Else, and on an
-/// error, the place is of no use.
-fn take(
-    alloc: Global,
-    lookups: &Lookups<'_>,
-    place: &mut Place,
-    number: u64,
-    instance: &Instance,
-) -> Result<bool, NoMemory>
-    requires way { IsOnWay lookups.now (reached_in place.old) }
-    requires through { GoesThrough lookups.now (reached_in place.old) instance.now }
-    ensures { IfOk result (MeansTaken lookups.now (reached_in place.old) number instance.now
-        (reached_in place.new)) }
-{
-    match judge_step(alloc, lookups, place, number, instance) {
-        Ok(()) => Ok(true),
-        Err(Stop::At(fault)) => {
-            drop(fault);
-            Ok(false)
-        }
-        Err(Stop::NoMemory) => Err(AllocError),
-    }
-}
-
-/// Explains the n-th step where it is refused, and else takes it: `None` says that it passes. Where
-/// it is refused without a reason, and on an error, the place is of no use.
+/// Takes the n-th step, or explains why it is refused: `None` says that it passes, and where the
+/// step is refused for a reason, the place is as before. Else, and on an error, it is of no use.
 #[tactic(auto, using(crate::proofs::Named::step_unnamed, crate::proofs::Named::step_told, crate::proofs::Named::step_passes, crate::proofs::Named::step_untold))]
 fn explain_next<'a>(
     alloc: Global,
     names: &TaskNames<'_>,
-    lookups: &Lookups<'_>,
-    task: &'a LiftedTask,
+    lookups: &Lookups<'a>,
     place: &mut Place,
     number: u64,
     step: &Step,
 ) -> Result<Option<Halt<'a>>, NoMemory>
-    requires named { names.now ≡ task.now }
-    requires same { lookups.now ≡ task.now }
-    requires distinct { HasDistinctNames task.now }
-    requires way { IsOnWay task.now (reached_in place.old) }
-    ensures passes { IfOk result (λ o. IfNone o (PassesBy task.now (reached_in place.old) number
+    requires named { names.now ≡ lookups.now }
+    requires distinct { HasDistinctNames lookups.now }
+    requires way { IsOnWay lookups.now (reached_in place.old) }
+    ensures passes { IfOk result (λ o. IfNone o (PassesBy lookups.now (reached_in place.old) number
         step.now (reached_in place.new))) }
-    ensures way { IfOk result (λ o. IfNone o (IsOnWay task.now (reached_in place.new))) }
-    ensures halts { IfOk result (λ o. IfSome o (HaltsAt task.now (reached_in place.old) number
+    ensures way { IfOk result (λ o. IfNone o (IsOnWay lookups.now (reached_in place.new))) }
+    ensures halts { IfOk result (λ o. IfSome o (HaltsAt lookups.now (reached_in place.old) number
         step.now (reached_in place.new))) }
 {
     let Some(instance) = instance_of(alloc, names, step)? else {
         return Ok(Some(Halt::Untold));
     };
-    match explain_step(alloc, lookups, task, place, &instance) {
-        Ok(Some(reason)) => Ok(Some(Halt::Told(PlanReason {
+    match explain_step(alloc, lookups, place, number, &instance) {
+        Ok(()) => {
+            drop(instance);
+            Ok(None)
+        }
+        Err(Refusal::For(reason)) => Ok(Some(Halt::Told(PlanReason {
             instance: Some(instance),
             reason,
         }))),
-        Ok(None) => {
-            let taken = take(alloc, lookups, place, number, &instance);
+        Err(Refusal::At(Stop::At(fault))) => {
+            drop(fault);
             drop(instance);
-            match taken {
-                Ok(true) => Ok(None),
-                Ok(false) => Ok(Some(Halt::Untold)),
-                Err(error) => Err(error),
-            }
+            Ok(Some(Halt::Untold))
         }
-        Err(error) => {
+        Err(Refusal::At(Stop::NoMemory)) => {
             drop(instance);
-            Err(error)
+            Err(AllocError)
         }
     }
 }
 
 /// Explains the goal, where it is not met.
-#[tactic(auto, using(crate::proofs::Named::goal_told, crate::proofs::Named::goal_untold))]
+#[tactic(auto, using(crate::proofs::Named::goal_told, crate::proofs::Named::goal_met, crate::proofs::Named::goal_untold))]
 fn explain_end<'a>(
     alloc: Global,
-    lookups: &Lookups<'_>,
-    task: &'a LiftedTask,
+    lookups: &Lookups<'a>,
     place: &Place,
 ) -> Result<Halt<'a>, NoMemory>
-    requires same { lookups.now ≡ task.now }
-    requires way { IsOnWay task.now (reached_in place.now) }
-    ensures { IfOk result (λ h. (n : ℕ) → HaltsFrom task.now (reached_in place.now) n []
+    requires way { IsOnWay lookups.now (reached_in place.now) }
+    ensures { IfOk result (λ h. (n : ℕ) → HaltsFrom lookups.now (reached_in place.now) n []
         (reached_in place.now) h) }
 {
-    match explain_goal(alloc, lookups, task, place)? {
-        Some(reason) => Ok(Halt::Told(PlanReason {
+    match explain_goal(alloc, lookups, place) {
+        Ok(()) => Ok(Halt::Untold),
+        Err(Refusal::For(reason)) => Ok(Halt::Told(PlanReason {
             instance: None,
             reason,
         })),
-        None => Ok(Halt::Untold),
+        Err(Refusal::At(Stop::At(fault))) => {
+            drop(fault);
+            Ok(Halt::Untold)
+        }
+        Err(Refusal::At(Stop::NoMemory)) => Err(AllocError),
     }
 }
 
@@ -135,40 +108,39 @@ fn explain_end<'a>(
 fn explain_all<'a>(
     alloc: Global,
     names: &TaskNames<'_>,
-    lookups: &Lookups<'_>,
-    task: &'a LiftedTask,
+    lookups: &Lookups<'a>,
     place: &mut Place,
     steps: &[Step],
 ) -> Result<Halt<'a>, NoMemory>
-    requires named { names.now ≡ task.now }
-    requires same { lookups.now ≡ task.now }
-    requires distinct { HasDistinctNames task.now }
-    requires way { IsOnWay task.now (reached_in place.old) }
-    ensures { IfOk result (HaltsFrom task.now (reached_in place.old) 1 steps.now
+    requires named { names.now ≡ lookups.now }
+    requires distinct { HasDistinctNames lookups.now }
+    requires way { IsOnWay lookups.now (reached_in place.old) }
+    ensures { IfOk result (HaltsFrom lookups.now (reached_in place.old) 1 steps.now
         (reached_in place.new)) }
 {
     let mut number: u64 = 1;
     let mut rest = steps;
     while let [first, after @ ..] = rest {
-        if let Some(halt) = explain_next(alloc, names, lookups, task, place, number, first)? {
+        if let Some(halt) = explain_next(alloc, names, lookups, place, number, first)? {
             return Ok(halt);
         }
         number += 1;
         rest = after;
     }
-    explain_end(alloc, lookups, task, place)
+    explain_end(alloc, lookups, place)
 }
 
 /// Returns the line of a reason at a place.
 fn line_of(
     alloc: Global,
-    task: &LiftedTask,
+    lookups: &Lookups<'_>,
     place: &Place,
     told: &PlanReason<'_>,
 ) -> Result<String, NoMemory>
-    ensures { IfOk result (λ line. string_bytes line ≡ text_of task.now (reached_in place.now)
+    ensures { IfOk result (λ line. string_bytes line ≡ text_of lookups.now (reached_in place.now)
         (objects_of told.now.instance) told.now.reason) }
 {
+    let task = lookups.task();
     let none: [usize; 0] = [];
     match &told.instance {
         Some(instance) => {
@@ -184,22 +156,20 @@ fn explain_from(
     alloc: Global,
     names: &TaskNames<'_>,
     lookups: &Lookups<'_>,
-    task: &LiftedTask,
     mut place: Place,
     steps: &[Step],
 ) -> Result<Option<String>, NoMemory>
-    requires named { names.now ≡ task.now }
-    requires same { lookups.now ≡ task.now }
-    requires distinct { HasDistinctNames task.now }
-    requires start { reached_in place ≡ start task.now }
-    requires way { IsOnWay task.now (reached_in place) }
+    requires named { names.now ≡ lookups.now }
+    requires distinct { HasDistinctNames lookups.now }
+    requires start { reached_in place ≡ start lookups.now }
+    requires way { IsOnWay lookups.now (reached_in place) }
     ensures told { IfOk result (λ l. IfSome l (λ line.
-        TellsReason task.now steps.now (string_bytes line))) }
-    ensures none { IfOk result (λ l. IfNone l (NeedsNoReason task.now steps.now)) }
+        TellsReason lookups.now steps.now (string_bytes line))) }
+    ensures none { IfOk result (λ l. IfNone l (NeedsNoReason lookups.now steps.now)) }
 {
-    match explain_all(alloc, names, lookups, task, &mut place, steps) {
+    match explain_all(alloc, names, lookups, &mut place, steps) {
         Ok(Halt::Told(told)) => {
-            let line = line_of(alloc, task, &place, &told);
+            let line = line_of(alloc, lookups, &place, &told);
             drop(told);
             match line {
                 Ok(line) => Ok(Some(line)),
@@ -234,7 +204,7 @@ pub fn explain(
     let names = TaskNames::of(alloc, seed, checked)?;
     let lookups = Lookups::of(alloc, seed, task)?;
     match begin(alloc, seed, task) {
-        Ok(place) => explain_from(alloc, &names, &lookups, task, place, steps),
+        Ok(place) => explain_from(alloc, &names, &lookups, place, steps),
         Err(error) => Err(error),
     }
 }

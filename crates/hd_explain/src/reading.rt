@@ -7,9 +7,8 @@ ghost use Rattle.hd_kept.specs.Met.{fluents_in, met_by_comparison};
 ghost use Rattle.hd_judge.specs.Tables.{reached_in};
 ghost use Rattle.hd_explain.specs.Readings.{reading_at, changing_fluents, fluents_of, paid_fluents};
 
-use crate::reason::{NewValue, Reason};
 use hd_base::{ExprParts, NoMemory, Operand, Sequence};
-use hd_judge::Place;
+use hd_judge::{NewValue, Place, Reason};
 use hd_lifted::{
     Applied, Change, Comparison, Expr, Ground, NumericEffect, ground_form_of, is_same,
 };
@@ -82,7 +81,7 @@ fn push_comparison(
 }
 
 /// Reports whether an effect is a part of the cost.
-pub(crate) fn is_cost(change: Change) -> bool
+fn is_cost(change: Change) -> bool
     ensures { result ≡ is_cost change }
 {
     match change {

@@ -7,9 +7,8 @@ ghost use Rattle.hd_validate.specs.Texts.{name_of_object, name_of_function, obje
 ghost use Rattle.hd_explain.specs.Texts.{literal_text, same_text, equality_text, operation_sign, leaf_text, expression_text, relation_sign, comparison_text, out_text, said_text, value_text, reading_text, readings_text, text_of};
 
 use crate::reading::{Reading, readings_of};
-use crate::reason::{Departure, NewValue, Reason};
 use hd_base::{ExprParts, NoMemory, Operand, Operation, Relation};
-use hd_judge::Place;
+use hd_judge::{Departure, NewValue, Place, Reason};
 use hd_lifted::{
     Applied, Comparison, Equality, Expr, Ground, Leaf, LiftedTask, Literal, Signature,
     ground_form_of, object_of,

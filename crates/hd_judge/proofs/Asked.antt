@@ -1,5 +1,5 @@
 -- What it says that no question about a step or the goal reports a fault, and when none does.
-use Rattle.std.proofs.Common.{◌≡◌, ℕ, Bool, true, false, not, ◌&&◌, ◌||◌, List, [], Contains, Option, Some, None, refl, sym, ap, ap₂, ◌∙◌, true≢false}
+use Rattle.std.proofs.Common.{◌≡◌, ℕ, Bool, true, false, not, ◌&&◌, ◌||◌, List, [], Contains, Option, Some, None, slice_get, refl, sym, ap, ap₂, ◌∙◌, true≢false}
 use Rattle.std.specs.Prelude.{option_map}
 use Rattle.std.specs.Option.{option_or}
 use Rattle.std.proofs.lemmas.Bool.{and_parts, and_from, not-true}
@@ -22,6 +22,8 @@ use Rattle.hd_judge.specs.declared.fault.Fault.{Fault}
 use Rattle.hd_judge.specs.declared.fault.Fault.TheVariants.{NotApplicable, Undefined, NegativeCost, Departs, GoalUnmet}
 use Rattle.hd_judge.specs.Fault.{unless}
 use Rattle.hd_judge.specs.Questions.{is_defined, first_undefined, costs_negative}
+use Rattle.hd_judge.specs.Reasons.{HoldWithin}
+use Rattle.hd_judge.specs.Refusals.{IsMetBy, IsBefore}
 use Rattle.hd_judge.specs.Asking.{asked_of_fluents, asked_of_comparisons, asked_before, asked_after, asked_by, asked_of_step, asked_of_goal}
 
 -- ---- single questions
@@ -29,14 +31,6 @@ use Rattle.hd_judge.specs.Asking.{asked_of_fluents, asked_of_comparisons, asked_
 unless-none : (b : Bool) (f : Fault) → unless b f ≡ None → b ≡ true
 unless-none true f e = refl
 unless-none false f e = absurd (none-some f (sym e))
-
-unless-passed : (b : Bool) (f : Fault) → b ≡ true → unless b f ≡ None
-unless-passed true f e = refl
-unless-passed false f e = absurd (true≢false (sym e))
-
-or-none : (a b : Option Fault) → a ≡ None → b ≡ None → option_or a b ≡ None
-or-none None b e k = k
-or-none (Some x) b e k = absurd (none-some x (sym e))
 
 mapped-none : (o : Option Ground) → option_map (λ g. Undefined g) o ≡ None → o ≡ None
 mapped-none None e = refl
@@ -60,11 +54,6 @@ none_undefined t fluents all =
     ] refl
 
 -- ---- a condition that is met: it holds, and doesn't depart
-
-pub record IsMetBy (s : State) (objects : List ℕ) (c : Condition) : Type 0 where
-  pub literals : literals_hold s objects c ≡ true
-  pub stay : comparisons_stay s objects c ≡ true
-  pub hold : comparisons_hold s objects c ≡ true
 
 pub met-holds : (s : State) (objects : List ℕ) (c : Condition) → IsMetBy s objects c → holds s objects c ≡ true
 unfolding holds
@@ -93,12 +82,6 @@ pub record IsTaken (t : LiftedTask) (r : Reached) (i : Instance) (a : Schema) : 
   pub stays : effects_stay r.state.values a i.objects ≡ true
   pub cost_stays : cost_stays (step t r a i.objects) ≡ true
 
--- what no question before a step reports
-pub record IsBefore (t : LiftedTask) (r : Reached) (i : Instance) (a : Schema) : Type 0 where
-  pub met : IsMetBy r.state i.objects a.condition
-  pub defined : first_undefined t (met_by i.objects a) ≡ None
-  pub not_negative : costs_negative t a i.objects ≡ false
-
 pub before-from_unasked : (t : LiftedTask) (r : Reached) (n : ℕ) (i : Instance) (a : Schema) → asked_before t r n i a ≡ None → IsBefore t r i a
 unfolding asked_before
 before-from_unasked t r n i a e =
@@ -120,16 +103,17 @@ before-from_unasked t r n i a e =
       not_negative = not-true (costs_negative t a i.objects) (unless-none (not (costs_negative t a i.objects)) (NegativeCost i) p3.0);
     }
 
-schema-asked : (t : LiftedTask) (r : Reached) (n : ℕ) (i : Instance) (is : IsInstance t i)
-    → asked_of_step t r n i ≡ option_or (asked_before t r n i is.schema) (asked_after t r n i is.schema)
+-- all questions about a step, by its schema
+pub asked-schema : (t : LiftedTask) (r : Reached) (n : ℕ) (i : Instance) (a : Schema) → slice_get t.schemas i.schema ≡ Some a
+    → asked_of_step t r n i ≡ option_or (asked_before t r n i a) (asked_after t r n i a)
 unfolding asked_of_step
-schema-asked t r n i is = ap (asked_by t r n i) is.is_schema
+asked-schema t r n i a at = ap (asked_by t r n i) at
 
 pub taken-from_unasked : (t : LiftedTask) (r : Reached) (n : ℕ) (i : Instance) (is : IsInstance t i) → asked_of_step t r n i ≡ None → IsTaken t r i is.schema
 unfolding asked_after
 taken-from_unasked t r n i is e =
     let a = is.schema in
-    let p = option_or_none (asked_before t r n i a) (asked_after t r n i a) (sym (schema-asked t r n i is) ∙ e) in
+    let p = option_or_none (asked_before t r n i a) (asked_after t r n i a) (sym (asked-schema t r n i a is.is_schema) ∙ e) in
     let before = before-from_unasked t r n i a p.0 in
     let after = and_parts (effects_stay r.state.values a i.objects) (cost_stays (step t r a i.objects))
     (unless-none (effects_stay r.state.values a i.objects && cost_stays (step t r a i.objects)) (Departs n) p.1) in record {
@@ -140,28 +124,65 @@ taken-from_unasked t r n i is e =
       cost_stays = after.1;
     }
 
+-- ---- what is asked before a step, one question after the other
+
+-- what follows its literals and its fluents
+abbrev asked_then : LiftedTask → Reached → ℕ → Instance → Schema → Option Fault
+asked_then t r n i a =
+    option_or (unless (not (costs_negative t a i.objects)) (NegativeCost i))
+    (asked_of_comparisons r.state i.objects a.condition (Departs n) (NotApplicable n))
+
+past_literals : (t : LiftedTask) (r : Reached) (n : ℕ) (i : Instance) (a : Schema) (b : Bool) → literals_hold r.state i.objects a.condition ≡ b
+    → asked_before t r n i a ≡ option_or (unless b (NotApplicable n)) (option_or (asked_of_fluents t (met_by i.objects a)) (asked_then t r n i a))
+unfolding asked_before
+past_literals t r n i a b hold =
+    ap (λ b. option_or (unless b (NotApplicable n)) (option_or (asked_of_fluents t (met_by i.objects a)) (asked_then t r n i a))) hold
+
+past_fluents : (t : LiftedTask) (r : Reached) (n : ℕ) (i : Instance) (a : Schema) (o : Option Ground) → literals_hold r.state i.objects a.condition ≡ true
+    → first_undefined t (met_by i.objects a) ≡ o → asked_before t r n i a ≡ option_or (option_map (λ g. Undefined g) o) (asked_then t r n i a)
+past_fluents t r n i a o hold is =
+    past_literals t r n i a true hold ∙ ap (λ (o : Option Ground). option_or (option_map (λ g. Undefined g) o) (asked_then t r n i a)) is
+
+past_cost : (t : LiftedTask) (r : Reached) (n : ℕ) (i : Instance) (a : Schema) (b : Bool) → literals_hold r.state i.objects a.condition ≡ true
+    → first_undefined t (met_by i.objects a) ≡ None → costs_negative t a i.objects ≡ b
+    → asked_before t r n i a
+    ≡ option_or (unless (not b) (NegativeCost i)) (asked_of_comparisons r.state i.objects a.condition (Departs n) (NotApplicable n))
+past_cost t r n i a b hold none is =
+    past_fluents t r n i a None hold none
+    ∙ ap (λ b. option_or (unless (not b) (NegativeCost i)) (asked_of_comparisons r.state i.objects a.condition (Departs n) (NotApplicable n))) is
+
+pub asked_literals : (t : LiftedTask) (r : Reached) (n : ℕ) (i : Instance) (a : Schema) → literals_hold r.state i.objects a.condition ≡ false
+    → asked_before t r n i a ≡ Some (NotApplicable n)
+asked_literals t r n i a fail = past_literals t r n i a false fail
+
+pub asked_undefined : (t : LiftedTask) (r : Reached) (n : ℕ) (i : Instance) (a : Schema) (g : Ground) → literals_hold r.state i.objects a.condition ≡ true
+    → first_undefined t (met_by i.objects a) ≡ Some g → asked_before t r n i a ≡ Some (Undefined g)
+asked_undefined t r n i a g hold some = past_fluents t r n i a (Some g) hold some
+
+pub asked_negative : (t : LiftedTask) (r : Reached) (n : ℕ) (i : Instance) (a : Schema) → literals_hold r.state i.objects a.condition ≡ true
+    → first_undefined t (met_by i.objects a) ≡ None → costs_negative t a i.objects ≡ true → asked_before t r n i a ≡ Some (NegativeCost i)
+asked_negative t r n i a hold none negative = past_cost t r n i a true hold none negative
+
+pub asked_comparisons : (t : LiftedTask) (r : Reached) (n : ℕ) (i : Instance) (a : Schema) → literals_hold r.state i.objects a.condition ≡ true
+    → first_undefined t (met_by i.objects a) ≡ None → costs_negative t a i.objects ≡ false
+    → asked_before t r n i a ≡ asked_of_comparisons r.state i.objects a.condition (Departs n) (NotApplicable n)
+asked_comparisons t r n i a hold none free = past_cost t r n i a false hold none free
+
+pub unasked-before : (t : LiftedTask) (r : Reached) (n : ℕ) (i : Instance) (a : Schema) → IsBefore t r i a → asked_before t r n i a ≡ None
+unasked-before t r n i a k =
+    asked_comparisons t r n i a k.met.literals k.defined k.not_negative
+    ∙ ap₂ (λ a b. option_or (unless a (Departs n)) (unless b (NotApplicable n))) k.met.stay k.met.hold
+
+-- ---- all that is asked of a step
+
 pub unasked-from_taken : (t : LiftedTask) (r : Reached) (n : ℕ) (i : Instance) (is : IsInstance t i) → IsTaken t r i is.schema → asked_of_step t r n i ≡ None
-unfolding asked_before asked_after
+unfolding asked_after
 unasked-from_taken t r n i is k =
     let a = is.schema in
-    let c = a.condition in
-    let literals = unless (literals_hold r.state i.objects c) (NotApplicable n) in
-    let fluents = asked_of_fluents t (met_by i.objects a) in
-    let negative = unless (not (costs_negative t a i.objects)) (NegativeCost i) in
-    let stay = unless (comparisons_stay r.state i.objects c) (Departs n) in
-    let hold = unless (comparisons_hold r.state i.objects c) (NotApplicable n) in
-    schema-asked t r n i is
-    ∙ or-none (asked_before t r n i a) (asked_after t r n i a)
-    (or-none literals (option_or fluents (option_or negative (option_or stay hold)))
-    (unless-passed (literals_hold r.state i.objects c) (NotApplicable n) k.met.literals)
-    (or-none fluents (option_or negative (option_or stay hold))
-    (ap (option_map (λ g. Undefined g)) k.defined)
-    (or-none negative (option_or stay hold)
-    (unless-passed (not (costs_negative t a i.objects)) (NegativeCost i) (ap not k.not_negative))
-    (or-none stay hold (unless-passed (comparisons_stay r.state i.objects c) (Departs n) k.met.stay)
-    (unless-passed (comparisons_hold r.state i.objects c) (NotApplicable n) k.met.hold)))))
-    (unless-passed (effects_stay r.state.values a i.objects && cost_stays (step t r a i.objects)) (Departs n)
-    (and_from (effects_stay r.state.values a i.objects) (cost_stays (step t r a i.objects)) k.stays k.cost_stays))
+    asked-schema t r n i a is.is_schema
+    ∙ (ap (λ o. option_or o (asked_after t r n i a))
+    (unasked-before t r n i a (record { met = k.met; defined = k.defined; not_negative = k.not_negative }))
+    ∙ ap₂ (λ (a b : Bool). unless (a && b) (Departs n)) k.stays k.cost_stays)
 
 -- such a step leads somewhere
 there : (o : Option Reached) → cost_stays o ≡ true → (to : Reached) × (o ≡ Some to)
@@ -234,17 +255,39 @@ goal_met-from_unasked t r n e =
       defined = mapped-none (first_undefined t (met_by_goal t)) p2.0;
     }
 
-pub unasked-from_goal_met : (t : LiftedTask) (r : Reached) (n : ℕ) → IsGoalMet t r → asked_of_goal t r n ≡ None
+goal_past_literals : (t : LiftedTask) (r : Reached) (n : ℕ) (b : Bool) → literals_hold r.state [] t.goal ≡ b
+    → asked_of_goal t r n
+    ≡ option_or (unless b GoalUnmet) (option_or (asked_of_fluents t (met_by_goal t)) (asked_of_comparisons r.state [] t.goal (Departs n) GoalUnmet))
 unfolding asked_of_goal
+goal_past_literals t r n b hold =
+    ap (λ b. option_or (unless b GoalUnmet) (option_or (asked_of_fluents t (met_by_goal t)) (asked_of_comparisons r.state [] t.goal (Departs n) GoalUnmet))) hold
+
+goal_past_fluents : (t : LiftedTask) (r : Reached) (n : ℕ) (o : Option Ground) → literals_hold r.state [] t.goal ≡ true → first_undefined t (met_by_goal t) ≡ o
+    → asked_of_goal t r n ≡ option_or (option_map (λ g. Undefined g) o) (asked_of_comparisons r.state [] t.goal (Departs n) GoalUnmet)
+goal_past_fluents t r n o hold is =
+    goal_past_literals t r n true hold
+    ∙ ap (λ (o : Option Ground). option_or (option_map (λ g. Undefined g) o) (asked_of_comparisons r.state [] t.goal (Departs n) GoalUnmet)) is
+
+pub goal_literals : (t : LiftedTask) (r : Reached) (n : ℕ) → literals_hold r.state [] t.goal ≡ false → asked_of_goal t r n ≡ Some GoalUnmet
+goal_literals t r n fail = goal_past_literals t r n false fail
+
+pub goal_undefined : (t : LiftedTask) (r : Reached) (n : ℕ) (g : Ground) → literals_hold r.state [] t.goal ≡ true → first_undefined t (met_by_goal t) ≡ Some g
+    → asked_of_goal t r n ≡ Some (Undefined g)
+goal_undefined t r n g hold some = goal_past_fluents t r n (Some g) hold some
+
+pub goal_comparisons : (t : LiftedTask) (r : Reached) (n : ℕ) → literals_hold r.state [] t.goal ≡ true → first_undefined t (met_by_goal t) ≡ None
+    → asked_of_goal t r n ≡ asked_of_comparisons r.state [] t.goal (Departs n) GoalUnmet
+goal_comparisons t r n hold none = goal_past_fluents t r n None hold none
+
+pub unasked-from_goal_met : (t : LiftedTask) (r : Reached) (n : ℕ) → IsGoalMet t r → asked_of_goal t r n ≡ None
 unasked-from_goal_met t r n k =
-    let literals = unless (literals_hold r.state [] t.goal) GoalUnmet in
-    let fluents = asked_of_fluents t (met_by_goal t) in
-    let stay = unless (comparisons_stay r.state [] t.goal) (Departs n) in
-    let hold = unless (comparisons_hold r.state [] t.goal) GoalUnmet in
-    or-none literals (option_or fluents (option_or stay hold)) (unless-passed (literals_hold r.state [] t.goal) GoalUnmet k.met.literals)
-    (or-none fluents (option_or stay hold) (ap (option_map (λ g. Undefined g)) k.defined)
-    (or-none stay hold (unless-passed (comparisons_stay r.state [] t.goal) (Departs n) k.met.stay)
-    (unless-passed (comparisons_hold r.state [] t.goal) GoalUnmet k.met.hold)))
+    goal_comparisons t r n k.met.literals k.defined
+    ∙ ap₂ (λ a b. option_or (unless a (Departs n)) (unless b GoalUnmet)) k.met.stay k.met.hold
+
+pub goal_unasked : (t : LiftedTask) (r : Reached) (n : ℕ) → literals_hold r.state [] t.goal ≡ true → first_undefined t (met_by_goal t) ≡ None
+    → HoldWithin r.state.values [] t.goal.comparisons → asked_of_goal t r n ≡ None
+goal_unasked t r n hold none within =
+    unasked-from_goal_met t r n (record { met = record { literals = hold; stay = within.0; hold = within.1 }; defined = none })
 
 pub goal-stays : (t : LiftedTask) (r : Reached) → IsGoalMet t r → goal_departs t r ≡ false
 unfolding goal_departs

@@ -6,7 +6,6 @@ use Rattle.hd_lifted.specs.States.{is_listed, first_value, initial_state}
 use Rattle.hd_lifted.specs.Steps.{Reached, start}
 use Rattle.hd_judge.specs.declared.table.Truths.{Truths}
 use Rattle.hd_judge.specs.declared.table.Numbers.{Numbers}
-use Rattle.hd_judge.specs.declared.table.Place.{Place}
 use Rattle.hd_judge.specs.Tables.{truth_in, value_in, reached_in}
 use Rattle.hd_judge.specs.Way.{IsOnWay}
 use Rattle.hd_judge.proofs.Along.{on_way-start}

@@ -1,11 +1,14 @@
 -- New values, effect by effect.
-use Rattle.std.proofs.Common.{◌≡◌, ℕ, ◌+◌, ◌≤◌, ◌<◌, ◌^◌, Bool, true, false, not, ◌&&◌, refl, ap₂, subst, List, Option, Some, None, is_some, sym, ap, ◌∙◌, true≢false, arith, pos, negsuc, ◌*◌, mul-le-mul}
+use Rattle.std.proofs.Common.{◌≡◌, ℕ, ◌+◌, ◌≤◌, Bool, true, false, not, ◌&&◌, refl, ap₂, subst, List, Option, Some, None, sym, ap, ◌∙◌, arith, pos, negsuc, ◌*◌, mul-le-mul}
 use Rattle.std.specs.Prelude.{ℤ, ◌*ℤ◌, nat_abs, if◌then◌else◌, IfSome}
 use Rattle.std.specs.Option.{option_or}
 use Rattle.std.proofs.lemmas.Int.{ints, unsigned_abs-mul}
-use Rattle.std.proofs.lemmas.Bool.{leb-true}
-use Rattle.hd_base.specs.Numbers.{in_range}
+use Rattle.std.proofs.lemmas.Bool.{and_parts, leb-true}
+use Rattle.hd_base.specs.declared.expression.Operand.{Operand}
+use Rattle.hd_base.specs.Expression.{Expression, leaf, negate, binary}
+use Rattle.hd_base.specs.Numbers.{in_range, fits}
 use Rattle.hd_base.specs.declared.range.TheConstants.{RANGE_END}
+use Rattle.hd_lifted.specs.declared.schema.Applied.{Applied}
 use Rattle.hd_lifted.specs.declared.schema.NumericEffect.{NumericEffect}
 use Rattle.hd_lifted.specs.declared.schema.Ground.{Ground}
 use Rattle.hd_lifted.specs.States.{Values, same, ground_form_of}
@@ -13,17 +16,16 @@ use Rattle.hd_lifted.specs.Effects.{value_by_change}
 use Rattle.hd_kept.proofs.Sound.{same-true}
 use Rattle.hd_judge.specs.declared.changes.Changes.{Changes}
 use Rattle.hd_judge.specs.Questions.{is_paid}
-use Rattle.hd_lifted.specs.Expressions.{value_of}
-use Rattle.hd_kept.specs.Met.{met_by_effect}
-use Rattle.hd_judge.specs.Effects.{HaveValues, IsNear, amount_stays, JudgesAmount, with_change, new_value_in, AreNear}
-use Rattle.hd_judge.proofs.Defined.{amount_some}
+use Rattle.hd_lifted.specs.Expressions.{value_of, stays_in_range}
+use Rattle.hd_judge.specs.Effects.{IsNear, with_change, new_value_in, AreNear}
 
 -- ---- amounts
 
-pub amount_judged : (v : Values) (objects : List ℕ) (e : NumericEffect) (o : Option ℤ)
-    → HaveValues v (met_by_effect objects e) → amount_stays v objects e ≡ true → o ≡ value_of v objects e.amount → JudgesAmount v objects e o
-amount_judged v objects e None have stays is = absurd (true≢false (sym (amount_some v objects e have) ∙ ap is_some (sym is)))
-amount_judged v objects e (Some x) have stays is = (stays, sym is)
+-- an amount that stays is in the range
+pub stays-fits : (v : Values) (objects : List ℕ) (e : Expression (Operand Applied)) → stays_in_range v objects e ≡ true → fits (value_of v objects e) ≡ true
+stays-fits v objects (leaf l) stays = stays
+stays-fits v objects (negate x) stays = (and_parts (stays_in_range v objects x) _ stays).1
+stays-fits v objects (binary o x y) stays = (and_parts (stays_in_range v objects x && stays_in_range v objects y) _ stays).1
 
 -- ---- sums
 

@@ -1,6 +1,6 @@
 -- Where all fluents that steps meet have first values, each amount has a value along the plan, and
 -- so has the plan's cost.
-use Rattle.std.proofs.Common.{◌≡◌, ℕ, Bool, true, false, List, [], ◌∷◌, ◌++◌, Contains, Option, Some, None, is_some, refl, sym, true≢false}
+use Rattle.std.proofs.Common.{◌≡◌, ℕ, Bool, true, false, List, [], ◌∷◌, ◌++◌, Option, Some, None, is_some, refl, sym, true≢false}
 use Rattle.std.specs.Prelude.{if◌then◌else◌, ℤ, flat_map, option_map, neg_ℤ}
 use Rattle.std.specs.List.{fold}
 use Rattle.std.proofs.lemmas.List.Elements.{Contains-append_left, Contains-append_right}

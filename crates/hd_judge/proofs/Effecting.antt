@@ -1,16 +1,18 @@
 -- The new values of a list of effects, one effect after the other.
-use Rattle.std.proofs.Common.{◌≡◌, ℕ, ◌+◌, ◌<◌, Bool, true, false, not, ◌&&◌, ◌||◌, List, [], ◌∷◌, ◌++◌, Contains, Option, Some, None, is_some, take, drop, length, get_or, refl, sym, ap, ap₂, ◌∙◌, subst, true≢false, append_assoc}
-use Rattle.std.specs.Prelude.{if◌then◌else◌, ℤ, pos, flat_map}
+use Rattle.std.proofs.Common.{◌≡◌, ℕ, ◌+◌, ◌<◌, Bool, true, false, not, cond, ◌&&◌, ◌||◌, List, [], ◌∷◌, ◌++◌, Contains, Option, Some, None, is_some, take, drop, length, get_or, refl, sym, ap, ap₂, ◌∙◌, subst, true≢false, append_assoc}
+use Rattle.std.specs.Prelude.{if◌then◌else◌, ℤ, pos, flat_map, find}
 use Rattle.std.specs.List.{list_any, list_all, fold}
 use Rattle.std.specs.Option.{option_or}
-use Rattle.std.proofs.lemmas.Bool.{and_parts, or_parts, not-true}
+use Rattle.std.proofs.lemmas.Bool.{and_parts, and_from, or_parts, not-true}
 use Rattle.std.proofs.lemmas.List.{take_more, take-append-drop}
 use Rattle.std.proofs.lemmas.List.Elements.{Contains-append_right}
-use Rattle.std.proofs.lemmas.List.Folds.{list_any-append, list_all-append}
+use Rattle.std.proofs.lemmas.List.Folds.{find-append, list_any-append, list_all-append}
 use Rattle.std.proofs.lemmas.List.Sums.{fold_more, fold_push}
 use Rattle.std.proofs.lemmas.Grind.{flat_map-append}
 use Rattle.hd_base.specs.Numbers.{fits}
 use Rattle.hd_base.proofs.Members.{Contains-first, Contains-later, Contains-flat_map}
+use Rattle.hd_base.proofs.Options.{cond_then_some}
+use Rattle.hd_base.proofs.Tests.{list_all-from_each}
 use Rattle.hd_lifted.specs.declared.schema.Ground.{Ground}
 use Rattle.hd_lifted.specs.declared.schema.Change.{Change}
 use Rattle.hd_lifted.specs.declared.schema.Change.TheVariants.{Assign, ScaleUp, Increase, Decrease, Cost}
@@ -21,11 +23,14 @@ use Rattle.hd_lifted.specs.Expressions.{value_of}
 use Rattle.hd_lifted.specs.Effects.{value_by_change, with_effect, with_cost, is_cost, stands_alone, clash, effects_clash, value_after, effect_stays, effects_stay}
 use Rattle.hd_kept.specs.Met.{fluents_in, met_by_effect}
 use Rattle.hd_kept.proofs.Sound.{same-true, same-refl}
-use Rattle.hd_kept.proofs.Passing.{passing-from_any, fails-from_none}
+use Rattle.hd_kept.proofs.Passing.{passing-from_any, passes-from_all, fails-from_none}
 use Rattle.hd_judge.specs.declared.changes.Changes.{Changes}
 use Rattle.hd_judge.specs.Questions.{is_paid}
-use Rattle.hd_judge.specs.Effects.{HaveValues, amount_stays, changes_fluent, new_value, new_value_in, with_change, change_fits, put_in, AreChangesOf}
+use Rattle.hd_judge.specs.Effects.{HaveValues, amount_stays, changes_fluent, new_value, new_value_in, with_change, change_fits, AreChangesOf}
+use Rattle.hd_judge.specs.EffectReasons.{departing_effect, new_value_stays, leaving_effect}
 use Rattle.hd_judge.proofs.Defined.{values_left, effects_some}
+use Rattle.hd_judge.proofs.Failing.{none_where_all}
+use Rattle.hd_judge.proofs.Leaving.{and_false}
 
 -- ---- what is there for all effects is there for some
 
@@ -133,15 +138,22 @@ stay_more v objects es k e lt at front here =
     ap (list_all (amount_stays v objects)) (pushed es k e lt at)
     ∙ (list_all-append (amount_stays v objects) (take k es) (e ∷ []) ∙ ap₂ (λ (a b : Bool). a && (b && true)) front here)
 
+-- the first amount that departs, where those before it stay
+pub departing_at : (v : Values) (objects : List ℕ) (es : List NumericEffect) (k : ℕ) (e : NumericEffect) → k < length es → e ≡ get_or es k e
+    → list_all (amount_stays v objects) (take k es) ≡ true → amount_stays v objects e ≡ false → departing_effect v objects es ≡ Some e
+departing_at v objects es k e lt at front fails =
+    let test : NumericEffect → Bool = λ x. not (amount_stays v objects x) in
+    let rest = drop (k + 1) es in
+    ap (find test) (sym (split_at es k e lt at))
+    ∙ (find-append test (take k es) (e ∷ rest)
+    ∙ (ap (λ (o : Option NumericEffect). option_or o (find test (e ∷ rest))) (none_where_all (amount_stays v objects) (take k es) front)
+    ∙ ap (λ (b : Bool). cond (not b) (Some e) (find test rest)) fails))
+
 -- ---- an effect that stands alone is the first on its fluent
 
 apart : (s a b : Bool) → b ≡ true → s && (a || b) ≡ false → s ≡ false
 apart false a b t e = refl
 apart true a b t e = absurd (true≢false (sym t ∙ (or_parts a b e).1))
-
-pub and_false : (b : Bool) → (b && false) ≡ false
-and_false true = refl
-and_false false = refl
 
 first_on : (objects : List ℕ) (xs ys : List NumericEffect) (e : NumericEffect) → effects_clash objects (xs ++ (e ∷ ys)) ≡ false → stands_alone e.change ≡ true
     → list_any (changes_fluent objects (ground_form_of objects e.fluent)) xs ≡ false
@@ -152,7 +164,7 @@ first_on objects (x ∷ xs) ys e none alone =
     let parts = or_parts (list_any (clash objects x) (xs ++ (e ∷ ys))) (effects_clash objects (xs ++ (e ∷ ys))) none in
     let at = fails-from_none (clash objects x) (xs ++ (e ∷ ys)) e parts.0 (Contains-append_right xs (e ∷ ys) e (Contains-first e ys)) in
     let unlike = apart (same here f) (stands_alone x.change) (stands_alone e.change) alone at in
-    ap₂ (λ (a b : Bool). a || b) (ap (λ (b : Bool). not (is_paid x) && b) unlike ∙ and_false (not (is_paid x))) (first_on objects xs ys e parts.1 alone)
+    ap₂ (λ (a b : Bool). a || b) (and_false (not (is_paid x)) (same here f) unlike) (first_on objects xs ys e parts.1 alone)
 
 pub scaled_alone : (v : Values) (objects : List ℕ) (es : List NumericEffect) (k : ℕ) (e : NumericEffect) → k < length es → e ≡ get_or es k e
     → effects_clash objects es ≡ false → e.change ≡ ScaleUp → new_value v objects (take k es) (ground_form_of objects e.fluent) ≡ None
@@ -162,32 +174,6 @@ scaled_alone v objects es k e lt at none scale =
     (first_on objects (take k es) (drop (k + 1) es) e (ap (effects_clash objects) (split_at es k e lt at) ∙ none) (ap stands_alone scale))
 
 -- ---- all effects
-
-pub amounts_leave : (v : Values) (a : Schema) (objects : List ℕ) (es : List NumericEffect) → list_all (amount_stays v objects) es ≡ false
-    → list_all (effect_stays v a objects) es ≡ false
-amounts_leave v a objects [] none = absurd (true≢false none)
-amounts_leave v a objects (e ∷ es) none =
-    elim (amount_stays v objects e) as (λ b. amount_stays v objects e ≡ b → list_all (effect_stays v a objects) (e ∷ es) ≡ false) [
-      | false ↦ λ is. ap (λ (b : Bool). (b && (is_paid e || fits (value_after v a objects (ground_form_of objects e.fluent)))) && list_all (effect_stays v a objects) es) is
-      | true ↦ λ is.
-          ap (λ (b : Bool). effect_stays v a objects e && b)
-          (amounts_leave v a objects es (ap (λ (b : Bool). b && list_all (amount_stays v objects) es) (sym is) ∙ none))
-          ∙ and_false (effect_stays v a objects e)
-    ] refl
-
-both_twice : (a b c d : Bool) → ((a && b) && (c && d)) ≡ ((a && c) && (b && d))
-both_twice true true c d = refl
-both_twice true false true d = refl
-both_twice true false false d = refl
-both_twice false b c d = refl
-
-parts_stay : (v : Values) (a : Schema) (objects : List ℕ) (changes : Changes) (es : List NumericEffect)
-    → ((e : NumericEffect) → Contains es e → effect_stays v a objects e ≡ (amount_stays v objects e && change_fits changes objects e))
-    → list_all (effect_stays v a objects) es ≡ (list_all (amount_stays v objects) es && list_all (change_fits changes objects) es)
-parts_stay v a objects changes [] each = refl
-parts_stay v a objects changes (e ∷ es) each =
-    ap₂ (λ (x y : Bool). x && y) (each e (Contains-first e es)) (parts_stay v a objects changes es (λ x c. each x (Contains-later e es x c)))
-    ∙ both_twice (amount_stays v objects e) (change_fits changes objects e) (list_all (amount_stays v objects) es) (list_all (change_fits changes objects) es)
 
 any_among : (objects : List ℕ) (g : Ground) (es : List NumericEffect) (e : NumericEffect) → Contains es e → changes_fluent objects g e ≡ true
     → list_any (changes_fluent objects g) es ≡ true
@@ -201,43 +187,73 @@ fits_same : (paid : Bool) (x y : Option ℤ) → (paid ≡ false → x ≡ y) �
 fits_same true x y same = refl
 fits_same false x y same = ap fits (same refl)
 
-effect_by_parts : (v : Values) (a : Schema) (objects : List ℕ) (changes : Changes) (e : NumericEffect) → AreChangesOf v objects a.effects changes → Contains a.effects e
-    → effect_stays v a objects e ≡ (amount_stays v objects e && change_fits changes objects e)
-effect_by_parts v a objects changes e are among =
+-- the new value of an effect's fluent is in the range where the one that was computed is
+change-stays : (v : Values) (a : Schema) (objects : List ℕ) (changes : Changes) → AreChangesOf v objects a.effects changes
+    → (e : NumericEffect) → Contains a.effects e → change_fits changes objects e ≡ new_value_stays v a objects e
+change-stays v a objects changes are e among =
     let f = ground_form_of objects e.fluent in
-    ap (λ (b : Bool). amount_stays v objects e && b)
-    (fits_same (is_paid e) (value_after v a objects f) (new_value_in changes f)
+    fits_same (is_paid e) (new_value_in changes f) (value_after v a objects f)
     (λ free.
     let t : changes_fluent objects f e ≡ true = ap₂ (λ (p s : Bool). not p && s) free (same-refl f) in
-    sym (are.values f ∙ ap (λ (b : Bool). if b then value_after v a objects f else None) (any_among objects f a.effects e among t))))
+    are.values f ∙ ap (λ (b : Bool). if b then value_after v a objects f else None) (any_among objects f a.effects e among t))
 
--- what leaves the range by its amounts, and what stays by its amounts and its new values
-pub leaves_by_amounts : (v : Values) (a : Schema) (objects : List ℕ) → list_all (amount_stays v objects) a.effects ≡ false → effects_stay v a objects ≡ false
+-- effects stay in the range where their amounts and their new values do
+pub all_stay : (v : Values) (a : Schema) (objects : List ℕ) (changes : Changes) → list_all (amount_stays v objects) a.effects ≡ true
+    → AreChangesOf v objects a.effects changes → list_all (change_fits changes objects) a.effects ≡ true → effects_stay v a objects ≡ true
 unfolding effects_stay
-leaves_by_amounts v a objects none = amounts_leave v a objects a.effects none
+all_stay v a objects changes stay are fit =
+    list_all-from_each (effect_stays v a objects) a.effects
+    (λ e c.
+    and_from (amount_stays v objects e) (new_value_stays v a objects e) (passes-from_all (amount_stays v objects) a.effects e stay c)
+    (sym (change-stays v a objects changes are e c) ∙ passes-from_all (change_fits changes objects) a.effects e fit c))
 
-pub stays_by_parts : (v : Values) (a : Schema) (objects : List ℕ) (changes : Changes) → list_all (amount_stays v objects) a.effects ≡ true
-    → AreChangesOf v objects a.effects changes → effects_stay v a objects ≡ list_all (change_fits changes objects) a.effects
-unfolding effects_stay
-stays_by_parts v a objects changes stay are =
-    parts_stay v a objects changes a.effects (λ e c. effect_by_parts v a objects changes e are c)
-    ∙ ap (λ (b : Bool). b && list_all (change_fits changes objects) a.effects) stay
+-- tests that agree on the elements find the same
+find_same : {X : Type 0} (p q : X → Bool) (xs : List X) → ((x : X) → Contains xs x → p x ≡ q x) → find p xs ≡ find q xs
+find_same p q [] agree = refl
+find_same p q (x ∷ xs) agree =
+    ap (λ b. cond b (Some x) (find p xs)) (agree x (Contains-first x xs))
+    ∙ ap (λ o. cond (q x) (Some x) o) (find_same p q xs (λ y c. agree y (Contains-later x xs y c)))
+
+-- the first that leaves the range by the values that were computed is the first that does
+pub leaving : (v : Values) (a : Schema) (objects : List ℕ) (changes : Changes) → AreChangesOf v objects a.effects changes
+    → find (λ e. not (change_fits changes objects e)) a.effects ≡ leaving_effect v a objects
+leaving v a objects changes are =
+    find_same (λ e. not (change_fits changes objects e)) (λ e. not (new_value_stays v a objects e)) a.effects
+    (λ e c. ap not (change-stays v a objects changes are e c))
+
+-- a new value that was computed is the fluent's
+pub value_is : (v : Values) (a : Schema) (objects : List ℕ) (changes : Changes) (g : Ground) (z : ℤ) → AreChangesOf v objects a.effects changes
+    → new_value_in changes g ≡ Some z → value_after v a objects g ≡ Some z
+value_is v a objects changes g z are is = (cond_then_some (list_any (changes_fluent objects g) a.effects) (value_after v a objects g) z (sym (are.values g) ∙ is)).1
+
+-- a new value is in the range if that of each effect's fluent is
+pub all_fit : (v : Values) (objects : List ℕ) (es : List NumericEffect) (changes : Changes) → AreChangesOf v objects es changes
+    → list_all (change_fits changes objects) es ≡ true → (g : Ground) → fits (new_value_in changes g) ≡ true
+all_fit v objects es changes are fit g =
+    elim (list_any (changes_fluent objects g) es) as (λ b. list_any (changes_fluent objects g) es ≡ b → fits (new_value_in changes g) ≡ true) [
+      | true ↦ λ some.
+          let p = passing-from_any (changes_fluent objects g) es some in
+          let f = ground_form_of objects p.value.fluent in
+          let parts = and_parts (not (is_paid p.value)) (same f g) p.passes in
+          ap (λ (h : Ground). fits (new_value_in changes h)) (sym (same-true f g parts.1))
+          ∙ (ap (λ (b : Bool). b || fits (new_value_in changes f)) (sym (not-true (is_paid p.value) parts.0))
+          ∙ passes-from_all (change_fits changes objects) es p.value fit p.among)
+      | false ↦ λ none. ap fits (are.values g ∙ ap (λ (b : Bool). if b then fold (with_effect v objects g) (v g) es else None) none)
+    ] refl
 
 -- a value where the new ones are put in
-placed : (a : Bool) (F old : Option ℤ) → (a ≡ true → is_some F ≡ true) → (a ≡ false → F ≡ old)
-    → option_or (if a then (if a then F else None) else None) old ≡ F
+placed : (a : Bool) (F old : Option ℤ) → (a ≡ true → is_some F ≡ true) → (a ≡ false → F ≡ old) → option_or (if a then F else None) old ≡ F
 placed true None old some un = absurd (true≢false (sym (some refl)))
 placed true (Some x) old some un = refl
 placed false F old some un = sym (un refl)
 
 pub value_placed : (v : Values) (a : Schema) (objects : List ℕ) (changes : Changes) (g : Ground) → HaveValues v (flat_map (met_by_effect objects) a.effects)
-    → AreChangesOf v objects a.effects changes → put_in changes objects a.effects g (v g) ≡ value_after v a objects g
+    → AreChangesOf v objects a.effects changes → option_or (new_value_in changes g) (v g) ≡ value_after v a objects g
 value_placed v a objects changes g have are =
     let es = a.effects in
     let test = changes_fluent objects g in
-    let F = value_after v a objects g in
-    ap (λ (x : Option ℤ). option_or (if list_any test es then x else None) (v g)) (are.values g)
-    ∙ placed (list_any test es) F (v g)
+    ap (λ (x : Option ℤ). option_or x (v g)) (are.values g)
+    ∙ placed (list_any test es) (value_after v a objects g) (v g)
     (λ t. let p = passing-from_any test es t in
     effects_some v objects g es (v g) have (changed_there v objects p.value g (among_there v objects es p.value p.among have) p.passes))
     (λ n. untouched v objects g es (v g) n)

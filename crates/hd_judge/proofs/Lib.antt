@@ -1,4 +1,6 @@
 pub mod Asked
+pub mod Leaving
+pub mod Failing
 pub mod Deciding
 pub mod Defined
 pub mod Along
@@ -8,8 +10,8 @@ pub mod Finding
 pub mod Putting
 pub mod Summing
 pub mod Schemas
-pub mod Telling
 pub mod Paying
 pub mod Changing
 pub mod Effecting
 pub mod Stepping
+pub mod Reasoned

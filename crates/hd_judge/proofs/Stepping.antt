@@ -1,14 +1,13 @@
 -- Where a step leads, by what its effects give.
-use Rattle.std.proofs.Common.{◌≡◌, ℕ, Bool, true, false, not, ◌&&◌, List, Option, Some, None, pos, refl, sym, ap, ap₂, ◌∙◌}
-use Rattle.std.specs.Prelude.{if◌then◌else◌, ℤ, ◌+ℤ◌, flat_map}
+use Rattle.std.proofs.Common.{◌≡◌, ℕ, Bool, true, false, not, ◌&&◌, List, Option, Some, None, refl, sym, ap, ap₂, ◌∙◌}
+use Rattle.std.specs.Prelude.{if◌then◌else◌, ℤ, flat_map}
 use Rattle.std.proofs.Math.Path.{fun_ext}
-use Rattle.std.proofs.lemmas.Bool.{and_parts}
 use Rattle.std.proofs.lemmas.List.Elements.{Contains-append_right}
-use Rattle.hd_base.specs.Values.{of_both}
+use Rattle.hd_base.specs.Numbers.{fits}
 use Rattle.hd_lifted.specs.declared.schema.Ground.{Ground}
 use Rattle.hd_lifted.specs.declared.schema.Schema.{Schema}
 use Rattle.hd_lifted.specs.declared.task.LiftedTask.{LiftedTask}
-use Rattle.hd_lifted.specs.States.{Values, State}
+use Rattle.hd_lifted.specs.States.{Values}
 use Rattle.hd_lifted.specs.Conditions.{holds}
 use Rattle.hd_lifted.specs.Effects.{atoms_after, value_after, state_after, step_cost, is_negative}
 use Rattle.hd_lifted.specs.Steps.{Reached, step, cost_after}
@@ -16,7 +15,6 @@ use Rattle.hd_lifted.specs.Departures.{cost_stays}
 use Rattle.hd_kept.specs.Met.{met_by, met_by_comparison, met_by_effect}
 use Rattle.hd_judge.specs.Questions.{first_undefined}
 use Rattle.hd_judge.specs.Effects.{HaveValues}
-use Rattle.hd_judge.specs.Costs.{cost_is_fine}
 use Rattle.hd_judge.specs.Way.{IsOnWay}
 use Rattle.hd_judge.proofs.Asked.{all_defined}
 
@@ -30,37 +28,29 @@ effects_there t r objects a defined way = record {
       (Contains-append_right (flat_map (met_by_comparison objects) a.condition.comparisons) (flat_map (met_by_effect objects) a.effects) g c));
 }
 
--- a step whose condition holds, by its cost
-by_cost : (t : LiftedTask) (r : Reached) (objects : List ℕ) (a : Schema) (c : ℕ) (cost : ℤ) → holds r.state objects a.condition ≡ true → r.cost ≡ Some (pos c)
-    → step_cost t r.state.values a objects ≡ Some cost
-    → step t r a objects
-    ≡ (if not (is_negative (Some cost)) then (let to : Reached = record { state = state_after r.state a objects; cost = Some (pos c +ℤ cost) } in Some to) else None)
+-- the plan's cost with a step whose condition holds, by whether the step's own is negative
+pub step_stays : (t : LiftedTask) (r : Reached) (a : Schema) (objects : List ℕ) (negative : Bool) → holds r.state objects a.condition ≡ true
+    → is_negative (step_cost t r.state.values a objects) ≡ negative
+    → cost_stays (step t r a objects) ≡ (not negative && fits (cost_after t r a objects))
 unfolding step
-by_cost t r objects a c cost met was is =
-    let next : Option ℤ → Reached = λ x. record { state = state_after r.state a objects; cost = x } in
-    ap₂ (λ (h : Bool) (x : Option ℤ). if h && not (is_negative x) then Some (next (of_both (λ x y. x +ℤ y) r.cost x)) else None) met is
-    ∙ ap (λ (o : Option ℤ). if not (is_negative (Some cost)) then Some (next (of_both (λ x y. x +ℤ y) o (Some cost))) else None) was
-
-if_stays : (b : Bool) (to : Reached) (x : ℤ) → to.cost ≡ Some x → cost_stays (if b then Some to else None) ≡ (b && cost_stays (Some to))
-if_stays true to x is = refl
-if_stays false to x is = refl
-
-pub cost_judged : (t : LiftedTask) (r : Reached) (objects : List ℕ) (a : Schema) (c : ℕ) (cost : ℤ) → holds r.state objects a.condition ≡ true
-    → r.cost ≡ Some (pos c) → step_cost t r.state.values a objects ≡ Some cost → cost_stays (step t r a objects) ≡ cost_is_fine c cost
-cost_judged t r objects a c cost met was is =
-    let to : Reached = record { state = state_after r.state a objects; cost = Some (pos c +ℤ cost) } in
-    ap cost_stays (by_cost t r objects a c cost met was is) ∙ if_stays (not (is_negative (Some cost))) to (pos c +ℤ cost) refl
+step_stays t r a objects negative hold is =
+    let next : Reached = record { state = state_after r.state a objects; cost = cost_after t r a objects } in
+    ap₂ (λ h b. cost_stays (if h && not b then Some next else None)) hold is
+    ∙ elim negative as (λ b. cost_stays (if true && not b then Some next else None) ≡ (not b && fits next.cost)) [
+      | true ↦ refl
+      | false ↦ refl
+    ]
 
 -- it leads to what has its atoms, its values and its cost
-pub leads_to : (t : LiftedTask) (r to : Reached) (objects : List ℕ) (a : Schema) (c : ℕ) (cost : ℤ) → holds r.state objects a.condition ≡ true
-    → r.cost ≡ Some (pos c) → step_cost t r.state.values a objects ≡ Some cost → cost_is_fine c cost ≡ true
+pub leads_to : (t : LiftedTask) (r to : Reached) (objects : List ℕ) (a : Schema) → holds r.state objects a.condition ≡ true
+    → is_negative (step_cost t r.state.values a objects) ≡ false
     → ((g : Ground) → to.state.atoms g ≡ atoms_after r.state.atoms a objects g) → ((g : Ground) → to.state.values g ≡ value_after r.state.values a objects g)
-    → to.cost ≡ Some (pos c +ℤ cost) → step t r a objects ≡ Some to
-unfolding state_after
-leads_to t r to objects a c cost met was is fine atoms values costs =
+    → cost_after t r a objects ≡ to.cost → step t r a objects ≡ Some to
+unfolding step state_after
+leads_to t r to objects a met free atoms values cost =
     let made : (Ground → Bool) → Values → Option ℤ → Reached = λ p v x. record { state = record { atoms = p; values = v }; cost = x } in
-    let free = (and_parts (not (is_negative (Some cost))) _ fine).0 in
-    by_cost t r objects a c cost met was is
-    ∙ (ap (λ (b : Bool). if b then Some (made (atoms_after r.state.atoms a objects) (value_after r.state.values a objects) (Some (pos c +ℤ cost))) else None) free
-    ∙ sym (ap₂ (λ (p : Ground → Bool) (v : Values). Some (made p v to.cost)) (fun_ext atoms) (fun_ext values)
-    ∙ ap (λ (x : Option ℤ). Some (made (atoms_after r.state.atoms a objects) (value_after r.state.values a objects) x)) costs))
+    let p = atoms_after r.state.atoms a objects in
+    let v = value_after r.state.values a objects in
+    ap₂ (λ (h b : Bool). if h && not b then Some (made p v (cost_after t r a objects)) else None) met free
+    ∙ (ap (λ (x : Option ℤ). Some (made p v x)) cost
+    ∙ sym (ap₂ (λ (p : Ground → Bool) (v : Values). Some (made p v to.cost)) (fun_ext atoms) (fun_ext values)))

@@ -1,14 +1,14 @@
 -- What the code keeps while it takes a step: new values beside the old ones, and the sum of the
 -- costs so far. (Our own.)
-use Rattle.std.specs.Prelude.{◌≡◌, ℕ, Bool, true, false, not, ◌&&◌, ◌||◌, if◌then◌else◌, List, Contains, Option, Some, None, is_some, MatchOption, IfSome, ℤ, pos, ◌+ℤ◌, ◌≤ℤ◌}
-use Rattle.std.specs.List.{list_any, list_all, fold}
+use Rattle.std.specs.Prelude.{◌≡◌, ℕ, Bool, true, not, ◌&&◌, ◌||◌, if◌then◌else◌, List, Contains, Option, Some, None, is_some, IfSome, ℤ, pos, ◌+ℤ◌, ◌≤ℤ◌}
+use Rattle.std.specs.List.{list_any, fold}
 use Rattle.std.specs.Map.{lookup}
 use Rattle.std.specs.Option.{option_or}
 use Rattle.hd_base.specs.Numbers.{fits}
 use Rattle.hd_lifted.specs.declared.schema.Ground.{Ground}
 use Rattle.hd_lifted.specs.declared.schema.NumericEffect.{NumericEffect}
 use Rattle.hd_lifted.specs.States.{Values, same, ground_form_of}
-use Rattle.hd_lifted.specs.Expressions.{value_of, stays_in_range}
+use Rattle.hd_lifted.specs.Expressions.{stays_in_range}
 use Rattle.hd_lifted.specs.Effects.{with_effect, with_cost}
 use Rattle.hd_judge.specs.declared.changes.Changes.{Changes}
 use Rattle.hd_judge.specs.Questions.{is_paid}
@@ -27,11 +27,6 @@ pub record IsNear (distance : ℕ) (old new : ℤ) : Type 0 where
 -- each subexpression of an effect's amount is in the range
 abbrev pub amount_stays : Values → List ℕ → NumericEffect → Bool
 amount_stays v objects e = stays_in_range v objects e.amount
-
--- an amount that is there, unless a subexpression of it is out of the range
-abbrev pub JudgesAmount : Values → List ℕ → NumericEffect → Option ℤ → Type 0
-JudgesAmount v objects e answer =
-    MatchOption answer (amount_stays v objects e ≡ false) (λ x. (amount_stays v objects e ≡ true) × (value_of v objects e.amount ≡ Some x))
 
 -- ---- new values
 
@@ -61,17 +56,8 @@ pub record AreChangesOf (v : Values) (objects : List ℕ) (es : List NumericEffe
   pub values : (g : Ground) → new_value_in changes g ≡ new_value v objects es g
   pub cost : fold (with_cost v objects) (Some (pos 0)) es ≡ Some changes.cost
 
--- the new values and the sum, unless a subexpression of an amount is out of the range
-abbrev pub JudgesChanges : Values → List ℕ → List NumericEffect → Option Changes → Type 0
-JudgesChanges v objects es answer =
-    MatchOption answer (list_all (amount_stays v objects) es ≡ false) (λ c. (list_all (amount_stays v objects) es ≡ true) × AreChangesOf v objects es c)
-
--- ---- putting them in
+-- ---- judging them
 
 -- the new value of an effect's fluent is in the range
 abbrev pub change_fits : Changes → List ℕ → NumericEffect → Bool
 change_fits changes objects e = is_paid e || fits (new_value_in changes (ground_form_of objects e.fluent))
-
--- the value of g where the new values of these effects' fluents are put in
-abbrev pub put_in : Changes → List ℕ → List NumericEffect → Ground → Option ℤ → Option ℤ
-put_in changes objects es g old = option_or (if list_any (changes_fluent objects g) es then new_value_in changes g else None) old

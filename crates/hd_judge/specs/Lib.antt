@@ -4,7 +4,9 @@ pub mod Asking
 pub mod Validity
 pub mod Way
 pub mod Tables
-pub mod Judging
+pub mod Departures
+pub mod Reasons
+pub mod EffectReasons
+pub mod Refusals
 pub mod Constant
 pub mod Effects
-pub mod Costs

@@ -12,7 +12,7 @@ use std::alloc::Global;
 
 /// New values of fluents, and the sum of the costs so far. On the way they may be out of the range.
 #[derive(Drop)]
-pub struct Changes {
+pub(crate) struct Changes {
     pub(crate) values: IndexMap<Ground, i128, Seed>,
     pub(crate) cost: i128,
 }
@@ -31,7 +31,7 @@ impl Changes {
     }
 
     /// Returns the new value of a fluent, if it has one.
-    pub fn get(&self, fluent: &Ground) -> Option<i128>
+    pub(crate) fn get(&self, fluent: &Ground) -> Option<i128>
         ensures { result ≡ new_value_in self.now fluent.now }
     {
         self.values.get(fluent).copied()
@@ -45,12 +45,5 @@ impl Changes {
     {
         self.values.insert(fluent, value)?;
         Ok(())
-    }
-
-    /// Returns the sum of the costs so far.
-    pub fn cost(&self) -> i128
-        ensures { result ≡ self.now.cost }
-    {
-        self.cost
     }
 }

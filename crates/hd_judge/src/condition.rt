@@ -1,110 +1,94 @@
-//! Conditions.
-ghost use Rattle.std.specs.Prelude.{◌≡◌, IfOk};
-ghost use Rattle.std.specs.List.{list_all};
-ghost use Rattle.hd_lifted.specs.Conditions.{literal_holds, literals_hold, relation_holds_if};
-ghost use Rattle.hd_judge.specs.Tables.{truth_in, value_in, state_in};
-ghost use Rattle.hd_judge.specs.Judging.{JudgesComparison, JudgesComparisons};
+//! Why a condition on atoms and objects does not hold.
+ghost use Rattle.std.specs.Prelude.{◌≡◌, true, IfOk, IfSome, IfNone, option_map};
+ghost use Rattle.hd_lifted.specs.Conditions.{literal_holds, equality_holds, literals_hold};
+ghost use Rattle.hd_judge.specs.Tables.{reached_in};
+ghost use Rattle.hd_judge.specs.Reasons.{failing_literal, failing_equality, IsReasonOfLiterals};
 
-use crate::expression::value_of;
-use crate::table::{Numbers, Place, Truths};
-use hd_base::{NoMemory, Relation};
-use hd_lifted::{Comparison, Condition, Literal, equalities_hold, ground_form_of};
+use crate::reason::Reason;
+use crate::table::Place;
+use hd_base::NoMemory;
+use hd_lifted::{Condition, Equality, Literal, ground_form_of, object_of};
 use std::alloc::Global;
 
-/// Reports whether a literal holds.
+/// Reports whether a literal holds at a place.
 fn literal_holds(
-    alloc: Global,
-    truths: &Truths,
-    objects: &[usize],
-    said: &Literal,
-) -> Result<bool, NoMemory>
-    ensures { IfOk result (λ b. b ≡ literal_holds (truth_in truths.now) objects.now said.now) }
-{
-    let atom = ground_form_of(alloc, objects, &said.atom)?;
-    Ok(truths.get(&atom) == said.positive)
-}
-
-/// Reports whether all literals hold.
-fn all_hold(
-    alloc: Global,
-    truths: &Truths,
-    objects: &[usize],
-    said: &[Literal],
-) -> Result<bool, NoMemory>
-    ensures { IfOk result (λ b. b
-        ≡ list_all (literal_holds (truth_in truths.now) objects.now) said.now) }
-{
-    let mut rest = said;
-    while let [first, after @ ..] = rest {
-        if !literal_holds(alloc, truths, objects, first)? {
-            return Ok(false);
-        }
-        rest = after;
-    }
-    Ok(true)
-}
-
-/// Reports whether the conditions on atoms and objects hold.
-pub(crate) fn literals_hold(
     alloc: Global,
     place: &Place,
     objects: &[usize],
-    said: &Condition,
+    said: &Literal,
 ) -> Result<bool, NoMemory>
-    ensures { IfOk result (λ b. b ≡ literals_hold (state_in place.now) objects.now said.now) }
+    ensures { IfOk result (λ b. b
+        ≡ literal_holds (reached_in place.now).state.atoms objects.now said.now) }
 {
-    let literals = said.literals.as_slice();
-    if !all_hold(alloc, &place.truths, objects, literals)? {
-        return Ok(false);
-    }
-    Ok(equalities_hold(objects, said.equalities.as_slice()))
+    let atom = ground_form_of(alloc, objects, &said.atom)?;
+    Ok(place.is_true(&atom) == said.positive)
 }
 
-/// Reports whether two values compare in this way: if one is missing, they don't.
-fn relation_holds(relation: Relation, left: Option<i64>, right: Option<i64>) -> bool
-    ensures { result ≡ relation_holds_if relation left right }
-{
-    match (left, right) {
-        (Some(left), Some(right)) => relation.holds(left, right),
-        _ => false,
-    }
-}
-
-/// Reports whether a comparison holds, unless a subexpression leaves the range.
-fn comparison_holds(
+/// Returns the first literal that does not hold at a place.
+fn failing_literal<'a>(
     alloc: Global,
-    numbers: &Numbers,
+    place: &Place,
     objects: &[usize],
-    said: &Comparison,
-) -> Result<Option<bool>, NoMemory>
-    ensures { IfOk result (JudgesComparison (value_in numbers.now) objects.now said.now) }
+    said: &'a [Literal],
+) -> Result<Option<&'a Literal>, NoMemory>
+    ensures { IfOk result (λ l. option_map (λ r. r.now) l
+        ≡ failing_literal (reached_in place.now).state.atoms objects.now said.now) }
 {
-    let Some(left) = value_of(alloc, numbers, objects, &said.left)? else {
-        return Ok(None);
-    };
-    let Some(right) = value_of(alloc, numbers, objects, &said.right)? else {
-        return Ok(None);
-    };
-    Ok(Some(relation_holds(said.relation, left, right)))
-}
-
-/// Reports whether all comparisons hold, unless a subexpression of one leaves the range.
-pub(crate) fn comparisons_hold(
-    alloc: Global,
-    numbers: &Numbers,
-    objects: &[usize],
-    said: &[Comparison],
-) -> Result<Option<bool>, NoMemory>
-    ensures { IfOk result (JudgesComparisons (value_in numbers.now) objects.now said.now) }
-{
-    let mut all = true;
     let mut rest = said;
     while let [first, after @ ..] = rest {
-        let Some(holds) = comparison_holds(alloc, numbers, objects, first)? else {
-            return Ok(None);
-        };
-        all = all && holds;
+        if !literal_holds(alloc, place, objects, first)? {
+            return Ok(Some(first));
+        }
         rest = after;
     }
-    Ok(Some(all))
+    Ok(None)
+}
+
+/// Reports whether an equality holds.
+fn equality_holds(objects: &[usize], said: Equality) -> bool
+    ensures { result ≡ equality_holds objects.now said }
+{
+    (object_of(objects, said.left) == object_of(objects, said.right)) == said.positive
+}
+
+/// Returns the first equality that does not hold.
+fn failing_equality(objects: &[usize], said: &[Equality]) -> Option<Equality>
+    ensures { result ≡ failing_equality objects.now said.now }
+{
+    let mut rest = said;
+    while let [first, after @ ..] = rest {
+        if !equality_holds(objects, *first) {
+            return Some(*first);
+        }
+        rest = after;
+    }
+    None
+}
+
+/// Returns why a condition on atoms and objects does not hold at a place, where the parameters
+/// stand for the objects: the first literal that does not hold, or else the first equality. `None`
+/// says that all of them hold; comparisons are not asked.
+///
+/// # Errors
+/// - Lack of memory.
+#[tactic(auto, using(crate::proofs::Failing::all_where_none))]
+pub(crate) fn explain_literals<'a>(
+    alloc: Global,
+    place: &Place,
+    objects: &[usize],
+    condition: &'a Condition,
+) -> Result<Option<Reason<'a>>, NoMemory>
+    ensures reason { IfOk result (λ r. IfSome r (IsReasonOfLiterals (reached_in place.now).state
+        objects.now condition.now)) }
+    ensures none { IfOk result (λ r. IfNone r (literals_hold (reached_in place.now).state
+        objects.now condition.now ≡ true)) }
+{
+    let literals = condition.literals.as_slice();
+    if let Some(literal) = failing_literal(alloc, place, objects, literals)? {
+        return Ok(Some(Reason::Literal(literal)));
+    }
+    match failing_equality(objects, condition.equalities.as_slice()) {
+        Some(equality) => Ok(Some(Reason::Equality(equality))),
+        None => Ok(None),
+    }
 }

@@ -1,46 +1,50 @@
-//! What a step does to the values of fluents, and what it costs.
-ghost use Rattle.std.specs.Prelude.{◌≡◌, ◌+◌, ◌≤◌, ◌^◌, ℕ, true, false, is_some, [], ◌∷◌, None, Some, pos, ◌+ℤ◌, ◌-ℤ◌, ◌*ℤ◌, flat_map, IfOk, OnOk, IfSome};
+//! What a step does to the values of fluents, and what it costs; or else why it departs.
+ghost use Rattle.std.specs.Prelude.{◌≡◌, ◌+◌, ◌≤◌, ◌^◌, ℕ, true, false, is_some, ◌&&◌, if◌then◌else◌, None, Some, pos, ◌+ℤ◌, ◌-ℤ◌, ◌*ℤ◌, flat_map, IfOk, OnOk, IfErr};
 ghost use Rattle.std.specs.List.{list_all};
 ghost use Rattle.std.specs.Option.{option_or};
-ghost use Rattle.hd_base.specs.Answers.{Judges};
-ghost use Rattle.hd_base.specs.Numbers.{in_range};
+ghost use Rattle.hd_base.specs.Numbers.{in_range, fits};
 ghost use Rattle.hd_base.specs.declared.range.TheConstants.{RANGE_END};
 ghost use Rattle.hd_lifted.specs.declared.schema.Ground.{Ground};
 ghost use Rattle.hd_lifted.specs.declared.schema.Change.TheVariants.{ScaleUp};
-ghost use Rattle.hd_lifted.specs.States.{ground_form_of};
+ghost use Rattle.hd_lifted.specs.States.{same, ground_form_of};
 ghost use Rattle.hd_lifted.specs.Expressions.{value_of};
-ghost use Rattle.hd_lifted.specs.Effects.{value_by_change, value_after, with_cost, sum_of_costs, effects_stay, effects_clash};
+ghost use Rattle.hd_lifted.specs.Effects.{value_by_change, with_cost, effects_clash};
 ghost use Rattle.hd_kept.specs.Met.{met_by_effect};
 ghost use Rattle.hd_judge.specs.Questions.{is_paid};
-ghost use Rattle.hd_judge.specs.Tables.{value_in};
-ghost use Rattle.hd_judge.specs.Effects.{HaveValues, IsNear, JudgesAmount, new_value_in, with_change, AreNear, JudgesChanges, change_fits, put_in};
+ghost use Rattle.hd_judge.specs.Tables.{value_in, reached_in};
+ghost use Rattle.hd_judge.specs.Effects.{HaveValues, IsNear, amount_stays, new_value_in, with_change, AreNear, AreChangesOf};
+ghost use Rattle.hd_judge.specs.EffectReasons.{JudgesAmount, JudgesChanges, JudgesLeaving, JudgesValues, JudgesCost, IsEffectOf, IsReasonOfEffects};
+ghost use Rattle.hd_judge.specs.Refusals.{RefusesFor};
 
 use crate::changed::is_cost;
 use crate::changes::Changes;
-use crate::expression::value_of;
-use crate::table::Numbers;
-use hd_base::{NoMemory, RANGE_END};
-use hd_lifted::{Change, Ground, NumericEffect, Schema, ground_form_of};
+use crate::expression::{Outcome, narrow, outcome_of};
+use crate::lookups::Lookups;
+use crate::reason::{Departure, NewValue, Reason, StepCost};
+use crate::refusal::Refusal;
+use crate::table::{Numbers, Place};
+use hd_base::{NoMemory, total_cost};
+use hd_lifted::{Change, Ground, LiftedTask, NumericEffect, Schema, ground_form_of};
 use std::alloc::Global;
 
 // ---- one effect
 
-/// Returns an effect's amount by the values before the step, unless a subexpression leaves the
-/// range.
-#[tactic(auto, using(crate::proofs::Changing::amount_judged))]
-fn amount_of(
+/// Returns an effect's amount by the values at a place, or else its departure.
+fn amount_of<'a>(
     alloc: Global,
-    numbers: &Numbers,
+    place: &Place,
     objects: &[usize],
-    effect: &NumericEffect,
-) -> Result<Option<i64>, NoMemory>
-    requires there { HaveValues (value_in numbers.now) (met_by_effect objects.now effect.now) }
-    ensures amount { IfOk result (JudgesAmount (value_in numbers.now) objects.now effect.now) }
-    ensures in_range { IfOk result (λ o. IfSome o (λ x. in_range x ≡ true)) }
+    effect: &'a NumericEffect,
+) -> Result<Result<i64, Departure<'a>>, NoMemory>
+    requires there { HaveValues (reached_in place.now).state.values
+        (met_by_effect objects.now effect.now) }
+    ensures amount { IfOk result (JudgesAmount (reached_in place.now).state.values objects.now
+        effect.now) }
+    ensures in_range { IfOk result (λ judged. IfOk judged (λ x. in_range x ≡ true)) }
 {
-    match value_of(alloc, numbers, objects, &effect.amount)? {
-        Some(amount) => Ok(amount),
-        None => Ok(None),
+    match outcome_of(alloc, place, objects, &effect.amount)? {
+        Outcome::Value(amount) => Ok(Ok(amount.unwrap())),
+        Outcome::Departs(departure) => Ok(Err(departure)),
     }
 }
 
@@ -170,116 +174,190 @@ fn add_effect(
 
 // ---- all effects
 
-/// Returns what effects change, each by the values before the step, unless a subexpression of an
-/// amount leaves the range.
-pub(crate) fn changes_of(
+/// Returns what effects change, each by the values at a place, or else the first departure of their
+/// amounts.
+fn changes_of<'a>(
     alloc: Global,
-    numbers: &Numbers,
+    place: &Place,
     objects: &[usize],
-    effects: &[NumericEffect],
-) -> Result<Option<Changes>, NoMemory>
-    requires there { HaveValues (value_in numbers.now)
+    effects: &'a [NumericEffect],
+) -> Result<Result<Changes, Departure<'a>>, NoMemory>
+    requires there { HaveValues (reached_in place.now).state.values
         (flat_map (met_by_effect objects.now) effects.now) }
     requires compatible { effects_clash objects.now effects.now ≡ false }
-    ensures { IfOk result (JudgesChanges (value_in numbers.now) objects.now effects.now) }
+    ensures { IfOk result (JudgesChanges (reached_in place.now).state.values objects.now
+        effects.now) }
 {
-    let mut changes = Changes::beside(alloc, numbers);
+    let mut changes = Changes::beside(alloc, &place.numbers);
     for effect in effects {
-        let Some(amount) = amount_of(alloc, numbers, objects, effect)? else {
-            drop(changes);
-            return Ok(None);
+        let amount = match amount_of(alloc, place, objects, effect)? {
+            Ok(amount) => amount,
+            Err(departure) => {
+                drop(changes);
+                return Ok(Err(departure));
+            }
         };
-        add_effect(alloc, numbers, objects, &mut changes, effect, amount)?;
+        add_effect(alloc, &place.numbers, objects, &mut changes, effect, amount)?;
     }
-    Ok(Some(changes))
+    Ok(Ok(changes))
+}
+
+/// Returns the value that a step gives to an effect's fluent, if that is out of the range.
+fn leaving_value(
+    alloc: Global,
+    changes: &Changes,
+    objects: &[usize],
+    effect: &NumericEffect,
+) -> Result<Option<i128>, NoMemory>
+    ensures { IfOk result (JudgesLeaving changes.now objects.now effect.now) }
+{
+    if is_cost(effect.change) {
+        return Ok(None);
+    }
+    let fluent = ground_form_of(alloc, objects, &effect.fluent)?;
+    let Some(value) = changes.get(&fluent) else {
+        return Ok(None);
+    };
+    match narrow(value) {
+        Some(_) => Ok(None),
+        None => Ok(Some(value)),
+    }
+}
+
+/// Returns the first of the effects whose fluent's new value is out of the range.
+fn leaving_effect<'a>(
+    alloc: Global,
+    changes: &Changes,
+    objects: &[usize],
+    effects: &'a [NumericEffect],
+) -> Result<Option<NewValue<'a>>, NoMemory>
+    ensures { IfOk result (JudgesValues changes.now objects.now effects.now) }
+{
+    let mut rest = effects;
+    while let [first, after @ ..] = rest {
+        if let Some(value) = leaving_value(alloc, changes, objects, first)? {
+            return Ok(Some(NewValue {
+                effect: first,
+                effects,
+                value,
+            }));
+        }
+        rest = after;
+    }
+    Ok(None)
+}
+
+/// Returns a plan's cost with a step's, or why the step can't have it: it is negative, or the sum
+/// is out of the range.
+#[tactic(auto, using(crate::proofs::Paying::natural_total, crate::proofs::Paying::negative_step))]
+fn plus_cost<'a>(before: u64, step: i128, effects: &'a [NumericEffect]) -> Result<u64, Reason<'a>>
+    ensures { JudgesCost before step effects.now result }
+{
+    let cost = StepCost {
+        effects,
+        value: step,
+        before,
+    };
+    match u128::try_from(step) {
+        Ok(step) => match total_cost(before, step) {
+            Some(total) => Ok(total),
+            None => Err(Reason::PlanCost(cost)),
+        },
+        Err(_) => Err(Reason::NegativeCost(cost)),
+    }
+}
+
+/// Returns the cost of a step: `sum`, that of the amounts of its costs, or 1 without a metric.
+fn step_cost(task: &LiftedTask, sum: i128) -> i128
+    ensures { result ≡ (if is_some task.now.metric then sum else pos 1) }
+{
+    if task.metric.is_some() { sum } else { 1 }
+}
+
+/// Returns what a plan costs with a step whose amounts stay in the range, or why the step departs,
+/// by what its effects change.
+fn judge_changes<'a>(
+    alloc: Global,
+    lookups: &Lookups<'_>,
+    place: &Place,
+    objects: &[usize],
+    schema: &'a Schema,
+    changes: &Changes,
+) -> Result<u64, Refusal<'a>>
+    requires changes { AreChangesOf (reached_in place.now).state.values objects.now
+        schema.now.effects changes.now }
+    requires stay { list_all (amount_stays (reached_in place.now).state.values objects.now)
+        schema.now.effects ≡ true }
+    ensures gives { IfOk result (IsEffectOf lookups.now (reached_in place.now) schema.now
+        objects.now changes.now) }
+    ensures refuses { IfErr result (RefusesFor (IsReasonOfEffects lookups.now
+        (reached_in place.now) schema.now objects.now)) }
+{
+    let effects = schema.effects.as_slice();
+    if let Some(new) = leaving_effect(alloc, changes, objects, effects)? {
+        return Err(Refusal::For(Reason::NewValue(new)));
+    }
+    let step = step_cost(lookups.task(), changes.cost);
+    match plus_cost(place.cost, step, effects) {
+        Ok(cost) => Ok(cost),
+        Err(reason) => Err(Refusal::For(reason)),
+    }
+}
+
+/// Returns what a step changes at a place and what the plan then costs, where the objects stand for
+/// the schema's parameters; or why it departs: the first subexpression of an amount that is out of
+/// the range, or else the first effect whose fluent's new value is, or else the step's cost, which
+/// is negative, or else the plan's cost with it.
+pub(crate) fn judge_effects<'a>(
+    alloc: Global,
+    lookups: &Lookups<'_>,
+    place: &Place,
+    objects: &[usize],
+    schema: &'a Schema,
+) -> Result<(Changes, u64), Refusal<'a>>
+    requires there { HaveValues (reached_in place.now).state.values
+        (flat_map (met_by_effect objects.now) schema.now.effects) }
+    requires compatible { effects_clash objects.now schema.now.effects ≡ false }
+    ensures gives { IfOk result (λ given. IsEffectOf lookups.now (reached_in place.now) schema.now
+        objects.now given.0 given.1) }
+    ensures refuses { IfErr result (RefusesFor (IsReasonOfEffects lookups.now
+        (reached_in place.now) schema.now objects.now)) }
+{
+    match changes_of(alloc, place, objects, schema.effects.as_slice())? {
+        Ok(changes) => match judge_changes(alloc, lookups, place, objects, schema, &changes) {
+            Ok(cost) => Ok((changes, cost)),
+            Err(refusal) => {
+                drop(changes);
+                Err(refusal)
+            }
+        },
+        Err(departure) => Err(Refusal::For(Reason::Subexpression(departure))),
+    }
 }
 
 // ---- putting the new values in
 
-/// Returns a value, if it is in the range.
-fn narrow(value: i128) -> Option<i64>
-    ensures { Judges result (in_range value) value }
+/// Sets the value of a fluent, if it is in the range.
+fn put_value(numbers: &mut Numbers, fluent: Ground, value: i128) -> Result<(), NoMemory>
+    ensures { OnOk result ((g : Ground) → value_in numbers.new g
+        ≡ (if in_range value && same fluent g then Some value else value_in numbers.old g)) }
 {
-    if value.unsigned_abs() <= u128::from(RANGE_END) {
-        Some(value as i64)
-    } else {
-        None
-    }
-}
-
-/// Puts in the new value of an effect's fluent, if it has one, and says whether it is in the range.
-fn put_value(
-    alloc: Global,
-    numbers: &mut Numbers,
-    objects: &[usize],
-    changes: &Changes,
-    effect: &NumericEffect,
-) -> Result<bool, NoMemory>
-    ensures fits { IfOk result (λ b. b ≡ change_fits changes.now objects.now effect.now) }
-    ensures put { IfOk result (λ b. b ≡ true → (g : Ground) → value_in numbers.new g
-        ≡ put_in changes.now objects.now (effect.now ∷ []) g (value_in numbers.old g)) }
-{
-    if is_cost(effect.change) {
-        return Ok(true);
-    }
-    let fluent = ground_form_of(alloc, objects, &effect.fluent)?;
-    let Some(value) = changes.get(&fluent) else {
-        return Ok(true);
-    };
     let Some(value) = narrow(value) else {
-        return Ok(false);
+        drop(fluent);
+        return Ok(());
     };
     numbers.set(fluent, value)?;
-    Ok(true)
+    Ok(())
 }
 
-/// Puts in the new values of the effects' fluents, if they are in the range: on `false` only some
-/// of them.
-fn put_values(
-    alloc: Global,
-    numbers: &mut Numbers,
-    objects: &[usize],
-    changes: &Changes,
-    effects: &[NumericEffect],
-) -> Result<bool, NoMemory>
-    ensures fits { IfOk result (λ b. b
-        ≡ list_all (change_fits changes.now objects.now) effects.now) }
-    ensures put { IfOk result (λ b. b ≡ true → (g : Ground) → value_in numbers.new g
-        ≡ put_in changes.now objects.now effects.now g (value_in numbers.old g)) }
+/// Puts new values, which are in the range, in the place of the old ones.
+pub(crate) fn put_values(numbers: &mut Numbers, mut changes: Changes) -> Result<(), NoMemory>
+    requires fit { (g : Ground) → fits (new_value_in changes g) ≡ true }
+    ensures { OnOk result ((g : Ground) → value_in numbers.new g
+        ≡ option_or (new_value_in changes g) (value_in numbers.old g)) }
 {
-    for effect in effects {
-        if !put_value(alloc, numbers, objects, changes, effect)? {
-            return Ok(false);
-        }
+    while let Some((fluent, value)) = changes.values.pop() {
+        put_value(numbers, fluent, value)?;
     }
-    Ok(true)
-}
-
-/// Changes `numbers` by the effects of `schema`, and returns the sum of their costs. Returns `None`
-/// if a subexpression of an amount or a new value leaves the range. On `None`, and on an error,
-/// `numbers` may be anything.
-pub(crate) fn change_values(
-    alloc: Global,
-    numbers: &mut Numbers,
-    objects: &[usize],
-    schema: &Schema,
-) -> Result<Option<i128>, NoMemory>
-    requires there { HaveValues (value_in numbers.old)
-        (flat_map (met_by_effect objects.now) schema.now.effects) }
-    requires compatible { effects_clash objects.now schema.now.effects ≡ false }
-    ensures stays { IfOk result (λ o. is_some o
-        ≡ effects_stay (value_in numbers.old) schema.now objects.now) }
-    ensures cost { IfOk result (λ o. IfSome o (λ cost.
-        sum_of_costs (value_in numbers.old) schema.now objects.now ≡ Some cost)) }
-    ensures values { IfOk result (λ o. IfSome o (λ _. (g : Ground) → value_in numbers.new g
-        ≡ value_after (value_in numbers.old) schema.now objects.now g)) }
-{
-    let effects = schema.effects.as_slice();
-    let Some(changes) = changes_of(alloc, numbers, objects, effects)? else {
-        return Ok(None);
-    };
-    let fits = put_values(alloc, numbers, objects, &changes, effects)?;
-    let cost = changes.cost;
-    drop(changes);
-    if fits { Ok(Some(cost)) } else { Ok(None) }
+    Ok(())
 }

@@ -1,88 +1,134 @@
-//! The values of expressions.
-ghost use Rattle.std.specs.Prelude.{◌≡◌, true, IfOk, IfSome};
-ghost use Rattle.hd_base.specs.Numbers.{fits};
+//! The values of expressions, or else where they leave the range.
+ghost use Rattle.std.specs.Prelude.{◌≡◌, IfOk, neg_ℤ, option_map};
+ghost use Rattle.hd_base.specs.Answers.{Judges};
+ghost use Rattle.hd_base.specs.Numbers.{result_of, in_range};
 ghost use Rattle.hd_base.specs.Values.{of_both};
 ghost use Rattle.hd_lifted.specs.Expressions.{leaf_value};
-ghost use Rattle.hd_judge.specs.Tables.{value_in};
-ghost use Rattle.hd_judge.specs.Judging.{JudgesLeaf, JudgesNegated, JudgesBinary, JudgesValue};
+ghost use Rattle.hd_judge.specs.Tables.{reached_in};
+ghost use Rattle.hd_judge.specs.Departures.{MeansOutcome, IsOutcomeBy};
 
-use crate::table::Numbers;
-use hd_base::{ExprParts, NoMemory, Operand, Operation, if_in_range, in_range};
+use crate::reason::Departure;
+use crate::table::Place;
+use hd_base::{ExprParts, NoMemory, Operand, Operation, RANGE_END};
 use hd_lifted::{Expr, Leaf, ground_form_of};
 use std::alloc::Global;
 
-/// Returns the value of a leaf, if it has one, unless that is out of the range.
+/// What the computation of an expression comes to.
+#[derive(Clone, Copy)]
+pub(crate) enum Outcome<'a> {
+    /// Its value, if it has one: each subexpression is in the range.
+    Value(Option<i64>),
+    /// A subexpression is out of the range, and those of its own are not.
+    Departs(Departure<'a>),
+}
+
+/// Returns a value, if it is in the range.
+pub(crate) fn narrow(value: i128) -> Option<i64>
+    ensures { Judges result (in_range value) value }
+{
+    if value.unsigned_abs() <= u128::from(RANGE_END) {
+        Some(value as i64)
+    } else {
+        None
+    }
+}
+
+/// Returns an expression's value, or the expression itself where that is out of the range.
+fn judged<'a>(said: &'a Expr, value: i128) -> Outcome<'a>
+    ensures { IsOutcomeBy said.now (Some value) result }
+{
+    match narrow(value) {
+        Some(value) => Outcome::Value(Some(value)),
+        None => Outcome::Departs(Departure { part: said, value }),
+    }
+}
+
+/// Returns the value of a leaf at a place, if it has one.
 fn leaf_value(
     alloc: Global,
-    numbers: &Numbers,
+    place: &Place,
     objects: &[usize],
     said: &Leaf,
-) -> Result<Option<Option<i64>>, NoMemory>
-    ensures { IfOk result (JudgesLeaf (value_in numbers.now) objects.now said.now) }
+) -> Result<Option<i64>, NoMemory>
+    ensures { IfOk result (λ v. v
+        ≡ leaf_value (reached_in place.now).state.values objects.now said.now) }
 {
-    let value = match said {
-        Operand::Number(number) => Some(*number),
+    match said {
+        Operand::Number(number) => Ok(Some(*number)),
         Operand::Fluent(fluent) => {
             let fluent = ground_form_of(alloc, objects, fluent.get())?;
-            numbers.get(&fluent)
+            Ok(place.value(&fluent))
         }
-    };
-    match value {
-        Some(number) if !in_range(number) => Ok(None),
-        value => Ok(Some(value)),
     }
 }
 
-/// Returns a value with its sign turned, unless that is out of the range.
-fn negated(value: Option<i64>) -> Option<Option<i64>>
-    ensures { JudgesNegated value result }
+/// Returns the value of an expression with its sign turned.
+fn negated<'a>(said: &'a Expr, inner: Option<i64>) -> Outcome<'a>
+    ensures { IsOutcomeBy said.now (option_map neg_ℤ inner) result }
 {
-    match value {
-        Some(number) => match if_in_range(number.checked_neg()) {
-            Some(turned) => Some(Some(turned)),
-            None => None,
-        },
-        None => Some(None),
+    match inner {
+        Some(number) => judged(said, -i128::from(number)),
+        None => Outcome::Value(None),
     }
 }
 
-/// Returns what an operation makes of two values, unless that is out of the range.
-fn combined(operation: Operation, left: Option<i64>, right: Option<i64>) -> Option<Option<i64>>
-    ensures { JudgesBinary operation left right result }
+/// Returns what an operation makes of two numbers.
+fn result_of(operation: Operation, left: i64, right: i64) -> i128
+    ensures { result ≡ result_of operation left right }
+{
+    let left = i128::from(left);
+    let right = i128::from(right);
+    match operation {
+        Operation::Add => left + right,
+        Operation::Subtract => left - right,
+        Operation::Multiply => left * right,
+    }
+}
+
+/// Returns the value of what an operation makes of two values.
+fn combined<'a>(
+    said: &'a Expr,
+    operation: Operation,
+    left: Option<i64>,
+    right: Option<i64>,
+) -> Outcome<'a>
+    ensures { IsOutcomeBy said.now (of_both (result_of operation) left right) result }
 {
     match (left, right) {
-        (Some(left), Some(right)) => match operation.result_in_range(left, right) {
-            Some(number) => Some(Some(number)),
-            None => None,
-        },
-        _ => Some(None),
+        (Some(left), Some(right)) => judged(said, result_of(operation, left, right)),
+        _ => Outcome::Value(None),
     }
 }
 
-/// Returns the value of an expression, if it has one, unless a subexpression leaves the range.
-pub(crate) fn value_of(
+/// Returns the value of an expression at a place, or else the first of its subexpressions that is
+/// out of the range: what it is made of before itself, and the left before the right.
+pub(crate) fn outcome_of<'a>(
     alloc: Global,
-    numbers: &Numbers,
+    place: &Place,
     objects: &[usize],
-    said: &Expr,
-) -> Result<Option<Option<i64>>, NoMemory>
-    ensures value { IfOk result (JudgesValue (value_in numbers.now) objects.now said.now) }
-    ensures in_range { IfOk result (λ o. IfSome o (λ v. fits v ≡ true)) }
+    said: &'a Expr,
+) -> Result<Outcome<'a>, NoMemory>
+    ensures { IfOk result (MeansOutcome (reached_in place.now).state.values objects.now said.now) }
 {
     match said.parts() {
-        ExprParts::Leaf(leaf) => leaf_value(alloc, numbers, objects, leaf),
-        ExprParts::Negate(inner) => match value_of(alloc, numbers, objects, inner)? {
-            Some(value) => Ok(negated(value)),
-            None => Ok(None),
+        ExprParts::Leaf(leaf) => match leaf_value(alloc, place, objects, leaf)? {
+            Some(number) => Ok(judged(said, i128::from(number))),
+            None => Ok(Outcome::Value(None)),
+        },
+        ExprParts::Negate(inner) => match outcome_of(alloc, place, objects, inner)? {
+            Outcome::Value(value) => Ok(negated(said, value)),
+            departs => Ok(departs),
         },
         ExprParts::Binary(operation, left, right) => {
-            let Some(left) = value_of(alloc, numbers, objects, left)? else {
-                return Ok(None);
+            let left = match outcome_of(alloc, place, objects, left)? {
+                Outcome::Value(value) => value,
+                departs => return Ok(departs),
             };
-            let Some(right) = value_of(alloc, numbers, objects, right)? else {
-                return Ok(None);
+            let right = match outcome_of(alloc, place, objects, right)? {
+                Outcome::Value(value) => value,
+                departs => return Ok(departs),
             };
-            Ok(combined(operation, left, right))
+            Ok(combined(said, operation, left, right))
         }
     }
 }

@@ -3,14 +3,16 @@ ghost use Rattle.std.specs.Prelude.{◌≡◌, IfOk, OnOk, IfErr};
 ghost use Rattle.hd_lifted.specs.Steps.{start};
 ghost use Rattle.hd_judge.specs.Asking.{asked_of_goal};
 ghost use Rattle.hd_judge.specs.Fault.{Asks, StopsBy};
+ghost use Rattle.hd_judge.specs.Refusals.{RefusesBy, IsReasonOfStep, TellsUnexplained};
 ghost use Rattle.hd_judge.specs.Tables.{reached_in};
 ghost use Rattle.hd_judge.specs.Validity.{Passes, TellsStep};
 ghost use Rattle.hd_judge.specs.Way.{IsOnWay};
 
-use crate::asking::{ask_before, ask_goal};
+use crate::asking::{ask_before, explain_goal};
 use crate::fault::{Fault, Stop};
 use crate::instances::schema_of;
 use crate::lookups::Lookups;
+use crate::refusal::{Refusal, stop_of};
 use crate::step::take_step;
 use crate::table::{Numbers, Place, Truths};
 use hd_base::{NoMemory, Seed};
@@ -42,9 +44,40 @@ pub fn begin(alloc: Global, seed: Seed, task: &LiftedTask) -> Result<Place, NoMe
 /// Judges the step of a plan that has this number, counted from 1, and takes it: the place is then
 /// the one after it.
 ///
+/// # Errors
+/// - Why the step is refused, where it is for a reason: the place is then as before. Or a fault of
+///   it that needs no reason; or lack of memory.
+#[tactic(auto, using(crate::proofs::Judged::compatible_by, crate::proofs::Judged::defined_before, crate::proofs::Judged::unknown_told, crate::proofs::Judged::refused_before, crate::proofs::Judged::refused_then))]
+pub fn explain_step<'a>(
+    alloc: Global,
+    lookups: &Lookups<'a>,
+    place: &mut Place,
+    number: u64,
+    instance: &Instance,
+) -> Result<(), Refusal<'a>>
+    requires way { IsOnWay lookups.now (reached_in place.old) }
+    ensures passes { OnOk result (Passes lookups.now (reached_in place.old) number instance.now
+        (reached_in place.new)) }
+    ensures way { OnOk result (IsOnWay lookups.now (reached_in place.new)) }
+    ensures refuses { IfErr result (RefusesBy (λ reason.
+        IsReasonOfStep lookups.now (reached_in place.old) instance.now reason
+        × (reached_in place.new ≡ reached_in place.old))
+        (TellsUnexplained lookups.now (reached_in place.old) number instance.now)) }
+{
+    let Some(schema) = schema_of(lookups.task(), instance) else {
+        return Err(Refusal::At(Stop::At(Fault::NoSuchAction(number))));
+    };
+    ask_before(alloc, lookups, place, number, instance, schema)?;
+    take_step(alloc, lookups, place, instance.objects.as_slice(), schema)?;
+    Ok(())
+}
+
+/// Judges the step of a plan that has this number, counted from 1, and takes it: the place is then
+/// the one after it.
+///
 /// It stops at the first fault of the step, or for lack of memory. After an error the place is of
 /// no use.
-#[tactic(auto, using(crate::proofs::Judged::holds_before, crate::proofs::Judged::defined_before, crate::proofs::Judged::compatible_by, crate::proofs::Judged::told_before, crate::proofs::Judged::departs_then, crate::proofs::Judged::passes_then, crate::proofs::Judged::on_way_then))]
+#[tactic(auto, using(crate::proofs::Judged::refusal_told))]
 pub fn judge_step(
     alloc: Global,
     lookups: &Lookups<'_>,
@@ -59,14 +92,12 @@ pub fn judge_step(
     ensures tells { IfErr result (StopsBy (TellsStep lookups.now (reached_in place.old) number
         instance.now)) }
 {
-    let Some(schema) = schema_of(lookups.task(), instance) else {
-        return Err(Stop::At(Fault::NoSuchAction(number)));
-    };
-    ask_before(alloc, lookups, place, number, instance, schema)?;
-    if take_step(alloc, lookups, place, instance.objects.as_slice(), schema)? {
-        Ok(())
-    } else {
-        Err(Stop::At(Fault::Departs(number)))
+    match explain_step(alloc, lookups, place, number, instance) {
+        Ok(()) => Ok(()),
+        Err(refusal) => {
+            let unmet = Fault::NotApplicable(number);
+            Err(stop_of(unmet, Fault::Departs(number), refusal))
+        }
     }
 }
 
@@ -74,6 +105,7 @@ pub fn judge_step(
 /// steps.
 ///
 /// It stops at the first fault of the goal, or for lack of memory.
+#[tactic(auto, using(crate::proofs::Judged::goal_told))]
 pub fn judge_goal(
     alloc: Global,
     lookups: &Lookups<'_>,
@@ -82,5 +114,8 @@ pub fn judge_goal(
 ) -> Result<(), Stop>
     ensures { Asks result (asked_of_goal lookups.now (reached_in place.now) number) }
 {
-    ask_goal(alloc, lookups, place, number)
+    match explain_goal(alloc, lookups, place) {
+        Ok(()) => Ok(()),
+        Err(refusal) => Err(stop_of(Fault::GoalUnmet, Fault::Departs(number), refusal)),
+    }
 }

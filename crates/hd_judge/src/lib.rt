@@ -1,4 +1,4 @@
-//! Judges plans of a lifted task step by step: their cost, or their first error.
+//! Judges plans of a lifted task step by step: their cost, or their first error and its reason.
 //!
 //! [`begin`] returns the place where each plan begins. [`judge_step`] takes a step and moves the
 //! place exactly as the step does, or reports the first error of the step. [`judge_goal`] reports
@@ -6,17 +6,22 @@
 //! error, and never both ([`laws::plans_are_judged`]). The judge uses the meaning of the task
 //! alone, and no grounder.
 //!
+//! [`explain_step`] and [`explain_goal`] do the work: they judge, and where a condition does not
+//! hold or a number leaves the range, they return the [`Reason`]: the first part that fails. It
+//! borrows this part from the task.
+//!
 //! A [`Place`] has hash tables of true atoms and of values, by ground form, and needs no grounding.
 //! [`Lookups`] computes once which functions change, and the first values. New values are computed
-//! beside the old ones, in 128 bits. Start reading at [`judge_step`], then `specs/Validity`.
+//! beside the old ones, in 128 bits. Start reading at [`judge_step`], then `specs/Validity` and
+//! `specs/Refusals`.
 #![tactic(auto)]
 
 mod asking;
 mod atoms;
 mod changed;
 mod changes;
+mod comparison;
 mod condition;
-mod cost;
 mod effect;
 mod expression;
 mod fault;
@@ -26,15 +31,19 @@ pub mod laws;
 mod lookups;
 mod negative;
 mod place;
+mod reason;
+mod refusal;
 mod step;
 mod table;
 mod undefined;
 
-pub use changes::Changes;
+pub use asking::explain_goal;
 pub use fault::{Fault, Stop};
 pub use instances::schema_of;
-pub use judging::{begin, judge_goal, judge_step};
+pub use judging::{begin, explain_step, judge_goal, judge_step};
 pub use lookups::Lookups;
 pub use negative::costs_negative;
+pub use reason::{Departure, NewValue, Reason, StepCost};
+pub use refusal::Refusal;
 pub use table::Place;
 pub use undefined::undefined_schema;

@@ -58,7 +58,7 @@ impl<'a> Lookups<'a> {
     }
 
     /// Returns the lifted task.
-    pub fn task(&self) -> &LiftedTask
+    pub fn task(&self) -> &'a LiftedTask
         ensures { result.now ≡ self.now }
     {
         self.task

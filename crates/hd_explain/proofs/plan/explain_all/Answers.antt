@@ -8,7 +8,7 @@ use Rattle.hd_explain.proofs.plan.explain_all.Goals as goal
 
 pub loop-rest-preserved : goal.loop-rest-preserved
 loop-rest-preserved c =
-    let t = c.args.task.now in
+    let t = c.args.lookups.now in
     let r = reached_in c.loop-rest.place in
     let to = reached_in c.explain_next.new.place in
     let n = c.loop-rest.number in

@@ -10,9 +10,9 @@ use Rattle.hd_explain.proofs.plan.explain_all.Given as goal
 abbrev pub invariant-loop-rest : goal.invariant-loop-rest
 invariant-loop-rest l = record {
   numbered : l.number + length l.rest ≡ 1 + length l.steps;
-  way : IsOnWay l.task (reached_in l.place);
-  halts : (here : Reached) (h : Halt) → HaltsFrom l.task (reached_in l.place) l.number l.rest here h
-      → HaltsFrom l.task (reached_in l.fn.place) 1 l.steps here h;
+  way : IsOnWay l.lookups (reached_in l.place);
+  halts : (here : Reached) (h : Halt) → HaltsFrom l.lookups (reached_in l.place) l.number l.rest here h
+      → HaltsFrom l.lookups (reached_in l.fn.place) 1 l.steps here h;
 }
 
 abbrev pub decreases-loop-rest : goal.decreases-loop-rest

@@ -6,7 +6,7 @@ use Rattle.hd_explain.proofs.plan.explain_from.Goals as goal
 
 pub returns-in-Ok-clause-told : goal.returns-in-Ok-clause-told
 returns-in-Ok-clause-told c =
-    let t = c.args.task.now in
+    let t = c.args.lookups.now in
     let r = reached_in c.args.place in
     let here = reached_in c.explain_all.new.place in
     let steps = c.args.steps.now in
@@ -15,7 +15,7 @@ returns-in-Ok-clause-told c =
 
 pub returns-in-Ok-Untold-clause-none : goal.returns-in-Ok-Untold-clause-none
 returns-in-Ok-Untold-clause-none c =
-    let t = c.args.task.now in
+    let t = c.args.lookups.now in
     let r = reached_in c.args.place in
     let steps = c.args.steps.now in
     plan_unexplained t r steps c.requires.start

@@ -1,4 +1,4 @@
-use Rattle.std.proofs.Common.{◌≡◌, ◌∙◌, ◌+◌, ◌-◌, ℕ, Option, Some, cond, take, ap, ap₂, SFits, arith, rules}
+use Rattle.std.proofs.Common.{◌≡◌, ◌∙◌, ◌+◌, ◌-◌, ℕ, Some, cond, take, ap, ap₂, SFits, arith, rules}
 use Rattle.std.specs.Prelude.{ℤ}
 use Rattle.std.specs.Option.{option_or}
 use Rattle.std.specs.Int.{w64}

@@ -1,9 +1,0 @@
-use Rattle.std.proofs.Common.{arith}
-use Rattle.hd_judge.specs.Tables.{reached_in}
-use Rattle.hd_explain.proofs.Stepping.{tells_first}
-use Rattle.hd_explain.proofs.explaining.take_all.Goals as goal
-
-pub returns-in-Err-clause-tells : goal.returns-in-Err-clause-tells
-returns-in-Err-clause-tells c =
-    tells_first c.args.lookups.now (reached_in c.loop-rest.place) (reached_in c.args.place.now) c.loop-rest.number c.first-item.result c.loop-rest.rest.now
-    c.args.steps.now c.in-Err.stop (omega (arith, c.in-len1-up.len_at_least)) c.first-item.is c.loop-rest.invariant.tells c.in-Err.ensures.tells
