@@ -2,16 +2,13 @@
 ghost use Rattle.std.specs.Prelude.{◌≡◌, ◌++◌, ◌∷◌, [], map, IfOk, OnOk};
 ghost use Rattle.hd_base.specs.Expression.{leaf};
 ghost use Rattle.hd_lifted.specs.States.{ground_form_of};
-ghost use Rattle.hd_lifted.specs.Effects.{is_cost};
 ghost use Rattle.hd_kept.specs.Met.{fluents_in, met_by_comparison};
 ghost use Rattle.hd_judge.specs.Tables.{reached_in};
 ghost use Rattle.hd_explain.specs.Readings.{reading_at, changing_fluents, fluents_of, paid_fluents};
 
 use hd_base::{ExprParts, NoMemory, Operand, Sequence};
-use hd_judge::{NewValue, Place, Reason};
-use hd_lifted::{
-    Applied, Change, Comparison, Expr, Ground, NumericEffect, ground_form_of, is_same,
-};
+use hd_judge::{NewValue, Place, Reason, is_cost};
+use hd_lifted::{Applied, Comparison, Expr, Ground, NumericEffect, ground_form_of, is_same};
 use std::alloc::Global;
 
 /// A fluent in its ground form, with its value at a place, if it has one there.
@@ -78,16 +75,6 @@ fn push_comparison(
 {
     push_expression(alloc, readings, place, objects, &said.left)?;
     push_expression(alloc, readings, place, objects, &said.right)
-}
-
-/// Reports whether an effect is a part of the cost.
-fn is_cost(change: Change) -> bool
-    ensures { result ≡ is_cost change }
-{
-    match change {
-        Change::Assign | Change::ScaleUp | Change::Increase | Change::Decrease => false,
-        Change::Cost => true,
-    }
 }
 
 /// Puts the fluents that an effect's amount reads, with their values, after others, if the effect

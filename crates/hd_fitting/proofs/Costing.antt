@@ -28,9 +28,10 @@ use Rattle.hd_task.specs.declared.action.Action.{Action}
 use Rattle.hd_task.specs.declared.task.TheConstants.{MAX_AMOUNTS}
 use Rattle.hd_kept.specs.Amounts.{is_changed, is_constant}
 use Rattle.hd_kept.specs.Kept.{IsKept}
-use Rattle.hd_grounding.specs.Images.{expression_of, amount_of, is_paid, costs_of}
+use Rattle.hd_kept.specs.Questions.{is_paid, has_constant_costs, costs_negative}
+use Rattle.hd_grounding.specs.Images.{expression_of, amount_of, costs_of}
 use Rattle.hd_grounding.specs.Grounding.{IsActionOf, start_in}
-use Rattle.hd_grounding.specs.Faults.{has_constant_costs, costs_negative, is_negative_instance}
+use Rattle.hd_grounding.specs.Faults.{negative_with, is_negative_instance}
 use Rattle.hd_grounding.proofs.Faulty.{length-costs, same_sum}
 use Rattle.hd_grounding.proofs.Paying.{costs_agree}
 use Rattle.hd_fitting.specs.Counted.{AreCounted, AreFaultless}
@@ -124,7 +125,7 @@ module _ (t : LiftedTask) (instances : List Instance) (atoms fluents : List Grou
   unfolding initial_state
   sum_natural faultless numbers =
       let found = find-None (is_negative_instance t) instances i faultless.none_negative among in
-      let none : costs_negative t (Some a) i.objects ≡ false = sym (ap (λ o. costs_negative t o i.objects) is.is_schema) ∙ found in
+      let none : costs_negative t a i.objects ≡ false = sym (ap (λ o. negative_with t o i.objects) is.is_schema) ∙ found in
       let sum : lifted.sum_of_costs (first_value t.values) a i.objects ≡ Some (constant_sum costs) =
       costs_agree t atoms fluents (initial_state t) (start_in t atoms fluents) (starts_agree t instances atoms fluents counted faultless) (λ g _. refl)
       i.objects a (effects_numbered t instances atoms fluents counted i b kept is)

@@ -22,7 +22,8 @@ use Rattle.hd_kept.specs.Met.{met_by_goal}
 use Rattle.hd_kept.specs.Numbering.{IsTaskAtom, IsTaskFluent}
 use Rattle.hd_kept.proofs.Passing.{Contains-slice_get}
 use Rattle.hd_grounding.specs.Agreement.{Agree}
-use Rattle.hd_grounding.specs.Faults.{met_with, met_by_instance, met_by_all, is_undefined}
+use Rattle.hd_kept.specs.Questions.{is_undefined}
+use Rattle.hd_grounding.specs.Faults.{met_with, met_by_instance, met_by_all}
 use Rattle.hd_grounding.specs.Grounding.{HasFirstValue, start_in}
 use Rattle.hd_fitting.specs.Counted.{AreCounted, AreFaultless}
 use Rattle.hd_fitting.proofs.Named.{each-from_all}

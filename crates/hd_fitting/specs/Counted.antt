@@ -6,7 +6,7 @@ use Rattle.hd_lifted.specs.declared.task.LiftedTask.{LiftedTask}
 use Rattle.hd_lifted.specs.declared.instance.Instance.{Instance}
 use Rattle.hd_task.specs.declared.task.TheConstants.{MAX_ACTIONS, MAX_ATOMS, MAX_FLUENTS, MAX_AMOUNTS}
 use Rattle.hd_kept.specs.Numbering.{NumbersInstances, NumbersAtoms, NumbersFluents}
-use Rattle.hd_grounding.specs.Images.{is_paid}
+use Rattle.hd_kept.specs.Questions.{is_paid}
 use Rattle.hd_grounding.specs.Faults.{undefined_in, negative_in}
 
 -- none of these instances adds more amounts to the cost than an action may

@@ -15,8 +15,8 @@ use Rattle.hd_lifted.specs.declared.schema.Schema.{Schema}
 use Rattle.hd_lifted.specs.declared.task.LiftedTask.{LiftedTask}
 use Rattle.hd_kept.specs.Kept.{IsKept, IsReachable}
 use Rattle.hd_kept.specs.Numbering.{form_key, HasExactly, HasMore, IsTaskAtom, NumbersInstances, NumbersAtoms, NumbersFluents}
-use Rattle.hd_grounding.specs.Images.{is_paid}
-use Rattle.hd_grounding.specs.Faults.{met_by_all, is_undefined, undefined_in, negative_in, IsTooLarge}
+use Rattle.hd_kept.specs.Questions.{is_undefined, is_paid}
+use Rattle.hd_grounding.specs.Faults.{met_by_all, undefined_in, negative_in, IsTooLarge}
 use Rattle.hd_images.specs.Meeting.{IsMet, with_forms, goal_atoms}
 use Rattle.hd_images.proofs.TaskAtoms.{IsTooLarge-from_gathered, NumbersAtoms-from_gathered}
 use Rattle.hd_images.proofs.TaskFluents.{IsTooLarge-from_met, NumbersFluents-from_met, undefined_in-met}

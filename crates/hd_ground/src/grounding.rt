@@ -10,7 +10,7 @@ use crate::GroundError;
 use crate::counting::{Counted, counted_of, look_for_faults};
 use crate::making::task_of;
 use hd_base::Seed;
-use hd_images::Lookups;
+use hd_judge::Lookups;
 use hd_lifted::Checked;
 use hd_task::Task;
 use std::alloc::Global;

@@ -11,7 +11,8 @@ ghost use Rattle.hd_fitting.specs.Counted.{AreCounted, AreFaultless};
 
 use crate::counting::Counted;
 use hd_base::{NoMemory, Sequence};
-use hd_images::{Lookups, Numbers, action_of, condition_of, forms_of, names_in, start_in};
+use hd_images::{Numbers, action_of, condition_of, forms_of, names_in, start_in};
+use hd_judge::Lookups;
 use hd_lifted::Instance;
 use hd_task::{Action, Condition, GroundForm, Names, State, Task};
 use std::alloc::Global;

@@ -31,9 +31,10 @@ use Rattle.hd_kept.specs.Kept.{IsKept}
 use Rattle.hd_kept.specs.Met.{met_by, met_by_goal}
 use Rattle.hd_kept.specs.Numbering.{HasMore, IsTaskAtom, IsTaskFluent, NumbersInstances}
 use Rattle.hd_kept.proofs.Passing.{passes-from_all, Contains-slice_get}
-use Rattle.hd_grounding.specs.Images.{expression_of, amount_of, is_paid, costs_of}
+use Rattle.hd_kept.specs.Questions.{is_undefined, is_paid, has_constant_costs, costs_negative}
+use Rattle.hd_grounding.specs.Images.{expression_of, amount_of, costs_of}
 use Rattle.hd_grounding.specs.Grounding.{form_of, IsActionOf, IsGrounding}
-use Rattle.hd_grounding.specs.Faults.{HasMoreAmounts, IsTooLarge, met_with, met_by_instance, met_by_all, is_undefined, has_constant_costs, costs_negative, is_negative_instance, IsUndefined, IsNegative}
+use Rattle.hd_grounding.specs.Faults.{HasMoreAmounts, IsTooLarge, met_with, met_by_instance, met_by_all, negative_with, is_negative_instance, IsUndefined, IsNegative}
 use Rattle.hd_grounding.proofs.Grounded.{instance_kept, action_kept, first_there, met_numbered, starts_agree}
 use Rattle.hd_grounding.proofs.Paying.{costs_agree}
 
@@ -146,7 +147,7 @@ module _ (t : LiftedTask) (u : Task) (made : IsGrounding t u) where
 
   -- ---- no constant cost is negative
 
-  costs_nothing_negative : (i : Instance) (is : IsInstance t i) → IsKept t i → costs_negative t (Some is.schema) i.objects ≡ true → ⊥
+  costs_nothing_negative : (i : Instance) (is : IsInstance t i) → IsKept t i → costs_negative t is.schema i.objects ≡ true → ⊥
   unfolding initial_state
   costs_nothing_negative i is kept negative =
       let a = is.schema in
@@ -171,4 +172,4 @@ module _ (t : LiftedTask) (u : Task) (made : IsGrounding t u) where
       let found = find-Some (is_negative_instance t) fault.instances i fault.is_first in
       let kept : IsKept t i = (fault.numbers_instances.exactly i).1 found.0 in
       let is = instance_kept t i kept in
-      costs_nothing_negative i is kept (sym (ap (λ o. costs_negative t o i.objects) is.is_schema) ∙ found.1)
+      costs_nothing_negative i is kept (sym (ap (λ o. negative_with t o i.objects) is.is_schema) ∙ found.1)

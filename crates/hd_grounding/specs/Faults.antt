@@ -1,19 +1,14 @@
 -- Why a lifted task has no grounding. (Our own.)
-use Rattle.std.specs.Prelude.{◌≡◌, ℕ, ◌<◌, Bool, false, not, ◌&&◌, List, [], ◌++◌, length, filter, flat_map, Option, Some, None, slice_get, is_some, find}
-use Rattle.std.specs.List.{list_all}
+use Rattle.std.specs.Prelude.{◌≡◌, ℕ, ◌<◌, Bool, false, List, [], ◌++◌, length, filter, flat_map, Option, Some, None, slice_get, find}
 use Rattle.hd_lifted.specs.declared.schema.Ground.{Ground}
-use Rattle.hd_lifted.specs.declared.schema.NumericEffect.{NumericEffect}
 use Rattle.hd_lifted.specs.declared.schema.Schema.{Schema}
 use Rattle.hd_lifted.specs.declared.task.LiftedTask.{LiftedTask}
 use Rattle.hd_lifted.specs.declared.instance.Instance.{Instance}
-use Rattle.hd_lifted.specs.States.{first_value}
-use Rattle.hd_lifted.specs.Effects.{sum_of_costs, is_negative}
 use Rattle.hd_task.specs.declared.task.TheConstants.{MAX_ACTIONS, MAX_ATOMS, MAX_FLUENTS, MAX_AMOUNTS}
-use Rattle.hd_kept.specs.Amounts.{is_constant}
 use Rattle.hd_kept.specs.Kept.{IsKept}
 use Rattle.hd_kept.specs.Met.{met_by, met_by_goal}
 use Rattle.hd_kept.specs.Numbering.{HasMore, IsTaskAtom, IsTaskFluent, NumbersInstances}
-use Rattle.hd_grounding.specs.Images.{is_paid}
+use Rattle.hd_kept.specs.Questions.{first_undefined, is_paid, costs_negative}
 
 -- ---- too many
 
@@ -47,30 +42,20 @@ met_by_instance t i = met_with (slice_get t.schemas i.schema) i.objects
 abbrev pub met_by_all : LiftedTask → List Instance → List Ground
 met_by_all t instances = flat_map (met_by_instance t) instances ++ met_by_goal t
 
--- a fluent has no first value
-abbrev pub is_undefined : LiftedTask → Ground → Bool
-is_undefined t g = not (is_some (first_value t.values g))
-
 -- the first fluent that is met and has no first value, if there is one
 abbrev pub undefined_in : LiftedTask → List Instance → Option Ground
-undefined_in t instances = find (is_undefined t) (met_by_all t instances)
+undefined_in t instances = first_undefined t (met_by_all t instances)
 
 -- ---- a negative cost
 
--- all amounts of a schema are constant
-abbrev pub has_constant_costs : LiftedTask → Schema → Bool
-has_constant_costs t a = list_all (λ (e : NumericEffect). is_constant t e.amount) (filter is_paid a.effects)
+-- an instance of a schema that may not be there costs the same in each state, and less than 0
+abbrev pub negative_with : LiftedTask → Option Schema → List ℕ → Bool
+negative_with t None objects = false
+negative_with t (Some a) objects = costs_negative t a objects
 
--- a schema with objects costs the same in each state, and less than 0. The metric need not be
--- looked at: without one no effect of a checked task is a cost, so that there are no amounts, and
--- their sum is 0
-abbrev pub costs_negative : LiftedTask → Option Schema → List ℕ → Bool
-costs_negative t None objects = false
-costs_negative t (Some a) objects = has_constant_costs t a && is_negative (sum_of_costs (first_value t.values) a objects)
-
--- an instance costs the same in each state, and less than 0
+-- an instance costs the same in each state, and less than 0: one without a schema does not
 abbrev pub is_negative_instance : LiftedTask → Instance → Bool
-is_negative_instance t i = costs_negative t (slice_get t.schemas i.schema) i.objects
+is_negative_instance t i = negative_with t (slice_get t.schemas i.schema) i.objects
 
 -- the first instance that costs less than 0 in each state, if there is one
 abbrev pub negative_in : LiftedTask → List Instance → Option Instance

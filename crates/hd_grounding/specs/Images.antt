@@ -23,6 +23,7 @@ use Rattle.hd_task.specs.declared.effect.Change.{Change}
 use Rattle.hd_task.specs.declared.effect.Change.TheVariants.{Assign, ScaleUp, Sum}
 use Rattle.hd_task.specs.Effects.{value_by_change}
 use Rattle.hd_kept.specs.Amounts.{is_constant}
+use Rattle.hd_kept.specs.Questions.{is_paid}
 use Rattle.hd_lifted.specs.States.{same, ground_form_of, first_value}
 use Rattle.hd_lifted.specs.Conditions.{equality_holds}
 use Rattle.hd_task.specs.declared.condition.Literal.{Literal}
@@ -93,10 +94,6 @@ abbrev pub amount_of : LiftedTask → List Ground → List ℕ → Expression (O
 amount_of t fluents objects e =
     if is_constant t e then leaf (Number (unwrap_or (value_of (first_value t.values) objects e) (pos 0)))
     else expression_of fluents objects e
-
--- an effect is a part of the cost
-abbrev pub is_paid : NumericEffect → Bool
-is_paid e = is_cost e.change
 
 -- the amounts that a schema with objects adds to the cost, in the text's order
 abbrev pub costs_of : LiftedTask → List Ground → List ℕ → Schema → List (Expression (Operand ℕ))

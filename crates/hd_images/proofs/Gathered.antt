@@ -25,7 +25,7 @@ use Rattle.hd_kept.proofs.Rising.{before_itself}
 use Rattle.hd_kept.proofs.Sound.{same-true, same-refl}
 use Rattle.hd_grounding.specs.Images.{number_of, expression_of, is_on, term_by, term_of, change_by, change_of}
 use Rattle.hd_grounding.proofs.Numbers.{number_of-place, number_of-none, number_of-there}
-use Rattle.hd_images.specs.Keys.{IsRising}
+use Rattle.hd_images.specs.Order.{IsRising}
 use Rattle.hd_images.specs.Gathering.{change_with, change_on, change_at, change_in}
 
 -- ---- each form has one number

@@ -1,11 +1,8 @@
-pub mod KeyForms
-pub mod Numbering
-pub mod Putting
+pub mod Tables
 pub mod Gathered
 pub mod Exact
 pub mod Starting
 pub mod MeetingForms
 pub mod TaskFluents
 pub mod Finding
-pub mod Summing
 pub mod TaskAtoms

@@ -13,12 +13,8 @@ use Rattle.hd_lifted.specs.States.{same, is_listed}
 use Rattle.hd_kept.proofs.Sound.{same-true, same-refl}
 use Rattle.hd_grounding.specs.Images.{number_of}
 use Rattle.hd_grounding.proofs.Numbers.{number_of-place, number_of-none}
-use Rattle.hd_images.specs.Keys.{IsRising}
+use Rattle.hd_images.specs.Order.{IsRising}
 use Rattle.hd_images.proofs.Gathered.{number_of-rising}
-
-pub map-map : {X Y Z : Type 0} (f : Y → Z) (g : X → Y) (xs : List X) → map f (map g xs) ≡ map (λ x. f (g x)) xs
-map-map f g [] = refl
-map-map f g (x ∷ xs) = ap (λ zs. f (g x) ∷ zs) (map-map f g xs)
 
 -- nothing is listed at first
 pub none_listed : (forms : List Ground) → replicate (length forms) false ≡ map (is_listed []) forms

@@ -1,5 +1,5 @@
 -- The atoms that are reached and those that the goal names are the task's.
-use Rattle.std.proofs.Common.{◌≡◌, ◌≢◌, ◌<◌, ◌↔◌, List, [], ◌++◌, map, length, Contains, inl, inr, sym, ap, subst}
+use Rattle.std.proofs.Common.{◌≢◌, ◌<◌, ◌↔◌, List, [], ◌++◌, length, Contains, inl, inr, subst}
 use Rattle.std.specs.List.{AllPairs}
 use Rattle.std.proofs.lemmas.List.Elements.{Contains-append_left, Contains-append_right, Contains-append_cases}
 use Rattle.hd_base.proofs.Members.{Contains-nil, Contains-map, IsFrom-from_map}

@@ -3,12 +3,13 @@ ghost use Rattle.std.specs.Prelude.{◌≡◌, ◌<◌, length, IfOk};
 ghost use Rattle.hd_grounding.specs.Images.{numbers_of, condition_of, costs_of};
 ghost use Rattle.hd_grounding.specs.Grounding.{form_of_instance, HasEffectsOf, IsActionOf};
 
+use crate::Numbers;
 use crate::conditions::{condition_of, numbers_of};
 use crate::costs::costs_of;
 use crate::effects::effects_of;
 use crate::names::form_of_instance;
-use crate::{Lookups, Numbers};
 use hd_base::{NoMemory, Sequence};
+use hd_judge::Lookups;
 use hd_lifted::{Instance, Schema};
 use hd_task::{Action, Condition, Effect, Expr, GroundForm};
 use std::alloc::Global;

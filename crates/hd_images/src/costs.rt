@@ -1,33 +1,15 @@
 //! The amounts that actions add to the cost.
 ghost use Rattle.std.specs.Prelude.{◌≡◌, length, filter, IfOk};
-ghost use Rattle.hd_base.specs.Expression.{leaf};
-ghost use Rattle.hd_lifted.specs.Expressions.{value_of};
-ghost use Rattle.hd_lifted.specs.States.{first_value};
-ghost use Rattle.hd_grounding.specs.Images.{is_paid, amount_of, costs_of};
+ghost use Rattle.hd_kept.specs.Questions.{is_paid};
+ghost use Rattle.hd_grounding.specs.Images.{amount_of, costs_of};
 
-use crate::changed::is_cost;
+use crate::Numbers;
 use crate::expressions::expression_of;
-use crate::{Lookups, Numbers};
 use hd_base::{ExprParts, NoMemory, Operand, Sequence};
-use hd_lifted::{Leaf, NumericEffect, Schema};
+use hd_judge::{Lookups, is_cost};
+use hd_lifted::{NumericEffect, Schema};
 use hd_task::Expr;
 use std::alloc::Global;
-
-/// Returns the value of a number, or of a fluent at first, if it has one.
-pub(crate) fn first_value(
-    alloc: Global,
-    lookups: &Lookups<'_>,
-    objects: &[usize],
-    said: &Leaf,
-) -> Result<Option<i64>, NoMemory>
-    ensures { IfOk result (λ v. v
-        ≡ value_of (first_value lookups.now.values) objects.now (leaf said.now)) }
-{
-    match said {
-        Operand::Number(value) => Ok(Some(*value)),
-        Operand::Fluent(fluent) => lookups.first_value(alloc, objects, fluent.get()),
-    }
-}
 
 /// Returns an amount: a constant one is put in as its number, every other keeps its fluents.
 fn amount_of(
@@ -41,7 +23,7 @@ fn amount_of(
 {
     match said.parts() {
         ExprParts::Leaf(leaf) if lookups.is_constant(said) => {
-            let value = first_value(alloc, lookups, objects, leaf)?;
+            let value = lookups.first_value_of_leaf(alloc, objects, leaf)?;
             Ok(Expr::leaf(Operand::Number(value.unwrap_or(0))))
         }
         _ => expression_of(alloc, fluents, objects, said),

@@ -7,9 +7,9 @@ ghost use Rattle.hd_grounding.specs.Grounding.{HasEffectsOf};
 ghost use Rattle.hd_images.specs.Gathering.{change_with, change_at, change_in, effect_from};
 
 use crate::Numbers;
-use crate::changed::is_cost;
 use crate::expressions::expression_of;
 use hd_base::{NoMemory, Sequence};
+use hd_judge::is_cost;
 use hd_lifted::{NumericEffect, Schema};
 use hd_task::{Change, Effect, Expr, Term};
 use std::alloc::Global;

@@ -1,13 +1,12 @@
 //! Ground forms, each once.
-ghost use Rattle.std.specs.Prelude.{◌≡◌, ◌≢◌, [], All, length, IfOk};
+ghost use Rattle.std.specs.Prelude.{◌≡◌, ◌≢◌, [], length, IfOk};
 ghost use Rattle.std.specs.List.{AllPairs};
 ghost use Rattle.hd_lifted.specs.States.{ground_form_of};
-ghost use Rattle.hd_images.specs.Keys.{form_by, forms_of, HasSymbol};
 ghost use Rattle.hd_images.specs.Meeting.{with_form};
 
-use crate::keys::{Key, key_at, key_of};
 use hd_base::{NoMemory, Seed};
-use hd_lifted::{Applied, Ground};
+use hd_judge::copy_of;
+use hd_lifted::{Applied, Ground, ground_form_of};
 use indexmap::IndexSet;
 use std::alloc::Global;
 use std::marker::Model;
@@ -16,19 +15,16 @@ use std::marker::Model;
 /// Contracts see the list of them.
 #[derive(Drop)]
 pub struct Forms {
-    pub(crate) keys: IndexSet<Key, Seed>,
+    pub(crate) table: IndexSet<Ground, Seed>,
 }
 
 impl Model for Forms {
-    ghost use Rattle.std.specs.Prelude.{List, All};
+    ghost use Rattle.std.specs.Prelude.{List};
     ghost use Rattle.hd_lifted.specs.declared.schema.Ground.{Ground};
-    ghost use Rattle.hd_images.specs.Keys.{forms_of, HasSymbol};
 
     ghost Value = { List Ground };
 
-    ghost view = { λ f. forms_of f.keys.keys };
-
-    ghost invariant = { λ f. All HasSymbol f.keys.keys };
+    ghost view = { λ f. f.table.keys };
 }
 
 impl Forms {
@@ -37,7 +33,7 @@ impl Forms {
         ensures { result ≡ [] }
     {
         Forms {
-            keys: IndexSet::with_hasher(alloc, seed),
+            table: IndexSet::with_hasher(alloc, seed),
         }
     }
 
@@ -46,23 +42,21 @@ impl Forms {
         ensures len { result ≡ length self.now }
         ensures distinct { AllPairs (λ g h. g ≢ h) self.now }
     {
-        self.keys.len()
+        self.table.len()
     }
 
-    /// Returns the keys of the forms, in their order.
-    pub(crate) fn keys(&self) -> &[Key]
-        ensures forms { forms_of result.now ≡ self.now }
-        ensures have_symbols { All HasSymbol result.now }
+    /// Returns the forms, in their order.
+    pub(crate) fn as_slice(&self) -> &[Ground]
+        ensures { result.now ≡ self.now }
     {
-        self.keys.as_slice()
+        self.table.as_slice()
     }
 
-    /// Adds one form more, by its key, if it is none of them yet.
-    fn put(&mut self, key: Key) -> Result<(), NoMemory>
-        requires { HasSymbol key }
-        ensures { IfOk result (λ _. self.new ≡ with_form self.old (form_by key.items)) }
+    /// Adds one form more, if it is none of them yet.
+    fn put(&mut self, form: Ground) -> Result<(), NoMemory>
+        ensures { IfOk result (λ _. self.new ≡ with_form self.old form) }
     {
-        self.keys.insert(key)?;
+        self.table.insert(form)?;
         Ok(())
     }
 
@@ -73,8 +67,8 @@ impl Forms {
     pub fn add(&mut self, alloc: Global, form: &Ground) -> Result<(), NoMemory>
         ensures { IfOk result (λ _. self.new ≡ with_form self.old form.now) }
     {
-        let key = key_of(alloc, form)?;
-        self.put(key)
+        let form = copy_of(alloc, form)?;
+        self.put(form)
     }
 
     /// Adds one form more, with objects in the place of its arguments, if it is none of them yet.
@@ -90,7 +84,7 @@ impl Forms {
         ensures { IfOk result (λ _. self.new
             ≡ with_form self.old (ground_form_of objects.now said.now)) }
     {
-        let key = key_at(alloc, objects, said)?;
-        self.put(key)
+        let form = ground_form_of(alloc, objects, said)?;
+        self.put(form)
     }
 }

@@ -7,7 +7,8 @@ ghost use Rattle.hd_lifted.specs.declared.task.LiftedTask.{LiftedTask};
 ghost use Rattle.hd_task.specs.declared.task.TheConstants.{MAX_ATOMS, MAX_FLUENTS};
 ghost use Rattle.hd_kept.specs.Kept.{IsReachable};
 ghost use Rattle.hd_kept.specs.Numbering.{form_key, HasExactly, NumbersInstances, NumbersAtoms, NumbersFluents};
-ghost use Rattle.hd_grounding.specs.Faults.{met_by_all, is_undefined, undefined_in, IsTooLarge};
+ghost use Rattle.hd_kept.specs.Questions.{is_undefined};
+ghost use Rattle.hd_grounding.specs.Faults.{met_by_all, undefined_in, IsTooLarge};
 ghost use Rattle.hd_images.specs.Meeting.{IsMet, with_forms, goal_atoms};
 
 /// Law: where the kept instances and the goal meet no more fluents than a task may have, those that

@@ -6,29 +6,25 @@
 //! [`first_undefined`] and [`first_negative`] find what the errors name.
 //!
 //! [`Forms`] gathers ground forms, each once; [`Numbers`] numbers them by symbol, then by objects.
-//! Both are hash sets of keys, and a key of up to four objects needs no memory of its own.
-//! [`Lookups`] has the first values and the functions that change. Start reading at [`action_of`],
+//! Both are hash sets, and a form of up to four objects needs no memory of its own. hd_judge's
+//! `Lookups` has the first values and the functions that change. Start reading at [`action_of`],
 //! then at [`Numbers`].
 #![tactic(auto)]
 
 mod actions;
 mod atoms;
-mod changed;
 mod conditions;
 mod costs;
 mod effects;
 mod expressions;
 mod forms;
-mod keys;
 pub mod laws;
-mod lookups;
 mod met;
 mod names;
 mod negative;
 mod numbers;
 mod start;
 mod undefined;
-mod values;
 
 pub use actions::action_of;
 pub use atoms::atoms_in;
@@ -37,7 +33,6 @@ pub use costs::{costs_of, count_costs};
 pub use effects::effects_of;
 pub use expressions::expression_of;
 pub use forms::Forms;
-pub use lookups::Lookups;
 pub use met::met_by_all;
 pub use names::{form_of_instance, forms_of, names_in};
 pub use negative::first_negative;

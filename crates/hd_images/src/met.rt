@@ -8,8 +8,8 @@ ghost use Rattle.hd_grounding.specs.Faults.{met_by_instance, met_by_all};
 ghost use Rattle.hd_images.specs.Meeting.{with_forms, IsMet};
 
 use crate::Forms;
-use crate::changed::is_cost;
 use hd_base::{ExprParts, NoMemory, Operand, Seed};
+use hd_judge::is_cost;
 use hd_lifted::{Comparison, Expr, Instance, Leaf, LiftedTask, NumericEffect, Schema};
 use hd_task::MAX_FLUENTS;
 use std::alloc::Global;

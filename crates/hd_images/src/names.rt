@@ -1,12 +1,10 @@
 //! Names, and the ground forms that are printed with them.
 ghost use Rattle.std.specs.Prelude.{◌≡◌, map, IfOk};
 ghost use Rattle.hd_grounding.specs.Grounding.{form_of, form_of_instance, names_in};
-ghost use Rattle.hd_images.specs.Keys.{form_by};
 
 use crate::Numbers;
-use crate::keys::Key;
 use hd_base::{Name, NoMemory, Sequence};
-use hd_lifted::{Instance, LiftedTask, Object, Schema, Signature};
+use hd_lifted::{Ground, Instance, LiftedTask, Object, Schema, Signature};
 use hd_task::{GroundForm, Names};
 use std::alloc::Global;
 
@@ -24,23 +22,15 @@ pub fn form_of_instance(alloc: Global, instance: &Instance) -> Result<GroundForm
     })
 }
 
-/// Returns the form with this key.
-fn form_by(alloc: Global, key: &Key) -> Result<GroundForm, NoMemory>
-    ensures { IfOk result (λ f. f ≡ form_of (form_by key.now.items)) }
+/// Returns what an atom or a fluent is printed as.
+fn form_of(alloc: Global, form: &Ground) -> Result<GroundForm, NoMemory>
+    ensures { IfOk result (λ f. f ≡ form_of form.now) }
 {
-    match key.as_slice() {
-        [symbol, objects @ ..] => {
-            let objects = Vec::from_slice(alloc, objects)?;
-            Ok(GroundForm {
-                symbol: *symbol,
-                objects: Sequence::from_vec(objects),
-            })
-        }
-        [] => Ok(GroundForm {
-            symbol: 0,
-            objects: Sequence::empty(alloc),
-        }),
-    }
+    let objects = Vec::from_slice(alloc, form.objects.as_slice())?;
+    Ok(GroundForm {
+        symbol: form.symbol,
+        objects: Sequence::from_vec(objects),
+    })
 }
 
 /// Returns what atoms or fluents are printed as, in the order of their numbers.
@@ -51,8 +41,8 @@ pub fn forms_of(alloc: Global, numbers: &Numbers) -> Result<Sequence<GroundForm>
     ensures { IfOk result (λ s. s ≡ map form_of numbers.now) }
 {
     let mut forms = Vec::new(alloc);
-    for key in numbers.keys() {
-        forms.push(form_by(alloc, key)?)?;
+    for form in numbers.as_slice() {
+        forms.push(form_of(alloc, form)?)?;
     }
     Ok(Sequence::from_vec(forms))
 }

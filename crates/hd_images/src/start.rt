@@ -3,8 +3,9 @@ ghost use Rattle.std.specs.Prelude.{◌≡◌, map, unwrap_or, pos, IfOk};
 ghost use Rattle.hd_lifted.specs.States.{is_listed, first_value};
 ghost use Rattle.hd_grounding.specs.Grounding.{start_in};
 
-use crate::{Lookups, Numbers};
+use crate::Numbers;
 use hd_base::{NoMemory, Sequence};
+use hd_judge::Lookups;
 use hd_lifted::Ground;
 use hd_task::State;
 use std::alloc::Global;
@@ -16,7 +17,7 @@ fn bits_of(alloc: Global, atoms: &Numbers, listed: &[Ground]) -> Result<Sequence
     atoms.are_rising();
     let mut bits = vec![in alloc; false; atoms.len()]?;
     for atom in listed {
-        if let Some(number) = atoms.number_of(alloc, atom)? {
+        if let Some(number) = atoms.number_of(atom) {
             bits[number as usize] = true;
         }
     }
@@ -33,8 +34,8 @@ fn values_of(
         ≡ map (λ g. unwrap_or (first_value lookups.now.values g) (pos 0)) fluents.now) }
 {
     let mut values = Vec::new(alloc);
-    for key in fluents.keys() {
-        values.push(lookups.value_by_key(key).unwrap_or(0))?;
+    for fluent in fluents.as_slice() {
+        values.push(lookups.first_value_of(fluent).unwrap_or(0))?;
     }
     Ok(Sequence::from_vec(values))
 }

@@ -1,40 +1,18 @@
 //! Fluents without a first value.
 ghost use Rattle.std.specs.Prelude.{◌≡◌, find, IfOk};
-ghost use Rattle.hd_grounding.specs.Faults.{is_undefined};
-ghost use Rattle.hd_images.specs.Keys.{form_by, HasSymbol};
+ghost use Rattle.hd_kept.specs.Questions.{is_undefined};
 
-use crate::keys::Key;
-use crate::{Forms, Lookups};
-use hd_base::{NoMemory, Tuple};
+use crate::Forms;
+use hd_base::NoMemory;
+use hd_judge::{Lookups, copy_of};
 use hd_lifted::Ground;
-use smallvec::SmallVec;
 use std::alloc::Global;
 
-/// Returns the form with this key.
-fn ground_by(alloc: Global, key: &Key) -> Result<Ground, NoMemory>
-    ensures { IfOk result (λ g. g ≡ form_by key.now.items) }
+/// Reports whether a fluent has no first value.
+fn is_undefined(lookups: &Lookups<'_>, fluent: &Ground) -> bool
+    ensures { result ≡ is_undefined lookups.now fluent.now }
 {
-    match key.as_slice() {
-        [symbol, objects @ ..] => {
-            let objects = SmallVec::from_slice(alloc, objects)?;
-            Ok(Ground {
-                symbol: *symbol,
-                objects: Tuple::from_small_vec(objects),
-            })
-        }
-        [] => Ok(Ground {
-            symbol: 0,
-            objects: Tuple::from_small_vec(SmallVec::new(alloc)),
-        }),
-    }
-}
-
-/// Reports whether the fluent with this key has no first value.
-fn is_undefined(lookups: &Lookups<'_>, key: &Key) -> bool
-    requires { HasSymbol key.now }
-    ensures { result ≡ is_undefined lookups.now (form_by key.now.items) }
-{
-    lookups.value_by_key(key).is_none()
+    lookups.first_value_of(fluent).is_none()
 }
 
 /// Returns the first of these fluents that has no first value, if there is one.
@@ -48,9 +26,9 @@ pub fn first_undefined(
 ) -> Result<Option<Ground>, NoMemory>
     ensures { IfOk result (λ g. g ≡ find (is_undefined lookups.now) fluents.now) }
 {
-    for key in fluents.keys() {
-        if is_undefined(lookups, key) {
-            return Ok(Some(ground_by(alloc, key)?));
+    for fluent in fluents.as_slice() {
+        if is_undefined(lookups, fluent) {
+            return Ok(Some(copy_of(alloc, fluent)?));
         }
     }
     Ok(None)

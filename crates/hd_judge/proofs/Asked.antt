@@ -21,7 +21,7 @@ use Rattle.hd_kept.specs.Met.{met_by, met_by_goal}
 use Rattle.hd_judge.specs.declared.fault.Fault.{Fault}
 use Rattle.hd_judge.specs.declared.fault.Fault.TheVariants.{NotApplicable, Undefined, NegativeCost, Departs, GoalUnmet}
 use Rattle.hd_judge.specs.Fault.{unless}
-use Rattle.hd_judge.specs.Questions.{is_defined, first_undefined, costs_negative}
+use Rattle.hd_kept.specs.Questions.{is_defined, first_undefined, costs_negative}
 use Rattle.hd_judge.specs.Reasons.{HoldWithin}
 use Rattle.hd_judge.specs.Refusals.{IsMetBy, IsBefore}
 use Rattle.hd_judge.specs.Asking.{asked_of_fluents, asked_of_comparisons, asked_before, asked_after, asked_by, asked_of_step, asked_of_goal}

@@ -25,7 +25,7 @@ use Rattle.hd_kept.specs.Met.{fluents_in, met_by_effect}
 use Rattle.hd_kept.proofs.Sound.{same-true, same-refl}
 use Rattle.hd_kept.proofs.Passing.{passing-from_any, passes-from_all, fails-from_none}
 use Rattle.hd_judge.specs.declared.changes.Changes.{Changes}
-use Rattle.hd_judge.specs.Questions.{is_paid}
+use Rattle.hd_kept.specs.Questions.{is_paid}
 use Rattle.hd_judge.specs.Effects.{HaveValues, amount_stays, changes_fluent, new_value, new_value_in, with_change, change_fits, AreChangesOf}
 use Rattle.hd_judge.specs.EffectReasons.{departing_effect, new_value_stays, leaving_effect}
 use Rattle.hd_judge.proofs.Defined.{values_left, effects_some}

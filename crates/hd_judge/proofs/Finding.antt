@@ -1,5 +1,5 @@
 -- The first fluent without a first value, in two lists one after the other.
-use Rattle.std.proofs.Common.{◌≡◌, ℕ, ◌+◌, ◌<◌, List, [], ◌∷◌, ◌++◌, Some, None, not, take, drop, length, get_or, sym, ap, ◌∙◌}
+use Rattle.std.proofs.Common.{◌≡◌, ℕ, ◌+◌, ◌<◌, List, [], ◌∷◌, ◌++◌, Option, Some, None, not, take, drop, length, get_or, sym, ap, ◌∙◌}
 use Rattle.std.proofs.lemmas.List.{take_more, take-append-drop, append-nil}
 use Rattle.std.proofs.lemmas.Grind.{flat_map-append}
 use Rattle.std.specs.Prelude.{flat_map}
@@ -7,13 +7,14 @@ use Rattle.std.specs.Option.{option_or}
 use Rattle.std.proofs.lemmas.List.Folds.{find-append}
 use Rattle.hd_lifted.specs.declared.schema.Ground.{Ground}
 use Rattle.hd_lifted.specs.declared.task.LiftedTask.{LiftedTask}
-use Rattle.hd_judge.specs.Questions.{is_defined, first_undefined}
+use Rattle.hd_kept.specs.Questions.{is_undefined, first_undefined}
 
 pub undefined_append : (t : LiftedTask) (xs ys : List Ground)
     → first_undefined t (xs ++ ys) ≡ option_or (first_undefined t xs) (first_undefined t ys)
-undefined_append t xs ys = find-append (λ g. not (is_defined t g)) xs ys
+undefined_append t xs ys = find-append (is_undefined t) xs ys
 
-flat_more : {X : Type 0} (f : X → List Ground) (xs : List X) (k : ℕ) (x : X) → k < length xs → x ≡ get_or xs k x
+-- one element more
+pub flat_more : {X : Type 0} (f : X → List Ground) (xs : List X) (k : ℕ) (x : X) → k < length xs → x ≡ get_or xs k x
     → flat_map f (take (k + 1) xs) ≡ flat_map f (take k xs) ++ f x
 flat_more f xs k x lt at =
     ap (flat_map f) (take_more xs k x lt ∙ ap (λ y. take k xs ++ y ∷ []) (sym at))

@@ -18,7 +18,7 @@ use Rattle.hd_judge.specs.declared.fault.Stop.TheVariants as stops
 use Rattle.hd_judge.specs.declared.refusal.Refusal.{Refusal}
 use Rattle.hd_judge.specs.declared.refusal.Refusal.TheVariants as refusals
 use Rattle.hd_judge.specs.Fault.{unless, StopsAt, StopsBy}
-use Rattle.hd_judge.specs.Questions.{first_undefined}
+use Rattle.hd_kept.specs.Questions.{first_undefined}
 use Rattle.hd_judge.specs.Asking.{asked_after, asked_of_goal}
 use Rattle.hd_judge.specs.EffectReasons.{StaysWithin, IsReasonOfEffects}
 use Rattle.hd_judge.specs.Refusals.{stop_of, RefusesBy, RefusesFor, IsBefore, IsReasonBefore, TellsBefore, IsReasonOfStep, TellsUnexplained, IsReasonOfGoal, GoalUnexplained}

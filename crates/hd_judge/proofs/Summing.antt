@@ -13,7 +13,7 @@ use Rattle.hd_lifted.specs.Expressions.{value_of}
 use Rattle.hd_lifted.specs.States.{first_value}
 use Rattle.hd_lifted.specs.Effects.{with_cost, sum_of_costs, is_negative}
 use Rattle.hd_kept.specs.Amounts.{is_constant}
-use Rattle.hd_judge.specs.Questions.{is_paid, has_constant_costs, costs_negative}
+use Rattle.hd_kept.specs.Questions.{is_paid, has_constant_costs, costs_negative}
 use Rattle.hd_judge.specs.Constant.{constant_cost}
 
 abbrev constants : LiftedTask → List NumericEffect → Bool

@@ -19,7 +19,7 @@ use Rattle.hd_judge.specs.declared.reason.Reason.TheVariants as reasons
 use Rattle.hd_judge.specs.declared.refusal.Refusal.{Refusal}
 use Rattle.hd_judge.specs.declared.refusal.Refusal.TheVariants as refusals
 use Rattle.hd_judge.specs.Fault.{StopsBy}
-use Rattle.hd_judge.specs.Questions.{first_undefined, costs_negative}
+use Rattle.hd_kept.specs.Questions.{first_undefined, costs_negative}
 use Rattle.hd_judge.specs.Asking.{asked_before, asked_of_goal}
 use Rattle.hd_judge.specs.Validity.{TellsStep}
 use Rattle.hd_judge.specs.Reasons.{IsReasonOfLiterals, IsReasonOfComparisons}

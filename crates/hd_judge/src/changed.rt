@@ -17,7 +17,7 @@ pub(crate) struct Changed {
 }
 
 /// Reports whether an effect is a part of the cost.
-pub(crate) fn is_cost(change: Change) -> bool
+pub fn is_cost(change: Change) -> bool
     ensures { result ≡ is_cost change }
 {
     match change {

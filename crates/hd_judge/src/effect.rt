@@ -10,7 +10,7 @@ ghost use Rattle.hd_lifted.specs.States.{same, ground_form_of};
 ghost use Rattle.hd_lifted.specs.Expressions.{value_of};
 ghost use Rattle.hd_lifted.specs.Effects.{value_by_change, with_cost, effects_clash};
 ghost use Rattle.hd_kept.specs.Met.{met_by_effect};
-ghost use Rattle.hd_judge.specs.Questions.{is_paid};
+ghost use Rattle.hd_kept.specs.Questions.{is_paid};
 ghost use Rattle.hd_judge.specs.Tables.{value_in, reached_in};
 ghost use Rattle.hd_judge.specs.Effects.{HaveValues, IsNear, amount_stays, new_value_in, with_change, AreNear, AreChangesOf};
 ghost use Rattle.hd_judge.specs.EffectReasons.{JudgesAmount, JudgesChanges, JudgesLeaving, JudgesValues, JudgesCost, IsEffectOf, IsReasonOfEffects};

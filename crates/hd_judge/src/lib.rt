@@ -11,9 +11,9 @@
 //! borrows this part from the task.
 //!
 //! A [`Place`] has hash tables of true atoms and of values, by ground form, and needs no grounding.
-//! [`Lookups`] computes once which functions change, and the first values. New values are computed
-//! beside the old ones, in 128 bits. Start reading at [`judge_step`], then `specs/Validity` and
-//! `specs/Refusals`.
+//! [`Lookups`] computes once which functions change, and the first values: the grounder looks them
+//! up here too. New values are computed beside the old ones, in 128 bits. Start reading at
+//! [`judge_step`], then `specs/Validity` and `specs/Refusals`.
 #![tactic(auto)]
 
 mod asking;
@@ -38,6 +38,7 @@ mod table;
 mod undefined;
 
 pub use asking::explain_goal;
+pub use changed::is_cost;
 pub use fault::{Fault, Stop};
 pub use instances::schema_of;
 pub use judging::{begin, explain_step, judge_goal, judge_step};
@@ -45,5 +46,5 @@ pub use lookups::Lookups;
 pub use negative::costs_negative;
 pub use reason::{Departure, NewValue, Reason, StepCost};
 pub use refusal::Refusal;
-pub use table::Place;
+pub use table::{Place, copy_of};
 pub use undefined::undefined_schema;

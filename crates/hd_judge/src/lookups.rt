@@ -1,14 +1,14 @@
-//! What is looked up in a lifted task for each step of a plan.
+//! What is looked up in a lifted task for each of its instances.
 ghost use Rattle.std.specs.Prelude.{◌≡◌, IfOk};
-ghost use Rattle.hd_lifted.specs.declared.schema.Ground.{Ground};
+ghost use Rattle.hd_base.specs.Expression.{leaf};
+ghost use Rattle.hd_lifted.specs.Expressions.{value_of};
 ghost use Rattle.hd_lifted.specs.States.{first_value, ground_form_of};
 ghost use Rattle.hd_kept.specs.Amounts.{is_constant};
-ghost use Rattle.hd_judge.specs.Tables.{value_in};
 
 use crate::changed::Changed;
 use crate::table::Numbers;
 use hd_base::{ExprParts, NoMemory, Operand, Seed};
-use hd_lifted::{Applied, Expr, LiftedTask, ground_form_of};
+use hd_lifted::{Applied, Expr, Ground, Leaf, LiftedTask, ground_form_of};
 use std::alloc::Global;
 use std::marker::Model;
 
@@ -39,6 +39,9 @@ impl<'a> Model for Lookups<'a> {
 
 impl<'a> Lookups<'a> {
     /// Returns the tables of a lifted task, which hash by the seed.
+    ///
+    /// # Errors
+    /// - Lack of memory.
     #[tactic(auto, unfolding(hd_kept::specs::Amounts::is_changed))]
     pub fn of(alloc: Global, seed: Seed, task: &'a LiftedTask) -> Result<Lookups<'a>, NoMemory>
         ensures { IfOk result (λ l. l ≡ task.now) }
@@ -64,15 +67,8 @@ impl<'a> Lookups<'a> {
         self.task
     }
 
-    /// Returns the first values.
-    pub(crate) fn first_values(&self) -> &Numbers
-        ensures { (g : Ground) → value_in result.now g ≡ first_value self.now.values g }
-    {
-        &self.values
-    }
-
     /// Reports whether an amount is the same in each state.
-    pub(crate) fn is_constant(&self, amount: &Expr) -> bool
+    pub fn is_constant(&self, amount: &Expr) -> bool
         ensures { result ≡ is_constant self.now amount.now }
     {
         match amount.parts() {
@@ -82,9 +78,19 @@ impl<'a> Lookups<'a> {
         }
     }
 
+    /// Returns the first value of a fluent, if it has one.
+    pub fn first_value_of(&self, fluent: &Ground) -> Option<i64>
+        ensures { result ≡ first_value self.now.values fluent.now }
+    {
+        self.values.get(fluent)
+    }
+
     /// Returns the first value of a fluent with objects in the place of its arguments, if it has
     /// one.
-    pub(crate) fn first_value(
+    ///
+    /// # Errors
+    /// - Lack of memory, where the fluent has more than four objects.
+    pub fn first_value(
         &self,
         alloc: Global,
         objects: &[usize],
@@ -94,6 +100,25 @@ impl<'a> Lookups<'a> {
             ≡ first_value self.now.values (ground_form_of objects.now said.now)) }
     {
         let fluent = ground_form_of(alloc, objects, said)?;
-        Ok(self.values.get(&fluent))
+        Ok(self.first_value_of(&fluent))
+    }
+
+    /// Returns the value of a number, or of a fluent at first, if it has one.
+    ///
+    /// # Errors
+    /// - Lack of memory, where the fluent has more than four objects.
+    pub fn first_value_of_leaf(
+        &self,
+        alloc: Global,
+        objects: &[usize],
+        said: &Leaf,
+    ) -> Result<Option<i64>, NoMemory>
+        ensures { IfOk result (λ v. v
+            ≡ value_of (first_value self.now.values) objects.now (leaf said.now)) }
+    {
+        match said {
+            Operand::Number(value) => Ok(Some(*value)),
+            Operand::Fluent(fluent) => self.first_value(alloc, objects, fluent.get()),
+        }
     }
 }

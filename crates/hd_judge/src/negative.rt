@@ -4,31 +4,14 @@ ghost use Rattle.hd_lifted.specs.Expressions.{value_of};
 ghost use Rattle.hd_lifted.specs.States.{first_value};
 ghost use Rattle.hd_judge.specs.Constant.{constant_cost};
 ghost use Rattle.hd_judge.specs.Effects.{IsNear};
-ghost use Rattle.hd_base.specs.Expression.{leaf};
 ghost use Rattle.hd_kept.specs.Amounts.{is_constant};
-ghost use Rattle.hd_judge.specs.Questions.{costs_negative};
+ghost use Rattle.hd_kept.specs.Questions.{costs_negative};
 
 use crate::changed::is_cost;
 use crate::lookups::Lookups;
-use hd_base::{ExprParts, NoMemory, Operand};
-use hd_lifted::{Expr, Leaf, NumericEffect, Schema};
+use hd_base::{ExprParts, NoMemory};
+use hd_lifted::{Expr, NumericEffect, Schema};
 use std::alloc::Global;
-
-/// Returns the value of a number, or of a fluent at first, if it has one.
-fn first_value(
-    alloc: Global,
-    lookups: &Lookups<'_>,
-    objects: &[usize],
-    said: &Leaf,
-) -> Result<Option<i64>, NoMemory>
-    ensures { IfOk result (λ v. v
-        ≡ value_of (first_value lookups.now.values) objects.now (leaf said.now)) }
-{
-    match said {
-        Operand::Number(value) => Ok(Some(*value)),
-        Operand::Fluent(fluent) => lookups.first_value(alloc, objects, fluent.get()),
-    }
-}
 
 /// Returns the value of an amount at first, if it is the same in each state.
 fn constant_value(
@@ -42,7 +25,7 @@ fn constant_value(
 {
     match said.parts() {
         ExprParts::Leaf(leaf) if lookups.is_constant(said) => {
-            first_value(alloc, lookups, objects, leaf)
+            lookups.first_value_of_leaf(alloc, objects, leaf)
         }
         _ => Ok(None),
     }
@@ -73,7 +56,8 @@ fn with_cost(
 
 /// Reports whether a schema with objects costs the same in each state, and less than 0.
 ///
-/// Fails only for lack of memory.
+/// # Errors
+/// - Lack of memory.
 pub fn costs_negative(
     alloc: Global,
     lookups: &Lookups<'_>,

@@ -32,7 +32,10 @@ pub struct Place {
 }
 
 /// Returns the same ground form in memory of its own.
-fn copy_of(alloc: Global, form: &Ground) -> Result<Ground, NoMemory>
+///
+/// # Errors
+/// - Lack of memory, where it has more than four objects.
+pub fn copy_of(alloc: Global, form: &Ground) -> Result<Ground, NoMemory>
     ensures { IfOk result (λ g. g ≡ form.now) }
 {
     let objects = SmallVec::from_slice(alloc, form.objects.as_slice())?;

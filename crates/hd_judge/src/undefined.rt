@@ -3,7 +3,7 @@ ghost use Rattle.std.specs.Prelude.{◌≡◌, [], ◌∷◌, flat_map, IfOk};
 ghost use Rattle.hd_lifted.specs.States.{ground_form_of};
 ghost use Rattle.hd_base.specs.Expression.{leaf};
 ghost use Rattle.hd_kept.specs.Met.{met_by_goal, fluents_in, met_by_comparison, changed_by, met_by_effect, met_by};
-ghost use Rattle.hd_judge.specs.Questions.{first_undefined};
+ghost use Rattle.hd_kept.specs.Questions.{first_undefined};
 
 use crate::changed::is_cost;
 use crate::lookups::Lookups;
@@ -22,7 +22,7 @@ fn if_undefined(
         ≡ first_undefined lookups.now (ground_form_of objects.now said.now ∷ [])) }
 {
     let fluent = ground_form_of(alloc, objects, said)?;
-    match lookups.first_values().get(&fluent) {
+    match lookups.first_value_of(&fluent) {
         Some(_) => Ok(None),
         None => Ok(Some(fluent)),
     }
@@ -158,6 +158,9 @@ fn undefined_effects(
 
 /// Returns the first fluent without a first value that a schema with objects meets: in its
 /// comparisons, and then in its effects.
+///
+/// # Errors
+/// - Lack of memory.
 #[tactic(auto, using(crate::proofs::Finding::undefined_append))]
 pub fn undefined_schema(
     alloc: Global,

@@ -7,8 +7,8 @@
 //!
 //! The kept instances are a least set. An instance is kept if its equalities hold, its static
 //! conditions hold at first, and each atom that it wants is reachable. An atom is reachable if it
-//! is true at first, or a kept instance adds it. Numbers are ignored. Start reading at
-//! `specs/Kept`, then [`laws`].
+//! is true at first, or a kept instance adds it. Numbers are ignored: what the grounder and the
+//! judge ask of them is in `specs/Questions`. Start reading at `specs/Kept`, then [`laws`].
 #![tactic(auto)]
 
 pub mod laws;

@@ -28,7 +28,7 @@ use Rattle.hd_grounding.proofs.Grounded.{kept_action, first_there}
 use Rattle.hd_transfer.specs.Instances.{instance_of, plan_of}
 use Rattle.hd_transfer.proofs.Runs.{IsNamed, instance_is, plan_of-named, all_named, valid_there}
 use Rattle.hd_transfer.proofs.Departing.{actions_depart, goals_depart}
-use Rattle.hd_judge.specs.Questions.{is_defined, costs_negative}
+use Rattle.hd_kept.specs.Questions.{is_defined, costs_negative}
 use Rattle.hd_judge.specs.Validity.{NoStepDeparts, IsValidated}
 use Rattle.hd_validate.specs.Plans.{IsValidatedBy}
 use Rattle.hd_printing.specs.Printing.{steps_of, GoesThrough, GoalStays}
@@ -131,7 +131,7 @@ module _ (t : LiftedTask) (u : Task) (made : IsGrounding t u) where
   not_negative : (i : Instance) (is : IsInstance t i) → IsKept t i → costs_negative t is.schema i.objects ≡ false
   not_negative i is kept =
       false_from_ne_true (costs_negative t is.schema i.objects)
-      (λ negative. first_negative i kept (faults.negative_in t made.instances) refl (ap (λ o. faults.costs_negative t o i.objects) is.is_schema ∙ negative))
+      (λ negative. first_negative i kept (faults.negative_in t made.instances) refl (ap (λ o. faults.negative_with t o i.objects) is.is_schema ∙ negative))
 
   pub validated : (p : List ℕ) (cost : ℕ) → IsValidAt u p cost → GoesThrough u p → GoalStays u p → IsValidated t (plan_of u p) cost
   validated p cost valid goes stays =

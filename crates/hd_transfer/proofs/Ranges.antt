@@ -41,7 +41,8 @@ use Rattle.hd_kept.specs.Kept.{IsKept}
 use Rattle.hd_kept.specs.Met.{fluents_in, changed_by, met_by_comparison, met_by_effect}
 use Rattle.hd_kept.proofs.Passing.{passes-from_all}
 use Rattle.hd_kept.proofs.Sound.{and-true, same-refl}
-use Rattle.hd_grounding.specs.Images.{expression_of, comparison_of, condition_of, amount_of, is_paid, is_on, term_by, term_of, change_by, change_of, changed_value}
+use Rattle.hd_kept.specs.Questions.{is_paid}
+use Rattle.hd_grounding.specs.Images.{expression_of, comparison_of, condition_of, amount_of, is_on, term_by, term_of, change_by, change_of, changed_value}
 use Rattle.hd_grounding.specs.Agreement.{Agree, IsNumbered, KeepsFirstValues}
 use Rattle.hd_grounding.specs.Grounding.{IsActionOf, IsGrounding}
 use Rattle.hd_grounding.proofs.Holding.{value_agrees, atoms_hold_alike}

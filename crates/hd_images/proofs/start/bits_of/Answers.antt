@@ -14,12 +14,12 @@ loop-atom-preserved c =
     let listed = c.args.listed.now in
     let i = c.loop-atom.atom-index in
     let a = c.atom-item.result in
-    elim c.match-branch-3.branch [
+    elim c.match-number_of.branch [
       | in-Some w ↦
           ap (λ v. v.items) w.bits-is
           ∙ (ap (λ (bs : List Bool). set bs w.in-Some.number true) c.loop-atom.invariant
-          ∙ bits-put forms listed i w.in-Some.number a c.are_rising.ensures (omega arith) c.atom-item.is (sym c.in_ok-number.ensures ∙ w.in-Some.is))
+          ∙ bits-put forms listed i w.in-Some.number a c.are_rising.ensures (omega arith) c.atom-item.is (sym c.number_of.ensures ∙ w.in-Some.is))
       | in_default w ↦
           ap (λ v. v.items) w.bits-is
-          ∙ (c.loop-atom.invariant ∙ bits-none forms listed i a (omega arith) c.atom-item.is (sym c.in_ok-number.ensures ∙ w.in_default.is))
+          ∙ (c.loop-atom.invariant ∙ bits-none forms listed i a (omega arith) c.atom-item.is (sym c.number_of.ensures ∙ w.in_default.is))
     ]

@@ -14,9 +14,13 @@ use Rattle.hd_kept.specs.Amounts.{is_constant}
 abbrev pub is_defined : LiftedTask → Ground → Bool
 is_defined t g = is_some (first_value t.values g)
 
+-- a fluent has no first value
+abbrev pub is_undefined : LiftedTask → Ground → Bool
+is_undefined t g = not (is_defined t g)
+
 -- the first of these fluents that has no first value, if there is one
 abbrev pub first_undefined : LiftedTask → List Ground → Option Ground
-first_undefined t fluents = find (λ g. not (is_defined t g)) fluents
+first_undefined t fluents = find (is_undefined t) fluents
 
 -- an effect is a part of the cost
 abbrev pub is_paid : NumericEffect → Bool
