@@ -1,5 +1,5 @@
 //! Tests of the bound word.
-use hd_bound::{BoundWord, NO_BOUND};
+use hd_desk::{BoundWord, NO_BOUND};
 use std::test::Fail;
 
 #[test]

@@ -4,7 +4,7 @@ use Rattle.std.specs.declared.ops.Range.{Range}
 use Rattle.std.proofs.lemmas.Option.{none-some, same_Some, slice_get_past}
 use Rattle.std.proofs.Math.Seq.{drop-cons}
 use Rattle.hd_task.specs.declared.plan.Kid.{Kid}
-use Rattle.hd_tickets.specs.Queue.{QueueView, group_end, group_next, with_group}
+use Rattle.hd_book.specs.Queue.{QueueView, group_end, group_next, with_group}
 use Rattle.hd_book.specs.Groups.{entries_between, is_kid, begins_with}
 
 -- one successor and the others

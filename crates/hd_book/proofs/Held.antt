@@ -11,15 +11,15 @@ use Rattle.hd_node.specs.declared.batch.Outcome.{Outcome}
 use Rattle.hd_node.specs.declared.batch.Outcome.TheVariants.{Expanded, Duplicate, Bounded}
 use Rattle.hd_entries.specs.Settling.{entry_of}
 use Rattle.hd_entries.specs.Holding.{EntriesView, settled_count}
-use Rattle.hd_tickets.specs.declared.not_out.NotOut.{NotOut}
-use Rattle.hd_tickets.specs.declared.outgoing.Outgoing.{Outgoing}
-use Rattle.hd_tickets.specs.declared.redeemed.Redeemed.{Redeemed}
-use Rattle.hd_tickets.specs.declared.redeemed.Redeemed.TheVariants.{Released, NotYet, Void}
-use Rattle.hd_tickets.specs.Queue.{QueueView, end_of, entries_of, are_acknowledged, with_batch}
-use Rattle.hd_tickets.specs.Batches.{Batches, TicketView, is_its}
-use Rattle.hd_tickets.specs.Steps.{entered, flushed, without, redeemed}
-use Rattle.hd_tickets.specs.Redeeming.{given_for, answer_for, redeemed_for}
-use Rattle.hd_tickets.proofs.Ends.{end_of-append, end_of_parts}
+use Rattle.hd_book.specs.declared.not_out.NotOut.{NotOut}
+use Rattle.hd_book.specs.declared.outgoing.Outgoing.{Outgoing}
+use Rattle.hd_book.specs.declared.redeemed.Redeemed.{Redeemed}
+use Rattle.hd_book.specs.declared.redeemed.Redeemed.TheVariants.{Released, NotYet, Void}
+use Rattle.hd_book.specs.Queue.{QueueView, end_of, entries_of, are_acknowledged, with_batch}
+use Rattle.hd_book.specs.Batches.{Batches, TicketView, is_its}
+use Rattle.hd_book.specs.TicketSteps.{entered, flushed, without, redeemed}
+use Rattle.hd_book.specs.TicketRedeeming.{given_for, answer_for, redeemed_for}
+use Rattle.hd_book.proofs.Ends.{end_of-append, end_of_parts}
 use Rattle.hd_book.specs.View.{ParcelsView, book_of}
 use Rattle.hd_book.specs.Keeping.{IsOutgoingOf, IsHeld}
 use Rattle.hd_book.specs.Redeeming.{IsReleasedOf}

@@ -1,2 +1,7 @@
 pub mod Between
+pub mod Ends
+pub mod Following
 pub mod Held
+pub mod Redeeming
+pub mod Spent
+pub mod Taking

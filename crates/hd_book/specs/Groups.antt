@@ -2,9 +2,9 @@
 use Rattle.std.specs.Prelude.{ℕ, ◌+◌, ◌-◌, Bool, true, false, ◌&&◌, List, [], ◌∷◌, length, take, drop, Option, Some, None, option_map}
 use Rattle.std.specs.declared.ops.Range.{Range}
 use Rattle.hd_task.specs.declared.plan.Kid.{Kid}
-use Rattle.hd_kids.specs.Kids.{same_kid}
+use Rattle.hd_tables.specs.Kids.{same_kid}
 use Rattle.hd_journal.specs.Group.{GroupView}
-use Rattle.hd_tickets.specs.Queue.{group_next, is_out}
+use Rattle.hd_book.specs.Queue.{group_next, is_out}
 use Rattle.hd_book.specs.View.{BookView}
 
 -- the entries from `first` on and below `end`

@@ -3,8 +3,8 @@ use Rattle.std.specs.Prelude.{◌≡◌, ◌≤◌, length, Option, Some, None}
 use Rattle.std.specs.List.{AllByRecursion}
 use Rattle.hd_task.specs.declared.task.Task.{Task}
 use Rattle.hd_entries.specs.Holding.{settled_count}
-use Rattle.hd_tickets.specs.declared.outgoing.Outgoing.{Outgoing}
-use Rattle.hd_tickets.specs.Queue.{entries_of}
+use Rattle.hd_book.specs.declared.outgoing.Outgoing.{Outgoing}
+use Rattle.hd_book.specs.Queue.{entries_of}
 use Rattle.hd_book.specs.View.{ParcelsView, BookView}
 
 -- what a ticket releases is of a task

@@ -1,7 +1,13 @@
+pub mod Batches
 pub mod Groups
 pub mod Keeping
+pub mod Moves
+pub mod Queue
 pub mod Redeeming
 pub mod Refusing
 pub mod Releasing
+pub mod Slots
 pub mod Steps
+pub mod TicketRedeeming
+pub mod TicketSteps
 pub mod View

@@ -6,8 +6,8 @@ use Rattle.hd_node.specs.declared.batch.Outcome.{Outcome}
 use Rattle.hd_entries.specs.Settling.{all_settled, entry_of}
 use Rattle.hd_entries.specs.Holding.{EntriesView, no_entries, released_by}
 use Rattle.hd_entries.specs.Resuming.{resumed}
-use Rattle.hd_tickets.specs.Batches.{TicketView}
-use Rattle.hd_tickets.specs.Steps as tickets
+use Rattle.hd_book.specs.Batches.{TicketView}
+use Rattle.hd_book.specs.TicketSteps as tickets
 use Rattle.hd_book.specs.View.{ParcelsView, BookView, book_of}
 
 -- a book of entries that are all acknowledged, and of no batches yet

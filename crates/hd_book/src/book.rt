@@ -48,8 +48,8 @@ impl<'t, L: Ledger> Book<'t, L> {
     ghost use Rattle.hd_entries.specs.Holding.{BeginsWith};
     ghost use Rattle.hd_entries.specs.Resuming.{first_fault, open_kids, IsFaultOf, LeadsThere};
     ghost use Rattle.hd_entries.specs.Answers.{is_over, IsCoveredBook, IsAnswerOf, IsBoundPlanOf, IsValidPlan, IsTrueAnswer};
-    ghost use Rattle.hd_tickets.specs.Queue.{is_due, is_idle, are_acknowledged};
-    ghost use Rattle.hd_tickets.specs.Redeeming.{redeemed_for};
+    ghost use Rattle.hd_book.specs.Queue.{is_due, is_idle, are_acknowledged};
+    ghost use Rattle.hd_book.specs.TicketRedeeming.{redeemed_for};
     ghost use Rattle.hd_book.specs.View.{counts_of};
     ghost use Rattle.hd_book.specs.Steps.{new_book, resumed_book, after_commit, ticket_after, after_take, after_flush, after_hand_back, after_redeem, after_halt};
     ghost use Rattle.hd_book.specs.Groups.{next_group, is_group_out};

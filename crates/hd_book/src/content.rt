@@ -1,13 +1,13 @@
 //! The parts of a book.
 ghost use Rattle.std.specs.Prelude.{◌≡◌, ◌+◌, ◌-◌, ◌<◌, ◌≤◌, ◌^◌, ◌++◌, ◌&&◌, true, false, None, Some, length, drop, slice_get, vec_len, vec_capacity, is_ok, is_some, IfOk, IfErr, IfSome, OnOk, OnErr};
 ghost use Rattle.std.specs.List.{AllByRecursion};
-ghost use Rattle.hd_kids.specs.Kids.{same_kid};
+ghost use Rattle.hd_tables.specs.Kids.{same_kid};
 ghost use Rattle.hd_entries.specs.Settling.{IsOf, IsKept};
 ghost use Rattle.hd_entries.specs.Holding.{BeginsWith};
 ghost use Rattle.hd_entries.specs.Refusing.{has_room};
 ghost use Rattle.hd_entries.specs.Answers.{is_over, IsCoveredBook, IsAnswerOf, IsTrueAnswer};
-ghost use Rattle.hd_tickets.specs.Queue.{is_due, is_idle};
-ghost use Rattle.hd_tickets.specs.Redeeming.{redeemed_for};
+ghost use Rattle.hd_book.specs.Queue.{is_due, is_idle};
+ghost use Rattle.hd_book.specs.TicketRedeeming.{redeemed_for};
 ghost use Rattle.hd_book.specs.View.{book_of, counts_of};
 ghost use Rattle.hd_book.specs.Steps.{with_no_batches, after_commit, ticket_after, after_take, after_flush, after_hand_back, after_redeem, after_halt};
 ghost use Rattle.hd_book.specs.Groups.{entries_between, is_kid, begins_with, next_group, is_group_out};
@@ -21,7 +21,7 @@ use crate::{
 use hd_entries::Entries;
 use hd_node::Batch;
 use hd_task::{Kid, NoMemory};
-use hd_tickets::Tickets;
+use crate::tickets::Tickets;
 use std::alloc::Global;
 use std::marker::Model;
 

@@ -1,9 +1,9 @@
 //! What the pairs of a group are put into.
 ghost use Rattle.std.specs.Prelude.{◌≡◌, ◌≤◌, [], nat_le, is_some, vec_capacity};
-ghost use Rattle.hd_tickets.specs.declared.queue.TheConstants.{MAX_GROUP};
+ghost use Rattle.hd_book.specs.declared.queue.TheConstants.{MAX_GROUP};
 
 use hd_task::{Kid, NoMemory};
-use hd_tickets::MAX_GROUP;
+use crate::queue::MAX_GROUP;
 use std::alloc::Global;
 
 /// An empty list with room for the pairs of any group. The book fills it where a group goes out, so

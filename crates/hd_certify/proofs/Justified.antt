@@ -19,7 +19,7 @@ use Rattle.hd_task.specs.Entries.{plan_of}
 use Rattle.hd_task.specs.Covers.{IsDominated, IsBounded, Dead, Reaches, IsJustified, IsCovered}
 use Rattle.hd_task.proofs.Runs.{exec-push, exec-state}
 use Rattle.hd_hmax.specs.Rounds.{hmax}
-use Rattle.hd_kids.specs.Kids.{root}
+use Rattle.hd_tables.specs.Kids.{root}
 use Rattle.hd_node.specs.Parcel.{ParcelView}
 use Rattle.hd_node.specs.declared.batch.By.{By}
 use Rattle.hd_closed.specs.Closed.{Closed, state_at, closed_at, IsClosedAt, IsNamedBy, IsDearer, nothing}

@@ -9,7 +9,7 @@ use Rattle.hd_base.proofs.Options.{option_or_none}
 use Rattle.hd_task.specs.declared.task.Task.{Task}
 use Rattle.hd_task.specs.declared.plan.Kid.{Kid}
 use Rattle.hd_task.specs.declared.plan.TheConstants.{ROOT_PARENT, ROOT_ACTION}
-use Rattle.hd_kids.specs.Kids.{root, same_kid}
+use Rattle.hd_tables.specs.Kids.{root, same_kid}
 use Rattle.hd_image.specs.declared.entry.Entry.{Entry}
 use Rattle.hd_journal.specs.Journal.{kid_of}
 use Rattle.hd_entries.specs.declared.refusal.Refusal.{Refusal}

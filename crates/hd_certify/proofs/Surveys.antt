@@ -10,7 +10,7 @@ use Rattle.hd_task.specs.declared.plan.TheConstants.{ROOT_PARENT, ROOT_ACTION}
 use Rattle.hd_task.specs.declared.state.State.{State}
 use Rattle.hd_task.specs.Entries.{plan_from, plan_of}
 use Rattle.hd_task.specs.Plans.{Node, node, exec}
-use Rattle.hd_kids.specs.Kids.{root}
+use Rattle.hd_tables.specs.Kids.{root}
 use Rattle.hd_entries.specs.Settling.{BookState, IsKept, expansions, entry_node}
 use Rattle.hd_entries.proofs.Naming.{length-plans_of}
 use Rattle.hd_entries.proofs.Walking.{named_at, parent_names}

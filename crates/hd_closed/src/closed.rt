@@ -15,7 +15,7 @@ use hd_base::NoMemory;
 use hd_hmax::{EstimateValue, Hmax};
 use hd_node::{By, Hashed};
 use hd_pack::Layout;
-use hd_rows::{Row, Rows};
+use hd_tables::{Row, Rows};
 use hd_task::Task;
 use std::alloc::{AllocError, Global};
 use std::marker::Model;

@@ -2,13 +2,13 @@
 ghost use Rattle.std.specs.Prelude.{◌≡◌, ℕ, ◌<◌, ◌≤◌, ◌++◌, List, [], ◌∷◌, None, Some, true, false, length, vec_len, vec_capacity, slice_get, slice_set, IfOk, IfSome, IfNone, OnOk, OnErr};
 ghost use Rattle.hd_task.specs.declared.state.State.{State};
 ghost use Rattle.hd_zobrist.specs.Hash.{state_hash};
-ghost use Rattle.hd_rows.specs.Rows.{IsOfRows};
+ghost use Rattle.hd_tables.specs.Rows.{IsOfRows};
 ghost use Rattle.hd_closed.specs.Notes.{note_of, bucket_at, head_at, AreAlike, AreNotesOf, AreChained, IsTable};
 
 use crate::short::{Known, MAX_PLACES, Place};
 use hd_base::NoMemory;
 use hd_node::Hashed;
-use hd_rows::Rows;
+use hd_tables::Rows;
 use std::alloc::{AllocError, Global};
 
 /// What is known of a state.

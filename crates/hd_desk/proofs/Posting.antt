@@ -8,7 +8,7 @@ use Rattle.atomic_table.proofs.Lists.{set_else}
 use Rattle.crossbeam_queue.specs.Fifo.{Pushes, Pops, Forks, Merges, Learns}
 use Rattle.crossbeam_queue.proofs.Lists.{at_set, at_snoc}
 use Rattle.hd_base.proofs.Lists.{AllByRecursion-push}
-use Rattle.hd_bound.proofs.Sums.{sum_by-set_elem, sum_by_zero}
+use Rattle.hd_desk.proofs.BoundSums.{sum_by-set_elem, sum_by_zero}
 use Rattle.hd_desk.specs.declared.rule.Post.{Post}
 use Rattle.hd_desk.specs.declared.rule.TheConstants.{ALL_PARTS}
 use Rattle.hd_desk.specs.Mail.{post, spent_pass, parts_in, weight_put, weight_taken, IsPassFor, IsFair, HasPut, HasNamed, HasTaken, HasCleared, IsEven}

@@ -7,9 +7,9 @@ use crossbeam_queue::protocol::{Join, Lesson, Outcome, Protocol, Split};
 use std::alloc::Global;
 use std::collections::LinkedList;
 
-/// In how many parts the right to know the whole of a mailbox, or to have the lock alone, may be
-/// cut: so many passes can there be at most. A pass with all of them knows what was put and taken,
-/// or that nobody else is inside.
+/// In how many parts the right to know the whole of a mailbox, to have the lock alone, or to know
+/// all offers of a bound, may be cut: so many passes or seats can there be at most. A pass with all
+/// of them knows what was put and taken, or that nobody else is inside, and a seat each offer.
 pub const ALL_PARTS: u64 = 1024;
 
 /// An item that is sent. All items of a mailbox are of the same, as the parcels of a search are of

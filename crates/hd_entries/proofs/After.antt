@@ -18,7 +18,7 @@ use Rattle.hd_entries.specs.declared.entry.Entry.{Entry}
 use Rattle.hd_entries.specs.declared.entry.Best.{Best}
 use Rattle.hd_entries.specs.declared.refusal.Refusal.{Refusal}
 use Rattle.hd_entries.specs.declared.refusal.Refusal.TheVariants.{Full}
-use Rattle.hd_kids.specs.Kids.{KidsView}
+use Rattle.hd_tables.specs.Kids.{KidsView}
 use Rattle.hd_entries.specs.Kids.{kids_from, posted_by}
 use Rattle.hd_entries.specs.Settling.{BookState, IsKept, is_posted, first_refusal, all_settled, entry_of, IsOf}
 use Rattle.hd_entries.specs.Holding.{EntriesView, kid_at, node_at, plans_at, state_by, state_of, view_of, SettlesEach, IsBestOf, AreExpanded, HasKids, IsHeldBy, IsHeld}

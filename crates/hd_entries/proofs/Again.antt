@@ -15,7 +15,7 @@ use Rattle.hd_task.specs.Plans.{exec}
 use Rattle.hd_task.specs.Expansions.{applicable_at, followed_by, generated}
 use Rattle.hd_task.specs.Entries.{plan_of, plans_of, with_entry}
 use Rattle.hd_hmax.specs.Rounds.{hmax}
-use Rattle.hd_kids.specs.Kids.{root, same_kid, kid_from}
+use Rattle.hd_tables.specs.Kids.{root, same_kid, kid_from}
 use Rattle.hd_entries.specs.declared.refusal.Refusal.{Refusal}
 use Rattle.hd_entries.specs.declared.refusal.Refusal.TheVariants.{UnknownParent, NotAKid, SettledBefore}
 use Rattle.hd_entries.specs.Kids.{kids_of, posted_by}

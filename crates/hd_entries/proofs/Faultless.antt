@@ -20,7 +20,7 @@ use Rattle.hd_task.specs.declared.plan.TheConstants.{ROOT_PARENT, ROOT_ACTION}
 use Rattle.hd_task.specs.Plans.{exec}
 use Rattle.hd_task.specs.Expansions.{applicable_at, followed_by, children, IsNext, IsLegal}
 use Rattle.hd_task.specs.Entries.{plan_from, plan_of, plans_of, with_entry}
-use Rattle.hd_kids.specs.Kids.{root, same_kid}
+use Rattle.hd_tables.specs.Kids.{root, same_kid}
 use Rattle.hd_entries.specs.declared.refusal.Refusal.{Refusal}
 use Rattle.hd_entries.specs.declared.refusal.Refusal.TheVariants.{UnknownParent, NotAKid, SettledBefore}
 use Rattle.hd_entries.specs.Kids.{kids_from, posted_by}

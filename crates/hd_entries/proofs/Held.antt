@@ -21,7 +21,7 @@ use Rattle.hd_entries.specs.declared.entry.Entry.{Entry}
 use Rattle.hd_entries.specs.declared.expanded.ExpandedPlans.{ExpandedPlans}
 use Rattle.hd_entries.specs.declared.refusal.Refusal.{Refusal}
 use Rattle.hd_entries.specs.declared.refusal.Refusal.TheVariants.{UnknownParent, NotAKid, SettledBefore}
-use Rattle.hd_kids.specs.Kids.{root, same_kid}
+use Rattle.hd_tables.specs.Kids.{root, same_kid}
 use Rattle.hd_entries.specs.Kids.{kids_of, kids_from, posted_by}
 use Rattle.hd_entries.specs.Settling.{expansions, knows_parent, is_posted, node_of}
 use Rattle.hd_entries.specs.Holding.{kid_at, node_at, unmarked, IsExpanded}

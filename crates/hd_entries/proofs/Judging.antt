@@ -10,7 +10,7 @@ use Rattle.std.proofs.lemmas.List.Folds.{list_any-append}
 use Rattle.hd_base.proofs.Truth.{or-false}
 use Rattle.hd_task.specs.declared.task.Task.{Task}
 use Rattle.hd_task.specs.declared.plan.Kid.{Kid}
-use Rattle.hd_kids.specs.Kids.{KidsView, root, same_kid, with_mark}
+use Rattle.hd_tables.specs.Kids.{KidsView, root, same_kid, with_mark}
 use Rattle.hd_node.specs.declared.batch.Outcome.{Outcome}
 use Rattle.hd_node.specs.Outcome.{kid_of}
 use Rattle.hd_entries.specs.declared.refusal.Refusal.{Refusal}

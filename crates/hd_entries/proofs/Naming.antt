@@ -12,7 +12,7 @@ use Rattle.hd_task.specs.declared.plan.TheConstants.{ROOT_PARENT, ROOT_ACTION}
 use Rattle.hd_task.specs.Plans.{exec}
 use Rattle.hd_task.specs.Expansions.{followed_by, applicable_at, children, generated}
 use Rattle.hd_task.specs.Entries.{plan_from, plan_of, with_entry, plans_of}
-use Rattle.hd_kids.specs.Kids.{root, kid_from}
+use Rattle.hd_tables.specs.Kids.{root, kid_from}
 use Rattle.hd_entries.specs.Kids.{kids_of, kids_from, posted_by}
 
 -- one more entry

@@ -12,7 +12,7 @@ use Rattle.hd_task.specs.declared.plan.Kid.{Kid}
 use Rattle.hd_task.specs.declared.plan.TheConstants.{ROOT_PARENT}
 use Rattle.hd_task.specs.Plans.{Node, exec, node}
 use Rattle.hd_task.specs.Expansions.{is_applicable, applicable_at}
-use Rattle.hd_kids.specs.Kids.{KidsView, kid_from, ComesAfter, HasNone, with_entry, with_kid}
+use Rattle.hd_tables.specs.Kids.{KidsView, kid_from, ComesAfter, HasNone, with_entry, with_kid}
 use Rattle.hd_node.specs.Children.{ChildView, children_at}
 use Rattle.hd_node.specs.Expansion.{ExpansionView}
 use Rattle.hd_node.specs.declared.batch.Outcome.{Outcome}

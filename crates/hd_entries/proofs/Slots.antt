@@ -17,7 +17,7 @@ use Rattle.hd_task.specs.Plans.{Node, exec, node, start, step_by}
 use Rattle.hd_task.specs.Expansions.{applicable_at, generated}
 use Rattle.hd_task.specs.Entries.{plan_from, plan_of}
 use Rattle.hd_task.proofs.Runs.{exec-push}
-use Rattle.hd_kids.specs.Kids.{root, same_kid, kid_from}
+use Rattle.hd_tables.specs.Kids.{root, same_kid, kid_from}
 use Rattle.hd_node.specs.Children.{ChildView, children_at}
 use Rattle.hd_node.specs.Parcel.{ParcelView}
 use Rattle.hd_node.specs.Expansion.{ExpansionView}

@@ -11,7 +11,7 @@ use Rattle.hd_task.specs.declared.plan.TheConstants.{ROOT_PARENT, ROOT_ACTION}
 use Rattle.hd_task.specs.Entries.{plan_from, plan_of, with_entry}
 use Rattle.hd_entries.specs.declared.entry.Entry.{Entry}
 use Rattle.hd_entries.specs.declared.expanded.ExpandedPlans.{ExpandedPlans}
-use Rattle.hd_kids.specs.Kids.{root}
+use Rattle.hd_tables.specs.Kids.{root}
 use Rattle.hd_entries.specs.Settling.{expansions}
 use Rattle.hd_entries.specs.Holding.{kid_at, unmarked, IsExpanded}
 

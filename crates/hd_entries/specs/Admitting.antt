@@ -2,7 +2,7 @@
 -- is judged. (Our own.)
 use Rattle.std.specs.Prelude.{◌≡◌, ℕ, ◌≤◌, Bool, not, if◌then◌else◌, List, [], ◌∷◌, ◌++◌, length, flat_map, Option, Some, None, ◌⊎◌}
 use Rattle.std.specs.Option.{option_or}
-use Rattle.hd_kids.specs.Kids.{KidsView}
+use Rattle.hd_tables.specs.Kids.{KidsView}
 use Rattle.hd_node.specs.Outcome.{kid_of}
 use Rattle.hd_node.specs.declared.batch.Outcome.{Outcome}
 use Rattle.hd_entries.specs.declared.refusal.Refusal.{Refusal}

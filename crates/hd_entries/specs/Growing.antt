@@ -2,7 +2,7 @@
 use Rattle.std.specs.Prelude.{ℕ, ◌+◌, if◌then◌else◌, nat_lt, List, [], ◌∷◌, map, Option, Some, None, flat_map, length, slice_get, option_map}
 use Rattle.std.specs.Option.{option_or}
 use Rattle.std.specs.List.{fold}
-use Rattle.hd_kids.specs.Kids.{KidsView, with_entry, with_kid}
+use Rattle.hd_tables.specs.Kids.{KidsView, with_entry, with_kid}
 use Rattle.hd_task.specs.declared.departure.Departure.{Departure}
 use Rattle.hd_task.specs.Expansions.{goal_cost, departure_at}
 use Rattle.hd_node.specs.Children.{ChildView}

@@ -17,7 +17,7 @@ use Rattle.hd_entries.specs.declared.entry.Entry.{Entry}
 use Rattle.hd_entries.specs.declared.entry.Best.{Best}
 use Rattle.hd_entries.specs.declared.expanded.ExpandedPlans.{ExpandedPlans}
 use Rattle.hd_entries.specs.declared.content.Content.{Content}
-use Rattle.hd_kids.specs.Kids.{KidsView, kid_from}
+use Rattle.hd_tables.specs.Kids.{KidsView, kid_from}
 use Rattle.hd_entries.specs.Kids.{posted_by}
 use Rattle.hd_entries.specs.Settling.{BookState, IsKept, entry_of, expansions}
 

@@ -4,7 +4,7 @@ use Rattle.hd_task.specs.declared.task.Task.{Task}
 use Rattle.hd_task.specs.declared.plan.Kid.{Kid}
 use Rattle.hd_task.specs.Plans.{exec}
 use Rattle.hd_task.specs.Expansions.{applicable_at}
-use Rattle.hd_kids.specs.Kids.{root, kid_from}
+use Rattle.hd_tables.specs.Kids.{root, kid_from}
 
 -- the successors of an entry that is numbered n, by their actions
 abbrev pub kids_of : ℕ → List ℕ → List Kid

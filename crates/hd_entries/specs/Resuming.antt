@@ -7,7 +7,7 @@ use Rattle.hd_task.specs.declared.plan.Kid.{Kid}
 use Rattle.hd_task.specs.Plans.{node}
 use Rattle.hd_task.specs.Entries.{plans_of}
 use Rattle.hd_task.specs.Expansions.{IsLegal}
-use Rattle.hd_kids.specs.Kids.{root, same_kid}
+use Rattle.hd_tables.specs.Kids.{root, same_kid}
 use Rattle.hd_node.specs.Parcel.{ParcelView}
 use Rattle.hd_entries.specs.declared.refusal.Refusal.{Refusal}
 use Rattle.hd_entries.specs.declared.refusal.Refusal.TheVariants.{UnknownParent, NotAKid, SettledBefore, Full, NoMemory}

@@ -23,7 +23,7 @@ use Rattle.hd_hmax.specs.Value.{estimated}
 use Rattle.hd_node.specs.Outcome.{kid_of}
 use Rattle.hd_entries.specs.declared.refusal.Refusal.{Refusal}
 use Rattle.hd_entries.specs.declared.refusal.Refusal.TheVariants.{UnknownParent, NotAKid, SettledBefore, StateDiffers, NotDominated, BelowBound}
-use Rattle.hd_kids.specs.Kids.{root, same_kid}
+use Rattle.hd_tables.specs.Kids.{root, same_kid}
 use Rattle.hd_entries.specs.Kids.{posted_by}
 use Rattle.hd_entries.specs.Marks.{IsMarked}
 

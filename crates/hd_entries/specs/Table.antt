@@ -3,7 +3,7 @@ use Rattle.std.specs.Prelude.{◌≡◌, ℕ, List, [], ◌∷◌, length}
 use Rattle.hd_task.specs.declared.state.State.{State}
 use Rattle.hd_task.specs.declared.task.Task.{Task}
 use Rattle.hd_zobrist.specs.Hash.{state_hash}
-use Rattle.hd_rows.specs.Widths.{Widths}
+use Rattle.hd_tables.specs.Widths.{Widths}
 use Rattle.hd_entries.specs.declared.entry.Entry.{Entry}
 use Rattle.hd_entries.specs.declared.entry.Label.{Label}
 

@@ -13,10 +13,9 @@ use crate::Refusal;
 use crate::entry::{Best, Place};
 use crate::expanded::ExpandedPlans;
 use hd_hmax::EstimateValue;
-use hd_kids::KidTable;
+use hd_tables::{Draft, KidTable, Row};
 use hd_node::{By, Outcome};
 use hd_pack::{Layout, Packed, pack};
-use hd_rows::{Draft, Row};
 use hd_task::{ActionId, Kid, NoMemory, ROOT_ACTION, ROOT_PARENT, Task};
 use std::alloc::Global;
 

@@ -3,7 +3,7 @@
 ghost use Rattle.std.specs.Prelude.{◌≡◌, ℕ, ◌+◌, ◌<◌, ◌≤◌, ◌^◌, ◌++◌, [], ◌∷◌, List, Some, None, vec_len, vec_capacity, length, map, flat_map, nat_le, option_map, IfOk, IfErr, OnOk, OnErr};
 ghost use Rattle.std.specs.List.{AllByRecursion};
 ghost use Rattle.hd_task.specs.declared.plan.TheConstants.{ROOT_PARENT};
-ghost use Rattle.hd_kids.specs.Kids.{IsSame};
+ghost use Rattle.hd_tables.specs.Kids.{IsSame};
 ghost use Rattle.hd_entries.specs.Settling.{entry_of, all_settled, IsOf};
 ghost use Rattle.hd_entries.specs.Holding.{kid_at, parcel_of, released_by, state_of, view_of, BeginsWith, IsHeld, IsParcelOf, SettlesEach};
 ghost use Rattle.hd_entries.specs.Admitting.{SameButMarks, HasRoomFor, marks_after};
@@ -15,7 +15,7 @@ use crate::Refusal;
 use crate::content::Content;
 use crate::settling::{enter, found_after, kids_of, post_all};
 use crate::table::EntryTable;
-use hd_kids::KidTable;
+use hd_tables::KidTable;
 use hd_node::{Batch, Outcome, Parcel};
 use hd_task::NoMemory;
 use std::alloc::Global;

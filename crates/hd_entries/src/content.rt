@@ -1,7 +1,7 @@
 //! The parts of what is held of a search.
 use crate::entry::Place;
 use crate::expanded::ExpandedPlans;
-use hd_kids::KidTable;
+use hd_tables::KidTable;
 use hd_task::{NoMemory, Task};
 use hd_zobrist::Words;
 use std::alloc::Global;
@@ -20,7 +20,7 @@ pub(crate) struct Content<'t> {
 
 impl<'t> Content<'t> {
     ghost use Rattle.std.specs.Prelude.{◌≡◌, [], ◌∷◌, None, false, IfOk};
-    ghost use Rattle.hd_kids.specs.Kids.{root};
+    ghost use Rattle.hd_tables.specs.Kids.{root};
 
     /// Returns the parts of a search without entries: the root is posted.
     ///

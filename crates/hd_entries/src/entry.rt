@@ -5,7 +5,7 @@ ghost use Rattle.hd_entries.specs.Settling.{dominates, same_state};
 ghost use Rattle.hd_entries.specs.Holding.{node_at};
 
 use crate::hashed_row::HashedRow;
-use hd_rows::{Draft, Row};
+use hd_tables::{Draft, Row};
 use hd_task::Kid;
 use std::alloc::Global;
 

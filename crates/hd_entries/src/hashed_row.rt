@@ -3,7 +3,7 @@ ghost use Rattle.std.specs.Prelude.{◌≡◌, IfOk};
 ghost use Rattle.hd_zobrist.specs.Hash.{state_hash};
 
 use hd_node::Hashed;
-use hd_rows::Row;
+use hd_tables::Row;
 use hd_task::NoMemory;
 use std::alloc::Global;
 use std::marker::Model;

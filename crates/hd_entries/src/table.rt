@@ -1,14 +1,13 @@
 //! A table of entries, whose states stand in blocks of rows.
 ghost use Rattle.std.specs.Prelude.{◌≡◌, ◌+◌, ◌<◌, ◌≤◌, ◌++◌, [], ◌∷◌, Some, length, slice_get, slice_index_or, IsOk, OnOk};
-ghost use Rattle.hd_chunks.specs.declared.chunks.TheConstants.{MOST_ITEMS};
-ghost use Rattle.hd_rows.specs.Widths.{HasWidths};
+ghost use Rattle.hd_tables.specs.declared.chunks.TheConstants.{MOST_ITEMS};
+ghost use Rattle.hd_tables.specs.Widths.{HasWidths};
 
 use crate::entry::{Entry, Label};
 use crate::hashed_row::HashedRow;
-use hd_chunks::Chunks;
+use hd_tables::{Chunks, RowBlocks};
 use hd_node::Hashed;
 use hd_pack::Layout;
-use hd_rows::RowBlocks;
 use hd_task::{Kid, NoMemory};
 use std::alloc::Global;
 use std::marker::Model;

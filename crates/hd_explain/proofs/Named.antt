@@ -14,10 +14,10 @@ use Rattle.hd_judge.specs.Refusals.{fault_of, IsReasonOfStep, TellsUnexplained, 
 use Rattle.hd_judge.specs.Validity.{Passes}
 use Rattle.hd_judge.specs.Way.{IsOnWay}
 use Rattle.hd_judge.proofs.Reasoned.{reason_asked, goal_reason_asked}
-use Rattle.hd_validate.specs.Naming.{HasNamesOf}
-use Rattle.hd_validate.specs.Plans.{PassesBy, names_none, fails_named, TellsFromBy}
-use Rattle.hd_validate.proofs.Judged.{validated_from}
-use Rattle.hd_validate.proofs.Stepping.{stops_named}
+use Rattle.hd_plan.specs.Naming.{HasNamesOf}
+use Rattle.hd_plan.specs.Plans.{PassesBy, names_none, fails_named, TellsFromBy}
+use Rattle.hd_plan.proofs.Judged.{validated_from}
+use Rattle.hd_plan.proofs.Stepping.{stops_named}
 use Rattle.hd_judge.specs.declared.reason.Reason.{Reason}
 use Rattle.hd_explain.specs.declared.plan.PlanReason.{PlanReason}
 use Rattle.hd_explain.specs.declared.plan.Halt.{Halt}

@@ -9,8 +9,8 @@ use Rattle.hd_judge.specs.declared.fault.Fault.TheVariants.{NotApplicable, Depar
 use Rattle.hd_judge.specs.declared.reason.Reason.{Reason}
 use Rattle.hd_judge.specs.Refusals.{fault_of, is_explained, IsReasonOfStep, IsReasonOfGoal}
 use Rattle.hd_judge.specs.Way.{IsOnWay}
-use Rattle.hd_validate.specs.Naming.{IsStep}
-use Rattle.hd_validate.specs.Plans.{IsValidatedBy, PassesBy, TellsStepBy, TellsFromBy, ClearsFromBy, IsFirstFaultBy}
+use Rattle.hd_plan.specs.Naming.{IsStep}
+use Rattle.hd_plan.specs.Plans.{IsValidatedBy, PassesBy, TellsStepBy, TellsFromBy, ClearsFromBy, IsFirstFaultBy}
 use Rattle.hd_explain.specs.declared.plan.PlanReason.{PlanReason}
 use Rattle.hd_explain.specs.declared.plan.Halt.{Halt}
 use Rattle.hd_explain.specs.declared.plan.Halt.TheVariants as halts

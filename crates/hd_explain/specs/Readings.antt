@@ -4,7 +4,7 @@ use Rattle.hd_lifted.specs.declared.schema.Ground.{Ground}
 use Rattle.hd_lifted.specs.States.{Values, ground_form_of}
 use Rattle.hd_lifted.specs.declared.schema.NumericEffect.{NumericEffect}
 use Rattle.hd_lifted.specs.Effects.{is_cost}
-use Rattle.hd_kept.specs.Met.{fluents_in, met_by_comparison}
+use Rattle.hd_lifted.specs.Met.{fluents_in, met_by_comparison}
 use Rattle.hd_judge.specs.Effects.{changes_fluent}
 use Rattle.hd_judge.specs.declared.reason.Reason.{Reason}
 use Rattle.hd_judge.specs.declared.reason.Reason.TheVariants as reasons

@@ -17,7 +17,7 @@ use Rattle.hd_lifted.specs.declared.schema.Comparison.{Comparison}
 use Rattle.hd_lifted.specs.declared.task.LiftedTask.{LiftedTask}
 use Rattle.hd_lifted.specs.States.{ground_form_of, object_of}
 use Rattle.hd_lifted.specs.Steps.{Reached}
-use Rattle.hd_validate.specs.Texts.{name_of_object, name_of_function, form_text, fluent_text}
+use Rattle.hd_plan.specs.Texts.{name_of_object, name_of_function, form_text, fluent_text}
 use Rattle.hd_judge.specs.declared.reason.Reason.{Reason}
 use Rattle.hd_judge.specs.declared.reason.Reason.TheVariants as reasons
 use Rattle.hd_explain.specs.declared.reading.Reading.{Reading}

@@ -1,6 +1,6 @@
 //! Explains in one line why a plan is refused: what does not hold, or what leaves the range.
 //!
-//! [`explain`] returns a line exactly if the first error of the plan (hd_validate) is a condition
+//! [`explain`] returns a line exactly if the first error of the plan (hd_plan) is a condition
 //! or goal that does not hold, or a departure. The line is the text of the reason of that error: a
 //! literal, an equality, a comparison, a subexpression, a new value or a cost. Otherwise it returns
 //! `None`: the plan is valid, or its error needs no reason.

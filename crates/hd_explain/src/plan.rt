@@ -4,7 +4,7 @@ ghost use Rattle.hd_lifted.specs.Steps.{start};
 ghost use Rattle.hd_lifted.specs.WellFormed.{HasDistinctNames};
 ghost use Rattle.hd_judge.specs.Tables.{reached_in};
 ghost use Rattle.hd_judge.specs.Way.{IsOnWay};
-ghost use Rattle.hd_validate.specs.Plans.{PassesBy};
+ghost use Rattle.hd_plan.specs.Plans.{PassesBy};
 ghost use Rattle.hd_explain.specs.Texts.{text_of};
 ghost use Rattle.hd_explain.specs.Plans.{objects_of, TellsReason, NeedsNoReason, HaltsAt, HaltsFrom};
 
@@ -12,8 +12,7 @@ use crate::text::text_of;
 use hd_base::{NoMemory, Seed};
 use hd_judge::{Lookups, Place, Reason, Refusal, Stop, begin, explain_goal, explain_step};
 use hd_lifted::{Checked, Instance};
-use hd_plan::Step;
-use hd_validate::{TaskNames, instance_of};
+use hd_plan::{Step, TaskNames, instance_of};
 use std::alloc::{AllocError, Global};
 
 /// Why a plan is not valid.

@@ -2,7 +2,7 @@
 ghost use Rattle.std.specs.Prelude.{◌≡◌, ◌++◌, ◌∷◌, [], map, IfOk, OnOk};
 ghost use Rattle.hd_base.specs.Expression.{leaf};
 ghost use Rattle.hd_lifted.specs.States.{ground_form_of};
-ghost use Rattle.hd_kept.specs.Met.{fluents_in, met_by_comparison};
+ghost use Rattle.hd_lifted.specs.Met.{fluents_in, met_by_comparison};
 ghost use Rattle.hd_judge.specs.Tables.{reached_in};
 ghost use Rattle.hd_explain.specs.Readings.{reading_at, changing_fluents, fluents_of, paid_fluents};
 

@@ -3,7 +3,7 @@ ghost use Rattle.std.specs.Prelude.{◌≡◌, ◌++◌, ◌∷◌, ℤ, List, c
 ghost use Rattle.std.specs.Fmt.{decimal, signed_decimal};
 ghost use Rattle.hd_lifted.specs.States.{ground_form_of, object_of};
 ghost use Rattle.hd_judge.specs.Tables.{reached_in};
-ghost use Rattle.hd_validate.specs.Texts.{name_of_object, name_of_function, object_text, form_text, fluent_text};
+ghost use Rattle.hd_plan.specs.Texts.{name_of_object, name_of_function, object_text, form_text, fluent_text};
 ghost use Rattle.hd_explain.specs.Texts.{literal_text, same_text, equality_text, operation_sign, leaf_text, expression_text, relation_sign, comparison_text, out_text, said_text, value_text, reading_text, readings_text, text_of};
 
 use crate::reading::{Reading, readings_of};

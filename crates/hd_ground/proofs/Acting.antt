@@ -8,8 +8,8 @@ use Rattle.hd_lifted.specs.declared.schema.Ground.{Ground}
 use Rattle.hd_lifted.specs.declared.task.LiftedTask.{LiftedTask}
 use Rattle.hd_lifted.specs.declared.instance.Instance.{Instance}
 use Rattle.hd_task.specs.declared.action.Action.{Action}
-use Rattle.hd_kept.specs.Kept.{IsKept, keep}
-use Rattle.hd_kept.specs.Numbering.{NumbersInstances}
+use Rattle.hd_lifted.specs.Kept.{IsKept, keep}
+use Rattle.hd_lifted.specs.Numbering.{NumbersInstances}
 use Rattle.hd_grounding.specs.Grounding.{IsActionOf}
 
 kept_there : (t : LiftedTask) (i : Instance) → IsKept t i → i.schema < length t.schemas

@@ -13,9 +13,9 @@ use Rattle.hd_lifted.specs.declared.schema.Ground.{Ground}
 use Rattle.hd_lifted.specs.declared.schema.NumericEffect.{NumericEffect}
 use Rattle.hd_lifted.specs.declared.schema.Schema.{Schema}
 use Rattle.hd_lifted.specs.declared.task.LiftedTask.{LiftedTask}
-use Rattle.hd_kept.specs.Kept.{IsKept, IsReachable}
-use Rattle.hd_kept.specs.Numbering.{form_key, HasExactly, HasMore, IsTaskAtom, NumbersInstances, NumbersAtoms, NumbersFluents}
-use Rattle.hd_kept.specs.Questions.{is_undefined, is_paid}
+use Rattle.hd_lifted.specs.Kept.{IsKept, IsReachable}
+use Rattle.hd_lifted.specs.Numbering.{form_key, HasExactly, HasMore, IsTaskAtom, NumbersInstances, NumbersAtoms, NumbersFluents}
+use Rattle.hd_lifted.specs.Questions.{is_undefined, is_paid}
 use Rattle.hd_grounding.specs.Faults.{met_by_all, undefined_in, negative_in, IsTooLarge}
 use Rattle.hd_images.specs.Meeting.{IsMet, with_forms, goal_atoms}
 use Rattle.hd_images.proofs.TaskAtoms.{IsTooLarge-from_gathered, NumbersAtoms-from_gathered}
@@ -23,8 +23,8 @@ use Rattle.hd_images.proofs.TaskFluents.{IsTooLarge-from_met, NumbersFluents-fro
 use Rattle.hd_reach.specs.declared.error.Stop.TheVariants.{TooMany}
 use Rattle.hd_reach.specs.declared.reading.Limits.{Limits}
 use Rattle.hd_reach.specs.Reaching.{StopsReaching}
-use Rattle.hd_fitting.specs.Counted.{HaveFewAmounts, AreCounted}
-use Rattle.hd_fitting.proofs.Limits.{not_too_large}
+use Rattle.hd_grounding.specs.Counted.{HaveFewAmounts, AreCounted}
+use Rattle.hd_grounding.proofs.Limits.{not_too_large}
 use Rattle.hd_ground.specs.Amounts.{amounts_of, HasMoreAmountsIn}
 use Rattle.hd_ground.specs.Telling.{fluent_text, action_text, NamesUndefined, NamesNegative}
 

@@ -13,7 +13,7 @@ use Rattle.hd_task.specs.Parts.{HasParts}
 use Rattle.hd_task.specs.WellFormed.{parts_fit}
 use Rattle.hd_grounding.specs.Images.{condition_of}
 use Rattle.hd_grounding.specs.Grounding.{names_in, form_of, start_in}
-use Rattle.hd_fitting.specs.Fitting.{grounded_parts_fit, HasGroundedParts}
+use Rattle.hd_grounding.specs.Fitting.{grounded_parts_fit, HasGroundedParts}
 
 -- parts are those of a grounding
 pub record AreGrounded (t : LiftedTask) (atoms fluents : List Ground) (names : Names) (gs hs : List GroundForm) (initial : State) (goal : Condition) (metric : Bool) : Type 0 where

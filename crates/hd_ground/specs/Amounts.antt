@@ -4,7 +4,7 @@ use Rattle.hd_lifted.specs.declared.instance.Instance.{Instance}
 use Rattle.hd_lifted.specs.declared.schema.Schema.{Schema}
 use Rattle.hd_lifted.specs.declared.task.LiftedTask.{LiftedTask}
 use Rattle.hd_task.specs.declared.task.TheConstants.{MAX_AMOUNTS}
-use Rattle.hd_kept.specs.Questions.{is_paid}
+use Rattle.hd_lifted.specs.Questions.{is_paid}
 
 -- how many amounts a schema adds to the cost
 abbrev pub amounts_of : Schema → ℕ

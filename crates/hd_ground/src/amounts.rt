@@ -1,7 +1,7 @@
 //! Amounts of the cost, if there are more than an action may have.
 ghost use Rattle.std.specs.Prelude.{◌≡◌, nat_lt, true, false};
 ghost use Rattle.hd_task.specs.declared.task.TheConstants.{MAX_AMOUNTS};
-ghost use Rattle.hd_fitting.specs.Counted.{HaveFewAmounts};
+ghost use Rattle.hd_grounding.specs.Counted.{HaveFewAmounts};
 ghost use Rattle.hd_ground.specs.Amounts.{amounts_of, HasMoreAmountsIn};
 
 use hd_images::count_costs;

@@ -2,10 +2,10 @@
 ghost use Rattle.std.specs.Prelude.{◌≡◌, ◌≤◌, ◌↔◌, Contains, length, IfOk, IfErr, OnOk};
 ghost use Rattle.hd_lifted.specs.declared.schema.Ground.{Ground};
 ghost use Rattle.hd_task.specs.declared.task.TheConstants.{MAX_ACTIONS, MAX_ATOMS, MAX_FLUENTS};
-ghost use Rattle.hd_kept.specs.Kept.{IsReachable};
-ghost use Rattle.hd_kept.specs.Numbering.{NumbersInstances, NumbersAtoms, NumbersFluents};
+ghost use Rattle.hd_lifted.specs.Kept.{IsReachable};
+ghost use Rattle.hd_lifted.specs.Numbering.{NumbersInstances, NumbersAtoms, NumbersFluents};
 ghost use Rattle.hd_grounding.specs.Faults.{undefined_in};
-ghost use Rattle.hd_fitting.specs.Counted.{HaveFewAmounts, AreCounted, AreFaultless};
+ghost use Rattle.hd_grounding.specs.Counted.{HaveFewAmounts, AreCounted, AreFaultless};
 ghost use Rattle.hd_lifted.specs.declared.task.LiftedTask.{LiftedTask};
 ghost use Rattle.hd_reach.specs.declared.reading.Limits.{Limits};
 ghost use Rattle.hd_reach.specs.Reaching.{HasReached, StopsReaching};

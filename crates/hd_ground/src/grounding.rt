@@ -3,7 +3,7 @@ ghost use Rattle.std.specs.Prelude.{◌≡◌, IfOk, IfErr};
 ghost use Rattle.hd_lifted.specs.Checked.{IsChecked};
 ghost use Rattle.hd_grounding.specs.Faults.{undefined_in};
 ghost use Rattle.hd_grounding.specs.Grounding.{IsGrounding};
-ghost use Rattle.hd_fitting.specs.Counted.{AreCounted};
+ghost use Rattle.hd_grounding.specs.Counted.{AreCounted};
 ghost use Rattle.hd_ground.specs.Telling.{Tells};
 
 use crate::GroundError;

@@ -2,12 +2,12 @@
 ghost use Rattle.std.specs.Prelude.{◌≡◌, [], true, map, is_some, IfOk};
 ghost use Rattle.std.specs.List.{AllZip};
 ghost use Rattle.hd_lifted.specs.Checked.{IsChecked};
-ghost use Rattle.hd_kept.specs.Numbering.{NumbersInstances};
+ghost use Rattle.hd_lifted.specs.Numbering.{NumbersInstances};
 ghost use Rattle.hd_task.specs.WellFormed.{parts_fit};
 ghost use Rattle.hd_task.specs.Parts.{HasParts};
 ghost use Rattle.hd_grounding.specs.Images.{condition_of};
 ghost use Rattle.hd_grounding.specs.Grounding.{names_in, form_of, start_in, IsActionOf, IsGrounding};
-ghost use Rattle.hd_fitting.specs.Counted.{AreCounted, AreFaultless};
+ghost use Rattle.hd_grounding.specs.Counted.{AreCounted, AreFaultless};
 
 use crate::counting::Counted;
 use hd_base::{NoMemory, Sequence};

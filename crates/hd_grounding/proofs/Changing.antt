@@ -13,10 +13,10 @@ use Rattle.hd_lifted.specs.Effects as lifted
 use Rattle.hd_task.specs.declared.state.State.{State}
 use Rattle.hd_task.specs.declared.action.Action.{Action}
 use Rattle.hd_task.specs.Effects.{names_atom, atom_after}
-use Rattle.hd_kept.specs.Numbering.{ComesBefore, form_key}
-use Rattle.hd_kept.proofs.Passing.{Contains-slice_get}
-use Rattle.hd_kept.proofs.Rising.{one_place}
-use Rattle.hd_kept.proofs.Sound.{same-true, same-refl}
+use Rattle.hd_lifted.specs.Numbering.{ComesBefore, form_key}
+use Rattle.hd_lifted.proofs.Passing.{Contains-slice_get}
+use Rattle.hd_lifted.proofs.Rising.{one_place}
+use Rattle.hd_lifted.proofs.Sound.{same-true, same-refl}
 use Rattle.hd_grounding.specs.Images.{number_of, if_any, numbers_of}
 use Rattle.hd_grounding.specs.Agreement.{Agree, HasAtomsOf}
 use Rattle.hd_grounding.proofs.Numbers.{number_of-place, number_of-none}

@@ -26,12 +26,12 @@ use Rattle.hd_task.specs.WellFormed.{reads_below, is_number, constant_sum, costs
 use Rattle.hd_task.specs.declared.action.Action.{Action}
 use Rattle.hd_task.specs.declared.task.Task.{Task}
 use Rattle.hd_task.specs.declared.task.TheConstants.{MAX_ACTIONS, MAX_ATOMS, MAX_FLUENTS, MAX_AMOUNTS}
-use Rattle.hd_kept.specs.Amounts.{is_constant}
-use Rattle.hd_kept.specs.Kept.{IsKept}
-use Rattle.hd_kept.specs.Met.{met_by, met_by_goal}
-use Rattle.hd_kept.specs.Numbering.{HasMore, IsTaskAtom, IsTaskFluent, NumbersInstances}
-use Rattle.hd_kept.proofs.Passing.{passes-from_all, Contains-slice_get}
-use Rattle.hd_kept.specs.Questions.{is_undefined, is_paid, has_constant_costs, costs_negative}
+use Rattle.hd_lifted.specs.Amounts.{is_constant}
+use Rattle.hd_lifted.specs.Kept.{IsKept}
+use Rattle.hd_lifted.specs.Met.{met_by, met_by_goal}
+use Rattle.hd_lifted.specs.Numbering.{HasMore, IsTaskAtom, IsTaskFluent, NumbersInstances}
+use Rattle.hd_lifted.proofs.Passing.{passes-from_all, Contains-slice_get}
+use Rattle.hd_lifted.specs.Questions.{is_undefined, is_paid, has_constant_costs, costs_negative}
 use Rattle.hd_grounding.specs.Images.{expression_of, amount_of, costs_of}
 use Rattle.hd_grounding.specs.Grounding.{form_of, IsActionOf, IsGrounding}
 use Rattle.hd_grounding.specs.Faults.{HasMoreAmounts, IsTooLarge, met_with, met_by_instance, met_by_all, negative_with, is_negative_instance, IsUndefined, IsNegative}

@@ -18,10 +18,10 @@ use Rattle.hd_task.specs.declared.action.Action.{Action}
 use Rattle.hd_task.specs.declared.task.Task.{Task}
 use Rattle.hd_task.specs.Conditions.{has_atom}
 use Rattle.hd_task.specs.Expressions.{fluent_of}
-use Rattle.hd_kept.specs.Kept.{IsKept, keep, IsReachable, initially}
-use Rattle.hd_kept.specs.Met.{met_by_comparison, met_by_effect}
-use Rattle.hd_kept.specs.Numbering.{IsTaskAtom, IsTaskFluent}
-use Rattle.hd_kept.proofs.Passing.{Contains-slice_get}
+use Rattle.hd_lifted.specs.Kept.{IsKept, keep, IsReachable, initially}
+use Rattle.hd_lifted.specs.Met.{met_by_comparison, met_by_effect}
+use Rattle.hd_lifted.specs.Numbering.{IsTaskAtom, IsTaskFluent}
+use Rattle.hd_lifted.proofs.Passing.{Contains-slice_get}
 use Rattle.hd_grounding.specs.Agreement.{Agree, IsNumbered, HasNumberedEffects}
 use Rattle.hd_grounding.specs.Grounding.{HasFirstValue, IsActionOf, IsGrounding}
 

@@ -21,8 +21,8 @@ use Rattle.hd_lifted.specs.Conditions as meaning
 use Rattle.hd_task.specs.declared.state.State.{State}
 use Rattle.hd_task.specs.Conditions.{has_atom, literal_holds, comparison_holds, literals_hold, holds}
 use Rattle.hd_task.specs.Expressions.{fluent_of, value_of}
-use Rattle.hd_kept.specs.Met.{fluents_in, met_by_comparison}
-use Rattle.hd_kept.proofs.Sound.{and-true}
+use Rattle.hd_lifted.specs.Met.{fluents_in, met_by_comparison}
+use Rattle.hd_lifted.proofs.Sound.{and-true}
 use Rattle.hd_grounding.specs.Images.{number_of, if_any, literal_at, literal_of, expression_of, comparison_of, condition_of}
 use Rattle.hd_grounding.specs.Agreement.{Agree, IsNumbered}
 use Rattle.hd_grounding.proofs.Numbers.{number_of-place, number_of-none, number_of-there}

@@ -18,9 +18,9 @@ use Rattle.hd_lifted.specs.Effects as lifted
 use Rattle.hd_task.specs.declared.state.State.{State}
 use Rattle.hd_task.specs.Expressions.{value_of}
 use Rattle.hd_task.specs.Effects.{sum_of_costs}
-use Rattle.hd_kept.specs.Amounts.{is_changed}
-use Rattle.hd_kept.specs.Met.{fluents_in, changed_by, met_by_effect}
-use Rattle.hd_kept.specs.Questions.{is_paid}
+use Rattle.hd_lifted.specs.Amounts.{is_changed}
+use Rattle.hd_lifted.specs.Met.{fluents_in, changed_by, met_by_effect}
+use Rattle.hd_lifted.specs.Questions.{is_paid}
 use Rattle.hd_grounding.specs.Images.{expression_of, amount_of, costs_of}
 use Rattle.hd_grounding.specs.Agreement.{Agree, KeepsFirstValues, HasNumberedEffects}
 use Rattle.hd_grounding.proofs.Holding.{value_agrees}

@@ -4,9 +4,9 @@ use Rattle.std.proofs.lemmas.Option.{none-some, same_Some}
 use Rattle.hd_lifted.specs.declared.schema.Ground.{Ground}
 use Rattle.hd_lifted.specs.declared.task.LiftedTask.{LiftedTask}
 use Rattle.hd_lifted.specs.declared.instance.Instance.{Instance}
-use Rattle.hd_kept.specs.Kept.{IsKept}
-use Rattle.hd_kept.specs.Numbering.{instance_key, NumbersInstances}
-use Rattle.hd_kept.proofs.Rising.{lists_are_one}
+use Rattle.hd_lifted.specs.Kept.{IsKept}
+use Rattle.hd_lifted.specs.Numbering.{instance_key, NumbersInstances}
+use Rattle.hd_lifted.proofs.Rising.{lists_are_one}
 use Rattle.hd_grounding.specs.Faults.{undefined_in, negative_in, IsUndefined, IsNegative}
 
 module _ (t : LiftedTask) where

@@ -16,9 +16,9 @@ use Rattle.hd_task.specs.declared.state.State.{State}
 use Rattle.hd_task.specs.declared.condition.Condition.{Condition}
 use Rattle.hd_task.specs.declared.action.Action.{Action}
 use Rattle.hd_task.specs.declared.task.Task.{Task}
-use Rattle.hd_kept.specs.Kept.{IsKept}
-use Rattle.hd_kept.specs.Numbering.{IsTaskAtom, IsTaskFluent, instance_key, form_key}
-use Rattle.hd_kept.proofs.Rising.{lists_are_one}
+use Rattle.hd_lifted.specs.Kept.{IsKept}
+use Rattle.hd_lifted.specs.Numbering.{IsTaskAtom, IsTaskFluent, instance_key, form_key}
+use Rattle.hd_lifted.proofs.Rising.{lists_are_one}
 use Rattle.hd_grounding.specs.Images.{numbers_of, condition_of, costs_of}
 use Rattle.hd_grounding.specs.Grounding.{form_of, start_in, IsEffectOf, HasEffectsOf, IsActionOf, IsGrounding}
 

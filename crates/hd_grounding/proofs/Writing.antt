@@ -19,10 +19,10 @@ use Rattle.hd_lifted.specs.Effects as lifted
 use Rattle.hd_task.specs.declared.state.State.{State}
 use Rattle.hd_task.specs.Expressions.{value_of}
 use Rattle.hd_task.specs.Effects.{with_term, value_by_change}
-use Rattle.hd_kept.specs.Met.{fluents_in, changed_by, met_by_effect}
-use Rattle.hd_kept.proofs.Passing.{fails-from_none}
-use Rattle.hd_kept.proofs.Sound.{same-true, same-refl}
-use Rattle.hd_kept.proofs.Unchanged.{either_way}
+use Rattle.hd_lifted.specs.Met.{fluents_in, changed_by, met_by_effect}
+use Rattle.hd_lifted.proofs.Passing.{fails-from_none}
+use Rattle.hd_lifted.proofs.Sound.{same-true, same-refl}
+use Rattle.hd_lifted.proofs.Unchanged.{either_way}
 use Rattle.hd_grounding.specs.Images.{expression_of, is_on, term_by, term_of, change_by, change_of, changed_value}
 use Rattle.hd_grounding.specs.Agreement.{Agree, HasNumberedEffects}
 use Rattle.hd_grounding.proofs.Holding.{value_agrees}

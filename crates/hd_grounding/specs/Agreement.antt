@@ -10,8 +10,8 @@ use Rattle.hd_task.specs.Expressions.{fluent_of}
 use Rattle.hd_task.specs.declared.action.Action.{Action}
 use Rattle.hd_lifted.specs.declared.schema.Schema.{Schema}
 use Rattle.hd_lifted.specs.declared.task.LiftedTask.{LiftedTask}
-use Rattle.hd_kept.specs.Amounts.{is_changed}
-use Rattle.hd_kept.specs.Met.{met_by_comparison, met_by_effect}
+use Rattle.hd_lifted.specs.Amounts.{is_changed}
+use Rattle.hd_lifted.specs.Met.{met_by_comparison, met_by_effect}
 use Rattle.hd_grounding.specs.Images.{numbers_of}
 
 -- the states agree: each atom with a number is true in both or in neither, each without one is

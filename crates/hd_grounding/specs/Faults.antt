@@ -5,10 +5,10 @@ use Rattle.hd_lifted.specs.declared.schema.Schema.{Schema}
 use Rattle.hd_lifted.specs.declared.task.LiftedTask.{LiftedTask}
 use Rattle.hd_lifted.specs.declared.instance.Instance.{Instance}
 use Rattle.hd_task.specs.declared.task.TheConstants.{MAX_ACTIONS, MAX_ATOMS, MAX_FLUENTS, MAX_AMOUNTS}
-use Rattle.hd_kept.specs.Kept.{IsKept}
-use Rattle.hd_kept.specs.Met.{met_by, met_by_goal}
-use Rattle.hd_kept.specs.Numbering.{HasMore, IsTaskAtom, IsTaskFluent, NumbersInstances}
-use Rattle.hd_kept.specs.Questions.{first_undefined, is_paid, costs_negative}
+use Rattle.hd_lifted.specs.Kept.{IsKept}
+use Rattle.hd_lifted.specs.Met.{met_by, met_by_goal}
+use Rattle.hd_lifted.specs.Numbering.{HasMore, IsTaskAtom, IsTaskFluent, NumbersInstances}
+use Rattle.hd_lifted.specs.Questions.{first_undefined, is_paid, costs_negative}
 
 -- ---- too many
 

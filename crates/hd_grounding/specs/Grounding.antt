@@ -14,7 +14,7 @@ use Rattle.hd_task.specs.declared.state.State.{State}
 use Rattle.hd_task.specs.declared.effect.Effect.{Effect}
 use Rattle.hd_task.specs.declared.action.Action.{Action}
 use Rattle.hd_task.specs.declared.task.Task.{Task}
-use Rattle.hd_kept.specs.Numbering.{HasExactly, NumbersInstances, NumbersAtoms, NumbersFluents}
+use Rattle.hd_lifted.specs.Numbering.{HasExactly, NumbersInstances, NumbersAtoms, NumbersFluents}
 use Rattle.hd_grounding.specs.Images.{is_on, change_of, condition_of, costs_of}
 use Rattle.hd_grounding.specs.Agreement.{HasAtomsOf}
 

@@ -22,8 +22,8 @@ use Rattle.hd_task.specs.declared.effect.Term.TheVariants.{Increase, Decrease}
 use Rattle.hd_task.specs.declared.effect.Change.{Change}
 use Rattle.hd_task.specs.declared.effect.Change.TheVariants.{Assign, ScaleUp, Sum}
 use Rattle.hd_task.specs.Effects.{value_by_change}
-use Rattle.hd_kept.specs.Amounts.{is_constant}
-use Rattle.hd_kept.specs.Questions.{is_paid}
+use Rattle.hd_lifted.specs.Amounts.{is_constant}
+use Rattle.hd_lifted.specs.Questions.{is_paid}
 use Rattle.hd_lifted.specs.States.{same, ground_form_of, first_value}
 use Rattle.hd_lifted.specs.Conditions.{equality_holds}
 use Rattle.hd_task.specs.declared.condition.Literal.{Literal}

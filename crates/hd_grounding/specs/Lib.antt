@@ -1,4 +1,9 @@
 pub mod Agreement
+pub mod Counted
+pub mod Departures
 pub mod Faults
+pub mod Fitting
 pub mod Grounding
 pub mod Images
+pub mod Instances
+pub mod Runs

@@ -13,7 +13,7 @@ ghost use Rattle.hd_task.specs.declared.action.Action.{Action};
 ghost use Rattle.hd_task.specs.declared.task.Task.{Task};
 ghost use Rattle.hd_task.specs.Effects.{atom_after, sum_of_costs};
 ghost use Rattle.hd_lifted.specs.Effects as domain_costs;
-ghost use Rattle.hd_kept.specs.Numbering.{NumbersAtoms};
+ghost use Rattle.hd_lifted.specs.Numbering.{NumbersAtoms};
 ghost use Rattle.hd_task.specs.Conditions.{holds};
 ghost use Rattle.hd_grounding.specs.Images.{condition_of, costs_of, is_on, change_of, changed_value};
 ghost use Rattle.hd_grounding.specs.Grounding.{IsGrounding};

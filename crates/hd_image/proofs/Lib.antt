@@ -1,4 +1,5 @@
 pub mod Answering
+pub mod Counting
 pub mod Digits
 pub mod Heads
 pub mod Joining

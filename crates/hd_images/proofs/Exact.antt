@@ -18,7 +18,7 @@ use Rattle.hd_lifted.specs.declared.schema.Ground.{Ground}
 use Rattle.hd_lifted.specs.declared.schema.Schema.{Schema}
 use Rattle.hd_task.specs.declared.effect.Change.{Change}
 use Rattle.hd_task.specs.declared.effect.Effect.{Effect}
-use Rattle.hd_kept.proofs.Passing.{Contains-slice_get}
+use Rattle.hd_lifted.proofs.Passing.{Contains-slice_get}
 use Rattle.hd_grounding.specs.Images.{is_on, change_of}
 use Rattle.hd_grounding.specs.Grounding.{IsEffectOf, HasEffectsOf}
 use Rattle.hd_images.specs.Gathering.{change_in, effect_from}

@@ -19,10 +19,10 @@ use Rattle.hd_lifted.specs.States.{same, ground_form_of}
 use Rattle.hd_lifted.specs.Effects.{is_cost}
 use Rattle.hd_task.specs.declared.effect.Term.{Term}
 use Rattle.hd_task.specs.declared.effect.Change.{Change}
-use Rattle.hd_kept.specs.Numbering.{form_key}
-use Rattle.hd_kept.proofs.Passing.{Contains-slice_get}
-use Rattle.hd_kept.proofs.Rising.{before_itself}
-use Rattle.hd_kept.proofs.Sound.{same-true, same-refl}
+use Rattle.hd_lifted.specs.Numbering.{form_key}
+use Rattle.hd_lifted.proofs.Passing.{Contains-slice_get}
+use Rattle.hd_lifted.proofs.Rising.{before_itself}
+use Rattle.hd_lifted.proofs.Sound.{same-true, same-refl}
 use Rattle.hd_grounding.specs.Images.{number_of, expression_of, is_on, term_by, term_of, change_by, change_of}
 use Rattle.hd_grounding.proofs.Numbers.{number_of-place, number_of-none, number_of-there}
 use Rattle.hd_images.specs.Order.{IsRising}

@@ -3,8 +3,8 @@ use Rattle.std.proofs.Common.{◌≡◌, ℕ, ◌<◌, ◌≤◌, true, false, L
 use Rattle.std.specs.Prelude.{if◌then◌else◌}
 use Rattle.std.proofs.lemmas.List.Elements.{Contains-append_left, Contains-append_right, Contains-push, Contains-push_cases}
 use Rattle.hd_base.proofs.Members.{Contains-nil, Contains-first, Contains-later, Contains-cons_cases}
-use Rattle.hd_kept.proofs.Passing.{passing-from_any}
-use Rattle.hd_kept.proofs.Sound.{same-true}
+use Rattle.hd_lifted.proofs.Passing.{passing-from_any}
+use Rattle.hd_lifted.proofs.Sound.{same-true}
 use Rattle.hd_lifted.specs.declared.schema.Ground.{Ground}
 use Rattle.hd_lifted.specs.States.{same, is_listed}
 use Rattle.hd_images.specs.Meeting.{with_form, with_forms, IsMet}

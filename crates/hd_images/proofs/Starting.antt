@@ -10,7 +10,7 @@ use Rattle.std.proofs.lemmas.Option.{same_Some, slice_get-get_or, slice_get_with
 use Rattle.hd_base.proofs.Truth.{or-false}
 use Rattle.hd_lifted.specs.declared.schema.Ground.{Ground}
 use Rattle.hd_lifted.specs.States.{same, is_listed}
-use Rattle.hd_kept.proofs.Sound.{same-true, same-refl}
+use Rattle.hd_lifted.proofs.Sound.{same-true, same-refl}
 use Rattle.hd_grounding.specs.Images.{number_of}
 use Rattle.hd_grounding.proofs.Numbers.{number_of-place, number_of-none}
 use Rattle.hd_images.specs.Order.{IsRising}

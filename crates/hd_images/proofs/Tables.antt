@@ -8,8 +8,8 @@ use Rattle.indexmap.specs.IndexSet.{insert_key}
 use Rattle.hd_base.proofs.Lists.{cons_parts}
 use Rattle.hd_lifted.specs.declared.schema.Ground.{Ground}
 use Rattle.hd_lifted.specs.States.{same}
-use Rattle.hd_kept.specs.Numbering.{form_key}
-use Rattle.hd_kept.proofs.Sound.{same-true, same-refl}
+use Rattle.hd_lifted.specs.Numbering.{form_key}
+use Rattle.hd_lifted.proofs.Sound.{same-true, same-refl}
 use Rattle.hd_grounding.specs.Images.{number_of}
 use Rattle.hd_images.specs.Meeting.{with_form}
 

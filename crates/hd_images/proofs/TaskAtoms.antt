@@ -5,8 +5,8 @@ use Rattle.std.proofs.lemmas.List.Elements.{Contains-append_left, Contains-appen
 use Rattle.hd_base.proofs.Members.{Contains-nil, Contains-map, IsFrom-from_map}
 use Rattle.hd_lifted.specs.declared.schema.Ground.{Ground}
 use Rattle.hd_lifted.specs.declared.task.LiftedTask.{LiftedTask}
-use Rattle.hd_kept.specs.Kept.{IsReachable}
-use Rattle.hd_kept.specs.Numbering.{form_key, HasExactly, IsTaskAtom, reached, wanted, NumbersAtoms}
+use Rattle.hd_lifted.specs.Kept.{IsReachable}
+use Rattle.hd_lifted.specs.Numbering.{form_key, HasExactly, IsTaskAtom, reached, wanted, NumbersAtoms}
 use Rattle.hd_grounding.specs.Faults.{IsTooLarge}
 use Rattle.hd_images.specs.Meeting.{with_forms, atom_of, goal_atoms}
 use Rattle.hd_images.proofs.MeetingForms.{with_forms-second, with_forms-cases}

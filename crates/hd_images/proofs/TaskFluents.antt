@@ -13,10 +13,10 @@ use Rattle.hd_lifted.specs.declared.schema.Schema.{Schema}
 use Rattle.hd_lifted.specs.declared.task.LiftedTask.{LiftedTask}
 use Rattle.hd_lifted.specs.States.{is_listed}
 use Rattle.hd_lifted.specs.Plans.{IsInstance}
-use Rattle.hd_kept.specs.Kept.{IsKept, keep}
-use Rattle.hd_kept.specs.Met.{met_by_goal}
-use Rattle.hd_kept.specs.Numbering.{form_key, HasExactly, IsTaskFluent, met, wanted, NumbersInstances, NumbersFluents}
-use Rattle.hd_kept.specs.Questions.{is_undefined}
+use Rattle.hd_lifted.specs.Kept.{IsKept, keep}
+use Rattle.hd_lifted.specs.Met.{met_by_goal}
+use Rattle.hd_lifted.specs.Numbering.{form_key, HasExactly, IsTaskFluent, met, wanted, NumbersInstances, NumbersFluents}
+use Rattle.hd_lifted.specs.Questions.{is_undefined}
 use Rattle.hd_grounding.specs.Faults.{met_with, met_by_instance, met_by_all, undefined_in, IsTooLarge, fluents}
 use Rattle.hd_images.specs.Meeting.{with_form, with_forms, IsMet}
 use Rattle.hd_images.proofs.MeetingForms.{listed-contains, with_forms-second}

@@ -2,7 +2,7 @@
 use Rattle.std.specs.Prelude.{◌≤◌, ◌^◌, List, length}
 use Rattle.std.specs.List.{AllPairs}
 use Rattle.hd_lifted.specs.declared.schema.Ground.{Ground}
-use Rattle.hd_kept.specs.Numbering.{ComesBefore, form_key}
+use Rattle.hd_lifted.specs.Numbering.{ComesBefore, form_key}
 
 -- each of these forms comes before those after it
 abbrev pub IsRising : List Ground → Type 0

@@ -1,6 +1,6 @@
 //! The amounts that actions add to the cost.
 ghost use Rattle.std.specs.Prelude.{◌≡◌, length, filter, IfOk};
-ghost use Rattle.hd_kept.specs.Questions.{is_paid};
+ghost use Rattle.hd_lifted.specs.Questions.{is_paid};
 ghost use Rattle.hd_grounding.specs.Images.{amount_of, costs_of};
 
 use crate::Numbers;

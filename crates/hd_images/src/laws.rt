@@ -5,9 +5,9 @@ ghost use Rattle.hd_lifted.specs.declared.instance.Instance.{Instance};
 ghost use Rattle.hd_lifted.specs.declared.schema.Ground.{Ground};
 ghost use Rattle.hd_lifted.specs.declared.task.LiftedTask.{LiftedTask};
 ghost use Rattle.hd_task.specs.declared.task.TheConstants.{MAX_ATOMS, MAX_FLUENTS};
-ghost use Rattle.hd_kept.specs.Kept.{IsReachable};
-ghost use Rattle.hd_kept.specs.Numbering.{form_key, HasExactly, NumbersInstances, NumbersAtoms, NumbersFluents};
-ghost use Rattle.hd_kept.specs.Questions.{is_undefined};
+ghost use Rattle.hd_lifted.specs.Kept.{IsReachable};
+ghost use Rattle.hd_lifted.specs.Numbering.{form_key, HasExactly, NumbersInstances, NumbersAtoms, NumbersFluents};
+ghost use Rattle.hd_lifted.specs.Questions.{is_undefined};
 ghost use Rattle.hd_grounding.specs.Faults.{met_by_all, undefined_in, IsTooLarge};
 ghost use Rattle.hd_images.specs.Meeting.{IsMet, with_forms, goal_atoms};
 

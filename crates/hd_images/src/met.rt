@@ -2,7 +2,7 @@
 ghost use Rattle.std.specs.Prelude.{◌≡◌, List, ◌++◌, flat_map, IfOk};
 ghost use Rattle.hd_base.specs.Expression.{leaf};
 ghost use Rattle.hd_lifted.specs.declared.schema.Ground.{Ground};
-ghost use Rattle.hd_kept.specs.Met.{met_by_goal, fluents_in, met_by_comparison, changed_by, met_by_effect, met_by};
+ghost use Rattle.hd_lifted.specs.Met.{met_by_goal, fluents_in, met_by_comparison, changed_by, met_by_effect, met_by};
 ghost use Rattle.hd_task.specs.declared.task.TheConstants.{MAX_FLUENTS};
 ghost use Rattle.hd_grounding.specs.Faults.{met_by_instance, met_by_all};
 ghost use Rattle.hd_images.specs.Meeting.{with_forms, IsMet};

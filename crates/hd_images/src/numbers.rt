@@ -1,7 +1,7 @@
 //! Ground forms by number.
 ghost use Rattle.std.specs.Prelude.{◌≡◌, ◌≤◌, ◌^◌, Contains, length, IfOk};
 ghost use Rattle.hd_lifted.specs.States.{ground_form_of};
-ghost use Rattle.hd_kept.specs.Numbering.{form_key, HasExactly};
+ghost use Rattle.hd_lifted.specs.Numbering.{form_key, HasExactly};
 ghost use Rattle.hd_grounding.specs.Images.{number_of};
 ghost use Rattle.hd_images.specs.Order.{IsRising};
 

@@ -1,6 +1,6 @@
 //! Fluents without a first value.
 ghost use Rattle.std.specs.Prelude.{◌≡◌, find, IfOk};
-ghost use Rattle.hd_kept.specs.Questions.{is_undefined};
+ghost use Rattle.hd_lifted.specs.Questions.{is_undefined};
 
 use crate::Forms;
 use hd_base::NoMemory;

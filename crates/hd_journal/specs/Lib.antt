@@ -1,6 +1,9 @@
-pub mod Error
+pub mod Answers
+pub mod Appending
 pub mod Calls
-pub mod Moments
+pub mod Copy
+pub mod Error
 pub mod Group
 pub mod Journal
-pub mod Answers
+pub mod Moments
+pub mod Salvage

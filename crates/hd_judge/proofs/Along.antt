@@ -18,10 +18,10 @@ use Rattle.hd_lifted.specs.Effects.{state_after, step_cost, is_negative}
 use Rattle.hd_lifted.specs.Steps.{Reached, step, start, cost_after}
 use Rattle.hd_lifted.specs.Plans.{IsInstance, step_by, exec_from, exec}
 use Rattle.hd_lifted.specs.Departures.{instance_departs, goal_departs}
-use Rattle.hd_kept.specs.Met.{met_by, met_by_goal, met_by_comparison, met_by_effect}
-use Rattle.hd_kept.proofs.Sound.{exec_from-none}
+use Rattle.hd_lifted.specs.Met.{met_by, met_by_goal, met_by_comparison, met_by_effect}
+use Rattle.hd_lifted.proofs.Sound.{exec_from-none}
 use Rattle.hd_judge.specs.declared.fault.Fault.{Fault}
-use Rattle.hd_kept.specs.Questions.{is_defined, costs_negative}
+use Rattle.hd_lifted.specs.Questions.{is_defined, costs_negative}
 use Rattle.hd_judge.specs.Asking.{asked_of_goal}
 use Rattle.hd_judge.specs.Way.{IsOnWay}
 use Rattle.hd_judge.specs.Validity.{StepsAreDefined, NoStepIsNegative, IsValidated, Passes, ClearsFrom, IsFirstFault, IsFaultless}

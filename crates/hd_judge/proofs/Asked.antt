@@ -17,11 +17,11 @@ use Rattle.hd_lifted.specs.Effects.{effects_stay}
 use Rattle.hd_lifted.specs.Steps.{Reached, step}
 use Rattle.hd_lifted.specs.Plans.{IsInstance, step_of, step_by}
 use Rattle.hd_lifted.specs.Departures.{cost_stays, departs_by, instance_departs, goal_departs}
-use Rattle.hd_kept.specs.Met.{met_by, met_by_goal}
+use Rattle.hd_lifted.specs.Met.{met_by, met_by_goal}
 use Rattle.hd_judge.specs.declared.fault.Fault.{Fault}
 use Rattle.hd_judge.specs.declared.fault.Fault.TheVariants.{NotApplicable, Undefined, NegativeCost, Departs, GoalUnmet}
 use Rattle.hd_judge.specs.Fault.{unless}
-use Rattle.hd_kept.specs.Questions.{is_defined, first_undefined, costs_negative}
+use Rattle.hd_lifted.specs.Questions.{is_defined, first_undefined, costs_negative}
 use Rattle.hd_judge.specs.Reasons.{HoldWithin}
 use Rattle.hd_judge.specs.Refusals.{IsMetBy, IsBefore}
 use Rattle.hd_judge.specs.Asking.{asked_of_fluents, asked_of_comparisons, asked_before, asked_after, asked_by, asked_of_step, asked_of_goal}

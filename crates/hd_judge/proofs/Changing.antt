@@ -13,9 +13,9 @@ use Rattle.hd_lifted.specs.declared.schema.NumericEffect.{NumericEffect}
 use Rattle.hd_lifted.specs.declared.schema.Ground.{Ground}
 use Rattle.hd_lifted.specs.States.{Values, same, ground_form_of}
 use Rattle.hd_lifted.specs.Effects.{value_by_change}
-use Rattle.hd_kept.proofs.Sound.{same-true}
+use Rattle.hd_lifted.proofs.Sound.{same-true}
 use Rattle.hd_judge.specs.declared.changes.Changes.{Changes}
-use Rattle.hd_kept.specs.Questions.{is_paid}
+use Rattle.hd_lifted.specs.Questions.{is_paid}
 use Rattle.hd_lifted.specs.Expressions.{value_of, stays_in_range}
 use Rattle.hd_judge.specs.Effects.{IsNear, with_change, new_value_in, AreNear}
 

@@ -18,7 +18,7 @@ use Rattle.hd_lifted.specs.declared.schema.NumericEffect.{NumericEffect}
 use Rattle.hd_lifted.specs.States.{Values, same, ground_form_of}
 use Rattle.hd_lifted.specs.Expressions.{value_of}
 use Rattle.hd_lifted.specs.Effects.{value_by_change, with_effect, with_cost, is_cost}
-use Rattle.hd_kept.specs.Met.{fluents_in, met_by_effect, changed_by}
+use Rattle.hd_lifted.specs.Met.{fluents_in, met_by_effect, changed_by}
 use Rattle.hd_judge.specs.Effects.{HaveValues}
 
 pub values_left : (v : Values) (xs ys : List Ground) → HaveValues v (xs ++ ys) → HaveValues v xs

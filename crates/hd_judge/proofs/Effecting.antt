@@ -21,11 +21,11 @@ use Rattle.hd_lifted.specs.declared.schema.Schema.{Schema}
 use Rattle.hd_lifted.specs.States.{Values, same, ground_form_of}
 use Rattle.hd_lifted.specs.Expressions.{value_of}
 use Rattle.hd_lifted.specs.Effects.{value_by_change, with_effect, with_cost, is_cost, stands_alone, clash, effects_clash, value_after, effect_stays, effects_stay}
-use Rattle.hd_kept.specs.Met.{fluents_in, met_by_effect}
-use Rattle.hd_kept.proofs.Sound.{same-true, same-refl}
-use Rattle.hd_kept.proofs.Passing.{passing-from_any, passes-from_all, fails-from_none}
+use Rattle.hd_lifted.specs.Met.{fluents_in, met_by_effect}
+use Rattle.hd_lifted.proofs.Sound.{same-true, same-refl}
+use Rattle.hd_lifted.proofs.Passing.{passing-from_any, passes-from_all, fails-from_none}
 use Rattle.hd_judge.specs.declared.changes.Changes.{Changes}
-use Rattle.hd_kept.specs.Questions.{is_paid}
+use Rattle.hd_lifted.specs.Questions.{is_paid}
 use Rattle.hd_judge.specs.Effects.{HaveValues, amount_stays, changes_fluent, new_value, new_value_in, with_change, change_fits, AreChangesOf}
 use Rattle.hd_judge.specs.EffectReasons.{departing_effect, new_value_stays, leaving_effect}
 use Rattle.hd_judge.proofs.Defined.{values_left, effects_some}

@@ -7,7 +7,7 @@ use Rattle.std.specs.Option.{option_or}
 use Rattle.std.proofs.lemmas.List.Folds.{find-append}
 use Rattle.hd_lifted.specs.declared.schema.Ground.{Ground}
 use Rattle.hd_lifted.specs.declared.task.LiftedTask.{LiftedTask}
-use Rattle.hd_kept.specs.Questions.{is_undefined, first_undefined}
+use Rattle.hd_lifted.specs.Questions.{is_undefined, first_undefined}
 
 pub undefined_append : (t : LiftedTask) (xs ys : List Ground)
     → first_undefined t (xs ++ ys) ≡ option_or (first_undefined t xs) (first_undefined t ys)

@@ -12,13 +12,13 @@ use Rattle.hd_lifted.specs.Effects.{effects_clash, effects_stay}
 use Rattle.hd_lifted.specs.Steps.{Reached, step}
 use Rattle.hd_lifted.specs.Plans.{IsInstance, step_of, step_by}
 use Rattle.hd_lifted.specs.Departures.{cost_stays}
-use Rattle.hd_kept.specs.Met.{met_by}
+use Rattle.hd_lifted.specs.Met.{met_by}
 use Rattle.hd_judge.specs.declared.fault.Fault.TheVariants.{NotApplicable, NoSuchAction, Departs, GoalUnmet}
 use Rattle.hd_judge.specs.declared.fault.Stop.TheVariants as stops
 use Rattle.hd_judge.specs.declared.refusal.Refusal.{Refusal}
 use Rattle.hd_judge.specs.declared.refusal.Refusal.TheVariants as refusals
 use Rattle.hd_judge.specs.Fault.{unless, StopsAt, StopsBy}
-use Rattle.hd_kept.specs.Questions.{first_undefined}
+use Rattle.hd_lifted.specs.Questions.{first_undefined}
 use Rattle.hd_judge.specs.Asking.{asked_after, asked_of_goal}
 use Rattle.hd_judge.specs.EffectReasons.{StaysWithin, IsReasonOfEffects}
 use Rattle.hd_judge.specs.Refusals.{stop_of, RefusesBy, RefusesFor, IsBefore, IsReasonBefore, TellsBefore, IsReasonOfStep, TellsUnexplained, IsReasonOfGoal, GoalUnexplained}

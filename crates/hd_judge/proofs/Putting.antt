@@ -9,7 +9,7 @@ use Rattle.hd_base.specs.Numbers.{in_range, fits}
 use Rattle.hd_lifted.specs.declared.schema.Ground.{Ground}
 use Rattle.hd_lifted.specs.declared.task.InitialValue.{InitialValue}
 use Rattle.hd_lifted.specs.States.{same, first_value}
-use Rattle.hd_kept.proofs.Sound.{same-true, same-refl}
+use Rattle.hd_lifted.proofs.Sound.{same-true, same-refl}
 use Rattle.hd_judge.proofs.Leaving.{and_false}
 
 map_or : (a b : Option InitialValue) → option_map (λ (i : InitialValue). i.value) (option_or a b) ≡ option_or (option_map (λ (i : InitialValue). i.value) a) (option_map (λ (i : InitialValue). i.value) b)

@@ -12,8 +12,8 @@ use Rattle.hd_lifted.specs.Conditions.{holds}
 use Rattle.hd_lifted.specs.Effects.{atoms_after, value_after, state_after, step_cost, is_negative}
 use Rattle.hd_lifted.specs.Steps.{Reached, step, cost_after}
 use Rattle.hd_lifted.specs.Departures.{cost_stays}
-use Rattle.hd_kept.specs.Met.{met_by, met_by_comparison, met_by_effect}
-use Rattle.hd_kept.specs.Questions.{first_undefined}
+use Rattle.hd_lifted.specs.Met.{met_by, met_by_comparison, met_by_effect}
+use Rattle.hd_lifted.specs.Questions.{first_undefined}
 use Rattle.hd_judge.specs.Effects.{HaveValues}
 use Rattle.hd_judge.specs.Way.{IsOnWay}
 use Rattle.hd_judge.proofs.Asked.{all_defined}

@@ -12,8 +12,8 @@ use Rattle.hd_lifted.specs.declared.task.LiftedTask.{LiftedTask}
 use Rattle.hd_lifted.specs.Expressions.{value_of}
 use Rattle.hd_lifted.specs.States.{first_value}
 use Rattle.hd_lifted.specs.Effects.{with_cost, sum_of_costs, is_negative}
-use Rattle.hd_kept.specs.Amounts.{is_constant}
-use Rattle.hd_kept.specs.Questions.{is_paid, has_constant_costs, costs_negative}
+use Rattle.hd_lifted.specs.Amounts.{is_constant}
+use Rattle.hd_lifted.specs.Questions.{is_paid, has_constant_costs, costs_negative}
 use Rattle.hd_judge.specs.Constant.{constant_cost}
 
 abbrev constants : LiftedTask → List NumericEffect → Bool

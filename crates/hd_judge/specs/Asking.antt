@@ -12,11 +12,11 @@ use Rattle.hd_lifted.specs.Conditions.{literals_hold, comparisons_stay, comparis
 use Rattle.hd_lifted.specs.Effects.{effects_stay}
 use Rattle.hd_lifted.specs.Steps.{Reached, step}
 use Rattle.hd_lifted.specs.Departures.{cost_stays}
-use Rattle.hd_kept.specs.Met.{met_by, met_by_goal}
+use Rattle.hd_lifted.specs.Met.{met_by, met_by_goal}
 use Rattle.hd_judge.specs.declared.fault.Fault.{Fault}
 use Rattle.hd_judge.specs.declared.fault.Fault.TheVariants.{NotApplicable, Undefined, NegativeCost, Departs, GoalUnmet}
 use Rattle.hd_judge.specs.Fault.{unless}
-use Rattle.hd_kept.specs.Questions.{first_undefined, costs_negative}
+use Rattle.hd_lifted.specs.Questions.{first_undefined, costs_negative}
 
 -- do all fluents that are met have a first value?
 abbrev pub asked_of_fluents : LiftedTask → List Ground → Option Fault

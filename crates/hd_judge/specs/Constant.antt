@@ -5,8 +5,8 @@ use Rattle.hd_lifted.specs.declared.schema.NumericEffect.{NumericEffect}
 use Rattle.hd_lifted.specs.declared.task.LiftedTask.{LiftedTask}
 use Rattle.hd_lifted.specs.Expressions.{value_of}
 use Rattle.hd_lifted.specs.States.{first_value}
-use Rattle.hd_kept.specs.Amounts.{is_constant}
-use Rattle.hd_kept.specs.Questions.{is_paid}
+use Rattle.hd_lifted.specs.Amounts.{is_constant}
+use Rattle.hd_lifted.specs.Questions.{is_paid}
 
 -- a sum with the amount of one more effect: none where that is dependent, or has no value
 abbrev pub constant_cost : LiftedTask → List ℕ → Option ℤ → NumericEffect → Option ℤ

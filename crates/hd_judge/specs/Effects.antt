@@ -11,7 +11,7 @@ use Rattle.hd_lifted.specs.States.{Values, same, ground_form_of}
 use Rattle.hd_lifted.specs.Expressions.{stays_in_range}
 use Rattle.hd_lifted.specs.Effects.{with_effect, with_cost}
 use Rattle.hd_judge.specs.declared.changes.Changes.{Changes}
-use Rattle.hd_kept.specs.Questions.{is_paid}
+use Rattle.hd_lifted.specs.Questions.{is_paid}
 
 -- fluents that have a value
 pub record HaveValues (v : Values) (fluents : List Ground) : Type 0 where

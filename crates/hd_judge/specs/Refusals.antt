@@ -9,7 +9,7 @@ use Rattle.hd_lifted.specs.States.{State}
 use Rattle.hd_lifted.specs.Conditions.{literals_hold, comparisons_stay, comparisons_hold}
 use Rattle.hd_lifted.specs.Steps.{Reached}
 use Rattle.hd_lifted.specs.Plans.{IsInstance}
-use Rattle.hd_kept.specs.Met.{met_by, met_by_goal}
+use Rattle.hd_lifted.specs.Met.{met_by, met_by_goal}
 use Rattle.hd_judge.specs.declared.fault.Fault.{Fault}
 use Rattle.hd_judge.specs.declared.fault.Fault.TheVariants.{NoSuchAction, NotApplicable, Undefined, NegativeCost, Departs, GoalUnmet}
 use Rattle.hd_judge.specs.declared.fault.Stop.{Stop}
@@ -19,7 +19,7 @@ use Rattle.hd_judge.specs.declared.reason.Reason.TheVariants as reasons
 use Rattle.hd_judge.specs.declared.refusal.Refusal.{Refusal}
 use Rattle.hd_judge.specs.declared.refusal.Refusal.TheVariants as refusals
 use Rattle.hd_judge.specs.Fault.{StopsBy}
-use Rattle.hd_kept.specs.Questions.{first_undefined, costs_negative}
+use Rattle.hd_lifted.specs.Questions.{first_undefined, costs_negative}
 use Rattle.hd_judge.specs.Asking.{asked_before, asked_of_goal}
 use Rattle.hd_judge.specs.Validity.{TellsStep}
 use Rattle.hd_judge.specs.Reasons.{IsReasonOfLiterals, IsReasonOfComparisons}

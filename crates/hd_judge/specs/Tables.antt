@@ -6,7 +6,7 @@ use Rattle.hd_lifted.specs.declared.schema.Ground.{Ground}
 use Rattle.hd_lifted.specs.declared.task.LiftedTask.{LiftedTask}
 use Rattle.hd_lifted.specs.States.{Values, State, same, first_value}
 use Rattle.hd_lifted.specs.Steps.{Reached}
-use Rattle.hd_kept.specs.Amounts.{is_changed}
+use Rattle.hd_lifted.specs.Amounts.{is_changed}
 use Rattle.hd_judge.specs.declared.table.Truths.{Truths}
 use Rattle.hd_judge.specs.declared.table.Numbers.{Numbers}
 use Rattle.hd_judge.specs.declared.table.Place.{Place}

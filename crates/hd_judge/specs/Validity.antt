@@ -6,10 +6,10 @@ use Rattle.hd_lifted.specs.declared.instance.Instance.{Instance}
 use Rattle.hd_lifted.specs.Steps.{Reached, start}
 use Rattle.hd_lifted.specs.Plans.{IsInstance, step_by, exec, IsValidAt}
 use Rattle.hd_lifted.specs.Departures.{instance_departs, goal_departs}
-use Rattle.hd_kept.specs.Met.{met_by, met_by_goal}
+use Rattle.hd_lifted.specs.Met.{met_by, met_by_goal}
 use Rattle.hd_judge.specs.declared.fault.Fault.{Fault}
 use Rattle.hd_judge.specs.declared.fault.Fault.TheVariants.{NoSuchAction}
-use Rattle.hd_kept.specs.Questions.{is_defined, costs_negative}
+use Rattle.hd_lifted.specs.Questions.{is_defined, costs_negative}
 use Rattle.hd_judge.specs.Asking.{asked_of_step, asked_of_goal}
 
 -- ---- a validated plan, without any order of questions

@@ -1,7 +1,7 @@
 //! Which functions change.
 ghost use Rattle.std.specs.Prelude.{◌≡◌, ◌||◌, not, ℕ, IfOk};
 ghost use Rattle.std.specs.List.{list_any};
-ghost use Rattle.hd_kept.specs.Amounts.{changes_function, is_changed_by};
+ghost use Rattle.hd_lifted.specs.Amounts.{changes_function, is_changed_by};
 ghost use Rattle.hd_lifted.specs.Effects.{is_cost};
 ghost use Rattle.hd_judge.specs.Tables.{has_function};
 

@@ -3,7 +3,7 @@ ghost use Rattle.std.specs.Prelude.{◌≡◌, IfOk};
 ghost use Rattle.hd_base.specs.Expression.{leaf};
 ghost use Rattle.hd_lifted.specs.Expressions.{value_of};
 ghost use Rattle.hd_lifted.specs.States.{first_value, ground_form_of};
-ghost use Rattle.hd_kept.specs.Amounts.{is_constant};
+ghost use Rattle.hd_lifted.specs.Amounts.{is_constant};
 
 use crate::changed::Changed;
 use crate::table::Numbers;
@@ -42,7 +42,7 @@ impl<'a> Lookups<'a> {
     ///
     /// # Errors
     /// - Lack of memory.
-    #[tactic(auto, unfolding(hd_kept::specs::Amounts::is_changed))]
+    #[tactic(auto, unfolding(hd_lifted::specs::Amounts::is_changed))]
     pub fn of(alloc: Global, seed: Seed, task: &'a LiftedTask) -> Result<Lookups<'a>, NoMemory>
         ensures { IfOk result (λ l. l ≡ task.now) }
     {

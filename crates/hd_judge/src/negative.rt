@@ -4,8 +4,8 @@ ghost use Rattle.hd_lifted.specs.Expressions.{value_of};
 ghost use Rattle.hd_lifted.specs.States.{first_value};
 ghost use Rattle.hd_judge.specs.Constant.{constant_cost};
 ghost use Rattle.hd_judge.specs.Effects.{IsNear};
-ghost use Rattle.hd_kept.specs.Amounts.{is_constant};
-ghost use Rattle.hd_kept.specs.Questions.{costs_negative};
+ghost use Rattle.hd_lifted.specs.Amounts.{is_constant};
+ghost use Rattle.hd_lifted.specs.Questions.{costs_negative};
 
 use crate::changed::is_cost;
 use crate::lookups::Lookups;

@@ -3,9 +3,9 @@ ghost use Rattle.std.specs.Prelude.{◌≡◌, true, false, Some, None, OnOk, If
 ghost use Rattle.hd_lifted.specs.Conditions.{holds};
 ghost use Rattle.hd_lifted.specs.Effects.{effects_clash};
 ghost use Rattle.hd_lifted.specs.Steps.{step};
-ghost use Rattle.hd_kept.specs.Met.{met_by};
+ghost use Rattle.hd_lifted.specs.Met.{met_by};
 ghost use Rattle.hd_judge.specs.EffectReasons.{StaysWithin, IsReasonOfEffects};
-ghost use Rattle.hd_kept.specs.Questions.{first_undefined};
+ghost use Rattle.hd_lifted.specs.Questions.{first_undefined};
 ghost use Rattle.hd_judge.specs.Refusals.{RefusesFor};
 ghost use Rattle.hd_judge.specs.Tables.{state_in, reached_in};
 ghost use Rattle.hd_judge.specs.Way.{IsOnWay};

@@ -2,8 +2,8 @@
 ghost use Rattle.std.specs.Prelude.{◌≡◌, [], ◌∷◌, flat_map, IfOk};
 ghost use Rattle.hd_lifted.specs.States.{ground_form_of};
 ghost use Rattle.hd_base.specs.Expression.{leaf};
-ghost use Rattle.hd_kept.specs.Met.{met_by_goal, fluents_in, met_by_comparison, changed_by, met_by_effect, met_by};
-ghost use Rattle.hd_kept.specs.Questions.{first_undefined};
+ghost use Rattle.hd_lifted.specs.Met.{met_by_goal, fluents_in, met_by_comparison, changed_by, met_by_effect, met_by};
+ghost use Rattle.hd_lifted.specs.Questions.{first_undefined};
 
 use crate::changed::is_cost;
 use crate::lookups::Lookups;

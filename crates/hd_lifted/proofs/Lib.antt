@@ -1,4 +1,10 @@
 pub mod Costs
-pub mod Types
-pub mod Walks
 pub mod Jumps
+pub mod Least
+pub mod Passing
+pub mod Rising
+pub mod Sorted
+pub mod Sound
+pub mod Types
+pub mod Unchanged
+pub mod Walks

@@ -6,15 +6,21 @@
 //! `is_subtype` decides the least reflexive and transitive relation in which each type is below its
 //! parent, and all are below `object`.
 //!
+//! `specs/Kept` defines the kept instances (reachable ground actions): the least set in which an
+//! instance's equalities hold, its static conditions hold at first, and each atom that it wants is
+//! true at first or added by a kept instance. Numbers are ignored. A plan whose steps are all
+//! defined uses kept instances only ([`kept_laws::plans_are_kept`]).
+//!
 //! Objects, predicates, functions and actions have numbers in the order of the text; type 0 is
 //! `object`. A type has its depth and a jump to a type above it, so `is_subtype` takes time
-//! logarithmic in the depth. Start reading at [`LiftedTask`], then `specs/Plans`.
+//! logarithmic in the depth. Start reading at [`LiftedTask`], then `specs/Plans` and `specs/Kept`.
 #![tactic(auto)]
 
 mod checked;
 pub mod examples;
 mod hierarchy;
 mod instance;
+pub mod kept_laws;
 pub mod laws;
 mod reading;
 mod schema;

@@ -3,8 +3,8 @@ use Rattle.std.proofs.Common.{◌≡◌, ◌⊎◌, inl, inr, ℕ, zero, suc, �
 use Rattle.std.specs.List.{prefix_len}
 use Rattle.std.proofs.lemmas.List.{append-nil, take_rest}
 use Rattle.hd_lex.specs.Byte.{is_line_byte}
-use Rattle.hd_plan.specs.declared.error.PlanTextError.{PlanTextError}
-use Rattle.hd_plan.specs.declared.error.PlanTextError.TheVariants as errors
+use Rattle.hd_plan.specs.declared.text_error.PlanTextError.{PlanTextError}
+use Rattle.hd_plan.specs.declared.text_error.PlanTextError.TheVariants as errors
 use Rattle.hd_plan.specs.declared.step.Step.{Step}
 use Rattle.hd_plan.specs.Reading as reading
 use Rattle.hd_plan.specs.Reading.{Says, Adds, IsReadTo, IsLineFault}

@@ -1,6 +1,11 @@
+pub mod Apart
 pub mod Files
+pub mod Finding
+pub mod Judged
 pub mod Lines
 pub mod Lowered
 pub mod Parts
+pub mod Refusing
 pub mod Shapes
+pub mod Stepping
 pub mod Written

@@ -1,5 +1,11 @@
 pub mod Error
+pub mod Naming
 pub mod Output
 pub mod PlanText
+pub mod Plans
 pub mod Reading
+pub mod Tables
+pub mod Telling
 pub mod Text
+pub mod TextError
+pub mod Texts

@@ -4,8 +4,8 @@ use Rattle.hd_lex.specs.declared.token.Token.{Token}
 use Rattle.hd_lex.specs.declared.token.Word.{Word}
 use Rattle.hd_lex.specs.declared.token.Word.TheVariants as words
 use Rattle.hd_plan.specs.Text.{IsSilent, IsStepLine, IsGood, ReadsAs, IsFirstBadLine}
-use Rattle.hd_plan.specs.declared.error.PlanTextError.{PlanTextError}
-use Rattle.hd_plan.specs.declared.error.PlanTextError.TheVariants.{BadLine, NoMemory}
+use Rattle.hd_plan.specs.declared.text_error.PlanTextError.{PlanTextError}
+use Rattle.hd_plan.specs.declared.text_error.PlanTextError.TheVariants.{BadLine, NoMemory}
 use Rattle.hd_plan.specs.declared.line.Line.{Line}
 use Rattle.hd_plan.specs.declared.line.Line.TheVariants as lines
 use Rattle.hd_plan.specs.declared.step.Step.{Step}

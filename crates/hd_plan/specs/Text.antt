@@ -8,8 +8,8 @@ use Rattle.hd_lex.specs.Word.{IsName}
 use Rattle.hd_lex.specs.declared.token.Token.{Token}
 use Rattle.hd_lex.specs.declared.token.Word.{Word}
 use Rattle.hd_lex.specs.declared.token.Word.TheVariants as words
-use Rattle.hd_plan.specs.declared.error.PlanTextError.{PlanTextError}
-use Rattle.hd_plan.specs.declared.error.PlanTextError.TheVariants.{BadLine, NoMemory}
+use Rattle.hd_plan.specs.declared.text_error.PlanTextError.{PlanTextError}
+use Rattle.hd_plan.specs.declared.text_error.PlanTextError.TheVariants.{BadLine, NoMemory}
 use Rattle.hd_plan.specs.declared.step.Step.{Step}
 
 -- ---- one line

@@ -5,7 +5,7 @@ ghost use Rattle.std.specs.List.{list_all};
 ghost use Rattle.hd_plan.specs.Text.{is_plain_byte};
 ghost use Rattle.hd_plan.specs.Reading.{IsSaid};
 
-use crate::error::PlanTextError;
+use crate::text_error::PlanTextError;
 use crate::step::{Step, step_of};
 use hd_lex::{LexError, tokens};
 use std::alloc::Global;

@@ -5,10 +5,10 @@ ghost use Rattle.std.specs.List.{prefix_len};
 ghost use Rattle.hd_lex.specs.Byte.{is_line_byte};
 ghost use Rattle.hd_plan.specs.Text.{IsStep, ReadsAs, IsFault};
 ghost use Rattle.hd_plan.specs.Reading.{Adds, IsLineFault};
-ghost use Rattle.hd_plan.specs.declared.error.PlanTextError.{PlanTextError};
+ghost use Rattle.hd_plan.specs.declared.text_error.PlanTextError.{PlanTextError};
 ghost use Rattle.hd_plan.specs.declared.step.Step.{Step};
 
-use crate::error::PlanTextError;
+use crate::text_error::PlanTextError;
 use crate::line::{Line, line_of};
 use crate::step::Step;
 use hd_base::Sequence;

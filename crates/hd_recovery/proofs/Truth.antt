@@ -18,7 +18,7 @@ use Rattle.hd_task.specs.Plans.{Node, exec}
 use Rattle.hd_task.specs.Entries.{plan_from}
 use Rattle.hd_zobrist.specs.Hash.{state_hash}
 use Rattle.hd_node.specs.declared.batch.By.TheVariants.{Entry}
-use Rattle.hd_kids.specs.Kids.{same_kid}
+use Rattle.hd_tables.specs.Kids.{same_kid}
 use Rattle.hd_entries.specs.Kids.{posted_by}
 use Rattle.hd_entries.specs.Settling.{BookState, IsKept, expansions, entry_node, node_of, knows_parent, is_posted}
 use Rattle.hd_entries.specs.Holding.{Released}

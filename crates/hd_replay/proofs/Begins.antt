@@ -18,7 +18,7 @@ use Rattle.hd_world.specs.Moves.{bound_in}
 use Rattle.hd_world.specs.Seats.{Seat, Run}
 use Rattle.hd_world.specs.Starting.{run_after}
 use Rattle.hd_world.specs.Stops.{File, entries_of}
-use Rattle.hd_crash.proofs.Beginnings.{recovered_from}
+use Rattle.hd_world.proofs.Beginnings.{recovered_from}
 use Rattle.hd_replay.specs.Seats.{seat_with}
 use Rattle.hd_replay.specs.Held.{AreParcelsOf, AreBoxesOf}
 use Rattle.hd_replay.specs.Opening.{IsRunOf}

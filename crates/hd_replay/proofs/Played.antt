@@ -9,12 +9,12 @@ use Rattle.hd_node.specs.declared.batch.Outcome.{Outcome}
 use Rattle.hd_node.specs.declared.batch.TheConstants.{MAX_OUTCOMES}
 use Rattle.hd_entries.specs.declared.refusal.Refusal.TheVariants.{UnknownParent, NotAKid, SettledBefore, StateDiffers, NotDominated, BelowBound, Full, NoMemory}
 use Rattle.hd_entries.specs.Holding.{Released}
-use Rattle.hd_tickets.specs.declared.not_out.NotOut.{NotOut}
-use Rattle.hd_tickets.specs.declared.redeemed.Redeemed.{Redeemed}
-use Rattle.hd_tickets.specs.declared.redeemed.Redeemed.TheVariants as given
-use Rattle.hd_tickets.specs.Batches.{TicketView, Batches}
-use Rattle.hd_tickets.specs.Redeeming.{redeemed_for}
-use Rattle.hd_tickets.proofs.Redeeming.{comes_back}
+use Rattle.hd_book.specs.declared.not_out.NotOut.{NotOut}
+use Rattle.hd_book.specs.declared.redeemed.Redeemed.{Redeemed}
+use Rattle.hd_book.specs.declared.redeemed.Redeemed.TheVariants as given
+use Rattle.hd_book.specs.Batches.{TicketView, Batches}
+use Rattle.hd_book.specs.TicketRedeeming.{redeemed_for}
+use Rattle.hd_book.proofs.Redeeming.{comes_back}
 use Rattle.hd_book.specs.declared.refusal.CommitRefusal.{CommitRefusal}
 use Rattle.hd_book.specs.declared.refusal.CommitRefusal.TheVariants.{Halted, Refused}
 use Rattle.hd_book.specs.View.{BookView, ParcelsView}
@@ -23,7 +23,7 @@ use Rattle.hd_book.specs.Steps.{after_commit, ticket_after}
 use Rattle.hd_turns.specs.Worker.{WorkerView}
 use Rattle.hd_turns.specs.Calls.{ranks, batch_of, after_batch, after_numbering, after_sending, after_return}
 use Rattle.hd_desk.specs.declared.mail.TheConstants.{MAILBOX_PLACES}
-use Rattle.hd_tickets.specs.declared.ticket.TheConstants.{MAX_TICKETS}
+use Rattle.hd_book.specs.declared.ticket.TheConstants.{MAX_TICKETS}
 use Rattle.hd_world.specs.Seats.{Seat, Run}
 use Rattle.hd_world.specs.Moves.{with_seat, bound_in, popped, taken_by, taken, may_commit, is_dropped, with_drop, committed_by, committed, redeemed_by, redeemed_of, redeemed, mailed, pushed_of, pushed, owner_of}
 use Rattle.hd_replay.specs.declared.fault.ReplayFault.{ReplayFault}

@@ -11,16 +11,16 @@ use Rattle.hd_image.specs.Image.{most_of}
 use Rattle.hd_zobrist.specs.declared.owners.TheConstants.{MAX_WORKERS}
 use Rattle.hd_journal.specs.declared.journal.Journal.{Journal}
 use Rattle.hd_journal.specs.Group.{GroupView}
-use Rattle.hd_schedule.specs.declared.moves.Move.{Move}
-use Rattle.hd_schedule.specs.declared.moves.Move.TheVariants as moves
-use Rattle.hd_schedule.specs.declared.moves.StopAt.{StopAt}
+use Rattle.hd_world.specs.declared.moves.Move.{Move}
+use Rattle.hd_world.specs.declared.moves.Move.TheVariants as moves
+use Rattle.hd_world.specs.declared.moves.StopAt.{StopAt}
 use Rattle.hd_world.specs.Seats.{Run}
 use Rattle.hd_world.specs.Starting.{run_after}
 use Rattle.hd_world.specs.Stops.{File, entries_of, AreGroups}
 use Rattle.hd_world.specs.World.{World, Stopped as Rests, Running, MayResume, ResumesTo, IsNot, IsStopped, IsOpened, recovered, StepsTo, Plays}
-use Rattle.hd_running.specs.Sound.{IsSound}
-use Rattle.hd_crash.specs.Filling.{Filled}
-use Rattle.hd_crash.proofs.Playing.{recovered_is, resumed_sound}
+use Rattle.hd_world.specs.Sound.{IsSound}
+use Rattle.hd_world.specs.Filling.{Filled}
+use Rattle.hd_world.proofs.Playing.{recovered_is, resumed_sound}
 use Rattle.hd_replay.specs.declared.playing.Played.{Played}
 use Rattle.hd_replay.specs.declared.playing.Played.TheVariants.{Stopped, Ended, Failed}
 use Rattle.hd_replay.specs.declared.report.Report.{Report}

@@ -28,14 +28,14 @@ use Rattle.hd_journal.specs.Group.{GroupView}
 use Rattle.hd_journal.specs.Journal.{IsOf, device_of, append_calls, open_calls, version_in}
 use Rattle.hd_journal.specs.Moments.{IsSettled}
 use Rattle.hd_journal.proofs.Opening as opening
-use Rattle.hd_schedule.specs.declared.moves.StopAt.{StopAt}
+use Rattle.hd_world.specs.declared.moves.StopAt.{StopAt}
 use Rattle.hd_task.specs.declared.task.Task.{Task}
 use Rattle.hd_world.specs.Seats.{Run}
 use Rattle.hd_world.specs.Stops.{File, Opens, at_rest, bytes_of, stopped_in, appending}
 use Rattle.hd_world.specs.World.{StopsIn, Falls}
-use Rattle.hd_running.specs.Sound.{IsSound}
-use Rattle.hd_crash.specs.Filling.{Filled}
-use Rattle.hd_crash.proofs.Within.{rest_ran}
+use Rattle.hd_world.specs.Sound.{IsSound}
+use Rattle.hd_world.specs.Filling.{Filled}
+use Rattle.hd_world.proofs.Within.{rest_ran}
 use Rattle.hd_replay.specs.Journals.{StandsAs, Stopping, StopsAs}
 use Rattle.hd_replay.specs.Opening.{OpensBefore, IsCut}
 use Rattle.hd_replay.specs.Playing.{IsStop}

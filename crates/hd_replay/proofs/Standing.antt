@@ -10,9 +10,9 @@ use Rattle.hd_task.specs.declared.plan.TheConstants.{ROOT_PARENT}
 use Rattle.hd_zobrist.specs.declared.owners.TheConstants.{MAX_WORKERS}
 use Rattle.hd_node.specs.Parcel.{ParcelView}
 use Rattle.hd_world.specs.Seats.{Seat, Run}
-use Rattle.hd_running.specs.Truth.{IsTrueSeat}
-use Rattle.hd_running.specs.Order.{HasRoom}
-use Rattle.hd_running.proofs.Lists.{AllByRecursion-set}
+use Rattle.hd_world.specs.Truth.{IsTrueSeat}
+use Rattle.hd_world.specs.Order.{HasRoom}
+use Rattle.hd_world.proofs.Lists.{AllByRecursion-set}
 use Rattle.hd_replay.specs.Held.{AreParcelsOf, AreBoxesOf, IsSoundRun}
 
 -- an element of a list that was read

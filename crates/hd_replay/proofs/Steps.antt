@@ -15,25 +15,25 @@ use Rattle.hd_journal.specs.Group.{GroupView}
 use Rattle.hd_journal.specs.Journal.{IsOf, append_calls, device_of}
 use Rattle.hd_journal.specs.Moments.{IsSettled}
 use Rattle.std.specs.declared.ops.Range.{Range}
-use Rattle.hd_tickets.specs.Queue.{QueueView, group_next, group_out, group_end, fitting}
-use Rattle.hd_tickets.specs.Queue.{with_group as with_group_out}
+use Rattle.hd_book.specs.Queue.{QueueView, group_next, group_out, group_end, fitting}
+use Rattle.hd_book.specs.Queue.{with_group as with_group_out}
 use Rattle.hd_book.specs.View.{BookView}
 use Rattle.hd_book.specs.Groups.{next_group, group_of, is_group_out}
 use Rattle.hd_book.specs.Steps.{after_take, after_flush}
-use Rattle.hd_schedule.specs.declared.moves.Move.{Move}
-use Rattle.hd_schedule.specs.declared.moves.Move.TheVariants as moves
-use Rattle.hd_schedule.specs.declared.moves.StopAt.{StopAt}
+use Rattle.hd_world.specs.declared.moves.Move.{Move}
+use Rattle.hd_world.specs.declared.moves.Move.TheVariants as moves
+use Rattle.hd_world.specs.declared.moves.StopAt.{StopAt}
 use Rattle.hd_world.specs.Seats.{Run}
 use Rattle.hd_world.specs.Moves.{TurnsTo, pulled_to, pulled, acked_of, acked}
 use Rattle.hd_world.specs.Stops.{File, entries_of, with_group, is_next, appending}
 use Rattle.hd_world.specs.World.{World, Running, flushed_to, StopsIn, IsNone, StepsTo}
-use Rattle.hd_running.specs.Order.{Stands, NoneIsOut, IsPulled, IsAppended}
-use Rattle.hd_running.specs.Sound.{IsSound}
-use Rattle.hd_running.proofs.Sounding.{group_ready}
-use Rattle.hd_crash.specs.Filling.{Filled}
-use Rattle.hd_crash.specs.Lasting.{IsSoundWorld}
-use Rattle.hd_crash.proofs.Fillings.{steps_so}
-use Rattle.hd_crash.proofs.Playing.{step_sound}
+use Rattle.hd_world.specs.Order.{Stands, NoneIsOut, IsPulled, IsAppended}
+use Rattle.hd_world.specs.Sound.{IsSound}
+use Rattle.hd_world.proofs.Sounding.{group_ready}
+use Rattle.hd_world.specs.Filling.{Filled}
+use Rattle.hd_world.specs.Lasting.{IsSoundWorld}
+use Rattle.hd_world.proofs.Fillings.{steps_so}
+use Rattle.hd_world.proofs.Playing.{step_sound}
 use Rattle.hd_replay.specs.declared.run.Out.{Out}
 use Rattle.hd_replay.specs.declared.run.Out.TheVariants.{Nothing, Pulled, Flushed}
 use Rattle.hd_replay.specs.Held.{IsSoundRun, pulled_in, flushed_in}

@@ -8,7 +8,7 @@ use Rattle.hd_entries.specs.Holding.{IsParcelOf}
 use Rattle.hd_journal.specs.Group.{GroupView}
 use Rattle.hd_world.specs.Seats.{Run}
 use Rattle.hd_world.specs.Stops.{File}
-use Rattle.hd_running.specs.Sound.{IsSound}
+use Rattle.hd_world.specs.Sound.{IsSound}
 use Rattle.hd_replay.specs.declared.run.Out.{Out}
 use Rattle.hd_replay.specs.declared.run.Out.TheVariants.{Nothing, Pulled, Flushed}
 

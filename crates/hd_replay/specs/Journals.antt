@@ -10,14 +10,14 @@ use Rattle.hd_journal.specs.declared.journal.Journal.{Journal}
 use Rattle.hd_journal.specs.Group.{GroupView}
 use Rattle.hd_journal.specs.Journal.{IsOf, device_of}
 use Rattle.hd_journal.specs.Moments.{IsSettled}
-use Rattle.hd_schedule.specs.declared.moves.Move.{Move}
-use Rattle.hd_schedule.specs.declared.moves.Move.TheVariants as moves
-use Rattle.hd_schedule.specs.declared.moves.StopAt.{StopAt}
+use Rattle.hd_world.specs.declared.moves.Move.{Move}
+use Rattle.hd_world.specs.declared.moves.Move.TheVariants as moves
+use Rattle.hd_world.specs.declared.moves.StopAt.{StopAt}
 use Rattle.hd_world.specs.Seats.{Run}
 use Rattle.hd_world.specs.Stops.{File, at_rest, bytes_of, stopped_in, appending}
 use Rattle.hd_world.specs.World.{Running, flushed_to, StepsTo}
-use Rattle.hd_running.specs.Sound.{IsSound}
-use Rattle.hd_crash.specs.Filling.{Filled}
+use Rattle.hd_world.specs.Sound.{IsSound}
+use Rattle.hd_world.specs.Filling.{Filled}
 
 -- a journal stands as this file, and all of it is made sure of
 pub record StandsAs {S : Type 0} {G : Ghosts S} (digest : List ℕ) (f : File) (journal : Journal S G) : Type 0 where

@@ -7,12 +7,12 @@ use Rattle.hd_store.specs.MemoryDisk.{IsStarted}
 use Rattle.hd_image.specs.Image.{most_of}
 use Rattle.hd_journal.specs.declared.journal.Journal.{Journal}
 use Rattle.hd_journal.specs.Calls.{Call}
-use Rattle.hd_schedule.specs.declared.moves.StopAt.{StopAt}
+use Rattle.hd_world.specs.declared.moves.StopAt.{StopAt}
 use Rattle.hd_world.specs.Seats.{Run}
 use Rattle.hd_world.specs.Starting.{run_after}
 use Rattle.hd_world.specs.Stops.{File, Opens, at_rest, entries_of, stopped_in}
 use Rattle.hd_world.specs.World.{IsBehind, is_recovered}
-use Rattle.hd_crash.specs.Filling.{Filled}
+use Rattle.hd_world.specs.Filling.{Filled}
 use Rattle.hd_replay.specs.declared.opening.Opened.{Opened}
 use Rattle.hd_replay.specs.declared.opening.Opened.TheVariants.{Whole, Cut}
 use Rattle.hd_replay.specs.Journals.{StandsAs}

@@ -4,13 +4,13 @@ use Rattle.hd_task.specs.declared.task.Task.{Task}
 use Rattle.hd_store.specs.declared.memory.MemoryDisk.{MemoryDisk}
 use Rattle.hd_store.specs.Device.{content_of}
 use Rattle.hd_store.specs.MemoryDisk.{device_of, IsStarted}
-use Rattle.hd_schedule.specs.declared.moves.Move.{Move}
-use Rattle.hd_schedule.specs.declared.moves.Move.TheVariants.{Resume}
-use Rattle.hd_schedule.specs.declared.moves.StopAt.{StopAt}
+use Rattle.hd_world.specs.declared.moves.Move.{Move}
+use Rattle.hd_world.specs.declared.moves.Move.TheVariants.{Resume}
+use Rattle.hd_world.specs.declared.moves.StopAt.{StopAt}
 use Rattle.hd_world.specs.Seats.{Run}
 use Rattle.hd_world.specs.Stops.{File, bytes_of}
 use Rattle.hd_world.specs.World.{World, Stopped as Rests, Running, StopsIn, StepsTo, Plays}
-use Rattle.hd_crash.specs.Filling.{Filled}
+use Rattle.hd_world.specs.Filling.{Filled}
 use Rattle.hd_replay.specs.declared.playing.Played.{Played}
 use Rattle.hd_replay.specs.declared.playing.Played.TheVariants.{Stopped, Ended, Failed}
 use Rattle.hd_replay.specs.declared.report.Report.{Report}

@@ -6,7 +6,7 @@ use Rattle.hd_entries.specs.declared.verdict.Verdict.{Verdict}
 use Rattle.hd_entries.specs.declared.verdict.Verdict.TheVariants as verdicts
 use Rattle.hd_entries.specs.Settling.{BookState}
 use Rattle.hd_entries.specs.Answers.{IsAnswerOf, is_over}
-use Rattle.hd_tickets.specs.Queue.{is_idle}
+use Rattle.hd_book.specs.Queue.{is_idle}
 use Rattle.hd_book.specs.View.{BookView}
 use Rattle.hd_world.specs.Moves.{bound_in}
 use Rattle.hd_world.specs.Seats.{Run}

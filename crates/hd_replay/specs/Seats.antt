@@ -4,11 +4,11 @@ use Rattle.std.specs.Prelude.{nat_lt, if◌then◌else◌, List, [], ◌∷◌, 
 use Rattle.hd_task.specs.declared.plan.TheConstants.{ROOT_PARENT}
 use Rattle.hd_entries.specs.declared.refusal.Refusal.TheVariants.{UnknownParent, NotAKid, SettledBefore, StateDiffers, NotDominated, BelowBound, Full, NoMemory}
 use Rattle.hd_entries.specs.Holding.{Released}
-use Rattle.hd_tickets.specs.declared.not_out.NotOut.{NotOut}
-use Rattle.hd_tickets.specs.declared.redeemed.Redeemed.{Redeemed}
-use Rattle.hd_tickets.specs.declared.redeemed.Redeemed.TheVariants as given
-use Rattle.hd_tickets.specs.Batches.{TicketView}
-use Rattle.hd_tickets.specs.Redeeming.{redeemed_for}
+use Rattle.hd_book.specs.declared.not_out.NotOut.{NotOut}
+use Rattle.hd_book.specs.declared.redeemed.Redeemed.{Redeemed}
+use Rattle.hd_book.specs.declared.redeemed.Redeemed.TheVariants as given
+use Rattle.hd_book.specs.Batches.{TicketView}
+use Rattle.hd_book.specs.TicketRedeeming.{redeemed_for}
 use Rattle.hd_book.specs.declared.refusal.CommitRefusal.{CommitRefusal}
 use Rattle.hd_book.specs.declared.refusal.CommitRefusal.TheVariants.{Halted, Refused}
 use Rattle.hd_book.specs.View.{BookView, ParcelsView}

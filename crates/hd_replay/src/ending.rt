@@ -11,7 +11,7 @@ use crate::seat::Seat;
 use crate::settling::settled;
 use hd_book::Book;
 use hd_journal::{DIGEST_LEN, Group, Journal, JournalError};
-use hd_schedule::StopAt;
+use hd_world::StopAt;
 use hd_store::MemoryDisk;
 use std::alloc::Global;
 use std::sync::ledger::Ledger;

@@ -1,6 +1,6 @@
 //! The moves of workers. One that is not possible changes nothing.
 ghost use Rattle.std.specs.Prelude.{◌≡◌, ◌⊎◌, OnOk, OnErr, IfErr};
-ghost use Rattle.hd_schedule.specs.declared.moves.Move.TheVariants as moves;
+ghost use Rattle.hd_world.specs.declared.moves.Move.TheVariants as moves;
 ghost use Rattle.hd_world.specs.Moves.{TurnsTo, EndsRun};
 ghost use Rattle.hd_replay.specs.declared.fault.ReplayFault.TheVariants as faults;
 ghost use Rattle.hd_replay.specs.Held.{IsSoundRun};

@@ -8,7 +8,7 @@ ghost use Rattle.hd_replay.specs.Opening.{OpensBefore, IsOpenedBy};
 use crate::fault::{ReplayFault, told_of_journal};
 use crate::settling::settled;
 use hd_journal::{DIGEST_LEN, Journal, JournalError};
-use hd_schedule::StopAt;
+use hd_world::StopAt;
 use hd_store::MemoryDisk;
 use std::alloc::Global;
 

@@ -2,7 +2,7 @@
 ghost use Rattle.std.specs.Prelude.{◌≡◌, ◌+◌, ◌≤◌, ◌<◌, ◌∷◌, List, [], ℕ, None, length, drop, IfOk};
 ghost use Rattle.hd_task.specs.declared.task.Task.{Task};
 ghost use Rattle.hd_zobrist.specs.declared.owners.TheConstants.{MAX_WORKERS};
-ghost use Rattle.hd_schedule.specs.declared.moves.Move.TheVariants.{Resume};
+ghost use Rattle.hd_world.specs.declared.moves.Move.TheVariants.{Resume};
 ghost use Rattle.hd_store.specs.MemoryDisk.{IsStarted};
 ghost use Rattle.hd_world.specs.Stops.{File};
 ghost use Rattle.hd_world.specs.World.{Stopped as Rests, Running, MayResume, recovered};
@@ -18,7 +18,7 @@ use crate::saying::says_of;
 use crate::starting::run_of;
 use crate::stepping::{step, stop_in};
 use hd_journal::{DIGEST_LEN, Journal};
-use hd_schedule::{Move, StopAt};
+use hd_world::{Move, StopAt};
 use hd_store::MemoryDisk;
 use hd_task::Task;
 use std::alloc::Global;

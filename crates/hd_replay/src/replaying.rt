@@ -1,9 +1,9 @@
 //! The call that plays a schedule.
 ghost use Rattle.std.specs.Prelude.{◌≡◌, ◌∷◌, List, [], ℕ, IfOk, IfSome, IfNone};
-ghost use Rattle.hd_schedule.specs.declared.moves.Move.TheVariants.{Resume};
+ghost use Rattle.hd_world.specs.declared.moves.Move.TheVariants.{Resume};
 ghost use Rattle.hd_store.specs.Device.{content_of};
 ghost use Rattle.hd_store.specs.MemoryDisk.{device_of, IsStarted};
-ghost use Rattle.hd_crash.specs.Filling.{Filled};
+ghost use Rattle.hd_world.specs.Filling.{Filled};
 ghost use Rattle.hd_world.specs.World.{Stopped as Rests, MayResume};
 ghost use Rattle.hd_replay.specs.Playing.{DoesNothing, IsReported, PlaysTo};
 
@@ -12,7 +12,7 @@ use crate::playing::{Played, move_at, moves_from, play_from, play_last};
 use crate::report::Report;
 use crate::settling::settled;
 use hd_journal::DIGEST_LEN;
-use hd_schedule::{Move, StopAt};
+use hd_world::{Move, StopAt};
 use hd_store::MemoryDisk;
 use hd_task::Task;
 use hd_zobrist::MAX_WORKERS;

@@ -1,7 +1,7 @@
 //! Disks that a stop left.
 ghost use Rattle.std.specs.Prelude.{List, ℕ, IfOk};
 ghost use Rattle.hd_store.specs.MemoryDisk.{device_of, IsStarted};
-ghost use Rattle.hd_crash.specs.Filling.{Filled};
+ghost use Rattle.hd_world.specs.Filling.{Filled};
 
 use hd_base::NoMemory;
 use hd_store::MemoryDisk;

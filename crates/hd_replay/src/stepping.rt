@@ -9,7 +9,7 @@ ghost use Rattle.hd_replay.specs.Journals.{Runs, Goes, stop_in};
 use crate::fault::ReplayFault;
 use crate::run::Run;
 use hd_journal::Journal;
-use hd_schedule::{Move, StopAt};
+use hd_world::{Move, StopAt};
 use hd_store::MemoryDisk;
 use std::sync::ledger::Ledger;
 

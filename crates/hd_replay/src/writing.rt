@@ -1,6 +1,6 @@
 //! How a run's entries come into its journal. A move that is not possible changes nothing.
 ghost use Rattle.std.specs.Prelude.{◌≡◌, ◌||◌, List, ℕ, is_some, IfErr, OnOk};
-ghost use Rattle.hd_schedule.specs.declared.moves.Move.TheVariants as moves;
+ghost use Rattle.hd_world.specs.declared.moves.Move.TheVariants as moves;
 ghost use Rattle.hd_world.specs.Moves.{TurnsTo};
 ghost use Rattle.hd_world.specs.Stops.{File};
 ghost use Rattle.hd_replay.specs.declared.fault.ReplayFault.TheVariants as faults;

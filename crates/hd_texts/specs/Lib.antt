@@ -1,3 +1,4 @@
 pub mod Digest
 pub mod Fault
+pub mod Printing
 pub mod Tasks

@@ -13,7 +13,7 @@ use Rattle.hd_book.specs.View.{BookView}
 use Rattle.hd_book.specs.Steps.{after_commit}
 use Rattle.hd_turns.specs.Worker.{WorkerView}
 use Rattle.hd_turns.specs.Calls.{batch_of, after_batch, after_numbering}
-use Rattle.hd_bound.specs.Bound.{SeatView}
+use Rattle.hd_desk.specs.Bound.{SeatView}
 use Rattle.hd_threads.specs.Working.{IsBoundBy, IsIn, with_offer, IsBatchIn}
 
 -- what a book of a task is after a batch, where its log began with what was seen before

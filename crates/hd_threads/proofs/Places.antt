@@ -3,7 +3,7 @@ use Rattle.std.proofs.Common.{◌≡◌, ℕ, ◌+◌, ◌<◌, Some, Result, Ok
 use Rattle.std.specs.Prelude.{IfOk}
 use Rattle.crossbeam_queue.specs.Passes.{Pass, view}
 use Rattle.hd_task.specs.declared.plan.Kid.{Kid}
-use Rattle.hd_bound.specs.Bound.{SeatView}
+use Rattle.hd_desk.specs.Bound.{SeatView}
 use Rattle.hd_desk.specs.declared.view.View.{View}
 use Rattle.hd_desk.specs.Hands.{IsFor}
 use Rattle.hd_desk.specs.Passes.{IsOutside}

@@ -3,16 +3,16 @@ use Rattle.std.proofs.Common.{◌≡◌, Bool, true, false, cond, ◌||◌, Opti
 use Rattle.std.specs.Prelude.{Result, Ok, Err, IfOk, OnOk, OnErr}
 use Rattle.hd_task.specs.declared.task.Task.{Task}
 use Rattle.hd_task.specs.declared.plan.Kid.{Kid}
-use Rattle.hd_tickets.specs.declared.not_out.NotOut.{NotOut}
-use Rattle.hd_tickets.specs.declared.outgoing.Outgoing.{Outgoing}
-use Rattle.hd_tickets.specs.declared.redeemed.Redeemed.{Redeemed}
-use Rattle.hd_tickets.specs.declared.redeemed.Redeemed.TheVariants as redeemed
-use Rattle.hd_tickets.specs.Batches.{TicketView, ReceiptView, Batches, is_its}
-use Rattle.hd_tickets.specs.Queue.{are_acknowledged}
-use Rattle.hd_tickets.specs.Redeeming.{given_for, answer_for, redeemed_for}
-use Rattle.hd_tickets.specs.Slots.{ticket_at}
-use Rattle.hd_tickets.specs.Steps as tickets
-use Rattle.hd_tickets.proofs.Redeeming.{comes_back}
+use Rattle.hd_book.specs.declared.not_out.NotOut.{NotOut}
+use Rattle.hd_book.specs.declared.outgoing.Outgoing.{Outgoing}
+use Rattle.hd_book.specs.declared.redeemed.Redeemed.{Redeemed}
+use Rattle.hd_book.specs.declared.redeemed.Redeemed.TheVariants as redeemed
+use Rattle.hd_book.specs.Batches.{TicketView, ReceiptView, Batches, is_its}
+use Rattle.hd_book.specs.Queue.{are_acknowledged}
+use Rattle.hd_book.specs.TicketRedeeming.{given_for, answer_for, redeemed_for}
+use Rattle.hd_book.specs.Slots.{ticket_at}
+use Rattle.hd_book.specs.TicketSteps as tickets
+use Rattle.hd_book.proofs.Redeeming.{comes_back}
 use Rattle.hd_book.specs.View.{ParcelsView, BookView}
 use Rattle.hd_book.specs.Steps.{after_redeem, after_halt}
 use Rattle.hd_threads.specs.declared.shared.Given.{Given}

@@ -9,7 +9,7 @@ use Rattle.hd_node.specs.Parcel.{ParcelView}
 use Rattle.hd_desk.specs.Hands.{HandsView}
 use Rattle.hd_entries.specs.Growing.{kids_in}
 use Rattle.hd_entries.specs.Holding.{Released}
-use Rattle.hd_bound.specs.Bound.{SeatView}
+use Rattle.hd_desk.specs.Bound.{SeatView}
 use Rattle.hd_turns.specs.Worker.{WorkerView}
 use Rattle.hd_turns.specs.Calls.{batch_of, ExpandsTo, ExpandsBest, AtBest, AtNone}
 use Rattle.hd_threads.specs.declared.posting.Sending.{Sending}

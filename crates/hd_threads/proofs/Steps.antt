@@ -7,7 +7,7 @@ use Rattle.std.proofs.lemmas.Option.{none-some, same_Some}
 use Rattle.std.proofs.Math.Seq.{drop-append_seam}
 use Rattle.hd_task.specs.declared.plan.Kid.{Kid}
 use Rattle.hd_desk.specs.Views.{BeginsWith}
-use Rattle.hd_tickets.specs.Queue.{QueueView, group_next}
+use Rattle.hd_book.specs.Queue.{QueueView, group_next}
 use Rattle.hd_journal.specs.Group.{GroupView}
 use Rattle.hd_book.specs.View.{BookView}
 use Rattle.hd_book.specs.Steps.{after_take}

@@ -4,11 +4,11 @@ use Rattle.hd_task.specs.declared.plan.Kid.{Kid}
 use Rattle.hd_task.specs.declared.task.Task.{Task}
 use Rattle.hd_desk.specs.Views.{BeginsWith}
 use Rattle.hd_journal.specs.Group.{GroupView}
-use Rattle.hd_tickets.specs.declared.not_out.NotOut.{NotOut}
-use Rattle.hd_tickets.specs.declared.redeemed.Redeemed.{Redeemed}
-use Rattle.hd_tickets.specs.declared.redeemed.Redeemed.TheVariants as redeemed
-use Rattle.hd_tickets.specs.Batches.{TicketView}
-use Rattle.hd_tickets.specs.Redeeming.{redeemed_for}
+use Rattle.hd_book.specs.declared.not_out.NotOut.{NotOut}
+use Rattle.hd_book.specs.declared.redeemed.Redeemed.{Redeemed}
+use Rattle.hd_book.specs.declared.redeemed.Redeemed.TheVariants as redeemed
+use Rattle.hd_book.specs.Batches.{TicketView}
+use Rattle.hd_book.specs.TicketRedeeming.{redeemed_for}
 use Rattle.hd_book.specs.View.{ParcelsView, BookView}
 use Rattle.hd_threads.specs.declared.shared.Given.{Given}
 use Rattle.hd_threads.specs.declared.shared.Given.TheVariants.{Parcels, NotYet, Void}

@@ -6,7 +6,7 @@ use Rattle.hd_task.specs.declared.plan.Kid.{Kid}
 use Rattle.hd_task.specs.Entries.{plans_of}
 use Rattle.hd_task.specs.Expansions.{bound_of}
 use Rattle.hd_node.specs.declared.batch.Outcome.{Outcome}
-use Rattle.hd_bound.specs.Bound.{SeatView}
+use Rattle.hd_desk.specs.Bound.{SeatView}
 use Rattle.hd_desk.specs.Views.{BeginsWith}
 use Rattle.hd_entries.specs.declared.refusal.Refusal.{Refusal}
 use Rattle.hd_entries.specs.declared.refusal.Refusal.TheVariants as refusals

@@ -2,7 +2,7 @@
 ghost use Rattle.std.specs.Prelude.{◌≡◌, ◌<◌, ◌≤◌, true, false, [], ◌∷◌, ◌++◌, IfOk, IfSome, IfNone};
 ghost use Rattle.std.specs.VecDeque.{deque_len, deque_capacity};
 ghost use Rattle.crossbeam_queue.specs.Passes.{view};
-ghost use Rattle.hd_tickets.specs.declared.ticket.TheConstants.{MAX_TICKETS};
+ghost use Rattle.hd_book.specs.declared.ticket.TheConstants.{MAX_TICKETS};
 ghost use Rattle.hd_threads.specs.declared.progress.TheConstants.{MOST_UNCOMMITTED, MOST_BYTES};
 ghost use Rattle.hd_desk.specs.Passes.{IsOutside};
 ghost use Rattle.hd_desk.specs.Views.{BeginsWith};
@@ -13,7 +13,7 @@ use crate::working::Held;
 use hd_base::NoMemory;
 use hd_desk::{Lock, Pass};
 use hd_node::MAX_OUTCOMES;
-use hd_tickets::MAX_TICKETS;
+use hd_book::MAX_TICKETS;
 use std::alloc::Global;
 use std::collections::VecDeque;
 use std::sync::Wait;

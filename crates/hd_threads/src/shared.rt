@@ -5,12 +5,12 @@ ghost use Rattle.hd_task.specs.Expansions.{bound_of};
 ghost use Rattle.hd_entries.specs.Settling.{IsOf, IsKept, expansions};
 ghost use Rattle.hd_desk.specs.Views.{BeginsWith};
 ghost use Rattle.hd_entries.specs.Answers.{is_over, IsCoveredBook, IsAnswerOf, IsBoundPlanOf, IsValidPlan, IsTrueAnswer};
-ghost use Rattle.hd_tickets.specs.Queue.{is_due, is_idle};
+ghost use Rattle.hd_book.specs.Queue.{is_due, is_idle};
 ghost use Rattle.hd_book.specs.View.{counts_of};
 ghost use Rattle.hd_book.specs.Groups.{is_group_out};
 ghost use Rattle.hd_book.specs.Refusing.{refusal_to, IsRefusalTo};
 ghost use Rattle.hd_book.specs.Steps.{after_commit, ticket_after, after_take, after_flush, after_hand_back, after_redeem, after_halt};
-ghost use Rattle.hd_tickets.specs.Redeeming.{redeemed_for};
+ghost use Rattle.hd_book.specs.TicketRedeeming.{redeemed_for};
 ghost use Rattle.hd_threads.specs.Shared.{IsGroupAt, IsGivenOf, given_by};
 
 use hd_book::{

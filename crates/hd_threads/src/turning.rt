@@ -2,7 +2,7 @@
 ghost use Rattle.std.specs.Prelude.{◌≡◌, ◌<◌, ◌≤◌, length, IfErr, IfSome, OnOk};
 ghost use Rattle.std.specs.VecDeque.{deque_len};
 ghost use Rattle.hd_zobrist.specs.declared.owners.TheConstants.{MAX_WORKERS};
-ghost use Rattle.hd_tickets.specs.declared.ticket.TheConstants.{MAX_TICKETS};
+ghost use Rattle.hd_book.specs.declared.ticket.TheConstants.{MAX_TICKETS};
 ghost use Rattle.hd_threads.specs.Faults.{IsOfWorker};
 ghost use Rattle.hd_threads.specs.Placing.{IsSeated, IsAt, Keeps, IsStill};
 ghost use Rattle.hd_threads.specs.Turning.{kids_held, IsEnd};
@@ -20,7 +20,7 @@ use crate::progress::{Progress, end};
 use crate::working::{Committed, Redemption};
 use hd_base::NoMemory;
 use hd_desk::MAILBOX_PLACES;
-use hd_tickets::MAX_TICKETS;
+use hd_book::MAX_TICKETS;
 use std::alloc::Global;
 use std::sync::Wait;
 use std::sync::ledger::Ledger;

@@ -22,7 +22,7 @@ use Rattle.hd_node.specs.declared.batch.Outcome.{Outcome}
 use Rattle.hd_node.specs.declared.batch.Outcome.TheVariants.{Expanded, Duplicate, Bounded}
 use Rattle.hd_entries.specs.declared.refusal.Refusal.{Refusal}
 use Rattle.hd_entries.specs.declared.refusal.Refusal.TheVariants.{StateDiffers, NotDominated, BelowBound}
-use Rattle.hd_kids.specs.Kids.{root, same_kid}
+use Rattle.hd_tables.specs.Kids.{root, same_kid}
 use Rattle.hd_entries.specs.Kids.{kids_from, posted_by}
 use Rattle.hd_entries.specs.Settling.{BookState, expansions, knows_parent, is_posted, node_of, has_state, is_node, dominates, reaches, node_by}
 use Rattle.hd_entries.specs.Holding.{Released}

@@ -26,7 +26,7 @@ use Rattle.hd_node.specs.Outcome.{kid_of}
 use Rattle.hd_node.proofs.Steps.{children-actions, children_step}
 use Rattle.hd_entries.specs.declared.refusal.Refusal.{Refusal}
 use Rattle.hd_entries.specs.declared.refusal.Refusal.TheVariants.{UnknownParent, NotAKid, SettledBefore}
-use Rattle.hd_kids.specs.Kids.{root, kid_from, same_kid}
+use Rattle.hd_tables.specs.Kids.{root, kid_from, same_kid}
 use Rattle.hd_entries.specs.Kids.{kids_of, kids_from, posted_by}
 use Rattle.hd_entries.specs.Settling.{BookState, expansions, IsKept, knows_parent, is_posted, is_marked, node_by, expanded_node, refusal_by, is_settled_by, first_refusal, all_settled, entry_of, IsOf}
 use Rattle.hd_entries.specs.Holding.{released_from, released_by, node_at}

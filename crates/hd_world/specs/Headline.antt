@@ -15,16 +15,16 @@ use Rattle.hd_entries.specs.declared.refusal.Refusal.TheVariants.{Full}
 use Rattle.hd_entries.specs.declared.verdict.Verdict.{Verdict}
 use Rattle.hd_entries.specs.Settling.{expansions, entry_of}
 use Rattle.hd_entries.specs.Answers.{is_over, IsCoveredBook, IsAnswerOf, IsBoundPlanOf, IsValidPlan, IsTrueAnswer}
-use Rattle.hd_tickets.specs.Batches.{TicketView, is_ticket_out}
-use Rattle.hd_tickets.specs.Queue.{group_end, is_idle}
+use Rattle.hd_book.specs.Batches.{TicketView, is_ticket_out}
+use Rattle.hd_book.specs.Queue.{group_end, is_idle}
 use Rattle.hd_book.specs.declared.refusal.CommitRefusal.TheVariants.{Refused}
 use Rattle.hd_book.specs.View.{BookView}
 use Rattle.hd_book.specs.Groups.{is_group_out}
 use Rattle.hd_book.specs.Refusing.{refusal_to}
 use Rattle.hd_turns.specs.Calls.{batch_of}
-use Rattle.hd_schedule.specs.declared.moves.Move.{Move}
-use Rattle.hd_schedule.specs.declared.moves.StopAt.{StopAt}
-use Rattle.hd_schedule.specs.declared.moves.Move.TheVariants.{Resume, Pop, Take, Expand, Commit, Redeem, Push, Offer, Load, Pull, Flush, Ack, Stop}
+use Rattle.hd_world.specs.declared.moves.Move.{Move}
+use Rattle.hd_world.specs.declared.moves.StopAt.{StopAt}
+use Rattle.hd_world.specs.declared.moves.Move.TheVariants.{Resume, Pop, Take, Expand, Commit, Redeem, Push, Offer, Load, Pull, Flush, Ack, Stop}
 use Rattle.hd_world.specs.Seats.{Seat, Run}
 use Rattle.hd_world.specs.Once.{IsWhole, IsIdle, times_held}
 use Rattle.hd_world.specs.Starting.{run_after}

@@ -10,11 +10,11 @@ use Rattle.hd_node.specs.declared.batch.Outcome.{Outcome}
 use Rattle.hd_entries.specs.declared.refusal.Refusal.TheVariants.{UnknownParent, NotAKid, SettledBefore, StateDiffers, NotDominated, BelowBound, Full, NoMemory}
 use Rattle.hd_entries.specs.Settling.{BookState, expansions}
 use Rattle.hd_entries.specs.Holding.{Released}
-use Rattle.hd_tickets.specs.declared.not_out.NotOut.{NotOut}
-use Rattle.hd_tickets.specs.declared.redeemed.Redeemed.{Redeemed}
-use Rattle.hd_tickets.specs.declared.redeemed.Redeemed.TheVariants as given
-use Rattle.hd_tickets.specs.Batches.{TicketView}
-use Rattle.hd_tickets.specs.Redeeming.{redeemed_for}
+use Rattle.hd_book.specs.declared.not_out.NotOut.{NotOut}
+use Rattle.hd_book.specs.declared.redeemed.Redeemed.{Redeemed}
+use Rattle.hd_book.specs.declared.redeemed.Redeemed.TheVariants as given
+use Rattle.hd_book.specs.Batches.{TicketView}
+use Rattle.hd_book.specs.TicketRedeeming.{redeemed_for}
 use Rattle.hd_journal.specs.Group.{GroupView}
 use Rattle.hd_book.specs.declared.refusal.CommitRefusal.{CommitRefusal}
 use Rattle.hd_book.specs.declared.refusal.CommitRefusal.TheVariants.{Halted, Refused}
@@ -24,10 +24,10 @@ use Rattle.hd_book.specs.Refusing.{refusal_to}
 use Rattle.hd_book.specs.Steps.{after_commit, ticket_after, after_take, after_flush, after_redeem}
 use Rattle.hd_turns.specs.Worker.{WorkerView}
 use Rattle.hd_turns.specs.Calls.{with_parcel, Expands, batch_of, after_batch, after_numbering, after_releasing, after_sending, after_return, after_seeing}
-use Rattle.hd_schedule.specs.declared.moves.Move.{Move}
-use Rattle.hd_schedule.specs.declared.moves.Move.TheVariants as moves
+use Rattle.hd_world.specs.declared.moves.Move.{Move}
+use Rattle.hd_world.specs.declared.moves.Move.TheVariants as moves
 use Rattle.hd_desk.specs.declared.mail.TheConstants.{MAILBOX_PLACES}
-use Rattle.hd_tickets.specs.declared.ticket.TheConstants.{MAX_TICKETS}
+use Rattle.hd_book.specs.declared.ticket.TheConstants.{MAX_TICKETS}
 use Rattle.hd_world.specs.Seats.{Seat, Run}
 
 -- a seat in another's place

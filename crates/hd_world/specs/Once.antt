@@ -1,13 +1,13 @@
 -- In how many places of a running search a successor is. (Our own.)
 use Rattle.std.specs.Prelude.{◌≡◌, ℕ, ◌+◌, ◌≤◌, ◌==◌, if◌then◌else◌, List, [], ◌∷◌, Option, Some, None}
 use Rattle.hd_task.specs.declared.plan.Kid.{Kid}
-use Rattle.hd_kids.specs.Kids.{same_kid}
+use Rattle.hd_tables.specs.Kids.{same_kid}
 use Rattle.hd_node.specs.declared.batch.Outcome.{Outcome}
 use Rattle.hd_node.specs.Outcome.{kid_of}
 use Rattle.hd_entries.specs.Settling.{BookState, is_marked}
 use Rattle.hd_entries.specs.Holding.{Released}
-use Rattle.hd_tickets.specs.declared.outgoing.Outgoing.{Outgoing}
-use Rattle.hd_tickets.specs.Batches.{TicketView}
+use Rattle.hd_book.specs.declared.outgoing.Outgoing.{Outgoing}
+use Rattle.hd_book.specs.Batches.{TicketView}
 use Rattle.hd_book.specs.View.{ParcelsView}
 use Rattle.hd_turns.specs.Worker.{WorkerView}
 use Rattle.hd_world.specs.Seats.{Seat, Run}

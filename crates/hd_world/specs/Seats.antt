@@ -3,7 +3,7 @@
 use Rattle.std.specs.Prelude.{ℕ, List, Option}
 use Rattle.hd_entries.specs.Holding.{Released}
 use Rattle.hd_journal.specs.Group.{GroupView}
-use Rattle.hd_tickets.specs.Batches.{TicketView}
+use Rattle.hd_book.specs.Batches.{TicketView}
 use Rattle.hd_book.specs.View.{BookView}
 use Rattle.hd_turns.specs.Worker.{WorkerView}
 

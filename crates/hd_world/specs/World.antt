@@ -7,9 +7,9 @@ use Rattle.hd_entries.specs.Resuming.{first_fault}
 use Rattle.hd_image.specs.Image.{most_of}
 use Rattle.hd_journal.specs.Calls.{Call}
 use Rattle.hd_journal.specs.Group.{GroupView}
-use Rattle.hd_schedule.specs.declared.moves.Move.{Move}
-use Rattle.hd_schedule.specs.declared.moves.Move.TheVariants.{Resume, Pop, Take, Expand, Commit, Redeem, Push, Offer, Load, Pull, Flush, Ack, Stop}
-use Rattle.hd_schedule.specs.declared.moves.StopAt.{StopAt}
+use Rattle.hd_world.specs.declared.moves.Move.{Move}
+use Rattle.hd_world.specs.declared.moves.Move.TheVariants.{Resume, Pop, Take, Expand, Commit, Redeem, Push, Offer, Load, Pull, Flush, Ack, Stop}
+use Rattle.hd_world.specs.declared.moves.StopAt.{StopAt}
 use Rattle.hd_world.specs.Seats.{Run}
 use Rattle.hd_world.specs.Moves.{TurnsTo, EndsRun}
 use Rattle.hd_world.specs.Starting.{run_after}

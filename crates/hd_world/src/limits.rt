@@ -1,7 +1,7 @@
 //! Limits of what a run holds.
 ghost use Rattle.std.specs.Prelude.{◌≡◌};
 ghost use Rattle.hd_desk.specs.declared.mail.TheConstants.{MAILBOX_PLACES};
-ghost use Rattle.hd_tickets.specs.declared.ticket.TheConstants.{MAX_TICKETS};
+ghost use Rattle.hd_book.specs.declared.ticket.TheConstants.{MAX_TICKETS};
 
 /// Law: the limits of tickets and mailboxes as numbers. It does nothing: its contract is the law.
 pub fn limits_are()

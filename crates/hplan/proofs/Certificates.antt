@@ -5,7 +5,7 @@ use Rattle.std.specs.Prelude.{Result, Ok, Err, IfOk, IfErr, MatchOption}
 use Rattle.std.specs.declared.io.ErrorKind.{ErrorKind}
 use Rattle.hd_lifted.specs.declared.task.LiftedTask.{LiftedTask}
 use Rattle.hd_grounding.specs.Grounding.{IsGrounding}
-use Rattle.hd_transfer.proofs.Telling.{optimal_there, none_there}
+use Rattle.hd_grounding.proofs.Telling.{optimal_there, none_there}
 use Rattle.hd_task.specs.declared.task.Task.{Task}
 use Rattle.hd_task.specs.Plans.{Node, exec}
 use Rattle.hd_plan.specs.Output.{AppendsShort}

@@ -2,8 +2,8 @@
 use Rattle.std.proofs.Common.{◌≡◌, ◌⊎◌, inl, inr, ℕ, List, Option, subst, sym}
 use Rattle.std.specs.declared.io.ErrorKind.{ErrorKind}
 use Rattle.hd_lifted.specs.declared.task.LiftedTask.{LiftedTask}
-use Rattle.hd_plan.specs.declared.error.PlanTextError.{PlanTextError}
-use Rattle.hd_plan.specs.declared.error.PlanTextError.TheVariants as plan_text
+use Rattle.hd_plan.specs.declared.text_error.PlanTextError.{PlanTextError}
+use Rattle.hd_plan.specs.declared.text_error.PlanTextError.TheVariants as plan_text
 use Rattle.hd_plan.specs.Output.{AppendsShort}
 use Rattle.hd_plan.specs.Text.{IsFault}
 use Rattle.hd_texts.specs.declared.fault.TaskFault.{TaskFault}

@@ -11,12 +11,12 @@ use Rattle.hd_threads.specs.declared.ending.Outcome.TheVariants.{Optimal, NoPlan
 use Rattle.hd_threads.specs.Ending.{IsOutcomeOf}
 use Rattle.hd_task.specs.declared.plan.Kid.{Kid}
 use Rattle.hd_texts.specs.Tasks.{IsTaskOf}
-use Rattle.hd_transfer.specs.Instances.{plan_of}
-use Rattle.hd_transfer.proofs.Runs.{all_named, valid_there}
-use Rattle.hd_printing.specs.Printing.{steps_of}
-use Rattle.hd_printing.proofs.Named.{are_steps, lower_steps}
-use Rattle.hd_printing.proofs.TextNames.{text_names}
-use Rattle.hd_printing.proofs.Valid.{validated_by}
+use Rattle.hd_grounding.specs.Instances.{plan_of}
+use Rattle.hd_grounding.proofs.Runs.{all_named, valid_there}
+use Rattle.hd_texts.specs.Printing.{steps_of}
+use Rattle.hd_texts.proofs.Named.{are_steps, lower_steps}
+use Rattle.hd_texts.proofs.TextNames.{text_names}
+use Rattle.hd_texts.proofs.Valid.{validated_by}
 use Rattle.hplan.specs.declared.told.Ending.{Ending}
 use Rattle.hplan.specs.Answer.{IsTrueOfDomain, ending_of, written_of, IsSolved}
 use Rattle.hplan.specs.PlanFiles.{IsValidatedFile, IsFileOfValid, IsFileOfOptimal}

@@ -24,18 +24,18 @@ use Rattle.hd_store.specs.declared.error.StoreError.TheVariants as store
 use Rattle.hd_journal.specs.Answers.{IsOpened, IsNotMade, IsNotOpened, IsSeen, LengthFails, MayTellLength, BreaksMending}
 use Rattle.hd_journal.specs.Calls.{Ran}
 use Rattle.hd_journal.specs.Journal.{IsOf, device_of, kid_of, kids_of, found_in, create_calls, open_calls}
-use Rattle.hd_migrate.specs.Copy.{kids_in}
+use Rattle.hd_journal.specs.Copy.{kids_in}
 use Rattle.hd_threads.specs.declared.fault.RunFault.{RunFault}
 use Rattle.hd_threads.specs.declared.fault.RunFault.TheVariants as searching
 use Rattle.hd_certify.specs.Error.{IsDamagedAt}
-use Rattle.hd_parallel.specs.declared.fault.ThreadsFault.{ThreadsFault}
-use Rattle.hd_parallel.specs.declared.fault.ThreadsFault.TheVariants as threads
-use Rattle.hd_parallel.specs.Fault.{IsFaulty, StopsRunning, Tells}
+use Rattle.hd_search.specs.declared.fault.ThreadsFault.{ThreadsFault}
+use Rattle.hd_search.specs.declared.fault.ThreadsFault.TheVariants as threads
+use Rattle.hd_search.specs.Fault.{IsFaulty, StopsRunning, Tells}
 use Rattle.hd_threads.specs.Growing.{Grows}
 use Rattle.hd_entries.specs.Resuming.{AreLegal}
 use Rattle.hd_threads.specs.Surviving.{StillStand, Survives}
 use Rattle.hd_journal.proofs.Staying.{mending_grows_not}
-use Rattle.hd_migrate.proofs.Contents.{create_ends}
+use Rattle.hd_journal.proofs.Contents.{create_ends}
 use Rattle.hplan.specs.declared.fault.Fault.{Fault}
 use Rattle.hplan.specs.declared.fault.Fault.TheVariants.{Search}
 use Rattle.hplan.specs.declared.kept.Start.{Start}

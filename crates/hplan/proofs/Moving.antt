@@ -17,7 +17,7 @@ use Rattle.hd_journal.specs.declared.error.JournalError.{JournalError}
 use Rattle.hd_journal.specs.declared.error.JournalError.TheVariants as journal
 use Rattle.hd_journal.specs.Journal.{found_in, kid_of}
 use Rattle.hd_entries.specs.Resuming.{AreLegal}
-use Rattle.hd_migrate.specs.Copy.{IsCopyOf, IsNotCopied as NotCopied, IsUnderWay}
+use Rattle.hd_journal.specs.Copy.{IsCopyOf, IsNotCopied as NotCopied, IsUnderWay}
 use Rattle.hd_texts.specs.Digest.{digest_of}
 use Rattle.hd_texts.specs.declared.fault.TaskFault.{TaskFault}
 use Rattle.hd_texts.specs.Tasks.{IsTaskOf, Explains}

@@ -4,15 +4,15 @@ use Rattle.std.specs.Prelude.{Result, IfOk, IfErr}
 use Rattle.std.specs.declared.io.ErrorKind.{ErrorKind}
 use Rattle.hd_lifted.specs.declared.task.LiftedTask.{LiftedTask}
 use Rattle.hd_grounding.specs.Grounding.{IsGrounding}
-use Rattle.hd_transfer.specs.Instances.{plan_of}
-use Rattle.hd_transfer.proofs.Runs.{valid_there}
-use Rattle.hd_transfer.proofs.Telling.{optimal_there, none_there}
+use Rattle.hd_grounding.specs.Instances.{plan_of}
+use Rattle.hd_grounding.proofs.Runs.{valid_there}
+use Rattle.hd_grounding.proofs.Telling.{optimal_there, none_there}
 use Rattle.hd_task.specs.declared.task.Task.{Task}
 use Rattle.hd_task.specs.Verdicts.{IsOptimal}
 use Rattle.hd_plan.specs.Output.{AppendsShort}
-use Rattle.hd_schedule.specs.declared.error.ScheduleError.{ScheduleError}
-use Rattle.hd_schedule.specs.declared.error.ScheduleError.TheVariants as schedule
-use Rattle.hd_schedule.specs.Schedule.{IsFault}
+use Rattle.hd_world.specs.declared.schedule_error.ScheduleError.{ScheduleError}
+use Rattle.hd_world.specs.declared.schedule_error.ScheduleError.TheVariants as schedule
+use Rattle.hd_world.specs.Schedule.{IsFault}
 use Rattle.hd_replay.specs.declared.report.Report.{Report}
 use Rattle.hd_replay.specs.declared.report.Says.{Says}
 use Rattle.hd_replay.specs.declared.report.Says.TheVariants.{Optimal, NoPlan, RangeLeft}

@@ -12,7 +12,7 @@ use Rattle.hd_journal.specs.Journal.{found_in, kid_of, version_in}
 use Rattle.hd_entries.specs.Resuming.{AreLegal}
 use Rattle.hd_certify.specs.declared.error.RecoverError.{RecoverError}
 use Rattle.hd_certify.specs.Error.{IsRefusal}
-use Rattle.hd_migrate.specs.Salvage.{IsFoundUpTo}
+use Rattle.hd_journal.specs.Salvage.{IsFoundUpTo}
 use Rattle.hd_texts.specs.Digest.{digest_of}
 use Rattle.hd_texts.specs.declared.fault.TaskFault.{TaskFault}
 use Rattle.hd_texts.specs.Tasks.{IsTaskOf, Explains}

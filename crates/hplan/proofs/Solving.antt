@@ -27,8 +27,8 @@ use Rattle.hplan.proofs.Writing.{untouched, failed}
 use Rattle.hd_entries.specs.Answers.{IsValidPlan}
 use Rattle.hd_lifted.specs.declared.task.LiftedTask.{LiftedTask}
 use Rattle.hd_grounding.specs.Grounding.{IsGrounding}
-use Rattle.hd_transfer.proofs.Runs.{valid_there}
-use Rattle.hd_transfer.proofs.Telling.{optimal_there, none_there}
+use Rattle.hd_grounding.proofs.Runs.{valid_there}
+use Rattle.hd_grounding.proofs.Telling.{optimal_there, none_there}
 
 -- the plan of an answer goes through, if there is one
 pub answer_goes : (t : Task) (limit : Option ℕ) (kids : List Kid) (o : Outcome) → IsOutcomeOf t limit kids o

@@ -15,7 +15,7 @@ use Rattle.hd_image.proofs.Stopping.{is_journal}
 use Rattle.hd_image.proofs.Ways.{one_answer}
 use Rattle.hd_journal.specs.Answers.{StandsIn}
 use Rattle.hd_journal.specs.Journal.{kid_of, found_in}
-use Rattle.hd_migrate.specs.Copy.{kids_in}
+use Rattle.hd_journal.specs.Copy.{kids_in}
 use Rattle.hd_entries.specs.Holding.{BeginsWith}
 use Rattle.hplan.specs.declared.kept.Start.TheVariants.{Kept}
 use Rattle.hplan.specs.Kept.{GoesOn, IsKept}

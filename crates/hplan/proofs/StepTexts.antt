@@ -6,7 +6,7 @@ use Rattle.hd_plan.specs.PlanText.{arg_text, step_text}
 use Rattle.hd_task.specs.declared.form.GroundForm.{GroundForm}
 use Rattle.hd_task.specs.declared.form.Names.{Names}
 use Rattle.hd_task.specs.FormText.{name_at, form_text}
-use Rattle.hd_printing.specs.Printing.{step_of}
+use Rattle.hd_texts.specs.Printing.{step_of}
 
 -- the step of a ground form is printed as the form
 pub step_of-text : (names : Names) (g : GroundForm) → step_text (step_of names g) ≡ form_text names.schemas names.objects g

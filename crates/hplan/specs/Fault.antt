@@ -10,28 +10,28 @@ use Rattle.hd_journal.specs.Error as journal
 use Rattle.hd_threads.specs.declared.fault.RunFault.{RunFault}
 use Rattle.hd_threads.specs.declared.fault.RunFault.TheVariants as searching
 use Rattle.hd_threads.specs.Faults as search
-use Rattle.hd_parallel.specs.declared.fault.ThreadsFault.{ThreadsFault}
-use Rattle.hd_parallel.specs.declared.fault.ThreadsFault.TheVariants.{Run}
-use Rattle.hd_parallel.specs.declared.fault.ThreadsFault.TheVariants as threads
+use Rattle.hd_search.specs.declared.fault.ThreadsFault.{ThreadsFault}
+use Rattle.hd_search.specs.declared.fault.ThreadsFault.TheVariants.{Run}
+use Rattle.hd_search.specs.declared.fault.ThreadsFault.TheVariants as threads
 use Rattle.hd_replay.specs.declared.fault.ReplayFault.{ReplayFault}
 use Rattle.hd_replay.specs.declared.fault.ReplayFault.TheVariants as replaying
 use Rattle.hd_replay.specs.Faults as replay
 use Rattle.hd_certify.specs.declared.error.RecoverError.{RecoverError}
 use Rattle.hd_certify.specs.declared.error.RecoverError.TheVariants as certifying
-use Rattle.hd_plan.specs.declared.error.PlanTextError.{PlanTextError}
-use Rattle.hd_plan.specs.declared.error.PlanTextError.TheVariants as plan_text
-use Rattle.hd_plan.specs.Error as plan_reader
-use Rattle.hd_schedule.specs.declared.error.ScheduleError.{ScheduleError}
-use Rattle.hd_schedule.specs.declared.error.ScheduleError.TheVariants as schedule
-use Rattle.hd_schedule.specs.Error as schedule_reader
+use Rattle.hd_plan.specs.declared.text_error.PlanTextError.{PlanTextError}
+use Rattle.hd_plan.specs.declared.text_error.PlanTextError.TheVariants as plan_text
+use Rattle.hd_plan.specs.TextError as plan_reader
+use Rattle.hd_world.specs.declared.schedule_error.ScheduleError.{ScheduleError}
+use Rattle.hd_world.specs.declared.schedule_error.ScheduleError.TheVariants as schedule
+use Rattle.hd_world.specs.ScheduleError as schedule_reader
 use Rattle.hd_plan.specs.declared.output.WriteError.{WriteError}
 use Rattle.hd_plan.specs.declared.output.WriteError.TheVariants as unwritten
-use Rattle.hd_validate.specs.declared.error.PlanError.{PlanError}
-use Rattle.hd_validate.specs.declared.error.PlanError.TheVariants as judging
+use Rattle.hd_plan.specs.declared.error.PlanError.{PlanError}
+use Rattle.hd_plan.specs.declared.error.PlanError.TheVariants as judging
 use Rattle.hd_texts.specs.declared.fault.TaskFault.{TaskFault}
 use Rattle.hd_texts.specs.declared.fault.TaskFault.TheVariants as texts
 use Rattle.hd_texts.specs.Fault as task
-use Rattle.hd_validate.specs.Error as validator
+use Rattle.hd_plan.specs.Error as validator
 use Rattle.hplan.specs.declared.fault.Fault.{Fault}
 use Rattle.hplan.specs.declared.fault.Fault.TheVariants.{Task, PlanText, Schedule, Plan, Device, Journal, Search, Replay, NoThread, NoMemory}
 

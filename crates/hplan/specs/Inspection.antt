@@ -7,10 +7,10 @@ use Rattle.hd_image.specs.declared.error.ImageError.{ImageError}
 use Rattle.hd_image.specs.declared.version.Version.{Version}
 use Rattle.hd_image.specs.declared.version.Version.TheVariants.{One, Two}
 use Rattle.hd_journal.specs.Error.{of_image}
-use Rattle.hd_inspect.specs.declared.inspected.Summary.{Summary}
-use Rattle.hd_inspect.specs.declared.inspected.Inspected.{Inspected}
-use Rattle.hd_inspect.specs.declared.inspected.Inspected.TheVariants.{Unmade, HalfMade, Journal}
-use Rattle.hd_inspect.specs.Inspecting.{IsInspected, IsRefused}
+use Rattle.hd_image.specs.declared.inspected.Summary.{Summary}
+use Rattle.hd_image.specs.declared.inspected.Inspected.{Inspected}
+use Rattle.hd_image.specs.declared.inspected.Inspected.TheVariants.{Unmade, HalfMade, Journal}
+use Rattle.hd_image.specs.Inspecting.{IsInspected, IsRefused}
 use Rattle.hplan.specs.declared.fault.Fault.{Fault}
 use Rattle.hplan.specs.declared.fault.Fault.TheVariants.{NoMemory}
 use Rattle.hplan.specs.Certifying.{OnContent, IsUnread}

@@ -20,14 +20,14 @@ use Rattle.hd_journal.specs.declared.journal.Journal as of
 use Rattle.hd_journal.specs.Journal.{IsOf, device_of, kid_of, found_in, version_in}
 use Rattle.hd_journal.specs.Moments.{IsSettled}
 use Rattle.hd_entries.specs.Resuming.{AreLegal}
-use Rattle.hd_migrate.specs.Copy.{kids_in}
+use Rattle.hd_journal.specs.Copy.{kids_in}
 use Rattle.hd_threads.specs.declared.fault.RunFault.{RunFault}
 use Rattle.hd_threads.specs.declared.fault.RunFault.TheVariants as searching
 use Rattle.hd_certify.specs.Error.{IsDamagedAt}
 use Rattle.hd_threads.specs.Surviving.{StillStand}
-use Rattle.hd_parallel.specs.declared.fault.ThreadsFault.{ThreadsFault}
+use Rattle.hd_search.specs.declared.fault.ThreadsFault.{ThreadsFault}
 use Rattle.hd_threads.specs.Growing.{Grows}
-use Rattle.hd_parallel.specs.Fault.{Tells}
+use Rattle.hd_search.specs.Fault.{Tells}
 use Rattle.hplan.specs.declared.fault.Fault.{Fault}
 use Rattle.hplan.specs.declared.fault.Fault.TheVariants.{Journal, Search, NoThread, NoMemory}
 use Rattle.hplan.specs.declared.kept.Start.{Start}

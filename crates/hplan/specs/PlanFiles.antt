@@ -7,7 +7,7 @@ use Rattle.hd_lifted.specs.Plans as plans
 use Rattle.hd_plan.specs.declared.step.Step.{Step}
 use Rattle.hd_plan.specs.PlanText.{plan_text}
 use Rattle.hd_plan.specs.Text.{ReadsAs}
-use Rattle.hd_validate.specs.Naming.{IsStep}
+use Rattle.hd_plan.specs.Naming.{IsStep}
 use Rattle.hd_texts.specs.Tasks.{IsLiftedOf}
 use Rattle.hplan.specs.Verdict.{AreValid}
 

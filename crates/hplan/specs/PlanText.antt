@@ -5,7 +5,7 @@ use Rattle.hd_plan.specs.PlanText as plans
 use Rattle.hd_task.specs.declared.task.Task.{Task}
 use Rattle.hd_task.specs.Plans.{Node, start, step_by, exec}
 use Rattle.hd_task.specs.Expansions.{is_applicable}
-use Rattle.hd_printing.specs.Printing.{steps_of}
+use Rattle.hd_texts.specs.Printing.{steps_of}
 use Rattle.hplan.specs.declared.naming.NamedPlan.{NamedPlan}
 
 -- a plan's text at a cost

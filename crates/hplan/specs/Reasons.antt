@@ -2,7 +2,7 @@
 use Rattle.std.specs.Prelude.{◌≡◌, ℕ, Bool, true, false, List}
 use Rattle.hd_explain.specs.Plans.{TellsReason, NeedsNoReason}
 use Rattle.hd_lifted.specs.declared.task.LiftedTask.{LiftedTask}
-use Rattle.hd_plan.specs.declared.error.PlanTextError.TheVariants.{BadLine}
+use Rattle.hd_plan.specs.declared.text_error.PlanTextError.TheVariants.{BadLine}
 use Rattle.hd_plan.specs.declared.step.Step.{Step}
 use Rattle.hd_plan.specs.Text.{ReadsAs, IsFault}
 use Rattle.hd_texts.specs.declared.fault.TaskFault.{TaskFault}

@@ -5,9 +5,9 @@ use Rattle.hd_lifted.specs.declared.instance.Instance.{Instance}
 use Rattle.hd_lifted.specs.declared.task.LiftedTask.{LiftedTask}
 use Rattle.hd_lifted.specs.Plans as plans
 use Rattle.hd_task.specs.declared.task.Task.{Task}
-use Rattle.hd_schedule.specs.declared.error.ScheduleError.{ScheduleError}
-use Rattle.hd_schedule.specs.declared.moves.Move.{Move}
-use Rattle.hd_schedule.specs.Schedule.{schedule_of, IsFault}
+use Rattle.hd_world.specs.declared.schedule_error.ScheduleError.{ScheduleError}
+use Rattle.hd_world.specs.declared.moves.Move.{Move}
+use Rattle.hd_world.specs.Schedule.{schedule_of, IsFault}
 use Rattle.hd_replay.specs.declared.fault.ReplayFault.{ReplayFault}
 use Rattle.hd_replay.specs.declared.report.Report.{Report}
 use Rattle.hd_replay.specs.declared.report.Says.{Says}

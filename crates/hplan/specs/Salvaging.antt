@@ -13,7 +13,7 @@ use Rattle.hd_journal.specs.Error.{of_image}
 use Rattle.hd_entries.specs.Resuming.{AreLegal}
 use Rattle.hd_certify.specs.declared.error.RecoverError.{RecoverError}
 use Rattle.hd_certify.specs.Error.{IsRefusal}
-use Rattle.hd_migrate.specs.Salvage.{IsFoundUpTo, IsLost}
+use Rattle.hd_journal.specs.Salvage.{IsFoundUpTo, IsLost}
 use Rattle.hd_texts.specs.Digest.{digest_of}
 use Rattle.hd_texts.specs.declared.fault.TaskFault.{TaskFault}
 use Rattle.hd_texts.specs.Tasks.{IsTaskOf, Explains}

@@ -11,8 +11,8 @@ use Rattle.hd_journal.specs.Journal.{found_in}
 use Rattle.hd_certify.specs.declared.surveyed.Row.{Row}
 use Rattle.hd_certify.specs.declared.surveyed.Survey.{Survey}
 use Rattle.hd_certify.specs.Survey.{IsSurveyOf}
-use Rattle.hd_inspect.specs.declared.inspected.Inspected.{Inspected}
-use Rattle.hd_inspect.specs.Inspecting.{IsInspected}
+use Rattle.hd_image.specs.declared.inspected.Inspected.{Inspected}
+use Rattle.hd_image.specs.Inspecting.{IsInspected}
 use Rattle.hd_texts.specs.Digest.{digest_of}
 use Rattle.hd_texts.specs.declared.fault.TaskFault.{TaskFault}
 use Rattle.hd_texts.specs.Tasks.{IsTaskOf, Explains}

@@ -2,13 +2,13 @@
 use Rattle.std.specs.Prelude.{◌≡◌, ℕ, List, Option, ◌++◌, codes, decimal}
 use Rattle.std.specs.declared.io.ErrorKind.{ErrorKind}
 use Rattle.hd_lifted.specs.declared.task.LiftedTask.{LiftedTask}
-use Rattle.hd_plan.specs.declared.error.PlanTextError.{PlanTextError}
+use Rattle.hd_plan.specs.declared.text_error.PlanTextError.{PlanTextError}
 use Rattle.hd_plan.specs.declared.step.Step.{Step}
 use Rattle.hd_plan.specs.PlanText.{line_end}
 use Rattle.hd_plan.specs.Text.{ReadsAs, IsFault}
-use Rattle.hd_validate.specs.declared.error.PlanError.{PlanError}
-use Rattle.hd_validate.specs.Plans.{IsValidatedBy}
-use Rattle.hd_validate.specs.Telling.{Tells}
+use Rattle.hd_plan.specs.declared.error.PlanError.{PlanError}
+use Rattle.hd_plan.specs.Plans.{IsValidatedBy}
+use Rattle.hd_plan.specs.Telling.{Tells}
 use Rattle.hd_texts.specs.declared.fault.TaskFault.{TaskFault}
 use Rattle.hd_texts.specs.Tasks.{IsLiftedOf, ExplainsTexts}
 use Rattle.hplan.specs.declared.fault.Fault.{Fault}

@@ -6,14 +6,13 @@ ghost use Rattle.hplan.specs.declared.fault.Fault.TheVariants as faults;
 
 use hd_certify::RecoverError;
 use hd_journal::JournalError;
-use hd_parallel::ThreadsFault;
-use hd_plan::{PlanTextError, WriteError};
+use hd_search::ThreadsFault;
+use hd_plan::{PlanError, PlanTextError, WriteError};
 use hd_replay::ReplayFault;
-use hd_schedule::ScheduleError;
+use hd_world::ScheduleError;
 use hd_store::StoreError;
 use hd_texts::TaskFault;
 use hd_threads::RunFault;
-use hd_validate::PlanError;
 use std::alloc::{AllocError, AllocFailed};
 use std::{fmt, io};
 use thiserror::Error;

@@ -17,7 +17,7 @@ fn told_of_content(alloc: Global, content: &[u8]) -> Result<Vec<u8>, Fault>
     ensures told { IfOk result (λ text. IsToldOfContent content.now text.items) }
     ensures refusal { IfErr result (IsNotTold content.now) }
 {
-    match hd_inspect::inspect(alloc, content) {
+    match hd_image::inspect(alloc, content) {
         Ok(inspected) => match inspected_text(alloc, &inspected) {
             Ok(text) => Ok(text),
             Err(_) => Err(Fault::NoMemory),

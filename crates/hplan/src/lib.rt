@@ -7,7 +7,7 @@
 //!
 //! [`command`] reads the arguments and the files, and calls one of these. All files come from
 //! [`Places`], so tests use a [`Shelf`] in memory. `solve` grounds the texts by hd_texts and
-//! searches by hd_parallel. Error lines and the statuses of `command` are tested only.
+//! searches by hd_search. Error lines and the statuses of `command` are tested only.
 //! Start reading at [`command`], then at `src/engine.rt` and `specs/Answer`.
 #![tactic(auto)]
 

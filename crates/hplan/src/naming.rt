@@ -2,7 +2,7 @@
 ghost use Rattle.std.specs.Prelude.{◌≡◌, false, IfOk, MatchOption, map};
 ghost use Rattle.hd_plan.specs.PlanText as plans;
 ghost use Rattle.hd_task.specs.FormText.{name_at};
-ghost use Rattle.hd_printing.specs.Printing.{step_of, step_at, steps_of};
+ghost use Rattle.hd_texts.specs.Printing.{step_of, step_at, steps_of};
 ghost use Rattle.hplan.specs.PlanText.{plan_text, goes_through};
 
 use crate::cost::cost_of;

@@ -15,8 +15,7 @@ use crate::output::write_out;
 use crate::places::Places;
 use crate::text::salvaged_text;
 use hd_certify::legal_kids;
-use hd_journal::{DIGEST_LEN, JournalError};
-use hd_migrate::Kid;
+use hd_journal::{DIGEST_LEN, JournalError, Kid};
 use hd_plan::Watched;
 use hd_task::Task;
 use hd_texts::{digest_of, task_of};
@@ -46,7 +45,7 @@ fn front_in(
         list_all (λ kid. fits_parent Two kid.parent) f.kids.items ≡ true) }
     ensures refusal { IfErr result (KeepsNothing task.now digest.now content.items) }
 {
-    let salvaged = match hd_migrate::salvage(alloc, content, digest) {
+    let salvaged = match hd_journal::salvage(alloc, content, digest) {
         Ok(salvaged) => salvaged,
         Err(error) => return Err(journal_in(JournalError::from(error))),
     };

@@ -6,7 +6,7 @@ ghost use Rattle.hplan.specs.Surveying.{bound_line, bound_plan, departure_line, 
 use crate::text::{inspected_text, push_action, push_count, push_departed};
 use hd_base::NoMemory;
 use hd_certify::{Row, Survey};
-use hd_inspect::Inspected;
+use hd_image::Inspected;
 use hd_task::{Departure, Plan, Task};
 use std::alloc::Global;
 

@@ -61,7 +61,7 @@ fn surveyed_in(
         Ok(survey) => survey,
         Err(fault) => return Err(fault),
     };
-    match hd_inspect::inspect(alloc, content) {
+    match hd_image::inspect(alloc, content) {
         Ok(inspected) => match survey_text(alloc, task, &inspected, &survey) {
             Ok(text) => Ok(text),
             Err(_) => Err(Fault::NoMemory),

@@ -12,7 +12,7 @@ ghost use Rattle.hplan.specs.Verdict.{valid_text};
 use crate::cost::cost_of;
 use hd_base::NoMemory;
 use hd_certify::Certified;
-use hd_inspect::{DIGEST_LEN, Inspected, Summary, Version, digest_text};
+use hd_image::{DIGEST_LEN, Inspected, Summary, Version, digest_text};
 use hd_task::{DepartsBy, Departure, Task, push_form};
 use std::alloc::Global;
 

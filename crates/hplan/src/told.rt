@@ -7,7 +7,7 @@ ghost use Rattle.hplan.specs.PlanText.{printed, plan_text, goes_through};
 use crate::naming::{NamedPlan, named_plan};
 use crate::text::departure_text;
 use hd_base::{NoMemory, Sequence};
-use hd_parallel::Outcome;
+use hd_search::Outcome;
 use hd_task::{Plan, Task};
 use std::alloc::Global;
 

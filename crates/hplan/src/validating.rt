@@ -23,7 +23,7 @@ fn cost_in(alloc: Global, seed: Seed, checked: &Checked, plan: &[u8]) -> Result<
         Ok(steps) => steps,
         Err(error) => return Err(plan_read_in(error)),
     };
-    let cost = hd_validate::validate(alloc, seed, checked, steps.as_slice());
+    let cost = hd_plan::validate(alloc, seed, checked, steps.as_slice());
     drop(steps);
     match cost {
         Ok(cost) => Ok(cost),

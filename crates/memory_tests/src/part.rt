@@ -1,6 +1,6 @@
 //! A part of the search: from the bytes of a journal, over two threads, to its end or a limit.
 use hd_journal::{DIGEST_LEN, Entry, Journal, JournalError};
-use hd_parallel::{OpenGate, Outcome, ThreadsFault, run};
+use hd_search::{OpenGate, Outcome, ThreadsFault, run};
 use hd_store::MemoryDisk;
 use hd_task::Task;
 use hd_threads::RunFault;

@@ -2,7 +2,7 @@
 ghost use Rattle.std.specs.Prelude.{◌≡◌};
 
 use crate::texts::add;
-use hd_bound::{BoundSeat, BoundWord};
+use hd_desk::{BoundSeat, BoundWord};
 use hd_open::{OpenList, Waits};
 use std::alloc::{AllocError, Global};
 

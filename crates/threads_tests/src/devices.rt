@@ -3,7 +3,7 @@ ghost use Rattle.std.specs.Prelude.{◌≤◌, ◌<◌};
 
 use crate::tasks::{DIGEST, N, N_PROBLEM, Says, said, task};
 use hd_journal::{Entry, Journal, JournalError};
-use hd_parallel::{OpenGate, ThreadsFault, run};
+use hd_search::{OpenGate, ThreadsFault, run};
 use hd_store::MemoryDisk;
 use hd_task::Task;
 use hd_threads::RunFault;

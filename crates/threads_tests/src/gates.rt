@@ -2,7 +2,7 @@
 ghost use Rattle.std.specs.Prelude.{◌≤◌};
 
 use crate::tasks::{G, G_PROBLEM, Says, journal_on, said, task};
-use hd_parallel::{Gate, run};
+use hd_search::{Gate, run};
 use hd_store::MemoryDisk;
 use std::sync::Wait;
 use std::sync::atomic::{AtomicU64, Ordering};

@@ -1,6 +1,6 @@
 //! The tasks of the tests, journals, and what searches say.
 use hd_journal::{DIGEST_LEN, Journal};
-use hd_parallel::Outcome;
+use hd_search::Outcome;
 use hd_store::MemoryDisk;
 use hd_task::Task;
 use hd_texts::task_of;

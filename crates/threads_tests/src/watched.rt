@@ -1,7 +1,7 @@
 //! What a user is told of a search while it runs: by a clock that the test sets, on a screen that
 //! keeps what it is told.
 use hd_book::Counts;
-use hd_progress::Watch;
+use hd_search::Watch;
 use hd_threads::{Gate, Standing};
 use std::alloc::{AllocError, Global};
 use std::cell::Cell;

@@ -2,7 +2,7 @@ use Rattle.std.proofs.Common.{None, List, ◌∷◌, [], ◌++◌, sym, ap, subs
 use Rattle.hd_zobrist.specs.Hash.{state_hash}
 use Rattle.hd_task.specs.declared.state.State.{State}
 use Rattle.hd_closed.specs.declared.notes.Note.{Note}
-use Rattle.hd_rows.specs.Rows.{RowsView}
+use Rattle.hd_tables.specs.Rows.{RowsView}
 use Rattle.hd_closed.specs.Notes.{note_of, AreAlike, IsTable}
 use Rattle.hd_closed.proofs.Chains.{alike_then, on_err}
 use Rattle.hd_closed.proofs.notes.add.Goals as goal

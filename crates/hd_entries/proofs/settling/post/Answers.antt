@@ -1,7 +1,7 @@
 use Rattle.std.proofs.Common.{◌≡◌, ◌∙◌, ◌-◌, ◌+◌, ◌<◌, ◌∷◌, ◌++◌, [], ℕ, List, drop, length, get_or, sym, ap, subst, arith}
 use Rattle.std.specs.List.{fold}
 use Rattle.hd_task.specs.declared.plan.Kid.{Kid}
-use Rattle.hd_kids.specs.Kids.{KidsView, ComesAfter, kid_from, with_kid}
+use Rattle.hd_tables.specs.Kids.{KidsView, ComesAfter, kid_from, with_kid}
 use Rattle.std.proofs.lemmas.List.{drop_more, get_or-map, length-map}
 use Rattle.hd_node.specs.Children.{ChildView}
 use Rattle.hd_entries.specs.Growing.{actions_of}

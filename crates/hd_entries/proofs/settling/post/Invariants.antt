@@ -1,6 +1,6 @@
 use Rattle.std.proofs.Common.{◌≡◌, ℕ, ◌+◌, ◌<◌, ◌≤◌, drop, length, get_or}
 use Rattle.std.specs.List.{fold}
-use Rattle.hd_kids.specs.Kids.{ComesAfter, with_kid}
+use Rattle.hd_tables.specs.Kids.{ComesAfter, with_kid}
 use Rattle.hd_entries.specs.Growing.{actions_of, with_kids}
 use Rattle.hd_entries.proofs.settling.post.Given as goal
 

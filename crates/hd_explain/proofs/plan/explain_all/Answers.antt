@@ -2,7 +2,7 @@ use Rattle.std.proofs.Common.{rules, subst}
 use Rattle.std.specs.Prelude.{IfNone}
 use Rattle.hd_judge.specs.Tables.{reached_in}
 use Rattle.hd_judge.specs.Way.{IsOnWay}
-use Rattle.hd_validate.specs.Plans.{PassesBy}
+use Rattle.hd_plan.specs.Plans.{PassesBy}
 use Rattle.hd_explain.proofs.Named.{halts_next}
 use Rattle.hd_explain.proofs.plan.explain_all.Goals as goal
 

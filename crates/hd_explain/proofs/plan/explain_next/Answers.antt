@@ -1,8 +1,8 @@
 use Rattle.std.proofs.Common.{subst, rules}
 use Rattle.hd_lifted.specs.declared.instance.Instance.{Instance}
 use Rattle.hd_judge.specs.Tables.{reached_in}
-use Rattle.hd_validate.specs.Naming.{HasNamesOf}
-use Rattle.hd_validate.specs.Tables.{FindsNamed}
+use Rattle.hd_plan.specs.Naming.{HasNamesOf}
+use Rattle.hd_plan.specs.Tables.{FindsNamed}
 use Rattle.hd_explain.proofs.Named.{step_unnamed, step_untold}
 use Rattle.hd_explain.proofs.plan.explain_next.Goals as goal
 

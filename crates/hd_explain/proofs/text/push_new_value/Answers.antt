@@ -3,7 +3,7 @@ use Rattle.std.specs.Prelude.{ℤ, OnOk}
 use Rattle.std.specs.Int.{w128}
 use Rattle.std.proofs.lemmas.Int.{to_z-of_z}
 use Rattle.hd_lifted.specs.States.{ground_form_of}
-use Rattle.hd_validate.specs.Texts.{fluent_text}
+use Rattle.hd_plan.specs.Texts.{fluent_text}
 use Rattle.hd_explain.specs.Texts.{out_text}
 use Rattle.hd_explain.proofs.text.push_new_value.Goals as goal
 

@@ -1,5 +1,5 @@
 use Rattle.std.proofs.Common.{◌≡◌, ◌++◌, take, flat_map, string_bytes}
-use Rattle.hd_validate.specs.Texts.{object_text}
+use Rattle.hd_plan.specs.Texts.{object_text}
 use Rattle.hd_explain.proofs.text.push_objects.Given as goal
 
 abbrev pub invariant-loop-object : goal.invariant-loop-object

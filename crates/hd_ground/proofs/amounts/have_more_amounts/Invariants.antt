@@ -1,5 +1,5 @@
 use Rattle.std.proofs.Common.{take}
-use Rattle.hd_fitting.specs.Counted.{HaveFewAmounts}
+use Rattle.hd_grounding.specs.Counted.{HaveFewAmounts}
 use Rattle.hd_ground.proofs.amounts.have_more_amounts.Given as goal
 
 abbrev pub invariant-loop-instance : goal.invariant-loop-instance

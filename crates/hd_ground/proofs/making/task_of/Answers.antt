@@ -3,8 +3,8 @@ use Rattle.std.specs.Prelude.{is_some}
 use Rattle.std.specs.List.{AllZip}
 use Rattle.hd_lifted.specs.declared.task.LiftedTask.{LiftedTask}
 use Rattle.hd_grounding.specs.Grounding.{IsActionOf}
-use Rattle.hd_fitting.proofs.Fitting.{all_fit}
-use Rattle.hd_fitting.proofs.Making.{IsGrounding-from_parts}
+use Rattle.hd_grounding.proofs.Fitting.{all_fit}
+use Rattle.hd_grounding.proofs.Making.{IsGrounding-from_parts}
 use Rattle.hd_ground.proofs.Parts.{fit_there, parts_there}
 use Rattle.hd_ground.proofs.making.task_of.Goals as goal
 

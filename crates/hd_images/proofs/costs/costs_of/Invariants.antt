@@ -1,6 +1,6 @@
 use Rattle.std.proofs.Common.{◌≡◌, map, filter, take}
 use Rattle.hd_lifted.specs.declared.schema.NumericEffect.{NumericEffect}
-use Rattle.hd_kept.specs.Questions.{is_paid}
+use Rattle.hd_lifted.specs.Questions.{is_paid}
 use Rattle.hd_grounding.specs.Images.{amount_of}
 use Rattle.hd_images.proofs.costs.costs_of.Given as goal
 

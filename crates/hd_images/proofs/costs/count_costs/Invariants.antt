@@ -1,5 +1,5 @@
 use Rattle.std.proofs.Common.{◌≡◌, ◌≤◌, length, filter, take}
-use Rattle.hd_kept.specs.Questions.{is_paid}
+use Rattle.hd_lifted.specs.Questions.{is_paid}
 use Rattle.hd_images.proofs.costs.count_costs.Given as goal
 
 abbrev pub invariant-loop-effect : goal.invariant-loop-effect

@@ -1,6 +1,6 @@
 use Rattle.std.proofs.Common.{◌≡◌, take}
 use Rattle.std.specs.Prelude.{flat_map}
-use Rattle.hd_kept.specs.Met.{met_by_effect}
+use Rattle.hd_lifted.specs.Met.{met_by_effect}
 use Rattle.hd_images.specs.Meeting.{with_forms}
 use Rattle.hd_images.proofs.met.meet_effects.Given as goal
 

@@ -1,6 +1,6 @@
 use Rattle.std.proofs.Common.{◌<◌, ◌≤◌, length, arith}
 use Rattle.std.proofs.lemmas.Result.{IfOk-weaker}
-use Rattle.hd_kept.specs.Met.{met_by_goal}
+use Rattle.hd_lifted.specs.Met.{met_by_goal}
 use Rattle.hd_images.proofs.MeetingForms.{IsMet-more, IsMet-over}
 use Rattle.hd_images.proofs.met.meet_goal_too.Goals as goal
 

@@ -1,6 +1,6 @@
 use Rattle.std.proofs.Common.{◌∙◌, Bool, List, Some, None, cond, length, get_or, sym, ap, arith}
 use Rattle.hd_lifted.specs.declared.schema.Ground.{Ground}
-use Rattle.hd_kept.specs.Questions.{is_undefined}
+use Rattle.hd_lifted.specs.Questions.{is_undefined}
 use Rattle.hd_images.proofs.Finding.{find-next, find-found}
 use Rattle.hd_images.proofs.undefined.first_undefined.Goals as goal
 

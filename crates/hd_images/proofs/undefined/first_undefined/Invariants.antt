@@ -1,6 +1,6 @@
 use Rattle.std.proofs.Common.{◌≡◌, None, take}
 use Rattle.std.specs.Prelude.{find}
-use Rattle.hd_kept.specs.Questions.{is_undefined}
+use Rattle.hd_lifted.specs.Questions.{is_undefined}
 use Rattle.hd_images.proofs.undefined.first_undefined.Given as goal
 
 abbrev pub invariant-loop-fluent : goal.invariant-loop-fluent

@@ -1,5 +1,5 @@
 use Rattle.std.proofs.Common.{◌∙◌, sym, arith}
-use Rattle.hd_kept.specs.Met.{met_by_comparison}
+use Rattle.hd_lifted.specs.Met.{met_by_comparison}
 use Rattle.hd_judge.proofs.Finding.{undefined_found}
 use Rattle.hd_judge.proofs.undefined.undefined_comparisons.Goals as goal
 

@@ -1,7 +1,7 @@
 use Rattle.std.proofs.Common.{◌≡◌, None, take}
 use Rattle.std.specs.Prelude.{flat_map}
-use Rattle.hd_kept.specs.Met.{met_by_comparison}
-use Rattle.hd_kept.specs.Questions.{first_undefined}
+use Rattle.hd_lifted.specs.Met.{met_by_comparison}
+use Rattle.hd_lifted.specs.Questions.{first_undefined}
 use Rattle.hd_judge.proofs.undefined.undefined_comparisons.Given as goal
 
 abbrev pub invariant-loop-comparison : goal.invariant-loop-comparison

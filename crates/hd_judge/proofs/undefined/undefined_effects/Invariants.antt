@@ -1,7 +1,7 @@
 use Rattle.std.proofs.Common.{◌≡◌, None, take}
 use Rattle.std.specs.Prelude.{flat_map}
-use Rattle.hd_kept.specs.Met.{met_by_effect}
-use Rattle.hd_kept.specs.Questions.{first_undefined}
+use Rattle.hd_lifted.specs.Met.{met_by_effect}
+use Rattle.hd_lifted.specs.Questions.{first_undefined}
 use Rattle.hd_judge.proofs.undefined.undefined_effects.Given as goal
 
 abbrev pub invariant-loop-effect : goal.invariant-loop-effect

@@ -1,7 +1,7 @@
 use Rattle.std.proofs.Common.{subst}
 use Rattle.hd_store.specs.Device.{Device}
 use Rattle.hd_journal.specs.Answers.{IsNotAppended}
-use Rattle.hd_crash.specs.Filling.{Filled}
+use Rattle.hd_world.specs.Filling.{Filled}
 use Rattle.hd_replay.proofs.Restarts.{append_cut, never_appended}
 use Rattle.hd_replay.proofs.ending.append_until.Goals as goal
 

@@ -1,6 +1,6 @@
 use Rattle.std.proofs.Common.{◌≤◌, [], ◌∷◌, None, arith}
 use Rattle.hd_store.specs.declared.memory.MemoryDisk.{MemoryDisk}
-use Rattle.hd_schedule.specs.declared.moves.Move.TheVariants.{Resume}
+use Rattle.hd_world.specs.declared.moves.Move.TheVariants.{Resume}
 use Rattle.hd_world.specs.World.{Stopped, MayResume}
 use Rattle.hd_replay.specs.declared.report.Report.{Report}
 use Rattle.hd_replay.specs.Playing.{IsEndOf, IsEndedBy}

@@ -3,7 +3,7 @@ use Rattle.std.proofs.lemmas.List.{length-drop}
 use Rattle.hd_store.specs.declared.memory.MemoryDisk.{MemoryDisk}
 use Rattle.hd_store.specs.Device.{content_of}
 use Rattle.hd_store.specs.MemoryDisk.{device_of}
-use Rattle.hd_schedule.specs.declared.moves.Move.TheVariants.{Resume}
+use Rattle.hd_world.specs.declared.moves.Move.TheVariants.{Resume}
 use Rattle.hd_world.specs.World.{Stopped}
 use Rattle.hd_replay.specs.declared.report.Report.{Report}
 use Rattle.hd_replay.specs.Playing.{IsEndedBy, IsReported}

@@ -1,5 +1,5 @@
 use Rattle.std.proofs.Common.{◌∷◌, sym, subst}
-use Rattle.hd_schedule.specs.declared.moves.Move.{Move}
+use Rattle.hd_world.specs.declared.moves.Move.{Move}
 use Rattle.hd_world.specs.World.{Stopped}
 use Rattle.hd_replay.specs.Playing.{PlaysTo}
 use Rattle.hd_replay.proofs.replaying.play_next.Goals as goal

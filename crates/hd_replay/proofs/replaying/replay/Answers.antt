@@ -3,7 +3,7 @@ use Rattle.hd_store.specs.Device.{content_of}
 use Rattle.hd_store.specs.MemoryDisk.{device_of}
 use Rattle.hd_store.specs.declared.memory.MemoryDisk.{MemoryDisk}
 use Rattle.hd_store.proofs.Leaving.{filled_once}
-use Rattle.hd_crash.specs.Filling.{Filled}
+use Rattle.hd_world.specs.Filling.{Filled}
 use Rattle.hd_replay.specs.Playing.{IsReported}
 use Rattle.hd_replay.proofs.replaying.replay.Goals as goal
 

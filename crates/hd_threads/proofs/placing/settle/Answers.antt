@@ -1,5 +1,5 @@
 use Rattle.std.proofs.Common.{refl, ◌∙◌}
-use Rattle.hd_bound.specs.Bound.{bound_in}
+use Rattle.hd_desk.specs.Bound.{bound_in}
 use Rattle.hd_turns.specs.Calls.{after_seeing}
 use Rattle.hd_threads.proofs.Places.{seated_by}
 use Rattle.hd_threads.proofs.Stays.{settle_stays}

@@ -1,4 +1,4 @@
-use Rattle.hd_parallel.proofs.Stopping.{survives_unchanged}
+use Rattle.hd_search.proofs.Stopping.{survives_unchanged}
 use Rattle.hplan.proofs.kept.concluded_of.Goals as goal
 
 pub returns-in_default-clause-survives : goal.returns-in_default-clause-survives

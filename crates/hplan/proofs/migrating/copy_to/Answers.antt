@@ -1,6 +1,6 @@
 use Rattle.std.proofs.Common.{subst}
 use Rattle.std.specs.Prelude.{IfErr}
-use Rattle.hd_migrate.specs.Copy.{IsNotCopied}
+use Rattle.hd_journal.specs.Copy.{IsNotCopied}
 use Rattle.hplan.proofs.Moving.{not_copied_in}
 use Rattle.hplan.proofs.migrating.copy_to.Goals as goal
 

@@ -1,5 +1,5 @@
 use Rattle.std.proofs.Common.{◌≡◌, map, take}
-use Rattle.hd_printing.specs.Printing.{step_at}
+use Rattle.hd_texts.specs.Printing.{step_at}
 use Rattle.hplan.proofs.naming.steps_of.Given as goal
 
 abbrev pub invariant-loop-action : goal.invariant-loop-action

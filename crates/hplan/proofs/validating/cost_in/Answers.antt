@@ -1,5 +1,5 @@
 use Rattle.std.proofs.Common.{subst}
-use Rattle.hd_validate.specs.Telling.{Tells}
+use Rattle.hd_plan.specs.Telling.{Tells}
 use Rattle.hplan.specs.Verdict.{Invalid}
 use Rattle.hplan.proofs.validating.cost_in.Goals as goal
 

@@ -3,7 +3,7 @@ use Rattle.std.specs.Prelude.{flat_map}
 use Rattle.std.proofs.lemmas.List.{length-append}
 use Rattle.hd_task.specs.declared.plan.Kid.{Kid}
 use Rattle.hd_entries.specs.Settling.{entry_of}
-use Rattle.hd_tickets.specs.Steps.{entered}
+use Rattle.hd_book.specs.TicketSteps.{entered}
 use Rattle.hd_book.specs.View.{ParcelsView}
 use Rattle.hd_book.proofs.Held.{few_entries, held_entered, held_again}
 use Rattle.hd_book.proofs.content.Content.commit.Goals as goal

@@ -1,7 +1,7 @@
 use Rattle.std.proofs.Common.{◌≡◌, ◌++◌, ◌∙◌, List, length, sym, ap, ap₂, arith, map}
 use Rattle.std.specs.Prelude.{flat_map}
 use Rattle.hd_task.specs.declared.task.Task.{Task}
-use Rattle.hd_kids.specs.Kids.{KidsView}
+use Rattle.hd_tables.specs.Kids.{KidsView}
 use Rattle.hd_node.specs.declared.batch.Outcome.{Outcome}
 use Rattle.hd_entries.specs.declared.entry.Entry.{Entry}
 use Rattle.hd_entries.specs.Settling.{entry_of}

@@ -1,7 +1,7 @@
 use Rattle.std.proofs.Common.{◌≡◌, ◌∙◌, ℕ, true, false, Some, None, List, get_or, sym, ap, subst}
 use Rattle.std.specs.List.{position}
 use Rattle.hd_task.specs.declared.plan.Kid.{Kid}
-use Rattle.hd_kids.specs.Kids.{same_kid}
+use Rattle.hd_tables.specs.Kids.{same_kid}
 use Rattle.hd_entries.specs.Kids.{posted_by}
 use Rattle.hd_entries.specs.Settling.{BookState, IsKept, expansions, knows_parent, place_of, is_posted, is_marked}
 use Rattle.hd_entries.specs.Holding.{state_of}

@@ -1,5 +1,5 @@
 use Rattle.std.proofs.Common.{◌∙◌, false, ap}
-use Rattle.hd_kids.specs.Kids.{KidsView, with_mark}
+use Rattle.hd_tables.specs.Kids.{KidsView, with_mark}
 use Rattle.hd_entries.proofs.Judging.{open_place, mark_back}
 use Rattle.hd_entries.proofs.expanded.ExpandedPlans.+settle_from.Goals as goal
 

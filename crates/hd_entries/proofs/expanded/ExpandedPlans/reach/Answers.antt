@@ -4,7 +4,7 @@ use Rattle.hd_task.specs.Plans.{IsStateOf, node}
 use Rattle.hd_task.specs.Expansions.{is_applicable}
 use Rattle.hd_task.specs.Stepping.{step_at}
 use Rattle.hd_pack.specs.Leading.{led_of}
-use Rattle.hd_rows.specs.Drafts.{IsLedTo}
+use Rattle.hd_tables.specs.Drafts.{IsLedTo}
 use Rattle.hd_entries.specs.Holding.{node_at}
 use Rattle.hd_entries.proofs.Held.{root_kid, entry_kid, root_leads, entry_state, entry_posted, entry_leads, applicable_within}
 use Rattle.hd_entries.proofs.Reaching.{led_there}

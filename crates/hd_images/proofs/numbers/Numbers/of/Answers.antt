@@ -1,7 +1,7 @@
 use Rattle.std.proofs.Common.{◌≡◌, ◌∙◌, List, Contains, length, ap, subst, arith}
 use Rattle.hd_lifted.specs.declared.schema.Ground.{Ground}
-use Rattle.hd_kept.specs.Numbering.{form_key, HasExactly}
-use Rattle.hd_kept.proofs.Sorted.{in_order}
+use Rattle.hd_lifted.specs.Numbering.{form_key, HasExactly}
+use Rattle.hd_lifted.proofs.Sorted.{in_order}
 use Rattle.hd_images.proofs.Tables.{one_form}
 use Rattle.hd_images.proofs.numbers.Numbers.of.Goals as goal
 

@@ -1,6 +1,6 @@
 use Rattle.std.proofs.Common.{◌≡◌, ◌||◌, ℕ, take}
 use Rattle.std.specs.List.{list_any}
-use Rattle.hd_kept.specs.Amounts.{changes_function}
+use Rattle.hd_lifted.specs.Amounts.{changes_function}
 use Rattle.hd_judge.specs.Tables.{has_function}
 use Rattle.hd_judge.proofs.changed.Changed.note_all.Given as goal
 

@@ -3,12 +3,12 @@ use Rattle.std.specs.Prelude.{IfSome, IfNone, option_map}
 use Rattle.hd_task.specs.declared.plan.TheConstants.{ROOT_PARENT}
 use Rattle.hd_node.specs.declared.batch.Batch.{Batch}
 use Rattle.hd_entries.specs.Holding.{parcel_of}
-use Rattle.hd_tickets.specs.Batches.{TicketView}
+use Rattle.hd_book.specs.Batches.{TicketView}
 use Rattle.hd_book.specs.declared.refusal.CommitRefusal.{CommitRefusal}
 use Rattle.hd_book.specs.Refusing.{refusal_to}
 use Rattle.hd_book.specs.Steps.{after_commit, ticket_after}
 use Rattle.hd_turns.specs.Calls.{batch_of, after_batch, after_numbering}
-use Rattle.hd_tickets.specs.declared.ticket.TheConstants.{MAX_TICKETS}
+use Rattle.hd_book.specs.declared.ticket.TheConstants.{MAX_TICKETS}
 use Rattle.hd_world.specs.Seats.{Seat}
 use Rattle.hd_world.specs.Moves.{is_dropped}
 use Rattle.hd_replay.specs.Seats.{committed_in}

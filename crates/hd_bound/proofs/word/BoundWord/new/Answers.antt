@@ -1,5 +1,0 @@
-use Rattle.hd_bound.proofs.Steps.{begins}
-use Rattle.hd_bound.proofs.word.BoundWord.new.Goals as goal
-
-pub of_words-requires : goal.of_words-requires
-of_words-requires c = begins _

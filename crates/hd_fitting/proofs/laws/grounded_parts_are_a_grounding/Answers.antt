@@ -1,5 +1,0 @@
-use Rattle.hd_fitting.proofs.Making.{IsGrounding-from_parts}
-use Rattle.hd_fitting.proofs.laws.grounded_parts_are_a_grounding.Goals as goal
-
-pub returns : goal.returns
-returns c = IsGrounding-from_parts

@@ -1,5 +1,0 @@
-use Rattle.hd_fitting.proofs.Fitting.{all_fit}
-use Rattle.hd_fitting.proofs.laws.grounded_parts_fit_together.Goals as goal
-
-pub returns : goal.returns
-returns c = λ t instances atoms fluents actions checked counted faultless are. all_fit t instances atoms fluents actions checked counted faultless are

@@ -1,6 +1,0 @@
-pub mod Answering
-pub mod Leading
-pub mod Owning
-pub mod Stepping
-pub mod Tracing
-pub mod Whole

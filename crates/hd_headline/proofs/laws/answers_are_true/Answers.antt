@@ -1,5 +1,0 @@
-use Rattle.hd_headline.proofs.Answering.{answers_truly}
-use Rattle.hd_headline.proofs.laws.answers_are_true.Goals as goal
-
-pub returns : goal.returns
-returns c = λ t r x. answers_truly t r x

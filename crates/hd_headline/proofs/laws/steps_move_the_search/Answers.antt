@@ -1,5 +1,0 @@
-use Rattle.hd_headline.proofs.Stepping.{steps_search}
-use Rattle.hd_headline.proofs.laws.steps_move_the_search.Goals as goal
-
-pub returns : goal.returns
-returns c = λ t digest f f' r r' m x e. steps_search t digest f f' r r' x m e

@@ -1,4 +1,0 @@
-pub mod Looking
-pub mod Marking
-pub mod Placing
-pub mod Showing

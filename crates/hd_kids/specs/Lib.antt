@@ -1,2 +1,0 @@
-pub mod Kids
-pub mod Places

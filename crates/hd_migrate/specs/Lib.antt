@@ -1,3 +1,0 @@
-pub mod Copy
-pub mod Appending
-pub mod Salvage

@@ -1,3 +1,0 @@
-pub mod Committing
-pub mod Fault
-pub mod Opening

@@ -1,0 +1,10 @@
+-- How errors are printed.
+use Rattle.std.specs.Prelude.{ℕ, List, ◌++◌, codes, decimal}
+use Rattle.hd_plan.specs.declared.text_error.PlanTextError.{PlanTextError}
+use Rattle.hd_plan.specs.declared.text_error.PlanTextError.TheVariants.{BadLine, NoMemory}
+
+-- the printed form: the refusal's number, its name, and the line in decimal (a rule of this
+-- project)
+abbrev pub text_of : PlanTextError → List ℕ
+text_of (BadLine line) = codes "19 BadLine(" ++ decimal line ++ codes ")"
+text_of NoMemory = codes "NoMemory"

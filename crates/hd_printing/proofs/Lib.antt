@@ -1,4 +1,0 @@
-pub mod LowerForms
-pub mod Named
-pub mod TextNames
-pub mod Valid

@@ -1,4 +1,0 @@
-mod BlockRows
-mod Following
-mod Packed
-mod Writing

@@ -1,4 +1,0 @@
-pub mod Blocks
-pub mod Drafts
-pub mod Rows
-pub mod Widths

@@ -1,5 +1,0 @@
-use Rattle.hd_running.proofs.Admitting.{all_admissible}
-use Rattle.hd_running.proofs.laws.nothing_is_refused.Goals as goal
-
-pub returns : goal.returns
-returns c = all_admissible

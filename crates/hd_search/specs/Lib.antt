@@ -1,0 +1,4 @@
+pub mod Committing
+pub mod Fault
+pub mod Line
+pub mod Opening

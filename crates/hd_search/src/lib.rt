@@ -1,0 +1,35 @@
+//! Searches a task over a journal by several workers, each in its own thread, and a committer.
+//!
+//! [`run`] answers only what the journal's entries show at its end, and that answer is true.
+//! These entries begin with those before the call, also after an error. If the journal has not
+//! failed and nothing is pending on the device, a stop at any moment leaves the entries that it
+//! had. [`recover`] rebuilds the book and the workers from entries, and [`certify`] reads entries
+//! as a proof.
+//!
+//! Each worker gets a scoped thread; the calling thread is the committer. `run` joins all threads,
+//! then asks the book for the answer. Each worker owns the states that their hashes select, so no
+//! closed list is shared.
+//!
+//! [`Watch`] prints a line a second on standard error, and one at the end. It is a [`Gate`], so the
+//! threads call it outside of every lock, and keeps what they report in atomic numbers. A printed
+//! [`Line`] is exactly the text that `specs/Line` defines for its fields. When lines are printed,
+//! and from which counts, is tested only. Start reading at [`run`], then at `src/opening.rt` and
+//! `specs/Opening`.
+#![tactic(auto)]
+
+mod committing;
+mod fault;
+mod line;
+mod opening;
+mod running;
+mod scoping;
+mod starting;
+mod watch;
+
+pub use fault::ThreadsFault;
+pub use hd_certify::certify;
+pub use hd_recovery::recover;
+pub use hd_threads::{Concluded, Gate, OpenGate, Outcome};
+pub use line::Line;
+pub use running::run;
+pub use watch::Watch;

@@ -1,0 +1,10 @@
+mod BlockRows
+pub mod Filling
+mod Following
+pub mod Looking
+pub mod Marking
+mod Packed
+pub mod Placing
+pub mod Showing
+pub mod Words
+mod Writing

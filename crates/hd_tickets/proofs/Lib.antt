@@ -1,5 +1,0 @@
-pub mod Ends
-pub mod Following
-pub mod Redeeming
-pub mod Spent
-pub mod Taking

@@ -1,5 +1,0 @@
-use Rattle.hd_tickets.proofs.Following.{spent_once}
-use Rattle.hd_tickets.proofs.laws.tickets_are_spent_once.Goals as goal
-
-pub returns : goal.returns
-returns g c = spent_once

@@ -1,9 +1,0 @@
-pub mod Acting
-pub mod Departing
-pub mod Once
-pub mod Others
-pub mod Ranges
-pub mod Recorded
-pub mod Runs
-pub mod Steps
-pub mod Telling

@@ -1,5 +1,0 @@
-use Rattle.hd_transfer.proofs.Recorded.{instance_leaves, goal_leaves}
-use Rattle.hd_transfer.proofs.laws.departures_are_of_the_domain.Goals as goal
-
-pub returns : goal.returns
-returns c = record { actions = λ t u p m k a made. instance_leaves t u made p m k a; goal = λ t u p m made. goal_leaves t u made p m }

@@ -1,3 +1,0 @@
-pub mod Departures
-pub mod Instances
-pub mod Runs

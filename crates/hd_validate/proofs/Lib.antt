@@ -1,5 +1,0 @@
-pub mod Finding
-pub mod Apart
-pub mod Stepping
-pub mod Judged
-pub mod Refusing

@@ -1,0 +1,78 @@
+//! Laws of the disk alone: what a stop leaves in a file, and what is found there. Each function
+//! does nothing: its contract is the law.
+ghost use Rattle.std.specs.Prelude.{◌≡◌, ℕ, List, length};
+ghost use Rattle.hd_task.specs.declared.plan.Kid.{Kid};
+ghost use Rattle.hd_store.specs.Device.{content_of};
+ghost use Rattle.hd_image.specs.declared.header.TheConstants.{DIGEST_LEN};
+ghost use Rattle.hd_image.specs.declared.error.ImageError.{ImageError};
+ghost use Rattle.hd_image.specs.declared.error.ImageError.TheVariants.{NoMemory};
+ghost use Rattle.hd_image.specs.Image.{front};
+ghost use Rattle.hd_image.specs.Reading.{IsRefused};
+ghost use Rattle.hd_journal.specs.Calls.{Call, after_calls};
+ghost use Rattle.hd_journal.specs.Journal.{append_calls};
+ghost use Rattle.hd_journal.specs.Moments.{IsSettled};
+ghost use Rattle.hd_world.specs.Stops.{File, at_rest, bytes_of, stopped_in, with_group, Opens};
+ghost use Rattle.hd_world.specs.Left.{Doing, Appending, IsFoundAfter, IsLeft, HasGroups, StopMayLeave};
+
+/// Law: a stop within any of the calls that append a group, or before them, leaves the groups with
+/// anything after their closed gate, or the whole new group after a gate that reads anything.
+pub fn a_stop_in_an_append_leaves_the_groups()
+    ensures { (digest : List ℕ) (f : File) (next : List Kid) (c : ℕ) (content : List ℕ)
+        → StopMayLeave (stopped_in (at_rest (bytes_of digest f))
+        (append_calls f.version (length (front f.version digest f.groups)) next) c) content
+        → IsLeft digest (Appending f next) content }
+{}
+
+/// Law: a stop within any of the calls that open what stops left, or before them, leaves again what
+/// those may have left.
+pub fn a_stop_in_an_opening_leaves_as_much()
+    ensures { (digest : List ℕ) (doing : Doing) (content : List ℕ) (calls : List Call) (f : File)
+        (c : ℕ) (left : List ℕ) → length digest ≡ DIGEST_LEN → HasGroups doing
+        → IsLeft digest doing content → Opens digest content calls f
+        → StopMayLeave (stopped_in (at_rest content) calls c) left → IsLeft digest doing left }
+{}
+
+/// Law: what stops left is opened, and the journal that is there then is the one that stood there,
+/// or that with the whole group that was being appended; or the first one, where one was being
+/// made.
+pub fn what_stops_left_is_opened()
+    ensures some { (digest : List ℕ) (doing : Doing) (content : List ℕ)
+        → length digest ≡ DIGEST_LEN → HasGroups doing → IsLeft digest doing content
+        → (calls : List Call) × (f : File) × Opens digest content calls f }
+    ensures found { (digest : List ℕ) (doing : Doing) (content : List ℕ) (calls : List Call)
+        (f : File) → length digest ≡ DIGEST_LEN → HasGroups doing → IsLeft digest doing content
+        → Opens digest content calls f → IsFoundAfter doing f }
+{}
+
+/// Law: nothing is said against what stops left.
+pub fn what_stops_left_is_not_refused()
+    ensures { (digest : List ℕ) (doing : Doing) (content : List ℕ) (error : ImageError)
+        → length digest ≡ DIGEST_LEN → HasGroups doing → IsLeft digest doing content
+        → IsRefused digest content error → error ≡ NoMemory }
+{}
+
+/// Law: a content is opened by one list of calls, as one journal.
+pub fn contents_are_opened_in_one_way()
+    ensures calls { (digest content : List ℕ) (calls other : List Call) (f g : File)
+        → Opens digest content calls f → Opens digest content other g → calls ≡ other }
+    ensures file { (digest content : List ℕ) (calls other : List Call) (f g : File)
+        → Opens digest content calls f → Opens digest content other g → f ≡ g }
+{}
+
+/// Law: where all calls were done that open a content, the journal's bytes are there; where all
+/// were done that append a group, those of the journal with that group; and nothing is pending.
+pub fn calls_that_were_done_leave_a_journal()
+    ensures opened { (digest content : List ℕ) (calls : List Call) (f : File)
+        → length digest ≡ DIGEST_LEN → Opens digest content calls f
+        → content_of (after_calls (at_rest content) calls) ≡ bytes_of digest f }
+    ensures opened_surely { (digest content : List ℕ) (calls : List Call) (f : File)
+        → length digest ≡ DIGEST_LEN → Opens digest content calls f
+        → IsSettled (after_calls (at_rest content) calls) }
+    ensures appended { (digest : List ℕ) (f : File) (next : List Kid)
+        → content_of (after_calls (at_rest (bytes_of digest f))
+        (append_calls f.version (length (front f.version digest f.groups)) next))
+        ≡ bytes_of digest (with_group next f) }
+    ensures appended_surely { (digest : List ℕ) (f : File) (next : List Kid)
+        → IsSettled (after_calls (at_rest (bytes_of digest f))
+        (append_calls f.version (length (front f.version digest f.groups)) next)) }
+{}
