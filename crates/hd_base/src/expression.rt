@@ -23,12 +23,12 @@ pub enum Operand<F> {
 #[cycle(expression)]
 #[derive(Debug, Drop)]
 pub struct Expr<L> {
-    node: Node<L>,
+    node: ExprNode<L>,
 }
 
 #[cycle(expression)]
 #[derive(Debug, Drop)]
-enum Node<L> {
+enum ExprNode<L> {
     Leaf(L),
     Negate(Box<Expr<L>>),
     Binary(Operation, Box<Expr<L>>, Box<Expr<L>>),
@@ -69,7 +69,7 @@ impl<L: Drop> Expr<L> {
         ensures { result ≡ leaf of }
     {
         Expr {
-            node: Node::Leaf(of),
+            node: ExprNode::Leaf(of),
         }
     }
 
@@ -79,7 +79,7 @@ impl<L: Drop> Expr<L> {
     {
         let inner = Box::new(alloc, expr)?;
         Ok(Expr {
-            node: Node::Negate(inner),
+            node: ExprNode::Negate(inner),
         })
     }
 
@@ -95,7 +95,7 @@ impl<L: Drop> Expr<L> {
         let left = Box::new(alloc, left)?;
         let right = Box::new(alloc, right)?;
         Ok(Expr {
-            node: Node::Binary(operation, left, right),
+            node: ExprNode::Binary(operation, left, right),
         })
     }
 
@@ -104,9 +104,9 @@ impl<L: Drop> Expr<L> {
         ensures { self.now ≡ expr_by result }
     {
         match &self.node {
-            Node::Leaf(leaf) => ExprParts::Leaf(leaf),
-            Node::Negate(inner) => ExprParts::Negate(inner),
-            Node::Binary(operation, left, right) => ExprParts::Binary(*operation, left, right),
+            ExprNode::Leaf(leaf) => ExprParts::Leaf(leaf),
+            ExprNode::Negate(inner) => ExprParts::Negate(inner),
+            ExprNode::Binary(operation, left, right) => ExprParts::Binary(*operation, left, right),
         }
     }
 }

@@ -1,5 +1,5 @@
 //! The book of a search.
-use crate::content::Content;
+use crate::content::BookContent;
 use crate::{
     CommitRefusal, Counts, Flushed, Group, NotOut, Parcels, Receipt, Redeemed, Refusal, Room,
     Ticket, Verdict,
@@ -18,7 +18,7 @@ use std::sync::ledger::{self, Blank, Ledger, Share};
 /// It is one pointer wide.
 #[derive(Drop)]
 pub struct Book<'t, L: Ledger> {
-    content: Box<Content<'t>>,
+    content: Box<BookContent<'t>>,
     made: ledger::Book<L>,
 }
 
@@ -57,7 +57,7 @@ impl<'t, L: Ledger> Book<'t, L> {
     ghost use Rattle.hd_book.specs.Redeeming.{IsReleasedOf};
 
     /// Returns a book of these parts, whose ledger is new, with the share that is the whole of it.
-    fn open(blank: Blank, content: Box<Content<'t>>) -> (Book<'t, L>, Share<L>)
+    fn open(blank: Blank, content: Box<BookContent<'t>>) -> (Book<'t, L>, Share<L>)
         requires name { blank.name ≡ L.name }
         requires parts { blank.parts ≡ L.parts }
         requires none { content.value.batches.tickets ≡ [] }
@@ -87,7 +87,7 @@ impl<'t, L: Ledger> Book<'t, L> {
         ensures share { IfOk result (λ r. (r.1.parts ≡ L.parts) × (r.1.amount ≡ 0)) }
     {
         let entries = Entries::new(alloc, task, most)?;
-        let content = Box::new(alloc, Content::of(alloc, entries))?;
+        let content = Box::new(alloc, BookContent::of(alloc, entries))?;
         Ok(Book::open(blank, content))
     }
 
@@ -120,7 +120,7 @@ impl<'t, L: Ledger> Book<'t, L> {
         ensures refused { IfErr result (λ e. IsFaultOf task.now most entries.now e.0 e.1) }
     {
         let (entries, parcels) = Entries::resume(alloc, task, most, entries, heard)?;
-        match Box::new(alloc, Content::of(alloc, entries)) {
+        match Box::new(alloc, BookContent::of(alloc, entries)) {
             Ok(content) => {
                 let (book, share) = Book::open(blank, content);
                 Ok((book, share, parcels))

@@ -14,6 +14,7 @@ ghost use Rattle.hd_book.specs.Groups.{entries_between, is_kid, begins_with, nex
 ghost use Rattle.hd_book.specs.Refusing.{refusal_to, IsRefusalTo};
 ghost use Rattle.hd_book.specs.Redeeming.{IsReleasedOf};
 
+use crate::tickets::Tickets;
 use crate::{
     CommitRefusal, Counts, Flushed, Group, NotOut, Parcels, Redeemed, Refusal, Room, Ticket,
     Verdict,
@@ -21,18 +22,17 @@ use crate::{
 use hd_entries::Entries;
 use hd_node::Batch;
 use hd_task::{Kid, NoMemory};
-use crate::tickets::Tickets;
 use std::alloc::Global;
 use std::marker::Model;
 
 /// The parts of a book: its entries, and the tickets and groups of its batches.
 #[derive(Debug, Drop)]
-pub(crate) struct Content<'t> {
+pub(crate) struct BookContent<'t> {
     pub(crate) entries: Entries<'t>,
     pub(crate) tickets: Tickets<Parcels<'t>>,
 }
 
-impl<'t> Model for Content<'t> {
+impl<'t> Model for BookContent<'t> {
     ghost use Rattle.hd_book.specs.View.{BookView, book_of};
     ghost use Rattle.hd_book.specs.Keeping.{IsHeld};
     ghost use Rattle.hd_task.specs.contracts.task.Task as tasks;
@@ -126,13 +126,13 @@ fn make_room<'t>(
     }
 }
 
-impl<'t> Content<'t> {
+impl<'t> BookContent<'t> {
     /// Returns these entries, which are all acknowledged, and no batches yet.
-    pub(crate) fn of(alloc: Global, entries: Entries<'t>) -> Content<'t>
+    pub(crate) fn of(alloc: Global, entries: Entries<'t>) -> BookContent<'t>
         ensures { result ≡ with_no_batches entries.entry }
     {
         let acknowledged = entries.len();
-        Content {
+        BookContent {
             entries,
             tickets: Tickets::new(alloc, acknowledged),
         }

@@ -12,7 +12,7 @@ pub const MAX_GROUP: u64 = 65_536;
 
 /// The batches with entries that are not acknowledged, in the order of their commits.
 #[derive(Debug, Drop)]
-pub(crate) struct Queue {
+pub(crate) struct BatchQueue {
     /// How many entries are acknowledged.
     acknowledged: u64,
     /// Where each batch after them ends.
@@ -21,7 +21,7 @@ pub(crate) struct Queue {
     out: usize,
 }
 
-impl Model for Queue {
+impl Model for BatchQueue {
     ghost use Rattle.std.specs.Prelude.{nat_lt};
     ghost use Rattle.std.specs.VecDeque.{deque_len, deque_capacity};
     ghost use Rattle.hd_book.specs.Queue.{Queued, QueueView, IsQueue};
@@ -60,13 +60,13 @@ fn fitting_among(ends: &VecDeque<u64>, from: u64) -> usize
         .count()
 }
 
-impl Queue {
+impl BatchQueue {
     /// Returns the queue in which so many entries are acknowledged, and none wait. It takes no
     /// memory.
-    pub(crate) fn new(alloc: Global, acknowledged: u64) -> Queue
+    pub(crate) fn new(alloc: Global, acknowledged: u64) -> BatchQueue
         ensures { result.batches ≡ queue_from acknowledged }
     {
-        Queue {
+        BatchQueue {
             acknowledged,
             ends: VecDeque::new(alloc),
             out: 0,

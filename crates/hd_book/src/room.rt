@@ -2,8 +2,8 @@
 ghost use Rattle.std.specs.Prelude.{◌≡◌, ◌≤◌, [], nat_le, is_some, vec_capacity};
 ghost use Rattle.hd_book.specs.declared.queue.TheConstants.{MAX_GROUP};
 
-use hd_task::{Kid, NoMemory};
 use crate::queue::MAX_GROUP;
+use hd_task::{Kid, NoMemory};
 use std::alloc::Global;
 
 /// An empty list with room for the pairs of any group. The book fills it where a group goes out, so

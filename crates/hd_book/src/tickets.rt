@@ -1,7 +1,7 @@
 //! What is known of the batches that were accepted.
-use crate::queue::Queue;
-use crate::slots::Slots;
 use crate::outgoing::Outgoing;
+use crate::queue::BatchQueue;
+use crate::slots::Slots;
 use crate::{NotOut, Receipt, Redeemed, Ticket};
 use std::alloc::{AllocError, Global};
 use std::marker::Model;
@@ -13,7 +13,7 @@ use std::ops::Range;
 /// Entries and tickets are known by number alone; `R` is what a ticket releases.
 #[derive(Debug, Drop)]
 pub struct Tickets<R> {
-    queue: Queue,
+    queue: BatchQueue,
     slots: Slots<R>,
     halted: bool,
 }
@@ -81,7 +81,7 @@ impl<R: Drop> Tickets<R> {
         ensures { result.batches ≡ resumed acknowledged }
     {
         Tickets {
-            queue: Queue::new(alloc, acknowledged),
+            queue: BatchQueue::new(alloc, acknowledged),
             slots: Slots::new(alloc),
             halted: false,
         }

@@ -13,7 +13,7 @@ use Rattle.hd_node.specs.Parcel.{ParcelView}
 use Rattle.hd_entries.specs.Answers.{IsBoundPlanOf}
 use Rattle.hd_entries.specs.Resuming.{open_kids, resumed_state, LeadsThere}
 use Rattle.hd_entries.specs.Settling.{BookState}
-use Rattle.hd_certify.specs.declared.surveyed.Row.{Row}
+use Rattle.hd_certify.specs.declared.surveyed.ValueCount.{ValueCount}
 use Rattle.hd_certify.specs.declared.surveyed.Survey.{Survey}
 use Rattle.hd_certify.specs.Covering.{IsSpared}
 
@@ -35,29 +35,29 @@ pub record IsSettledBy (b : BookState) (n : ℕ) : Type 0 where
 -- ---- tables
 
 -- the values of rows, each as often as it is counted
-abbrev pub spread : List Row → List ℕ
-spread rows = flat_map (λ (r : Row). replicate r.count r.value) rows
+abbrev pub spread : List ValueCount → List ℕ
+spread rows = flat_map (λ (r : ValueCount). replicate r.count r.value) rows
 
 -- each row's value is less than those of all that follow
-abbrev pub AreAscending : List Row → Type 0
+abbrev pub AreAscending : List ValueCount → Type 0
 AreAscending [] = Unit {0}
-AreAscending (r ∷ rows) = AllByRecursion (λ (q : Row). r.value < q.value) rows × AreAscending rows
+AreAscending (r ∷ rows) = AllByRecursion (λ (q : ValueCount). r.value < q.value) rows × AreAscending rows
 
 -- rows count values: each that there is, as often as it is there, and no other; the least comes
 -- first
-pub record IsTableOf (values : List ℕ) (rows : List Row) : Type 0 where
+pub record IsTableOf (values : List ℕ) (rows : List ValueCount) : Type 0 where
   pub counted : IsPermutation values (spread rows)
   pub ascending : AreAscending rows
-  pub some : AllByRecursion (λ (r : Row). 1 ≤ r.count) rows
+  pub some : AllByRecursion (λ (r : ValueCount). 1 ≤ r.count) rows
 
 -- a row
-abbrev pub row : ℕ → ℕ → Row
+abbrev pub row : ℕ → ℕ → ValueCount
 row value count = record { value = value; count = count }
 
 -- one value more is counted after rows, of which the last is still being counted: it has this
 -- value, and counts one more; or it has another one, and stands with the rows, and this value's row
 -- is being counted
-abbrev pub CountsOn : List Row → Row → ℕ → List Row → Row → Type 0
+abbrev pub CountsOn : List ValueCount → ValueCount → ℕ → List ValueCount → ValueCount → Type 0
 CountsOn rows last value after next =
     ((value ≡ last.value) × (after ≡ rows) × (next ≡ row last.value (last.count + 1)))
     ⊎ ((value ≢ last.value) × (after ≡ rows ++ last ∷ []) × (next ≡ row value 1))

@@ -28,5 +28,5 @@ pub use error::RecoverError;
 pub use hd_journal::{Entry, Kid};
 pub use naming::legal_kids;
 pub use resuming::{fault_at, kids_of};
-pub use surveyed::{Row, Survey};
+pub use surveyed::{Survey, ValueCount};
 pub use surveying::survey;

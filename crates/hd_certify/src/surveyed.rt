@@ -4,7 +4,7 @@ use hd_task::{Departure, Plan};
 
 /// A value, and how often it is there.
 #[derive(Clone, Copy, Debug, PartialEq, Eq)]
-pub struct Row {
+pub struct ValueCount {
     pub value: u64,
     pub count: u64,
 }
@@ -23,7 +23,7 @@ pub struct Survey {
     /// The first departure from the range.
     pub departure: Option<Departure>,
     /// How many entries there are of each depth.
-    pub depths: Sequence<Row>,
+    pub depths: Sequence<ValueCount>,
     /// How many entries there are of each cost.
-    pub costs: Sequence<Row>,
+    pub costs: Sequence<ValueCount>,
 }

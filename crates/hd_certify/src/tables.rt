@@ -4,7 +4,7 @@ ghost use Rattle.std.specs.Ordering.{nat_cmp};
 ghost use Rattle.std.specs.List.Sorted.{IsSorted};
 ghost use Rattle.hd_certify.specs.Survey.{CountsOn, IsTableOf};
 
-use crate::surveyed::Row;
+use crate::surveyed::ValueCount;
 use hd_base::{NoMemory, Sequence};
 use std::alloc::Global;
 
@@ -12,7 +12,7 @@ use std::alloc::Global;
 ///
 /// # Errors
 /// - `NoMemory`: there is no room for the row.
-fn count_on(rows: &mut Vec<Row>, last: &mut Row, value: u64) -> Result<(), NoMemory>
+fn count_on(rows: &mut Vec<ValueCount>, last: &mut ValueCount, value: u64) -> Result<(), NoMemory>
     requires { last.old.count < 2 ^ 63 }
     ensures { OnOk result
         (CountsOn rows.old.items last.old value rows.new.items last.new) }
@@ -22,7 +22,7 @@ fn count_on(rows: &mut Vec<Row>, last: &mut Row, value: u64) -> Result<(), NoMem
         return Ok(());
     }
     rows.push(*last)?;
-    *last = Row { value, count: 1 };
+    *last = ValueCount { value, count: 1 };
     Ok(())
 }
 
@@ -30,7 +30,7 @@ fn count_on(rows: &mut Vec<Row>, last: &mut Row, value: u64) -> Result<(), NoMem
 ///
 /// # Errors
 /// - `NoMemory`: there is no room for them.
-fn rows_of(alloc: Global, values: &[u64]) -> Result<Vec<Row>, NoMemory>
+fn rows_of(alloc: Global, values: &[u64]) -> Result<Vec<ValueCount>, NoMemory>
     requires { IsSorted nat_cmp values.now }
     ensures { IfOk result (λ rows. IsTableOf values.now rows.items) }
 {
@@ -38,7 +38,7 @@ fn rows_of(alloc: Global, values: &[u64]) -> Result<Vec<Row>, NoMemory>
     let Some(first) = values.first() else {
         return Ok(rows);
     };
-    let mut last = Row {
+    let mut last = ValueCount {
         value: *first,
         count: 1,
     };
@@ -50,7 +50,7 @@ fn rows_of(alloc: Global, values: &[u64]) -> Result<Vec<Row>, NoMemory>
 }
 
 /// Returns how often each of these values is there.
-pub(crate) fn table_of(alloc: Global, values: Vec<u64>) -> Result<Sequence<Row>, NoMemory>
+pub(crate) fn table_of(alloc: Global, values: Vec<u64>) -> Result<Sequence<ValueCount>, NoMemory>
     ensures { IfOk result (IsTableOf values.items) }
 {
     let mut values = values;

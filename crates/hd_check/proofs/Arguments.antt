@@ -21,7 +21,7 @@ use Rattle.hd_lifted.proofs.Types.{is_subtype-sound}
 use Rattle.hd_names.specs.declared.scope.Scope.{Scope}
 use Rattle.hd_names.specs.declared.table.Table.{Table}
 use Rattle.hd_names.specs.declared.fault.NameFault.TheVariants.{UnknownName}
-use Rattle.hd_check.specs.declared.fault.Fault.TheVariants.{WrongArity}
+use Rattle.hd_check.specs.declared.fault.CheckFault.TheVariants.{WrongArity}
 use Rattle.hd_base.specs.Options.{◌or◌}
 use Rattle.hd_base.specs.Names.{is_named}
 use Rattle.hd_names.specs.Names.{number_in, unknown_in, spelled}

@@ -16,12 +16,12 @@ use Rattle.hd_pddl.specs.declared.tree.Init.TheVariants as inits
 use Rattle.hd_pddl.specs.declared.tree.Signature as trees_signature
 use Rattle.hd_lifted.specs.declared.schema.Argument.{Argument}
 use Rattle.hd_lifted.specs.declared.schema.Argument.TheVariants.{Parameter, Object}
-use Rattle.hd_lifted.specs.declared.schema.Applied.{Applied}
+use Rattle.hd_lifted.specs.declared.schema.AppliedSymbol.{AppliedSymbol}
 use Rattle.hd_lifted.specs.declared.task.LiftedTask.{LiftedTask}
 use Rattle.hd_lifted.specs.declared.task.Object as objects
 use Rattle.hd_lifted.specs.declared.task.Signature.{Signature}
 use Rattle.hd_lifted.specs.Objects.{IsOfType}
-use Rattle.hd_check.specs.declared.fault.Fault.TheVariants.{InitOutOfRange}
+use Rattle.hd_check.specs.declared.fault.CheckFault.TheVariants.{InitOutOfRange}
 use Rattle.hd_names.specs.declared.scope.Scope.{Scope}
 use Rattle.hd_names.specs.declared.table.Table.{Table}
 use Rattle.hd_base.specs.Options.{◌or◌}
@@ -47,7 +47,7 @@ ground_arguments t (a ∷ as') [] h = absurd h
 ground_arguments t (Parameter k ∷ as') (u ∷ us) (h, hs) = absurd h
 ground_arguments t (Object o ∷ as') (u ∷ us) (h, hs) = (h, ground_arguments t as' us hs)
 
-ground : (t : LiftedTask) (symbols : List Signature) (a : Applied) → IsApplied t symbols [] a → IsGround t symbols (ground_form a)
+ground : (t : LiftedTask) (symbols : List Signature) (a : AppliedSymbol) → IsApplied t symbols [] a → IsGround t symbols (ground_form a)
 ground t symbols a h =
     IsSomeAnd-weaker (λ (s : Signature). AllZip (IsArgumentOf t []) a.arguments s.parameters) (λ (s : Signature). AllZip (IsOfType t) (map object_in a.arguments) s.parameters)
     (slice_get symbols a.symbol) (λ s zipped. ground_arguments t a.arguments s.parameters zipped) h

@@ -14,7 +14,7 @@ use Rattle.hd_pddl.specs.declared.tree.Init.TheVariants as inits
 use Rattle.hd_lifted.specs.declared.schema.Ground.{Ground}
 use Rattle.hd_lifted.specs.declared.task.InitialValue.{InitialValue}
 use Rattle.hd_names.specs.declared.fault.NameFault.TheVariants.{Duplicate}
-use Rattle.hd_check.specs.declared.fault.Fault.TheVariants.{OfName}
+use Rattle.hd_check.specs.declared.fault.CheckFault.TheVariants.{OfName}
 use Rattle.hd_names.specs.declared.scope.Scope.{Scope}
 use Rattle.hd_base.specs.Options.{◌or◌}
 use Rattle.hd_names.specs.Names.{number_in}

@@ -9,8 +9,8 @@ use Rattle.std.proofs.lemmas.Slice.Eq.{bytes_eq-Decides}
 use Rattle.std.specs.Prelude.{if◌then◌else◌}
 use Rattle.std.specs.List.{AllByRecursion, position, prefix_len}
 use Rattle.std.specs.Str.{bytes_eq}
-use Rattle.hd_forms.specs.declared.word.Change as words
-use Rattle.hd_forms.specs.declared.word.Change.TheVariants as changes
+use Rattle.hd_forms.specs.declared.word.ChangeWord as words
+use Rattle.hd_forms.specs.declared.word.ChangeWord.TheVariants as changes
 use Rattle.hd_terms.specs.declared.typed.ItemKind.TheVariants as kinds
 use Rattle.hd_terms.specs.declared.tree.Atom.{Atom}
 use Rattle.hd_terms.specs.declared.tree.Condition.{Condition}
@@ -109,13 +109,13 @@ compares_not s ps m f is (conditions.Compare c ∷ cs) e r =
 -- ---- what changes it
 
 -- only an increase of the metric is a cost
-not_cost : (w : words.Change) → is_cost (lifted_change false w) ≡ false
+not_cost : (w : words.ChangeWord) → is_cost (lifted_change false w) ≡ false
 not_cost changes.Assign = refl
 not_cost changes.ScaleUp = refl
 not_cost changes.Increase = refl
 not_cost changes.Decrease = refl
 
-a_cost : (m : List ℕ) (c : FluentChange) (w : words.Change) → change_of_metric m c w ≡ None
+a_cost : (m : List ℕ) (c : FluentChange) (w : words.ChangeWord) → change_of_metric m c w ≡ None
     → (is_cost (lifted_change true w) ≡ true) × (read_in m c.amount ≡ None)
 a_cost m c changes.Assign e = absurd (none-some c.fluent.name.at (sym e))
 a_cost m c changes.ScaleUp e = absurd (none-some c.fluent.name.at (sym e))

@@ -13,7 +13,7 @@ use Rattle.hd_pddl.specs.declared.tree.DomainAst.{DomainAst}
 use Rattle.hd_pddl.specs.declared.tree.ProblemAst.{ProblemAst}
 use Rattle.hd_lifted.specs.declared.task.Signature.{Signature}
 use Rattle.hd_names.specs.declared.fault.NameFault.TheVariants.{UnknownName}
-use Rattle.hd_check.specs.declared.fault.Fault.TheVariants.{WrongArity}
+use Rattle.hd_check.specs.declared.fault.CheckFault.TheVariants.{WrongArity}
 use Rattle.hd_names.specs.declared.table.Table.{Table}
 use Rattle.hd_base.specs.Options.{◌or◌}
 use Rattle.hd_base.specs.Names.{is_named}

@@ -2,8 +2,8 @@
 use Rattle.std.proofs.Common.{◌≡◌, ℕ, false, List, [], ◌∷◌, map, Option, Some, None, refl, sym}
 use Rattle.std.proofs.lemmas.Option.{none-some}
 use Rattle.std.specs.List.{AllByRecursion}
-use Rattle.hd_forms.specs.declared.word.Change as words
-use Rattle.hd_forms.specs.declared.word.Change.TheVariants as changes
+use Rattle.hd_forms.specs.declared.word.ChangeWord as words
+use Rattle.hd_forms.specs.declared.word.ChangeWord.TheVariants as changes
 use Rattle.hd_terms.specs.declared.tree.Effect.{Effect}
 use Rattle.hd_terms.specs.declared.tree.Effect.TheVariants as effects
 use Rattle.hd_pddl.specs.declared.tree.Action.{Action}
@@ -20,7 +20,7 @@ use Rattle.hd_check.specs.Schemas.{parameters_in, schema_with, lifted_schema}
 use Rattle.hd_lifted.specs.MetricUse.{HasNoCost}
 use Rattle.hd_check.specs.Whole.{domain_in, lifted_domain, problem_in, lifted_problem, task_with, task_behind, task_below, lifted_task}
 
-no_cost : (metric : Option ℕ) (f : ℕ) (c : words.Change) → metric ≡ None → is_cost (lifted_change (is_metric metric f) c) ≡ false
+no_cost : (metric : Option ℕ) (f : ℕ) (c : words.ChangeWord) → metric ≡ None → is_cost (lifted_change (is_metric metric f) c) ≡ false
 no_cost (Some m) f c e = absurd (none-some m (sym e))
 no_cost None f changes.Assign e = refl
 no_cost None f changes.ScaleUp e = refl

@@ -8,7 +8,7 @@ use Rattle.hd_base.specs.Options.{◌or◌}
 use Rattle.hd_names.specs.declared.scope.Scope.{Scope}
 use Rattle.hd_check.specs.declared.checking.TypesPart.{TypesPart}
 use Rattle.hd_check.specs.declared.checking.DomainPart.{DomainPart}
-use Rattle.hd_check.specs.declared.checking.Parts.{Parts}
+use Rattle.hd_check.specs.declared.checking.CheckedParts.{CheckedParts}
 use Rattle.hd_check.specs.declared.fault.CheckError.{CheckError}
 use Rattle.hd_check.specs.declared.fault.CheckError.TheVariants.{In, NoMemory}
 use Rattle.hd_check.specs.declared.fault.Source.TheVariants.{Domain, Problem}
@@ -152,7 +152,7 @@ module _ (d : DomainAst) (p : ProblemAst) (types : TypesPart) (same : in_text Pr
       stops_at_problem e told =
           stops_below e (tells_problem d p types e scope no_action (subst (λ (s : Scope). TellsOf e (of_problem s p)) same_scope told))
 
-      module _ (parts : Parts) (problem : of_problem first.scope p ≡ None) (is_parts : parts ≡ parts_in first p) where
+      module _ (parts : CheckedParts) (problem : of_problem first.scope p ≡ None) (is_parts : parts ≡ parts_in first p) where
         no_problem : of_problem (scope_by types d p) p ≡ None
         no_problem = subst (λ (s : Scope). of_problem s p ≡ None) same_scope problem
 

@@ -6,10 +6,10 @@ use Rattle.hd_check.specs.declared.fault.Source.{Source}
 use Rattle.hd_check.specs.declared.fault.Source.TheVariants.{Domain}
 use Rattle.hd_check.specs.declared.fault.CheckError.{CheckError}
 use Rattle.hd_check.specs.declared.fault.CheckError.TheVariants.{In}
-use Rattle.hd_check.specs.declared.fault.Fault.{Fault}
-use Rattle.hd_check.specs.declared.fault.Fault.TheVariants.{OfName, OfMetric}
-use Rattle.hd_check.specs.declared.fault.Stop.{Stop}
-use Rattle.hd_check.specs.declared.fault.Stop.TheVariants.{At, NoMemory}
+use Rattle.hd_check.specs.declared.fault.CheckFault.{CheckFault}
+use Rattle.hd_check.specs.declared.fault.CheckFault.TheVariants.{OfName, OfMetric}
+use Rattle.hd_check.specs.declared.fault.CheckStop.{CheckStop}
+use Rattle.hd_check.specs.declared.fault.CheckStop.TheVariants.{At, NoMemory}
 use Rattle.hd_metric.specs.declared.fault.BadMetric.{BadMetric}
 use Rattle.hd_names.specs.declared.fault.NameFault.{NameFault}
 use Rattle.hd_names.specs.declared.fault.NameStop.{NameStop}
@@ -24,7 +24,7 @@ use Rattle.hd_check.specs.Whole.{of_text, names_in, in_text, listed_fault, Climb
 -- ---- answers
 
 -- a part that reports its first fault reports it of its text
-pub told_of : {R : Type 0} (source : Source) (answer : Result R Stop) (fault : Option Fault) (said : R) → Checks StopsAt answer fault said
+pub told_of : {R : Type 0} (source : Source) (answer : Result R CheckStop) (fault : Option CheckFault) (said : R) → Checks StopsAt answer fault said
     → Checks TellsOf (of_text source answer) (in_text source fault) said
 told_of source (Ok r) fault said (none, same) = (ap (in_text source) none, same)
 told_of source (Err (At f)) fault said first = ap (in_text source) first
@@ -43,7 +43,7 @@ stops_part (named.At f) fault first = ap name_fault first
 stops_part named.NoMemory fault u = tt
 
 -- so where their fault is the first of two
-pub stops_first : (told : NameStop) (fault : Option NameFault) (rest : Option Fault) → names.StopsAt told fault
+pub stops_first : (told : NameStop) (fault : Option NameFault) (rest : Option CheckFault) → names.StopsAt told fault
     → StopsAt (of_names told) (name_fault fault or rest)
 stops_first (named.At f) fault rest first = rw first refl
 stops_first named.NoMemory fault rest u = tt
@@ -63,7 +63,7 @@ told_later_cycle ts e none tells = by_cycle e none tells
 
 -- ---- if nothing is reported
 
-pub text_none : (source : Source) (f : Option Fault) → in_text source f ≡ None → f ≡ None
+pub text_none : (source : Source) (f : Option CheckFault) → in_text source f ≡ None → f ≡ None
 text_none source None e = refl
 text_none source (Some f) e = absurd (none-some (In source f) (sym e))
 

@@ -9,28 +9,28 @@ use Rattle.hd_lifted.specs.declared.schema.Literal.{Literal}
 use Rattle.hd_lifted.specs.declared.schema.Equality.{Equality}
 use Rattle.hd_lifted.specs.declared.schema.Comparison.{Comparison}
 use Rattle.hd_lifted.specs.declared.schema.Condition.{Condition}
-use Rattle.hd_check.specs.declared.conditions.Found.{Found}
+use Rattle.hd_check.specs.declared.conditions.FoundConditions.{FoundConditions}
 use Rattle.hd_check.specs.Lifting.{within}
 use Rattle.hd_check.specs.declared.context.Context.{Context}
 use Rattle.hd_names.specs.declared.scope.Scope.{Scope}
 use Rattle.hd_names.specs.declared.table.Table.{Table}
-use Rattle.hd_check.specs.declared.fault.Fault.{Fault}
+use Rattle.hd_check.specs.declared.fault.CheckFault.{CheckFault}
 use Rattle.hd_base.specs.Answers.{Checks, ChecksInto}
 use Rattle.hd_base.specs.Options.{◌or◌}
-use Rattle.hd_check.specs.declared.fault.Stop.{Stop}
+use Rattle.hd_check.specs.declared.fault.CheckStop.{CheckStop}
 use Rattle.hd_check.specs.Fault.{StopsAt}
 use Rattle.hd_check.specs.Terms.{lifted_term, term_fault, applied_fault, lifted_applied, expression_fault, lifted_expression}
 
 -- the first fault of an equality of objects, which may be of any types
-abbrev pub equality_fault : Scope → Table ℕ → Term → Term → Option Fault
+abbrev pub equality_fault : Scope → Table ℕ → Term → Term → Option CheckFault
 equality_fault s ps t u = term_fault s ps t or term_fault s ps u
 
 -- the first fault of a comparison
-abbrev pub comparison_fault : Scope → Table ℕ → compared.Comparison → Option Fault
+abbrev pub comparison_fault : Scope → Table ℕ → compared.Comparison → Option CheckFault
 comparison_fault s ps c = expression_fault s ps c.left or expression_fault s ps c.right
 
 -- the first fault of a part, from the left
-abbrev pub part_fault : Scope → Table ℕ → trees.Condition → Option Fault
+abbrev pub part_fault : Scope → Table ℕ → trees.Condition → Option CheckFault
 part_fault s ps (conditions.Atom a) = applied_fault s.predicates s ps a
 part_fault s ps (conditions.NotAtom a) = applied_fault s.predicates s ps a
 part_fault s ps (conditions.Equal t u) = equality_fault s ps t u
@@ -38,7 +38,7 @@ part_fault s ps (conditions.NotEqual t u) = equality_fault s ps t u
 part_fault s ps (conditions.Compare c) = comparison_fault s ps c
 
 -- the first fault of a condition
-abbrev pub condition_fault : Scope → Table ℕ → List trees.Condition → Option Fault
+abbrev pub condition_fault : Scope → Table ℕ → List trees.Condition → Option CheckFault
 condition_fault s ps [] = None
 condition_fault s ps (c ∷ cs) = part_fault s ps c or condition_fault s ps cs
 
@@ -108,26 +108,26 @@ lifted_condition s ps cs = record {
 -- ---- what calls answer
 
 -- the literal of an atom or its negation, with names resolved, or a stop at its first fault
-abbrev pub LiftsLiteral : Result Literal Stop → Context → Bool → Atom → Type 0
+abbrev pub LiftsLiteral : Result Literal CheckStop → Context → Bool → Atom → Type 0
 LiftsLiteral result c positive a =
     Checks StopsAt result (within c (applied_fault c.scope.now.predicates) a) (within c lifted_literal positive a)
 
 -- the equality or inequality of two terms, with names resolved, or a stop at its first fault
-abbrev pub LiftsEquality : Result Equality Stop → Context → Bool → Term → Term → Type 0
+abbrev pub LiftsEquality : Result Equality CheckStop → Context → Bool → Term → Term → Type 0
 LiftsEquality result c positive t u =
     Checks StopsAt result (within c equality_fault t u) (within c lifted_equality positive t u)
 
 -- what was found of a condition, with what a part stands for after it
-abbrev pub GathersLiterals : {R : Type 0} → Result R Stop → Found → Found → Context → trees.Condition → Type 0
+abbrev pub GathersLiterals : {R : Type 0} → Result R CheckStop → FoundConditions → FoundConditions → Context → trees.Condition → Type 0
 GathersLiterals result old new c part =
     ChecksInto StopsAt result new.literals.items (within c part_fault part) (old.literals.items ++ within c literals_of part)
 
 -- the equalities found so far, and then that of a part, if it is one; or a stop at its fault
-abbrev pub GathersEqualities : {R : Type 0} → Result R Stop → Found → Found → Context → trees.Condition → Type 0
+abbrev pub GathersEqualities : {R : Type 0} → Result R CheckStop → FoundConditions → FoundConditions → Context → trees.Condition → Type 0
 GathersEqualities result old new c part =
     ChecksInto StopsAt result new.equalities.items (within c part_fault part) (old.equalities.items ++ within c equalities_of part)
 
 -- the comparisons found so far, and then that of a part, if it is one; or a stop at its fault
-abbrev pub GathersComparisons : {R : Type 0} → Result R Stop → Found → Found → Context → trees.Condition → Type 0
+abbrev pub GathersComparisons : {R : Type 0} → Result R CheckStop → FoundConditions → FoundConditions → Context → trees.Condition → Type 0
 GathersComparisons result old new c part =
     ChecksInto StopsAt result new.comparisons.items (within c part_fault part) (old.comparisons.items ++ within c comparisons_of part)

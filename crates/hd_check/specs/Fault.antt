@@ -8,10 +8,10 @@ use Rattle.hd_names.specs.Fault as names
 use Rattle.hd_names.specs.declared.fault.NameFault.{NameFault}
 use Rattle.hd_names.specs.declared.fault.NameStop.{NameStop}
 use Rattle.hd_names.specs.declared.fault.NameStop.TheVariants as named
-use Rattle.hd_check.specs.declared.fault.Fault.{Fault}
-use Rattle.hd_check.specs.declared.fault.Fault.TheVariants.{OfName, WrongArity, WrongType, OfMetric, DomainMismatch, InitOutOfRange}
-use Rattle.hd_check.specs.declared.fault.Stop.{Stop}
-use Rattle.hd_check.specs.declared.fault.Stop.TheVariants as stops
+use Rattle.hd_check.specs.declared.fault.CheckFault.{CheckFault}
+use Rattle.hd_check.specs.declared.fault.CheckFault.TheVariants.{OfName, WrongArity, WrongType, OfMetric, DomainMismatch, InitOutOfRange}
+use Rattle.hd_check.specs.declared.fault.CheckStop.{CheckStop}
+use Rattle.hd_check.specs.declared.fault.CheckStop.TheVariants as stops
 use Rattle.hd_check.specs.declared.fault.Source.{Source}
 use Rattle.hd_check.specs.declared.fault.Source.TheVariants.{Domain, Problem}
 use Rattle.hd_check.specs.declared.fault.CheckError.{CheckError}
@@ -19,7 +19,7 @@ use Rattle.hd_check.specs.declared.fault.CheckError.TheVariants as errors
 
 -- the printed form of a fault: its number and its name, and in parentheses the name at fault, if
 -- there is one, and the place
-abbrev pub text_of : Fault → List ℕ
+abbrev pub text_of : CheckFault → List ℕ
 text_of (OfName fault) = names.text_of fault
 text_of (WrongArity name at) = codes "10 WrongArity(" ++ name ++ codes ", " ++ decimal at ++ codes ")"
 text_of (WrongType name at) = codes "11 WrongType(" ++ name ++ codes ", " ++ decimal at ++ codes ")"
@@ -40,25 +40,25 @@ error_text errors.NoMemory = codes "NoMemory"
 -- ---- what stops a part of a check, and the whole
 
 -- a fault of a name, and a wrong use of the metric's function, as faults of a text
-abbrev pub name_fault : Option NameFault → Option Fault
+abbrev pub name_fault : Option NameFault → Option CheckFault
 name_fault fault = option_map OfName fault
 
 -- a wrong use of the metric's function, as a fault of a text
-abbrev pub metric_use_fault : Option BadMetric → Option Fault
+abbrev pub metric_use_fault : Option BadMetric → Option CheckFault
 metric_use_fault fault = option_map OfMetric fault
 
 -- what stopped names stops the part in which they stand
-abbrev pub of_names : NameStop → Stop
+abbrev pub of_names : NameStop → CheckStop
 of_names (named.At fault) = stops.At (OfName fault)
 of_names named.NoMemory = stops.NoMemory
 
 -- the stop is at the first fault; lack of memory says nothing
-abbrev pub StopsAt : Stop → Option Fault → Type 0
+abbrev pub StopsAt : CheckStop → Option CheckFault → Type 0
 StopsAt (stops.At f) fault = fault ≡ Some f
 StopsAt stops.NoMemory fault = Unit {0}
 
 -- what stopped the check of this text
-abbrev pub error_in : Source → Stop → CheckError
+abbrev pub error_in : Source → CheckStop → CheckError
 error_in source (stops.At fault) = errors.In source fault
 error_in source stops.NoMemory = errors.NoMemory
 

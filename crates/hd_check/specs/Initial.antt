@@ -7,21 +7,21 @@ use Rattle.hd_terms.specs.declared.tree.Atom.{Atom}
 use Rattle.hd_pddl.specs.declared.tree.Init.{Init}
 use Rattle.hd_pddl.specs.declared.tree.Init.TheVariants as inits
 use Rattle.hd_pddl.specs.declared.tree.InitialValue as trees
-use Rattle.hd_lifted.specs.declared.schema.Applied.{Applied}
+use Rattle.hd_lifted.specs.declared.schema.AppliedSymbol.{AppliedSymbol}
 use Rattle.hd_lifted.specs.declared.schema.Argument.{Argument}
 use Rattle.hd_lifted.specs.declared.schema.Argument.TheVariants.{Parameter, Object}
 use Rattle.hd_lifted.specs.declared.schema.Ground.{Ground}
 use Rattle.hd_lifted.specs.declared.task.InitialValue.{InitialValue}
 use Rattle.hd_check.specs.declared.initial.Initial.{Initial}
-use Rattle.hd_check.specs.declared.initial.Found.{Found}
+use Rattle.hd_check.specs.declared.initial.FoundInitial.{FoundInitial}
 use Rattle.hd_names.specs.declared.scope.Scope.{Scope}
 use Rattle.hd_names.specs.declared.table.Table.{Table}
-use Rattle.hd_check.specs.declared.fault.Fault.{Fault}
-use Rattle.hd_check.specs.declared.fault.Fault.TheVariants.{OfName, InitOutOfRange}
+use Rattle.hd_check.specs.declared.fault.CheckFault.{CheckFault}
+use Rattle.hd_check.specs.declared.fault.CheckFault.TheVariants.{OfName, InitOutOfRange}
 use Rattle.hd_names.specs.declared.fault.NameFault.TheVariants.{Duplicate}
 use Rattle.hd_base.specs.Answers.{Checks, ChecksInto}
 use Rattle.hd_base.specs.Options.{◌or◌}
-use Rattle.hd_check.specs.declared.fault.Stop.{Stop}
+use Rattle.hd_check.specs.declared.fault.CheckStop.{CheckStop}
 use Rattle.hd_check.specs.Fault.{StopsAt}
 use Rattle.hd_names.specs.Names.{number_in}
 use Rattle.hd_check.specs.Terms.{applied_fault, lifted_applied}
@@ -37,7 +37,7 @@ object_in (Object o) = o
 object_in (Parameter k) = 0
 
 -- an atom or a fluent of objects
-abbrev pub ground_form : Applied → Ground
+abbrev pub ground_form : AppliedSymbol → Ground
 ground_form a = record { symbol = a.symbol; objects = map object_in a.arguments }
 
 -- what an atom, or a fluent, outside of actions stands for
@@ -49,11 +49,11 @@ abbrev pub key_of : Ground → List ℕ
 key_of g = g.symbol ∷ g.objects
 
 -- the first value has to be in the range
-abbrev pub range_fault : trees.InitialValue → Option Fault
+abbrev pub range_fault : trees.InitialValue → Option CheckFault
 range_fault v = if in_range v.value then None else Some (InitOutOfRange v.at)
 
 -- a fluent can't be one of those that have a value
-abbrev pub second_value : List (List ℕ) → List ℕ → Atom → Option Fault
+abbrev pub second_value : List (List ℕ) → List ℕ → Atom → Option CheckFault
 second_value given key a = if is_named given key then Some (OfName (Duplicate a.name.name a.name.at)) else None
 
 -- the fluent that has this first value
@@ -66,12 +66,12 @@ with_value s given v = given ++ key_of (fluent_of s v) ∷ []
 
 -- the first fault of a value: of its fluent, then that the fluent has a value already, then the
 -- range
-abbrev pub value_fault : Scope → List (List ℕ) → trees.InitialValue → Option Fault
+abbrev pub value_fault : Scope → List (List ℕ) → trees.InitialValue → Option CheckFault
 value_fault s given v =
     applied_fault s.functions s no_parameters v.fluent or second_value given (key_of (fluent_of s v)) v.fluent or range_fault v
 
 -- the first fault of an atom or a first value, after values of these fluents
-abbrev pub said_fault : Scope → List (List ℕ) → Init → Option Fault
+abbrev pub said_fault : Scope → List (List ℕ) → Init → Option CheckFault
 said_fault s given (inits.Atom a) = applied_fault s.predicates s no_parameters a
 said_fault s given (inits.NotAtom a) = applied_fault s.predicates s no_parameters a
 said_fault s given (inits.Value v) = value_fault s given v
@@ -83,7 +83,7 @@ given_after s given (inits.NotAtom a) = given
 given_after s given (inits.Value v) = with_value s given v
 
 -- the first fault of what holds at first, after values of these fluents
-abbrev pub initial_fault : Scope → List (List ℕ) → List Init → Option Fault
+abbrev pub initial_fault : Scope → List (List ℕ) → List Init → Option CheckFault
 initial_fault s given [] = None
 initial_fault s given (i ∷ is) = said_fault s given i or initial_fault s (given_after s given i) is
 
@@ -122,40 +122,40 @@ lifted_initial s is = record { atoms = atoms_in s is; values = values_in s is }
 -- ---- what calls answer
 
 -- an atom or a fluent of objects, with names resolved, or a stop at its first fault
-abbrev pub LiftsGround : Result Ground Stop → Table (List ℕ) → Scope → Atom → Type 0
+abbrev pub LiftsGround : Result Ground CheckStop → Table (List ℕ) → Scope → Atom → Type 0
 LiftsGround result symbols s a = Checks StopsAt result (applied_fault symbols s no_parameters a) (ground_of symbols s a)
 
 -- a fluent that is given no second value is noted among the old ones, which leaves the new ones
-abbrev pub Notes : {R : Type 0} → Result R Stop → List (List ℕ) → List (List ℕ) → Ground → Atom → Type 0
+abbrev pub Notes : {R : Type 0} → Result R CheckStop → List (List ℕ) → List (List ℕ) → Ground → Atom → Type 0
 Notes result old new g a = ChecksInto StopsAt result new (second_value old (key_of g) a) (old ++ key_of g ∷ [])
 
 -- the fluent of a first value, and the fluents that have one, with that
-abbrev pub LiftsFluent : Result Ground Stop → List (List ℕ) → Scope → trees.InitialValue → Type 0
+abbrev pub LiftsFluent : Result Ground CheckStop → List (List ℕ) → Scope → trees.InitialValue → Type 0
 LiftsFluent result given s v = Checks StopsAt result (value_fault s given v) (fluent_of s v)
 
 -- the fluents with a first value so far, and then that of this one; or a stop at its first fault
-abbrev pub NotesFluent : {R : Type 0} → Result R Stop → List (List ℕ) → List (List ℕ) → Scope → trees.InitialValue → Type 0
+abbrev pub NotesFluent : {R : Type 0} → Result R CheckStop → List (List ℕ) → List (List ℕ) → Scope → trees.InitialValue → Type 0
 NotesFluent result old new s v = ChecksInto StopsAt result new (value_fault s old v) (with_value s old v)
 
 -- the values, with this one after them
 abbrev pub Gathers
-    : {R : Type 0} → Result R Stop → List InitialValue → List InitialValue → List (List ℕ) → Scope → trees.InitialValue → Type 0
+    : {R : Type 0} → Result R CheckStop → List InitialValue → List InitialValue → List (List ℕ) → Scope → trees.InitialValue → Type 0
 Gathers result old new given s v = ChecksInto StopsAt result new (value_fault s given v) (old ++ value_in s v)
 
 -- what was found, with what is said after it
-abbrev pub NotesSaid : {R : Type 0} → Result R Stop → Found → Found → Scope → Init → Type 0
+abbrev pub NotesSaid : {R : Type 0} → Result R CheckStop → FoundInitial → FoundInitial → Scope → Init → Type 0
 NotesSaid result old new s i = ChecksInto StopsAt result new.given (said_fault s old.given i) (given_after s old.given i)
 
 -- the true atoms found so far, and then that of an initial fact, if any; or a stop at its fault
-abbrev pub GathersAtoms : {R : Type 0} → Result R Stop → Found → Found → Scope → Init → Type 0
+abbrev pub GathersAtoms : {R : Type 0} → Result R CheckStop → FoundInitial → FoundInitial → Scope → Init → Type 0
 GathersAtoms result old new s i =
     ChecksInto StopsAt result new.atoms.items (said_fault s old.given i) (old.atoms.items ++ atom_in s i)
 
 -- the first values found so far, and then that of a fact, if any; or a stop at its fault
-abbrev pub GathersValues : {R : Type 0} → Result R Stop → Found → Found → Scope → Init → Type 0
+abbrev pub GathersValues : {R : Type 0} → Result R CheckStop → FoundInitial → FoundInitial → Scope → Init → Type 0
 GathersValues result old new s i =
     ChecksInto StopsAt result new.values.items (said_fault s old.given i) (old.values.items ++ value_said s i)
 
 -- the atoms and first values of a problem, with names resolved, or a stop at the first fault
-abbrev pub LiftsInitial : Result Initial Stop → Scope → List Init → Type 0
+abbrev pub LiftsInitial : Result Initial CheckStop → Scope → List Init → Type 0
 LiftsInitial result s is = Checks StopsAt result (initial_fault s [] is) (lifted_initial s is)

@@ -6,10 +6,10 @@ use Rattle.hd_lifted.specs.declared.schema.Schema.{Schema}
 use Rattle.hd_check.specs.declared.schemas.Body.{Body}
 use Rattle.hd_names.specs.declared.scope.Scope.{Scope}
 use Rattle.hd_names.specs.declared.table.Table.{Table}
-use Rattle.hd_check.specs.declared.fault.Fault.{Fault}
+use Rattle.hd_check.specs.declared.fault.CheckFault.{CheckFault}
 use Rattle.hd_base.specs.Answers.{Checks}
 use Rattle.hd_base.specs.Options.{◌or◌}
-use Rattle.hd_check.specs.declared.fault.Stop.{Stop}
+use Rattle.hd_check.specs.declared.fault.CheckStop.{CheckStop}
 use Rattle.hd_check.specs.Fault.{StopsAt, name_fault}
 use Rattle.hd_names.specs.Names.{declared_fault, duplicate_in}
 use Rattle.hd_names.specs.Scope.{typed_table}
@@ -21,15 +21,15 @@ abbrev pub parameters_in : Scope → Action → Table ℕ
 parameters_in s a = typed_table s.types a.parameters
 
 -- the first fault of the precondition and the effect of an action with these parameters
-unfoldable pub body_fault : Scope → Table ℕ → Action → Option Fault
+unfoldable pub body_fault : Scope → Table ℕ → Action → Option CheckFault
 body_fault s ps a = condition_fault s ps a.precondition or effects_fault s ps a.effect
 
 -- the first fault of an action: of the parameters, then of what stands in it
-unfoldable pub action_fault : Scope → Action → Option Fault
+unfoldable pub action_fault : Scope → Action → Option CheckFault
 action_fault s a = name_fault (declared_fault kinds.Variable s.types [] a.parameters) or body_fault s (parameters_in s a) a
 
 -- the first fault of actions after others of these names: of each its name, then what stands in it
-abbrev pub actions_fault : Scope → List (List ℕ) → List Action → Option Fault
+abbrev pub actions_fault : Scope → List (List ℕ) → List Action → Option CheckFault
 actions_fault s names [] = None
 actions_fault s names (a ∷ as') =
     name_fault (duplicate_in kinds.Name names a.name) or action_fault s a or actions_fault s (names ++ a.name.name ∷ []) as'
@@ -64,9 +64,9 @@ lifted_schemas s as' = map (lifted_schema s) as'
 -- ---- what calls answer
 
 -- the schema of an action with these parameters, or a stop at the first fault of what stands in it
-abbrev pub LiftsBody : Result Schema Stop → Scope → Table ℕ → Action → Type 0
+abbrev pub LiftsBody : Result Schema CheckStop → Scope → Table ℕ → Action → Type 0
 LiftsBody result s ps a = Checks StopsAt result (body_fault s ps a) (schema_with s ps a)
 
 -- the schemas of a domain's actions, or a stop at the first fault of an action
-abbrev pub LiftsActions : Result (List Schema) Stop → Scope → List Action → Type 0
+abbrev pub LiftsActions : Result (List Schema) CheckStop → Scope → List Action → Type 0
 LiftsActions result s as' = Checks StopsAt result (actions_fault s [] as') (lifted_schemas s as')

@@ -13,17 +13,17 @@ use Rattle.hd_terms.specs.declared.tree.Leaf.{Leaf}
 use Rattle.hd_terms.specs.declared.tree.Leaf.TheVariants.{Number, Fluent}
 use Rattle.hd_lifted.specs.declared.schema.Argument.{Argument}
 use Rattle.hd_lifted.specs.declared.schema.Argument.TheVariants.{Parameter, Object}
-use Rattle.hd_lifted.specs.declared.schema.Applied.{Applied}
+use Rattle.hd_lifted.specs.declared.schema.AppliedSymbol.{AppliedSymbol}
 use Rattle.hd_lifted.specs.Types.{is_subtype}
 use Rattle.hd_check.specs.Lifting.{within}
 use Rattle.hd_check.specs.declared.context.Context.{Context}
 use Rattle.hd_names.specs.declared.scope.Scope.{Scope}
 use Rattle.hd_names.specs.declared.table.Table.{Table}
-use Rattle.hd_check.specs.declared.fault.Fault.{Fault}
-use Rattle.hd_check.specs.declared.fault.Fault.TheVariants.{WrongArity, WrongType}
+use Rattle.hd_check.specs.declared.fault.CheckFault.{CheckFault}
+use Rattle.hd_check.specs.declared.fault.CheckFault.TheVariants.{WrongArity, WrongType}
 use Rattle.hd_base.specs.Answers.{Checks}
 use Rattle.hd_base.specs.Options.{◌or◌}
-use Rattle.hd_check.specs.declared.fault.Stop.{Stop}
+use Rattle.hd_check.specs.declared.fault.CheckStop.{CheckStop}
 use Rattle.hd_check.specs.Fault.{StopsAt, name_fault}
 use Rattle.hd_names.specs.Names.{number_in, unknown_in, spelled}
 
@@ -35,7 +35,7 @@ lifted_term s ps (Name n) = Object (number_in s.objects.names n.name)
 lifted_term s ps (Variable n) = Parameter (number_in ps.names n.name)
 
 -- the name has to be declared
-abbrev pub term_fault : Scope → Table ℕ → Term → Option Fault
+abbrev pub term_fault : Scope → Table ℕ → Term → Option CheckFault
 term_fault s ps (Name n) = name_fault (unknown_in kinds.Name s.objects.names n)
 term_fault s ps (Variable n) = name_fault (unknown_in kinds.Variable ps.names n)
 
@@ -49,20 +49,20 @@ abbrev pub type_of_term : Scope → Table ℕ → Term → ℕ
 type_of_term s ps t = type_at s ps (lifted_term s ps t)
 
 -- the fault that a term's type is none below what is wanted
-abbrev pub wrong_type : Term → Fault
+abbrev pub wrong_type : Term → CheckFault
 wrong_type (Name n) = WrongType n.name n.at
 wrong_type (Variable n) = WrongType (spelled kinds.Variable n.name) n.at
 
 -- a term's type has to be the one that is wanted, or a subtype of it
-abbrev pub type_fault : Scope → Table ℕ → Term → ℕ → Option Fault
+abbrev pub type_fault : Scope → Table ℕ → Term → ℕ → Option CheckFault
 type_fault s ps t wanted = if is_subtype s.hierarchy (type_of_term s ps t) wanted then None else Some (wrong_type t)
 
 -- the fault of an argument for a parameter of this type: its name, then its type
-abbrev pub argument_fault : Scope → Table ℕ → Term → ℕ → Option Fault
+abbrev pub argument_fault : Scope → Table ℕ → Term → ℕ → Option CheckFault
 argument_fault s ps t wanted = term_fault s ps t or type_fault s ps t wanted
 
 -- the first fault of arguments for parameters of these types
-abbrev pub arguments_fault : Scope → Table ℕ → List Term → List ℕ → Option Fault
+abbrev pub arguments_fault : Scope → Table ℕ → List Term → List ℕ → Option CheckFault
 arguments_fault s ps [] wanted = None
 arguments_fault s ps (t ∷ ts) [] = None
 arguments_fault s ps (t ∷ ts) (u ∷ us) = argument_fault s ps t u or arguments_fault s ps ts us
@@ -78,18 +78,18 @@ abbrev pub parameters_of : Table (List ℕ) → NameAt → List ℕ
 parameters_of symbols n = parameters_at symbols (number_in symbols.names n.name)
 
 -- it has as many arguments as its name has parameters
-abbrev pub arity_fault : Table (List ℕ) → Atom → Option Fault
+abbrev pub arity_fault : Table (List ℕ) → Atom → Option CheckFault
 arity_fault symbols a =
     if length a.terms == length (parameters_of symbols a.name) then None else Some (WrongArity a.name.name a.name.at)
 
 -- the first fault: the name, then how many arguments there are, then the arguments
-abbrev pub applied_fault : Table (List ℕ) → Scope → Table ℕ → Atom → Option Fault
+abbrev pub applied_fault : Table (List ℕ) → Scope → Table ℕ → Atom → Option CheckFault
 applied_fault symbols s ps a =
     name_fault (unknown_in kinds.Name symbols.names a.name) or arity_fault symbols a
     or arguments_fault s ps a.terms (parameters_of symbols a.name)
 
 -- what it stands for
-abbrev pub lifted_applied : Table (List ℕ) → Scope → Table ℕ → Atom → Applied
+abbrev pub lifted_applied : Table (List ℕ) → Scope → Table ℕ → Atom → AppliedSymbol
 lifted_applied symbols s ps a = record {
   symbol = number_in symbols.names a.name.name;
   arguments = map (lifted_term s ps) a.terms;
@@ -98,14 +98,14 @@ lifted_applied symbols s ps a = record {
 -- ---- expressions
 
 -- the first fault, from the left
-abbrev pub expression_fault : Scope → Table ℕ → Expression Leaf → Option Fault
+abbrev pub expression_fault : Scope → Table ℕ → Expression Leaf → Option CheckFault
 expression_fault s ps (leaf (Number at v)) = None
 expression_fault s ps (leaf (Fluent a)) = applied_fault s.functions s ps a
 expression_fault s ps (negate x) = expression_fault s ps x
 expression_fault s ps (binary o x y) = expression_fault s ps x or expression_fault s ps y
 
 -- what an expression stands for
-abbrev pub lifted_expression : Scope → Table ℕ → Expression Leaf → Expression (Operand Applied)
+abbrev pub lifted_expression : Scope → Table ℕ → Expression Leaf → Expression (Operand AppliedSymbol)
 lifted_expression s ps (leaf (Number at v)) = leaf (operands.Number v)
 lifted_expression s ps (leaf (Fluent a)) = leaf (operands.Fluent (lifted_applied s.functions s ps a))
 lifted_expression s ps (negate x) = negate (lifted_expression s ps x)
@@ -114,14 +114,14 @@ lifted_expression s ps (binary o x y) = binary o (lifted_expression s ps x) (lif
 -- ---- what calls answer
 
 -- an argument for a parameter of this type, and arguments for parameters of these types
-abbrev pub LiftsArgument : Result Argument Stop → Context → Term → ℕ → Type 0
+abbrev pub LiftsArgument : Result Argument CheckStop → Context → Term → ℕ → Type 0
 LiftsArgument result c t wanted = Checks StopsAt result (within c argument_fault t wanted) (within c lifted_term t)
 
 -- the arguments for parameters of these types, or a stop at their first fault
-abbrev pub LiftsArguments : Result (List Argument) Stop → Context → List Term → List ℕ → Type 0
+abbrev pub LiftsArguments : Result (List Argument) CheckStop → Context → List Term → List ℕ → Type 0
 LiftsArguments result c ts wanted = Checks StopsAt result (within c arguments_fault ts wanted) (map (within c lifted_term) ts)
 
 -- an atom or a fluent, of the predicates or the functions
-abbrev pub LiftsApplied : Result Applied Stop → Table (List ℕ) → Context → Atom → Type 0
+abbrev pub LiftsApplied : Result AppliedSymbol CheckStop → Table (List ℕ) → Context → Atom → Type 0
 LiftsApplied result symbols c a =
     Checks StopsAt result (within c (applied_fault symbols) a) (within c (lifted_applied symbols) a)

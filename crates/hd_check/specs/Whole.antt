@@ -17,13 +17,13 @@ use Rattle.hd_check.specs.declared.checking.TypesPart.{TypesPart}
 use Rattle.hd_check.specs.declared.checking.DomainPart.{DomainPart}
 use Rattle.hd_check.specs.declared.checking.Ends.{Ends}
 use Rattle.hd_check.specs.declared.checking.ProblemPart.{ProblemPart}
-use Rattle.hd_check.specs.declared.checking.Parts.{Parts}
+use Rattle.hd_check.specs.declared.checking.CheckedParts.{CheckedParts}
 use Rattle.hd_check.specs.declared.checking.Declared.{Declared}
 use Rattle.hd_check.specs.declared.fault.Source.{Source}
 use Rattle.hd_check.specs.declared.fault.Source.TheVariants.{Domain, Problem}
-use Rattle.hd_check.specs.declared.fault.Fault.{Fault}
-use Rattle.hd_check.specs.declared.fault.Fault.TheVariants.{OfName, DomainMismatch}
-use Rattle.hd_check.specs.declared.fault.Stop.{Stop}
+use Rattle.hd_check.specs.declared.fault.CheckFault.{CheckFault}
+use Rattle.hd_check.specs.declared.fault.CheckFault.TheVariants.{OfName, DomainMismatch}
+use Rattle.hd_check.specs.declared.fault.CheckStop.{CheckStop}
 use Rattle.hd_names.specs.declared.fault.NameFault.{NameFault}
 use Rattle.hd_names.specs.declared.fault.NameStop.{NameStop}
 use Rattle.hd_check.specs.declared.fault.CheckError.{CheckError}
@@ -84,7 +84,7 @@ unfoldable pub lifted_problem : Scope → ProblemAst → ProblemPart
 lifted_problem s p = problem_in (with_objects s p.objects) p
 
 -- what a domain's actions and a problem's part stand for, where the domain's part stands for this
-abbrev pub parts_in : DomainPart → ProblemAst → Parts
+abbrev pub parts_in : DomainPart → ProblemAst → CheckedParts
 parts_in first p = record { schemas = first.schemas; problem = lifted_problem first.scope p }
 
 -- the constants and the objects
@@ -118,7 +118,7 @@ unfoldable pub task_with : DomainAst → ProblemAst → List Schema → ProblemP
 task_with d p schemas part = task_by schemas part (declared_in part.scope.types d p)
 
 -- the lifted task of these parts
-abbrev pub task_of : DomainAst → ProblemAst → Parts → LiftedTask
+abbrev pub task_of : DomainAst → ProblemAst → CheckedParts → LiftedTask
 task_of d p parts = task_with d p parts.schemas parts.problem
 
 -- the lifted task of a problem whose domain's part stands for this
@@ -136,16 +136,16 @@ lifted_task d p = task_below (type_names d.types) (parents_of d.types) d p
 -- ---- the faults, in their order
 
 -- a fault of this text
-abbrev pub in_text : Source → Option Fault → Option CheckError
+abbrev pub in_text : Source → Option CheckFault → Option CheckError
 in_text source None = None
 in_text source (Some f) = Some (In source f)
 
 -- the problem has to name its domain
-abbrev pub mismatch : DomainAst → ProblemAst → Option Fault
+abbrev pub mismatch : DomainAst → ProblemAst → Option CheckFault
 mismatch d p = if bytes_eq p.domain.name d.name.name then None else Some (DomainMismatch p.domain.at)
 
 -- the first fault of the names of the types that are listed
-abbrev pub listed_fault : List Typed → Option Fault
+abbrev pub listed_fault : List Typed → Option CheckFault
 listed_fault ts = name_fault (types_fault (codes "object" ∷ []) ts)
 
 -- the first fault that comes before the cycles of types: the domain's name, and the names of types
@@ -154,15 +154,15 @@ fault_before_cycles d p = in_text Problem (mismatch d p) or in_text Domain (list
 
 -- the first fault of a problem's goal and of its metric's name in this scope, which has the
 -- problem's objects
-abbrev pub goal_fault : Scope → ProblemAst → Option Fault
+abbrev pub goal_fault : Scope → ProblemAst → Option CheckFault
 goal_fault s p = condition_fault s no_parameters p.goal or metric_name_fault s.functions p.metric
 
 -- the first fault of a problem in this scope, which has its objects
-unfoldable pub fault_in_problem : Scope → ProblemAst → Option Fault
+unfoldable pub fault_in_problem : Scope → ProblemAst → Option CheckFault
 fault_in_problem s p = initial_fault s [] p.init or goal_fault s p
 
 -- the first fault of a problem, up to the metric's name, by the scope of its domain
-unfoldable pub problem_fault : Scope → ProblemAst → Option Fault
+unfoldable pub problem_fault : Scope → ProblemAst → Option CheckFault
 problem_fault s p =
     name_fault (declared_fault kinds.Name s.types s.objects.names p.objects) or fault_in_problem (with_objects s p.objects) p
 
@@ -259,15 +259,15 @@ abbrev pub ChecksActions : Result DomainPart CheckError → Scope → DomainAst 
 ChecksActions result s d = Checks TellsOf result (in_text Domain (actions_fault s [] d.actions)) (domain_in s d)
 
 -- what a problem's part stands for, where the domain's part stands for this
-abbrev pub ChecksProblem : Result Parts CheckError → DomainPart → ProblemAst → Type 0
+abbrev pub ChecksProblem : Result CheckedParts CheckError → DomainPart → ProblemAst → Type 0
 ChecksProblem result first p = Checks TellsOf result (in_text Problem (problem_fault first.scope p)) (parts_in first p)
 
 -- the lifted task of these parts, where the metric's function is not misused
-abbrev pub ChecksUses : Result LiftedTask CheckError → Parts → DomainAst → ProblemAst → Type 0
+abbrev pub ChecksUses : Result LiftedTask CheckError → CheckedParts → DomainAst → ProblemAst → Type 0
 ChecksUses result parts d p = Checks TellsOf result (metric_fault d p) (task_of d p parts)
 
 -- what a part answers, told of its text
-abbrev pub of_text : {R : Type 0} → Source → Result R Stop → Result R CheckError
+abbrev pub of_text : {R : Type 0} → Source → Result R CheckStop → Result R CheckError
 of_text source (Ok r) = Ok r
 of_text source (Err stop) = Err (error_in source stop)
 

@@ -11,7 +11,7 @@ ghost use Rattle.hd_check.specs.Whole.{ChecksNames, ClimbsIn, ChecksTypes, Check
 
 use crate::conditions::condition_of;
 use crate::context::Context;
-use crate::fault::{CheckError, Fault, Source, Stop, error_in};
+use crate::fault::{CheckError, CheckFault, CheckStop, Source, error_in};
 use crate::initial::{Initial, initial_of, no_parameters};
 use crate::metric::check_metric_name;
 use crate::schemas::schemas_of;
@@ -20,8 +20,8 @@ use hd_forms::NameAt;
 use hd_lifted::{Checked, Condition, Hierarchy, LiftedTask, Object, Schema, Signature};
 use hd_metric::{BadMetric, misused_in_domain, misused_in_problem};
 use hd_names::{
-    NameStop, Names, Scope, hierarchy_of, number_of_type, numbers_of_types, scope_of, types_of,
-    with_objects,
+    NameStop, NumberedNames, Scope, hierarchy_of, number_of_type, numbers_of_types, scope_of,
+    types_of, with_objects,
 };
 use hd_pddl::{DomainAst, ProblemAst};
 use hd_terms::Typed;
@@ -30,7 +30,7 @@ use std::alloc::{AllocError, Global};
 /// The names of a domain's types, and which is below which.
 #[derive(Debug, Drop)]
 pub struct TypesPart {
-    pub names: Names,
+    pub names: NumberedNames,
     pub hierarchy: Hierarchy,
 }
 
@@ -58,7 +58,7 @@ pub struct ProblemPart {
 
 /// What a domain's actions and a problem's part stand for.
 #[derive(Debug, Drop)]
-pub struct Parts {
+pub struct CheckedParts {
     pub schemas: Sequence<Schema>,
     pub problem: ProblemPart,
 }
@@ -72,7 +72,7 @@ pub struct Declared {
 }
 
 /// Returns what a part answers, told of its text.
-fn of_text<T>(source: Source, answer: Result<T, Stop>) -> Result<T, CheckError>
+fn of_text<T>(source: Source, answer: Result<T, CheckStop>) -> Result<T, CheckError>
     ensures { result ≡ of_text source answer }
 {
     match answer {
@@ -87,7 +87,7 @@ fn names_in<T>(source: Source, answer: Result<T, NameStop>) -> Result<T, CheckEr
 {
     match answer {
         Ok(value) => Ok(value),
-        Err(stop) => Err(error_in(source, Stop::from(stop))),
+        Err(stop) => Err(error_in(source, CheckStop::from(stop))),
     }
 }
 
@@ -98,14 +98,14 @@ fn check_domain_name(domain: &DomainAst, problem: &ProblemAst) -> Result<(), Che
     if problem.domain.name == domain.name.name {
         Ok(())
     } else {
-        let fault = Fault::DomainMismatch(problem.domain.at);
+        let fault = CheckFault::DomainMismatch(problem.domain.at);
         Err(CheckError::In(Source::Problem, fault))
     }
 }
 
 /// Returns the names of a domain's types: `object`, those in `listed`, and their supertypes.
 #[tactic(auto, using(crate::proofs::Telling::told_names))]
-fn type_names(alloc: Global, seed: Seed, listed: &[Typed]) -> Result<Names, CheckError>
+fn type_names(alloc: Global, seed: Seed, listed: &[Typed]) -> Result<NumberedNames, CheckError>
     ensures { ChecksNames result listed.now }
 {
     names_in(Source::Domain, types_of(alloc, seed, listed))
@@ -113,7 +113,11 @@ fn type_names(alloc: Global, seed: Seed, listed: &[Typed]) -> Result<Names, Chec
 
 /// Returns the hierarchy of the types of `names`, by the supertypes in `listed`.
 #[tactic(auto, using(crate::proofs::Telling::told_cycle))]
-fn hierarchy_in(alloc: Global, names: &Names, listed: &[Typed]) -> Result<Hierarchy, CheckError>
+fn hierarchy_in(
+    alloc: Global,
+    names: &NumberedNames,
+    listed: &[Typed],
+) -> Result<Hierarchy, CheckError>
     requires { names.now ≡ type_names listed.now }
     ensures { ClimbsIn result listed.now }
 {
@@ -168,7 +172,7 @@ fn domain_in(alloc: Global, scope: Scope, domain: &DomainAst) -> Result<DomainPa
 }
 
 /// Returns what a problem's goal stands for in this scope, where the metric's function is declared.
-fn goal_in(alloc: Global, scope: &Scope, problem: &ProblemAst) -> Result<Condition, Stop>
+fn goal_in(alloc: Global, scope: &Scope, problem: &ProblemAst) -> Result<Condition, CheckStop>
     ensures { LiftsIn result goal_fault goal_in scope.now problem.now }
 {
     let none = no_parameters(alloc, scope);
@@ -190,7 +194,7 @@ fn goal_in(alloc: Global, scope: &Scope, problem: &ProblemAst) -> Result<Conditi
 
 /// Returns what a problem's initial state and goal stand for in this scope, which has its objects.
 #[tactic(auto, unfolding(crate::specs::Whole::fault_in_problem))]
-fn ends_in(alloc: Global, scope: &Scope, problem: &ProblemAst) -> Result<Ends, Stop>
+fn ends_in(alloc: Global, scope: &Scope, problem: &ProblemAst) -> Result<Ends, CheckStop>
     ensures { LiftsIn result fault_in_problem ends_in scope.now problem.now }
 {
     let initial = initial_of(alloc, scope, problem.init.as_slice())?;
@@ -205,7 +209,7 @@ fn ends_in(alloc: Global, scope: &Scope, problem: &ProblemAst) -> Result<Ends, S
 
 /// Returns what a problem's part stands for in this scope, which has its objects.
 #[tactic(auto, unfolding(crate::specs::Whole::problem_in))]
-fn problem_in(alloc: Global, scope: Scope, problem: &ProblemAst) -> Result<ProblemPart, Stop>
+fn problem_in(alloc: Global, scope: Scope, problem: &ProblemAst) -> Result<ProblemPart, CheckStop>
     ensures { LiftsIn result fault_in_problem problem_in scope problem.now }
 {
     match ends_in(alloc, &scope, problem) {
@@ -219,7 +223,11 @@ fn problem_in(alloc: Global, scope: Scope, problem: &ProblemAst) -> Result<Probl
 
 /// Returns what a problem's part stands for, by the scope of its domain.
 #[tactic(auto, unfolding(crate::specs::Whole::lifted_problem, crate::specs::Whole::problem_fault), using(crate::proofs::Telling::stops_first))]
-fn lifted_problem(alloc: Global, scope: Scope, problem: &ProblemAst) -> Result<ProblemPart, Stop>
+fn lifted_problem(
+    alloc: Global,
+    scope: Scope,
+    problem: &ProblemAst,
+) -> Result<ProblemPart, CheckStop>
     ensures { LiftsIn result problem_fault lifted_problem scope problem.now }
 {
     let scope = with_objects(alloc, scope, problem.objects.as_slice())?;
@@ -229,12 +237,16 @@ fn lifted_problem(alloc: Global, scope: Scope, problem: &ProblemAst) -> Result<P
 /// Returns what a domain's actions and a problem's part stand for, where the domain's part stands
 /// for this.
 #[tactic(auto, using(crate::proofs::Telling::told_of))]
-fn parts_in(alloc: Global, first: DomainPart, problem: &ProblemAst) -> Result<Parts, CheckError>
+fn parts_in(
+    alloc: Global,
+    first: DomainPart,
+    problem: &ProblemAst,
+) -> Result<CheckedParts, CheckError>
     ensures { ChecksProblem result first problem.now }
 {
     let DomainPart { scope, schemas } = first;
     match of_text(Source::Problem, lifted_problem(alloc, scope, problem)) {
-        Ok(problem) => Ok(Parts { schemas, problem }),
+        Ok(problem) => Ok(CheckedParts { schemas, problem }),
         Err(error) => {
             drop(schemas);
             Err(error)
@@ -247,7 +259,7 @@ fn check_use(source: Source, misuse: Option<BadMetric>) -> Result<(), CheckError
     ensures { Checks TellsOf result (in_text source (metric_use_fault misuse)) tt }
 {
     match misuse {
-        Some(misuse) => Err(CheckError::In(source, Fault::OfMetric(misuse))),
+        Some(misuse) => Err(CheckError::In(source, CheckFault::OfMetric(misuse))),
         None => Ok(()),
     }
 }
@@ -255,7 +267,7 @@ fn check_use(source: Source, misuse: Option<BadMetric>) -> Result<(), CheckError
 /// Returns the objects that are declared, after others.
 fn objects_of(
     alloc: Global,
-    types: &Names,
+    types: &NumberedNames,
     mut found: Vec<Object>,
     declared: &[Typed],
 ) -> Result<Vec<Object>, AllocError>
@@ -272,7 +284,7 @@ fn objects_of(
 /// Returns the predicates, or the functions, that are declared.
 fn signatures_in(
     alloc: Global,
-    types: &Names,
+    types: &NumberedNames,
     declared: &[hd_pddl::Signature],
 ) -> Result<Sequence<Signature>, AllocError>
     ensures { IfOk result (λ s. s ≡ lifted_signatures types.now declared.now) }
@@ -289,7 +301,7 @@ fn signatures_in(
 /// Returns the constants and the objects that are declared.
 fn objects_in(
     alloc: Global,
-    types: &Names,
+    types: &NumberedNames,
     domain: &DomainAst,
     problem: &ProblemAst,
 ) -> Result<Sequence<Object>, AllocError>
@@ -303,7 +315,7 @@ fn objects_in(
 /// Returns what both texts declare, the types and actions aside.
 fn declared_in(
     alloc: Global,
-    types: &Names,
+    types: &NumberedNames,
     domain: &DomainAst,
     problem: &ProblemAst,
 ) -> Result<Declared, AllocError>
@@ -355,7 +367,7 @@ fn task_of(
     alloc: Global,
     domain: &DomainAst,
     problem: &ProblemAst,
-    parts: Parts,
+    parts: CheckedParts,
 ) -> Result<LiftedTask, AllocError>
     ensures { IfOk result (λ task. task ≡ task_of domain.now problem.now parts) }
 {
@@ -381,7 +393,7 @@ fn check_uses(domain: &DomainAst, problem: &ProblemAst) -> Result<(), CheckError
 /// Returns the lifted task of these parts, where the metric's function is used as it may be.
 fn task_by_uses(
     alloc: Global,
-    parts: Parts,
+    parts: CheckedParts,
     domain: &DomainAst,
     problem: &ProblemAst,
 ) -> Result<LiftedTask, CheckError>

@@ -5,7 +5,7 @@ ghost use Rattle.hd_check.specs.Conditions.{LiftsLiteral, LiftsEquality, Gathers
 
 use crate::context::Context;
 use crate::expressions::resolve_expression;
-use crate::fault::Stop;
+use crate::fault::CheckStop;
 use crate::terms::{resolve_applied, term_of};
 use hd_base::Sequence;
 use hd_lifted::{Comparison, Condition, Equality, Literal};
@@ -18,7 +18,7 @@ fn literal_of(
     context: Context<'_>,
     positive: bool,
     atom: &Atom,
-) -> Result<Literal, Stop>
+) -> Result<Literal, CheckStop>
     ensures { LiftsLiteral result context.entry positive atom.now }
 {
     let atom = resolve_applied(alloc, &context.scope.predicates, context, atom)?;
@@ -32,7 +32,7 @@ fn equality_of(
     positive: bool,
     left: &Term,
     right: &Term,
-) -> Result<Equality, Stop>
+) -> Result<Equality, CheckStop>
     ensures { LiftsEquality result context.entry positive left.now right.now }
 {
     let left = term_of(alloc, context, left)?;
@@ -49,7 +49,7 @@ fn comparison_of(
     alloc: Global,
     context: Context<'_>,
     said: &hd_terms::Comparison,
-) -> Result<Comparison, Stop>
+) -> Result<Comparison, CheckStop>
     ensures { Lifts result comparison_fault lifted_comparison context.entry said.now }
 {
     let left = resolve_expression(alloc, context, &said.left)?;
@@ -63,20 +63,20 @@ fn comparison_of(
 
 /// What was found of a condition, by its kinds.
 #[derive(Drop)]
-struct Found {
+struct FoundConditions {
     literals: Vec<Literal>,
     equalities: Vec<Equality>,
     comparisons: Vec<Comparison>,
 }
 
-impl Found {
+impl FoundConditions {
     /// Adds what a part stands for.
     fn add(
         &mut self,
         alloc: Global,
         context: Context<'_>,
         part: &hd_terms::Condition,
-    ) -> Result<(), Stop>
+    ) -> Result<(), CheckStop>
         ensures literals { GathersLiterals result self.old self.new context.entry part.now }
         ensures equalities { GathersEqualities result self.old self.new context.entry part.now }
         ensures comparisons { GathersComparisons result self.old self.new context.entry part.now }
@@ -109,10 +109,10 @@ pub fn condition_of(
     alloc: Global,
     context: Context<'_>,
     parts: &[hd_terms::Condition],
-) -> Result<Condition, Stop>
+) -> Result<Condition, CheckStop>
     ensures { Lifts result condition_fault lifted_condition context.entry parts.now }
 {
-    let mut found = Found {
+    let mut found = FoundConditions {
         literals: Vec::new(alloc),
         equalities: Vec::new(alloc),
         comparisons: Vec::new(alloc),

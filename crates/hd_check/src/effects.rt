@@ -6,18 +6,18 @@ ghost use Rattle.hd_check.specs.Effects.{GathersDeletes, GathersAdds, GathersCha
 
 use crate::context::Context;
 use crate::expressions::resolve_expression;
-use crate::fault::Stop;
+use crate::fault::CheckStop;
 use crate::terms::resolve_applied;
 use hd_base::{Boxed, Sequence};
-use hd_lifted::{Applied, Change, NumericEffect};
+use hd_lifted::{AppliedSymbol, ChangeKind, NumericEffect};
 use hd_terms::{Effect, FluentChange};
 use std::alloc::Global;
 
 /// What an action does, by its kinds: each list is in the text's order.
 #[derive(Debug, Drop)]
 pub struct Effects {
-    pub deletes: Sequence<Applied>,
-    pub adds: Sequence<Applied>,
+    pub deletes: Sequence<AppliedSymbol>,
+    pub adds: Sequence<AppliedSymbol>,
     pub changes: Sequence<NumericEffect>,
 }
 
@@ -32,15 +32,15 @@ pub fn is_metric(metric: Option<usize>, function: usize) -> bool
 }
 
 /// Returns how a change changes its fluent, which may be the metric's.
-fn change_of(cost: bool, change: hd_forms::Change) -> Change
+fn change_of(cost: bool, change: hd_forms::ChangeWord) -> ChangeKind
     ensures { result ≡ lifted_change cost change }
 {
     match change {
-        hd_forms::Change::Assign => Change::Assign,
-        hd_forms::Change::ScaleUp => Change::ScaleUp,
-        hd_forms::Change::Increase if cost => Change::Cost,
-        hd_forms::Change::Increase => Change::Increase,
-        hd_forms::Change::Decrease => Change::Decrease,
+        hd_forms::ChangeWord::Assign => ChangeKind::Assign,
+        hd_forms::ChangeWord::ScaleUp => ChangeKind::ScaleUp,
+        hd_forms::ChangeWord::Increase if cost => ChangeKind::Cost,
+        hd_forms::ChangeWord::Increase => ChangeKind::Increase,
+        hd_forms::ChangeWord::Decrease => ChangeKind::Decrease,
     }
 }
 
@@ -49,7 +49,7 @@ fn effect_of(
     alloc: Global,
     context: Context<'_>,
     said: &Boxed<FluentChange>,
-) -> Result<NumericEffect, Stop>
+) -> Result<NumericEffect, CheckStop>
     ensures { Lifts result change_fault lifted_effect context.entry said.now }
 {
     let said = said.get();
@@ -65,15 +65,15 @@ fn effect_of(
 
 /// What was found of an effect, by its kinds.
 #[derive(Drop)]
-struct Found {
-    deletes: Vec<Applied>,
-    adds: Vec<Applied>,
+struct FoundEffects {
+    deletes: Vec<AppliedSymbol>,
+    adds: Vec<AppliedSymbol>,
     changes: Vec<NumericEffect>,
 }
 
-impl Found {
+impl FoundEffects {
     /// Adds what a part stands for.
-    fn add(&mut self, alloc: Global, context: Context<'_>, part: &Effect) -> Result<(), Stop>
+    fn add(&mut self, alloc: Global, context: Context<'_>, part: &Effect) -> Result<(), CheckStop>
         ensures deletes { GathersDeletes result self.old self.new context.entry part.now }
         ensures adds { GathersAdds result self.old self.new context.entry part.now }
         ensures changes { GathersChanges result self.old self.new context.entry part.now }
@@ -99,10 +99,14 @@ impl Found {
 }
 
 /// Returns what an effect stands for.
-pub fn effects_of(alloc: Global, context: Context<'_>, parts: &[Effect]) -> Result<Effects, Stop>
+pub fn effects_of(
+    alloc: Global,
+    context: Context<'_>,
+    parts: &[Effect],
+) -> Result<Effects, CheckStop>
     ensures { Lifts result effects_fault lifted_effects context.entry parts.now }
 {
-    let mut found = Found {
+    let mut found = FoundEffects {
         deletes: Vec::new(alloc),
         adds: Vec::new(alloc),
         changes: Vec::new(alloc),

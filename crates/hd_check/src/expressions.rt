@@ -3,7 +3,7 @@ ghost use Rattle.hd_check.specs.Lifting.{Lifts};
 ghost use Rattle.hd_check.specs.Terms.{expression_fault, lifted_expression};
 
 use crate::context::Context;
-use crate::fault::Stop;
+use crate::fault::CheckStop;
 use crate::terms::resolve_applied;
 use hd_lifted::{Boxed, Expr, Operand};
 use hd_terms::{ExprParts, Leaf};
@@ -14,7 +14,7 @@ pub fn resolve_expression(
     alloc: Global,
     context: Context<'_>,
     said: &hd_terms::Expr,
-) -> Result<Expr, Stop>
+) -> Result<Expr, CheckStop>
     ensures { Lifts result expression_fault lifted_expression context.entry said.now }
 {
     match said.parts() {

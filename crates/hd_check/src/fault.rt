@@ -2,7 +2,7 @@
 ghost use Rattle.std.specs.Prelude.{◌≡◌, Some};
 ghost use Rattle.hd_check.specs.Fault.{text_of, error_text, source_text, of_names, error_in};
 ghost use Rattle.hd_check.specs.declared.fault.CheckError.TheVariants as errors;
-ghost use Rattle.hd_check.specs.declared.fault.Stop.TheVariants as stops;
+ghost use Rattle.hd_check.specs.declared.fault.CheckStop.TheVariants as stops;
 
 use hd_base::Name;
 use hd_metric::BadMetric;
@@ -22,7 +22,7 @@ pub enum Source {
 
 /// A fault of a text, with the place of its first byte there, counted from 0.
 #[derive(Debug, PartialEq, Eq, Drop)]
-pub enum Fault {
+pub enum CheckFault {
     /// A name that is not declared or is declared twice, or a type on a cycle.
     OfName(NameFault),
     /// A predicate or a function with more or fewer arguments than it has parameters.
@@ -40,9 +40,9 @@ pub enum Fault {
 
 /// Why a part could not be checked to its end.
 #[derive(Debug, PartialEq, Eq, Drop)]
-pub enum Stop {
+pub enum CheckStop {
     /// The first fault.
-    At(Fault),
+    At(CheckFault),
     /// Memory ran out.
     NoMemory,
 }
@@ -51,7 +51,7 @@ pub enum Stop {
 #[derive(Debug, PartialEq, Eq, Drop, Error)]
 pub enum CheckError {
     /// A text is at fault.
-    In(Source, Fault),
+    In(Source, CheckFault),
     /// Memory ran out; the texts are not to blame.
     NoMemory,
 }
@@ -67,17 +67,17 @@ impl fmt::Display for Source {
     }
 }
 
-impl fmt::Display for Fault {
+impl fmt::Display for CheckFault {
     ghost output = { λ fault. Some (text_of fault) };
 
     fn fmt<W: fmt::Write>(&self, f: &mut fmt::Formatter<W>) -> fmt::Result {
         match self {
-            Fault::OfName(fault) => write!(f, "{fault}"),
-            Fault::WrongArity(name, at) => write!(f, "10 WrongArity({name}, {at})"),
-            Fault::WrongType(name, at) => write!(f, "11 WrongType({name}, {at})"),
-            Fault::OfMetric(fault) => write!(f, "{fault}"),
-            Fault::DomainMismatch(at) => write!(f, "14 DomainMismatch({at})"),
-            Fault::InitOutOfRange(at) => write!(f, "18 InitOutOfRange({at})"),
+            CheckFault::OfName(fault) => write!(f, "{fault}"),
+            CheckFault::WrongArity(name, at) => write!(f, "10 WrongArity({name}, {at})"),
+            CheckFault::WrongType(name, at) => write!(f, "11 WrongType({name}, {at})"),
+            CheckFault::OfMetric(fault) => write!(f, "{fault}"),
+            CheckFault::DomainMismatch(at) => write!(f, "14 DomainMismatch({at})"),
+            CheckFault::InitOutOfRange(at) => write!(f, "18 InitOutOfRange({at})"),
         }
     }
 }
@@ -93,30 +93,30 @@ impl fmt::Display for CheckError {
     }
 }
 
-impl From<NameStop> for Stop {
+impl From<NameStop> for CheckStop {
     ghost from_gives = { λ told stop. stop ≡ of_names told };
 
-    fn from(told: NameStop) -> Stop {
+    fn from(told: NameStop) -> CheckStop {
         match told {
-            NameStop::At(fault) => Stop::At(Fault::OfName(fault)),
-            NameStop::NoMemory => Stop::NoMemory,
+            NameStop::At(fault) => CheckStop::At(CheckFault::OfName(fault)),
+            NameStop::NoMemory => CheckStop::NoMemory,
         }
     }
 }
 
-impl From<AllocError> for Stop {
+impl From<AllocError> for CheckStop {
     ghost from_gives = { λ _ stop. stop ≡ stops.NoMemory };
 
-    fn from(_error: AllocError) -> Stop {
-        Stop::NoMemory
+    fn from(_error: AllocError) -> CheckStop {
+        CheckStop::NoMemory
     }
 }
 
-impl<T: Drop> From<AllocFailed<T>> for Stop {
+impl<T: Drop> From<AllocFailed<T>> for CheckStop {
     ghost from_gives = { λ _ stop. stop ≡ stops.NoMemory };
 
-    fn from(_error: AllocFailed<T>) -> Stop {
-        Stop::NoMemory
+    fn from(_error: AllocFailed<T>) -> CheckStop {
+        CheckStop::NoMemory
     }
 }
 
@@ -137,11 +137,11 @@ impl<T: Drop> From<AllocFailed<T>> for CheckError {
 }
 
 /// Returns what stopped the check of this text.
-pub fn error_in(source: Source, stop: Stop) -> CheckError
+pub fn error_in(source: Source, stop: CheckStop) -> CheckError
     ensures { result ≡ error_in source stop }
 {
     match stop {
-        Stop::At(fault) => CheckError::In(source, fault),
-        Stop::NoMemory => CheckError::NoMemory,
+        CheckStop::At(fault) => CheckError::In(source, fault),
+        CheckStop::NoMemory => CheckError::NoMemory,
     }
 }

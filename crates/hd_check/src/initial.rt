@@ -7,11 +7,11 @@ ghost use Rattle.hd_check.specs.Initial.{LiftsGround, Notes, LiftsFluent, NotesF
 
 use crate::context::Context;
 use crate::effects::is_metric;
-use crate::fault::{Fault, Stop};
+use crate::fault::{CheckFault, CheckStop};
 use crate::keys::Keys;
 use crate::terms::resolve_applied;
 use hd_base::{Sequence, Tuple, in_range};
-use hd_lifted::{Applied, Argument, Ground, InitialValue};
+use hd_lifted::{AppliedSymbol, Argument, Ground, InitialValue};
 use hd_names::{Scope, Table, duplicate};
 use hd_pddl::Init;
 use hd_terms::{Atom, ItemKind};
@@ -46,7 +46,7 @@ fn object_in(argument: Argument) -> usize
 }
 
 /// Returns an atom or a fluent of objects.
-fn ground_form(alloc: Global, applied: &Applied) -> Result<Ground, AllocError>
+fn ground_form(alloc: Global, applied: &AppliedSymbol) -> Result<Ground, AllocError>
     ensures { IfOk result (λ g. g ≡ ground_form applied.now) }
 {
     let mut objects = SmallVec::new(alloc);
@@ -65,7 +65,7 @@ fn ground_of(
     symbols: &Table<Sequence<usize>>,
     scope: &Scope,
     atom: &Atom,
-) -> Result<Ground, Stop>
+) -> Result<Ground, CheckStop>
     ensures { LiftsGround result symbols.now scope.now atom.now }
 {
     let parameters = no_parameters(alloc, scope);
@@ -79,25 +79,30 @@ fn ground_of(
 }
 
 /// Asks that a first value is in the range.
-fn check_range(value: &hd_pddl::InitialValue) -> Result<(), Stop>
+fn check_range(value: &hd_pddl::InitialValue) -> Result<(), CheckStop>
     ensures { Checks StopsAt result (range_fault value.now) tt }
 {
     if in_range(value.value) {
         Ok(())
     } else {
-        Err(Stop::At(Fault::InitOutOfRange(value.at)))
+        Err(CheckStop::At(CheckFault::InitOutOfRange(value.at)))
     }
 }
 
 /// Asks that a fluent has no value yet, and notes that it has one now.
 #[tactic(auto, using(crate::proofs::Telling::stops_part))]
-fn note_value(alloc: Global, given: &mut Keys, fluent: &Ground, said: &Atom) -> Result<(), Stop>
+fn note_value(
+    alloc: Global,
+    given: &mut Keys,
+    fluent: &Ground,
+    said: &Atom,
+) -> Result<(), CheckStop>
     ensures { Notes result given.old given.new fluent.now said.now }
 {
     if given.add(alloc, fluent)? {
         Ok(())
     } else {
-        Err(Stop::from(duplicate(alloc, ItemKind::Name, &said.name)))
+        Err(CheckStop::from(duplicate(alloc, ItemKind::Name, &said.name)))
     }
 }
 
@@ -107,7 +112,7 @@ fn fluent_of(
     scope: &Scope,
     given: &mut Keys,
     value: &hd_pddl::InitialValue,
-) -> Result<Ground, Stop>
+) -> Result<Ground, CheckStop>
     ensures fluent { LiftsFluent result given.old scope.now value.now }
     ensures given { NotesFluent result given.old given.new scope.now value.now }
 {
@@ -125,7 +130,7 @@ fn add_value(
     given: &mut Keys,
     found: &mut Vec<InitialValue>,
     said: &hd_pddl::InitialValue,
-) -> Result<(), Stop>
+) -> Result<(), CheckStop>
     ensures given { NotesFluent result given.old given.new scope.now said.now }
     ensures found { Gathers result found.old.items found.new.items given.old scope.now said.now }
 {
@@ -141,15 +146,15 @@ fn add_value(
 
 /// What was found of what holds at first, and the fluents that have a value.
 #[derive(Drop)]
-struct Found {
+struct FoundInitial {
     given: Keys,
     atoms: Vec<Ground>,
     values: Vec<InitialValue>,
 }
 
-impl Found {
+impl FoundInitial {
     /// Adds an atom, or a first value.
-    fn add(&mut self, alloc: Global, scope: &Scope, said: &Init) -> Result<(), Stop>
+    fn add(&mut self, alloc: Global, scope: &Scope, said: &Init) -> Result<(), CheckStop>
         ensures given { NotesSaid result self.old self.new scope.now said.now }
         ensures atoms { GathersAtoms result self.old self.new scope.now said.now }
         ensures values { GathersValues result self.old self.new scope.now said.now }
@@ -171,10 +176,10 @@ impl Found {
 }
 
 /// Returns what holds at first.
-pub fn initial_of(alloc: Global, scope: &Scope, init: &[Init]) -> Result<Initial, Stop>
+pub fn initial_of(alloc: Global, scope: &Scope, init: &[Init]) -> Result<Initial, CheckStop>
     ensures { LiftsInitial result scope.now init.now }
 {
-    let mut found = Found {
+    let mut found = FoundInitial {
         given: Keys::none(alloc, scope.types.seed()),
         atoms: Vec::new(alloc),
         values: Vec::new(alloc),
@@ -187,7 +192,7 @@ pub fn initial_of(alloc: Global, scope: &Scope, init: &[Init]) -> Result<Initial
         }
         rest = after;
     }
-    let Found {
+    let FoundInitial {
         given,
         atoms,
         values,

@@ -12,12 +12,12 @@ use std::alloc::{AllocError, Global};
 use std::marker::Model;
 
 /// A function, and then its objects, by number.
-type Key = SmallVec<usize, 4>;
+type FluentKey = SmallVec<usize, 4>;
 
 /// Fluents, each once, in the order in which they were added. Contracts see the list of their keys.
 #[derive(Debug, Drop)]
 pub struct Keys {
-    keys: IndexSet<Key, Seed>,
+    keys: IndexSet<FluentKey, Seed>,
 }
 
 impl Model for Keys {
@@ -49,7 +49,7 @@ impl Keys {
 }
 
 /// Returns a function, and then its objects.
-fn key_of(alloc: Global, fluent: &Ground) -> Result<Key, AllocError>
+fn key_of(alloc: Global, fluent: &Ground) -> Result<FluentKey, AllocError>
     ensures { IfOk result (λ key. key.items ≡ key_of fluent.now) }
 {
     let mut key = SmallVec::new(alloc);

@@ -25,5 +25,5 @@ mod schemas;
 mod terms;
 
 pub use checking::check;
-pub use fault::{CheckError, Fault, Source};
+pub use fault::{CheckError, CheckFault, Source};
 pub use hd_lifted::Checked;

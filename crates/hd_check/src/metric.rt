@@ -3,7 +3,7 @@ ghost use Rattle.hd_base.specs.Answers.{Checks};
 ghost use Rattle.hd_check.specs.Fault.{StopsAt};
 ghost use Rattle.hd_check.specs.MetricName.{metric_name_fault};
 
-use crate::fault::Stop;
+use crate::fault::CheckStop;
 use crate::terms::{parameters_at, wrong_arity};
 use hd_base::Sequence;
 use hd_forms::NameAt;
@@ -17,7 +17,7 @@ pub fn check_metric_name(
     alloc: Global,
     functions: &Table<Sequence<usize>>,
     metric: &Option<NameAt>,
-) -> Result<(), Stop>
+) -> Result<(), CheckStop>
     ensures { Checks StopsAt result (metric_name_fault functions.now metric.now) tt }
 {
     let Some(name) = metric else {

@@ -6,7 +6,7 @@ ghost use Rattle.hd_check.specs.Schemas.{body_fault, body_of, schema_by, action_
 use crate::conditions::condition_of;
 use crate::context::Context;
 use crate::effects::{Effects, effects_of};
-use crate::fault::Stop;
+use crate::fault::CheckStop;
 use hd_base::{Name, Sequence};
 use hd_lifted::{Condition, Schema};
 use hd_names::{Scope, Table, declare, table_of};
@@ -23,7 +23,7 @@ pub struct Body {
 
 /// Returns what an action's precondition and effect stand for.
 #[tactic(auto, unfolding(crate::specs::Schemas::body_fault))]
-fn body_of(alloc: Global, context: Context<'_>, action: &Action) -> Result<Body, Stop>
+fn body_of(alloc: Global, context: Context<'_>, action: &Action) -> Result<Body, CheckStop>
     ensures { Lifts result body_fault body_of context.entry action.now }
 {
     let condition = condition_of(alloc, context, action.precondition.as_slice())?;
@@ -76,7 +76,7 @@ fn schema_with(
     scope: &Scope,
     parameters: Table<usize>,
     action: &Action,
-) -> Result<Schema, Stop>
+) -> Result<Schema, CheckStop>
     ensures { LiftsBody result scope.now parameters action.now }
 {
     let context = Context {
@@ -94,7 +94,7 @@ fn schema_with(
 
 /// Returns what an action stands for.
 #[tactic(auto, unfolding(crate::specs::Schemas::lifted_schema, crate::specs::Schemas::action_fault), using(crate::proofs::Telling::stops_first))]
-fn schema_of(alloc: Global, scope: &Scope, action: &Action) -> Result<Schema, Stop>
+fn schema_of(alloc: Global, scope: &Scope, action: &Action) -> Result<Schema, CheckStop>
     ensures { LiftsIn result action_fault lifted_schema scope.now action.now }
 {
     let declared = action.parameters.as_slice();
@@ -108,7 +108,7 @@ pub fn schemas_of(
     alloc: Global,
     scope: &Scope,
     actions: &[Action],
-) -> Result<Sequence<Schema>, Stop>
+) -> Result<Sequence<Schema>, CheckStop>
     ensures { LiftsActions result scope.now actions.now }
 {
     let mut names = scope.types.none_alike(alloc);

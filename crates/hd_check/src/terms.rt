@@ -3,20 +3,20 @@ ghost use Rattle.std.specs.Prelude.{◌≡◌, Some, length};
 ghost use Rattle.hd_check.specs.Fault.{StopsAt};
 ghost use Rattle.hd_check.specs.Lifting.{Lifts, within};
 ghost use Rattle.hd_check.specs.Terms.{lifted_term, term_fault, type_at, wrong_type, parameters_at, LiftsArgument, LiftsArguments, LiftsApplied};
-ghost use Rattle.hd_check.specs.declared.fault.Fault.TheVariants.{WrongArity};
+ghost use Rattle.hd_check.specs.declared.fault.CheckFault.TheVariants.{WrongArity};
 
 use crate::context::Context;
-use crate::fault::{Fault, Stop};
+use crate::fault::{CheckFault, CheckStop};
 use hd_base::Sequence;
 use hd_forms::NameAt;
-use hd_lifted::{Applied, Argument};
+use hd_lifted::{AppliedSymbol, Argument};
 use hd_names::{Table, known, spelled};
 use hd_terms::{Atom, ItemKind, Term};
 use std::alloc::Global;
 
 /// Returns what a term stands for.
 #[tactic(auto, using(crate::proofs::Telling::stops_part))]
-pub fn term_of(alloc: Global, context: Context<'_>, term: &Term) -> Result<Argument, Stop>
+pub fn term_of(alloc: Global, context: Context<'_>, term: &Term) -> Result<Argument, CheckStop>
     ensures { Lifts result term_fault lifted_term context.entry term.now }
 {
     match term {
@@ -48,7 +48,7 @@ fn type_at(context: Context<'_>, argument: Argument) -> usize
 }
 
 /// Reports that a term's type is none of those that are wanted.
-fn wrong_type(alloc: Global, term: &Term) -> Stop
+fn wrong_type(alloc: Global, term: &Term) -> CheckStop
     ensures { StopsAt result (Some (wrong_type term.now)) }
 {
     let (kind, name) = match term {
@@ -56,8 +56,8 @@ fn wrong_type(alloc: Global, term: &Term) -> Stop
         Term::Variable(name) => (ItemKind::Variable, name),
     };
     match spelled(alloc, kind, &name.name) {
-        Ok(spelling) => Stop::At(Fault::WrongType(spelling, name.at)),
-        Err(_) => Stop::NoMemory,
+        Ok(spelling) => CheckStop::At(CheckFault::WrongType(spelling, name.at)),
+        Err(_) => CheckStop::NoMemory,
     }
 }
 
@@ -67,7 +67,7 @@ fn argument_of(
     context: Context<'_>,
     term: &Term,
     wanted: usize,
-) -> Result<Argument, Stop>
+) -> Result<Argument, CheckStop>
     ensures { LiftsArgument result context.entry term.now wanted }
 {
     let argument = term_of(alloc, context, term)?;
@@ -85,7 +85,7 @@ fn arguments_of(
     context: Context<'_>,
     terms: &[Term],
     wanted: &[usize],
-) -> Result<Sequence<Argument>, Stop>
+) -> Result<Sequence<Argument>, CheckStop>
     requires { length terms.now ≡ length wanted.now }
     ensures { LiftsArguments result context.entry terms.now wanted.now }
 {
@@ -112,12 +112,12 @@ pub fn parameters_at(symbols: &Table<Sequence<usize>>, number: usize) -> &[usize
 }
 
 /// Reports that an atom has more or fewer arguments than its name has parameters.
-pub fn wrong_arity(alloc: Global, name: &NameAt) -> Stop
+pub fn wrong_arity(alloc: Global, name: &NameAt) -> CheckStop
     ensures { StopsAt result (Some (WrongArity name.now.name name.now.at)) }
 {
     match spelled(alloc, ItemKind::Name, &name.name) {
-        Ok(spelling) => Stop::At(Fault::WrongArity(spelling, name.at)),
-        Err(_) => Stop::NoMemory,
+        Ok(spelling) => CheckStop::At(CheckFault::WrongArity(spelling, name.at)),
+        Err(_) => CheckStop::NoMemory,
     }
 }
 
@@ -128,7 +128,7 @@ pub fn resolve_applied(
     symbols: &Table<Sequence<usize>>,
     context: Context<'_>,
     atom: &Atom,
-) -> Result<Applied, Stop>
+) -> Result<AppliedSymbol, CheckStop>
     ensures { LiftsApplied result symbols.now context.entry atom.now }
 {
     let symbol = known(alloc, ItemKind::Name, &symbols.names, &atom.name)?;
@@ -138,5 +138,5 @@ pub fn resolve_applied(
     }
     let terms = atom.terms.as_slice();
     let arguments = arguments_of(alloc, context, terms, types)?;
-    Ok(Applied { symbol, arguments })
+    Ok(AppliedSymbol { symbol, arguments })
 }

@@ -10,7 +10,7 @@ ghost use Rattle.hd_closed.specs.Shut.{HasNumbered, AreNumbered, is_cheaper, no_
 
 use crate::notes::{Note, add, find};
 use crate::numbering::numbered;
-use crate::short::{Known, MAX_PLACES, Place};
+use crate::short::{Known, MAX_PLACES, ShortPlace};
 use hd_base::NoMemory;
 use hd_hmax::{EstimateValue, Hmax};
 use hd_node::{By, Hashed};
@@ -36,7 +36,7 @@ pub struct ClosedList<'t> {
     /// Of each state, what is known of it.
     notes: Vec<Note>,
     /// Of each bucket, the place of its last note.
-    heads: Vec<Place>,
+    heads: Vec<ShortPlace>,
     shuts: Vec<Shut>,
     /// All expansions before this place are entries.
     entered: usize,
@@ -285,7 +285,7 @@ impl<'t> ClosedList<'t> {
             },
         );
         if cheaper {
-            self.notes[place].least = Place::of(added);
+            self.notes[place].least = ShortPlace::of(added);
         }
     }
 

@@ -5,7 +5,7 @@ ghost use Rattle.hd_zobrist.specs.Hash.{state_hash};
 ghost use Rattle.hd_tables.specs.Rows.{IsOfRows};
 ghost use Rattle.hd_closed.specs.Notes.{note_of, bucket_at, head_at, AreAlike, AreNotesOf, AreChained, IsTable};
 
-use crate::short::{Known, MAX_PLACES, Place};
+use crate::short::{Known, MAX_PLACES, ShortPlace};
 use hd_base::NoMemory;
 use hd_node::Hashed;
 use hd_tables::Rows;
@@ -19,9 +19,9 @@ pub(crate) struct Note {
     /// The value of its estimate, once that is known, if it has at most 64 bits.
     pub(crate) value: Known,
     /// The place of its cheapest expansion in the closed list, if it has one.
-    pub(crate) least: Place,
+    pub(crate) least: ShortPlace,
     /// The place of the note before this one whose state is in the same bucket.
-    before: Place,
+    before: ShortPlace,
 }
 
 /// Returns the bucket of a hash, of so many, by the upper half of its bits. The lowest ones tell
@@ -37,7 +37,7 @@ fn bucket_of(hash: u64, buckets: usize) -> usize
 
 /// Returns the place that the bucket of a hash has.
 #[tactic(auto, using(crate::proofs::Chains::head_read))]
-fn head_of(heads: &[Place], hash: u64) -> Option<usize>
+fn head_of(heads: &[ShortPlace], hash: u64) -> Option<usize>
     requires { 0 < length heads.now }
     ensures { result ≡ head_at heads.now (bucket_at hash (length heads.now)) }
 {
@@ -47,7 +47,7 @@ fn head_of(heads: &[Place], hash: u64) -> Option<usize>
 
 /// Puts a place into the bucket of a hash, and gives the one that was there.
 #[tactic(auto, using(crate::proofs::Chains::head_read))]
-fn link(heads: &mut Vec<Place>, hash: u64, place: usize) -> Place
+fn link(heads: &mut Vec<ShortPlace>, hash: u64, place: usize) -> ShortPlace
     requires some { 0 < length heads.old.items }
     requires few { place < MAX_PLACES }
     ensures heads { heads.new.items
@@ -56,12 +56,12 @@ fn link(heads: &mut Vec<Place>, hash: u64, place: usize) -> Place
 {
     let bucket = bucket_of(hash, heads.len());
     let before = heads[bucket].copied();
-    heads[bucket] = Place::of(place);
+    heads[bucket] = ShortPlace::of(place);
     before
 }
 
 /// Chains notes again, by buckets that are empty.
-fn link_all(notes: &mut Vec<Note>, heads: &mut Vec<Place>)
+fn link_all(notes: &mut Vec<Note>, heads: &mut Vec<ShortPlace>)
     requires some { 0 < length heads.old.items }
     requires few { length notes.old.items ≤ MAX_PLACES }
     requires empty { (b : ℕ) → head_at heads.old.items b ≡ None }
@@ -81,13 +81,13 @@ fn link_all(notes: &mut Vec<Note>, heads: &mut Vec<Place>)
 ///
 /// # Errors
 /// - `NoMemory`: there is no room for them.
-fn buckets_of(alloc: Global, count: usize) -> Result<Vec<Place>, NoMemory>
+fn buckets_of(alloc: Global, count: usize) -> Result<Vec<ShortPlace>, NoMemory>
     ensures len { IfOk result (λ v. length v.items ≡ count) }
     ensures empty { IfOk result (λ v. (b : ℕ) → head_at v.items b ≡ None) }
 {
     let mut buckets = Vec::with_capacity(alloc, count)?;
     while buckets.len() < count {
-        buckets.push(Place::none())?;
+        buckets.push(ShortPlace::none())?;
     }
     Ok(buckets)
 }
@@ -101,7 +101,7 @@ fn cover(
     alloc: Global,
     rows: &Rows,
     notes: &mut Vec<Note>,
-    heads: &mut Vec<Place>,
+    heads: &mut Vec<ShortPlace>,
 ) -> Result<(), NoMemory>
     requires table { IsTable rows.now.states notes.old.items heads.old.items }
     requires few { length notes.old.items < MAX_PLACES }
@@ -131,7 +131,12 @@ fn stands(rows: &Rows, place: usize, noted: u64, state: &Hashed) -> bool
 }
 
 /// Returns the place of a state's note.
-pub(crate) fn find(rows: &Rows, notes: &[Note], heads: &[Place], state: &Hashed) -> Option<usize>
+pub(crate) fn find(
+    rows: &Rows,
+    notes: &[Note],
+    heads: &[ShortPlace],
+    state: &Hashed,
+) -> Option<usize>
     requires table { IsTable rows.now.states notes.now heads.now }
     requires of_rows { IsOfRows rows.now state.now }
     ensures found { IfSome result (λ k. slice_get rows.now.states k ≡ Some state.now) }
@@ -152,7 +157,7 @@ pub(crate) fn find(rows: &Rows, notes: &[Note], heads: &[Place], state: &Hashed)
 }
 
 /// Adds one note more, of a state of which nothing is known yet.
-fn push_note(notes: &mut Vec<Note>, heads: &mut Vec<Place>, hash: u64)
+fn push_note(notes: &mut Vec<Note>, heads: &mut Vec<ShortPlace>, hash: u64)
     requires room { vec_len notes.old < vec_capacity notes.old }
     requires few { length notes.old.items < MAX_PLACES }
     requires bucket { length notes.old.items < length heads.old.items }
@@ -165,7 +170,7 @@ fn push_note(notes: &mut Vec<Note>, heads: &mut Vec<Place>, hash: u64)
     let note = Note {
         hash,
         value: Known::none(),
-        least: Place::none(),
+        least: ShortPlace::none(),
         before,
     };
     match notes.push(note) {
@@ -183,7 +188,7 @@ pub(crate) fn add(
     alloc: Global,
     rows: &mut Rows,
     notes: &mut Vec<Note>,
-    heads: &mut Vec<Place>,
+    heads: &mut Vec<ShortPlace>,
     state: &Hashed,
 ) -> Result<(), NoMemory>
     requires table { IsTable rows.old.states notes.old.items heads.old.items }

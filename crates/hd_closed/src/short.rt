@@ -9,12 +9,12 @@ pub(crate) const MAX_PLACES: usize = 4_294_967_295;
 
 /// A place, or none, in 32 bits.
 #[derive(Debug, Drop)]
-pub(crate) struct Place {
+pub(crate) struct ShortPlace {
     /// 0 for none, else one more than the place.
     code: u32,
 }
 
-impl Model for Place {
+impl Model for ShortPlace {
     ghost use Rattle.std.specs.Prelude.{ℕ, Option};
     ghost use Rattle.hd_closed.specs.Short.{place_of_code};
 
@@ -23,29 +23,29 @@ impl Model for Place {
     ghost view = { λ p. place_of_code p.code };
 }
 
-impl Place {
+impl ShortPlace {
     /// Returns no place.
-    pub(crate) fn none() -> Place
+    pub(crate) fn none() -> ShortPlace
         ensures { result ≡ None }
     {
-        Place { code: 0 }
+        ShortPlace { code: 0 }
     }
 
     /// Returns a place.
-    pub(crate) fn of(place: usize) -> Place
+    pub(crate) fn of(place: usize) -> ShortPlace
         requires { place < MAX_PLACES }
         ensures { result ≡ Some place }
     {
-        Place {
+        ShortPlace {
             code: place as u32 + 1,
         }
     }
 
     /// Returns the same.
-    pub(crate) fn copied(&self) -> Place
+    pub(crate) fn copied(&self) -> ShortPlace
         ensures { result ≡ self.now }
     {
-        Place { code: self.code }
+        ShortPlace { code: self.code }
     }
 
     /// Returns the place, if it is one.

@@ -40,15 +40,15 @@ impl Play<(), Offers> for Offered {
 }
 
 /// One part goes to another seat, which has seen what this one has, and offered nothing.
-pub(crate) struct Part;
+pub(crate) struct BoundPart;
 
-impl Split<Offers> for Part {
+impl Split<Offers> for BoundPart {
     ghost left = { λ v. knows (v.parts - 1) v.seen v.offers };
 
     ghost right = { λ v. knows 1 v.seen [] };
 }
 
-impl Join<Offers> for Part {
+impl Join<Offers> for BoundPart {
     ghost both = { λ v w. knows (v.parts + w.parts) (min v.seen w.seen) (v.offers ++ w.offers) };
 
     ghost spent = { spent_seat };

@@ -7,7 +7,7 @@ ghost use Rattle.hd_desk.specs.Mail.{post};
 ghost use Rattle.hd_desk.specs.declared.rule.TheConstants.{ALL_PARTS};
 ghost use Rattle.hd_desk.specs.Hands.{AreLined, IsHand, name_of, post_of, changed_at, less_part, one_part, with_other, IsFor, AreShareable, HasAll, IsTallied, IsEvened, parts_of, added, joined, fresh_post, fresh_hands, put_into, taken_from, less_parts, one_parts, with_hands};
 
-use crate::rule::{Cleared, Named, Part, Post, Put, Queue, Sent, Taken};
+use crate::rule::{Cleared, MailPart, MailQueue, Named, Post, Put, Sent, Taken};
 use crossbeam_queue::Pass;
 use hd_base::NoMemory;
 use std::alloc::Global;
@@ -20,7 +20,7 @@ pub const MAILBOX_PLACES: usize = 1024;
 /// A mailbox for each worker.
 #[derive(Drop)]
 pub struct Mailboxes<K, T: Sent<K>> {
-    boxes: Vec<Queue<K, T>>,
+    boxes: Vec<MailQueue<K, T>>,
 }
 
 impl<K, T: Sent<K>> Model for Mailboxes<K, T> {
@@ -63,13 +63,13 @@ fn opened<K, T: Sent<K>, R: Wait>(
     rt: &R,
     alloc: Global,
     seed: T,
-) -> Result<(Queue<K, T>, Pass<T, Post<K, T>>, T), NoMemory>
+) -> Result<(MailQueue<K, T>, Pass<T, Post<K, T>>, T), NoMemory>
     ensures mailbox { IfOk result (λ r. r.1.table_id ≡ name_of r.0) }
     ensures home { IfOk result (λ r. r.1.me.1 ≡ []) }
     ensures post { IfOk result (λ r. view r.1 ≡ post ALL_PARTS (Some (T.of seed)) [] []) }
     ensures seed { IfOk result (λ r. T.of r.2 ≡ T.of seed) }
 {
-    let (queue, mut pass) = Queue::ruled(alloc, MAILBOX_PLACES)?;
+    let (queue, mut pass) = MailQueue::ruled(alloc, MAILBOX_PLACES)?;
     match queue.push_as::<Named, R>(rt, &mut pass, seed) {
         Ok(()) => match queue.pop_as::<Cleared, R>(rt, &mut pass) {
             Some(seed) => Ok((queue, pass, seed)),
@@ -81,7 +81,7 @@ fn opened<K, T: Sent<K>, R: Wait>(
 
 /// Splits a part off the pass of a mailbox, for another thread: a new pass with one part.
 fn split<K, T: Sent<K>>(
-    boxes: &Vec<Queue<K, T>>,
+    boxes: &Vec<MailQueue<K, T>>,
     passes: &mut Vec<Pass<T, Post<K, T>>>,
     number: usize,
 ) -> Pass<T, Post<K, T>>
@@ -97,12 +97,12 @@ fn split<K, T: Sent<K>>(
         → AllByRecursion (IsHand of) passes.new.items × IsHand of result }
 {
     let pass = &mut passes[number];
-    boxes[number].another::<Part>(pass)
+    boxes[number].another::<MailPart>(pass)
 }
 
 /// Takes another pass of the same mailbox into the pass of it.
 fn join<K, T: Sent<K>>(
-    boxes: &Vec<Queue<K, T>>,
+    boxes: &Vec<MailQueue<K, T>>,
     passes: &mut Vec<Pass<T, Post<K, T>>>,
     number: usize,
     other: Pass<T, Post<K, T>>,
@@ -118,7 +118,7 @@ fn join<K, T: Sent<K>>(
         → AllByRecursion (IsHand of) passes.new.items }
 {
     let pass = &mut passes[number];
-    boxes[number].absorb::<Part>(pass, other);
+    boxes[number].absorb::<MailPart>(pass, other);
 }
 
 /// Returns `count` empty mailboxes, and the passes that have all parts of them. `seed` reports what
@@ -128,7 +128,7 @@ fn open_all<K, T: Sent<K>, R: Wait>(
     alloc: Global,
     count: usize,
     seed: T,
-) -> Result<(Vec<Queue<K, T>>, Vec<Pass<T, Post<K, T>>>), NoMemory>
+) -> Result<(Vec<MailQueue<K, T>>, Vec<Pass<T, Post<K, T>>>), NoMemory>
     ensures count { IfOk result (λ r. length r.0.items ≡ count) }
     ensures posts { IfOk result (λ r. map post_of r.1.items
         ≡ map fresh_post (map name_of r.0.items)) }
@@ -148,7 +148,7 @@ fn open_all<K, T: Sent<K>, R: Wait>(
 
 /// Splits a part off each pass, for another thread; there is room for the new ones.
 fn split_all<K, T: Sent<K>>(
-    boxes: &Vec<Queue<K, T>>,
+    boxes: &Vec<MailQueue<K, T>>,
     passes: &mut Vec<Pass<T, Post<K, T>>>,
     new: &mut Vec<Pass<T, Post<K, T>>>,
 )
@@ -169,7 +169,7 @@ fn split_all<K, T: Sent<K>>(
 
 /// Takes other passes into those of the same mailboxes.
 fn join_all<K, T: Sent<K>>(
-    boxes: &Vec<Queue<K, T>>,
+    boxes: &Vec<MailQueue<K, T>>,
     passes: &mut Vec<Pass<T, Post<K, T>>>,
     others: Vec<Pass<T, Post<K, T>>>,
 )

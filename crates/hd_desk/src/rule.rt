@@ -79,19 +79,19 @@ impl<K, T: Sent<K>> Lesson<T, Post<K, T>> for Taken {
 }
 
 /// One part goes to another pass, which has put and taken nothing.
-pub(crate) struct Part;
+pub(crate) struct MailPart;
 
-impl<K, T: Sent<K>> Split<Post<K, T>> for Part {
+impl<K, T: Sent<K>> Split<Post<K, T>> for MailPart {
     ghost left = { λ v. post (v.parts - 1) v.of v.put v.taken };
 
     ghost right = { λ v. post 1 v.of [] [] };
 }
 
-impl<K, T: Sent<K>> Join<Post<K, T>> for Part {
+impl<K, T: Sent<K>> Join<Post<K, T>> for MailPart {
     ghost both = { λ v w. post (v.parts + w.parts) v.of (v.put ++ w.put) (v.taken ++ w.taken) };
 
     ghost spent = { spent_pass };
 }
 
 /// A mailbox as a queue under the rule.
-pub(crate) type Queue<K, T> = RuledArrayQueue<T, Post<K, T>, Fair, Global>;
+pub(crate) type MailQueue<K, T> = RuledArrayQueue<T, Post<K, T>, Fair, Global>;

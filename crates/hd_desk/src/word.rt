@@ -2,7 +2,7 @@
 ghost use Rattle.std.specs.Prelude.{◌≡◌, ◌+◌, ◌≤◌, ◌<◌, ◌++◌, [], ◌∷◌, IfOk};
 ghost use Rattle.hd_desk.specs.Bound.{bound_in, word_of, least, less_part, one_part};
 
-use crate::bound_rule::{Least, Loaded, NO_BOUND, Offered, Offers, Part};
+use crate::bound_rule::{BoundPart, Least, Loaded, NO_BOUND, Offered, Offers};
 use crate::rule::ALL_PARTS;
 use atomic_table::{Seat, Table};
 use hd_base::NoMemory;
@@ -118,7 +118,7 @@ impl BoundWord {
         ensures new { result ≡ one_part seat.old }
     {
         BoundSeat {
-            seat: self.table.shared.split_seat::<Part>(&mut seat.seat),
+            seat: self.table.shared.split_seat::<BoundPart>(&mut seat.seat),
         }
     }
 
@@ -133,7 +133,9 @@ impl BoundWord {
         ensures by_other { seat.new.seen ≤ other.seen }
     {
         let BoundSeat { seat: other } = other;
-        self.table.shared.join_seat::<Part>(&mut seat.seat, other);
+        self.table
+            .shared
+            .join_seat::<BoundPart>(&mut seat.seat, other);
     }
 
     /// Returns the bound in the end, of which one seat has all parts: the least of what it started

@@ -14,7 +14,7 @@ use Rattle.hd_task.specs.Expansions.{applicable_at, followed_by, children, gener
 use Rattle.hd_node.specs.declared.batch.Outcome.{Outcome}
 use Rattle.hd_node.specs.declared.batch.Outcome.TheVariants as outcome
 use Rattle.hd_node.specs.Outcome.{kid_of}
-use Rattle.hd_entries.specs.declared.entry.Entry.{Entry}
+use Rattle.hd_entries.specs.declared.entry.ExpandedPlan.{ExpandedPlan}
 use Rattle.hd_entries.specs.declared.entry.Best.{Best}
 use Rattle.hd_entries.specs.declared.refusal.Refusal.{Refusal}
 use Rattle.hd_entries.specs.declared.refusal.Refusal.TheVariants.{Full}
@@ -23,7 +23,7 @@ use Rattle.hd_entries.specs.Kids.{kids_from, posted_by}
 use Rattle.hd_entries.specs.Settling.{BookState, IsKept, is_posted, first_refusal, all_settled, entry_of, IsOf}
 use Rattle.hd_entries.specs.Holding.{EntriesView, kid_at, node_at, plans_at, state_by, state_of, view_of, SettlesEach, IsBestOf, AreExpanded, HasKids, IsHeldBy, IsHeld}
 use Rattle.hd_entries.specs.Admitting.{marks_after, SameButMarks}
-use Rattle.hd_entries.specs.declared.content.Content.{Content}
+use Rattle.hd_entries.specs.declared.content.EntriesContent.{EntriesContent}
 use Rattle.hd_entries.specs.Refusing.{has_room, refusal_to}
 use Rattle.hd_entries.specs.Growing.{entered_by, best_by, departure_by, kids_in, posted_all}
 use Rattle.hd_entries.proofs.Adding.{entered-count}
@@ -45,7 +45,7 @@ entered_kids (outcome.Bounded k h ∷ outcomes) = entered_kids outcomes
 
 -- ---- a batch
 
-module _ (t : Task) (entries : List Entry) (best : Option Best) (departure : Option Departure) (table : KidsView) (most : ℕ) (h : IsHeldBy t entries best departure table most) (outcomes : List Outcome) (own : AllByRecursion (IsOf t) outcomes) (free : first_refusal (state_by t entries table.marks) [] outcomes ≡ None) (room : length entries + length (flat_map entry_of outcomes) ≤ most) (marked_table : KidsView) (same_kids : marked_table.kids ≡ table.kids) (same_count : marked_table.entries ≡ table.entries) (same_marks : marked_table.marks ≡ marks_after (state_by t entries table.marks) outcomes) where
+module _ (t : Task) (entries : List ExpandedPlan) (best : Option Best) (departure : Option Departure) (table : KidsView) (most : ℕ) (h : IsHeldBy t entries best departure table most) (outcomes : List Outcome) (own : AllByRecursion (IsOf t) outcomes) (free : first_refusal (state_by t entries table.marks) [] outcomes ≡ None) (room : length entries + length (flat_map entry_of outcomes) ≤ most) (marked_table : KidsView) (same_kids : marked_table.kids ≡ table.kids) (same_count : marked_table.entries ≡ table.entries) (same_marks : marked_table.marks ≡ marks_after (state_by t entries table.marks) outcomes) where
   abbrev kids : List Kid
   kids = map kid_at entries
 
@@ -58,7 +58,7 @@ module _ (t : Task) (entries : List Entry) (best : Option Best) (departure : Opt
   abbrev old : List (List ℕ)
   old = plans_at kids
 
-  abbrev entries' : List Entry
+  abbrev entries' : List ExpandedPlan
   entries' = entries ++ entered_by outcomes
 
   abbrev E : List (List ℕ)
@@ -184,11 +184,11 @@ unrefused false why e = absurd (cc)
 unrefused true why e = record { has_room = refl; nothing = e }
 
 -- there is room for its entries, and no outcome is refused
-pub record IsAdmitted (c : Content) (outcomes : List Outcome) : Type 0 where
+pub record IsAdmitted (c : EntriesContent) (outcomes : List Outcome) : Type 0 where
   pub room : length c.expanded.entries.items + length (flat_map entry_of outcomes) ≤ c.most
   pub nothing : first_refusal (state_of c) [] outcomes ≡ None
 
-pub admitted : (c : Content) (outcomes outcomes' : List Outcome) → outcomes' ≡ outcomes → refusal_to (view_of c) outcomes' ≡ None → IsAdmitted c outcomes
+pub admitted : (c : EntriesContent) (outcomes outcomes' : List Outcome) → outcomes' ≡ outcomes → refusal_to (view_of c) outcomes' ≡ None → IsAdmitted c outcomes
 admitted c outcomes outcomes' same e =
     let v = view_of c in
     let free = unrefused (has_room v outcomes) (first_refusal v.state [] outcomes) (ap (refusal_to v) (sym same) ∙ e) in
@@ -231,7 +231,7 @@ refused_by_first b outcomes e = goes_on (has_room b outcomes) (first_refusal b.s
 
 -- what a table keeps, another with the same successors and marks keeps
 same_table :
-    (t : Task) (entries : List Entry) (best : Option Best) (departure : Option Departure) (table other : KidsView) (most : ℕ)
+    (t : Task) (entries : List ExpandedPlan) (best : Option Best) (departure : Option Departure) (table other : KidsView) (most : ℕ)
     → other.kids ≡ table.kids → other.marks ≡ table.marks → other.entries ≡ table.entries
     → IsHeldBy t entries best departure table most → IsHeldBy t entries best departure other most
 same_table t entries best departure table other most ks ms n h = record {
@@ -243,18 +243,18 @@ same_table t entries best departure table other most ks ms n h = record {
 }
 
 pub same_held :
-    {t t' : Task} {entries entries' : List Entry} {best best' : Option Best} {departure departure' : Option Departure} {table table' : KidsView} {most most' : ℕ}
+    {t t' : Task} {entries entries' : List ExpandedPlan} {best best' : Option Best} {departure departure' : Option Departure} {table table' : KidsView} {most most' : ℕ}
     → t ≡ t' → entries ≡ entries' → best ≡ best' → departure ≡ departure' → table ≡ table' → most ≡ most'
     → IsHeldBy t entries best departure table most → IsHeldBy t' entries' best' departure' table' most'
 same_held e1 e2 e3 e4 e5 e6 h = subst (λ x. x) (λ i. IsHeldBy (e1 i) (e2 i) (e3 i) (e4 i) (e5 i) (e6 i)) h
 
 -- parts whose marks are as they were
-pub held_again : (c d : Content) → SameButMarks c d → d.kids.marks ≡ c.kids.marks → IsHeld c → IsHeld d
+pub held_again : (c d : EntriesContent) → SameButMarks c d → d.kids.marks ≡ c.kids.marks → IsHeld c → IsHeld d
 held_again c d s ms h =
     same_held (sym s.task) (sym s.entries) (sym s.best) (sym s.departure) refl (sym s.most)
     (same_table c.expanded.task.now c.expanded.entries.items c.expanded.best c.expanded.departure c.kids d.kids c.most s.posted ms s.entered h)
 
-pub view_again : (c d : Content) → SameButMarks c d → d.kids.marks ≡ c.kids.marks → view_of d ≡ view_of c
+pub view_again : (c d : EntriesContent) → SameButMarks c d → d.kids.marks ≡ c.kids.marks → view_of d ≡ view_of c
 view_again c d s ms = λ i. record {
   state = record { task = s.task i; entries = map kid_at (s.entries i); marks = ms i };
   most = s.most i;

@@ -9,7 +9,7 @@ use Rattle.hd_task.specs.Covers.{IsCovered}
 use Rattle.hd_hmax.specs.Rounds.{hmax}
 use Rattle.hd_task.proofs.Optimal.{each_optimal, no_plan, goal_plan_valid}
 use Rattle.hd_hmax.proofs.Admissible.{hmax_admissible}
-use Rattle.hd_entries.specs.declared.content.Content.{Content}
+use Rattle.hd_entries.specs.declared.content.EntriesContent.{EntriesContent}
 use Rattle.hd_entries.specs.declared.verdict.Verdict.{Verdict}
 use Rattle.hd_entries.specs.declared.verdict.Verdict.TheVariants.{Optimal, NoPlan, RangeLeft}
 use Rattle.hd_entries.specs.Settling.{expansions}
@@ -30,7 +30,7 @@ all_set (m ∷ marks) e =
       | false ↦ λ is. let none = ap (λ (b : Bool). let n : ℕ = cond b 1 0 in n) is in absurd (omega (arith, e, sum, none, few))
     ] refl
 
-pub covered_when_full : (c : Content) → IsHeld c → settled_count (state_of c) ≡ length (generated c.expanded.task.now (expansions (state_of c))) → IsCovered c.expanded.task.now (hmax c.expanded.task.now) (expansions (state_of c))
+pub covered_when_full : (c : EntriesContent) → IsHeld c → settled_count (state_of c) ≡ length (generated c.expanded.task.now (expansions (state_of c))) → IsCovered c.expanded.task.now (hmax c.expanded.task.now) (expansions (state_of c))
 covered_when_full c h e =
     all_marked c.expanded.task.now (hmax c.expanded.task.now) (expansions (state_of c)) (state_of c).marks h.kept.marked (all_set (state_of c).marks (e ∙ sym h.kept.marked.one_each))
 

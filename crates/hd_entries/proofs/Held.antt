@@ -17,7 +17,7 @@ use Rattle.hd_task.specs.Plans.{Node, IsStateOf, step_by, start, exec, node}
 use Rattle.hd_task.specs.Departures.{action_departs}
 use Rattle.hd_task.specs.Expansions.{is_applicable, applicable_at}
 use Rattle.hd_task.proofs.Runs.{exec-push, exec-state, step_within}
-use Rattle.hd_entries.specs.declared.entry.Entry.{Entry}
+use Rattle.hd_entries.specs.declared.entry.ExpandedPlan.{ExpandedPlan}
 use Rattle.hd_entries.specs.declared.expanded.ExpandedPlans.{ExpandedPlans}
 use Rattle.hd_entries.specs.declared.refusal.Refusal.{Refusal}
 use Rattle.hd_entries.specs.declared.refusal.Refusal.TheVariants.{UnknownParent, NotAKid, SettledBefore}
@@ -118,7 +118,7 @@ module _ (x : ExpandedPlans) (h : IsExpanded x) where
   pub short : length E < ROOT_PARENT
   short = omega (arith, h.short, count)
 
-  runs : (n : ℕ) (e d : Entry) → n < length x.entries.items → e ≡ get_or x.entries.items n d → exec t (get_or E n []) ≡ Some (node_at e)
+  runs : (n : ℕ) (e d : ExpandedPlan) → n < length x.entries.items → e ≡ get_or x.entries.items n d → exec t (get_or E n []) ≡ Some (node_at e)
   runs n e d lt is =
       let lt' : n < length E = omega (arith, count) in
       sym (get_or-map (exec t) E n [] None lt')
@@ -126,12 +126,12 @@ module _ (x : ExpandedPlans) (h : IsExpanded x) where
       ∙ (get_or-map (λ e. Some (node_at e)) x.entries.items n d None lt ∙ ap (λ x. Some (node_at x)) (sym is)))
 
   -- the node of an entry
-  pub entry_node : (n : ℕ) (e d : Entry) → n < length x.entries.items → e ≡ get_or x.entries.items n d → option_and_then (exec t) (slice_get E n) ≡ Some (node_at e)
+  pub entry_node : (n : ℕ) (e d : ExpandedPlan) → n < length x.entries.items → e ≡ get_or x.entries.items n d → option_and_then (exec t) (slice_get E n) ≡ Some (node_at e)
   entry_node n e d lt is =
       let lt' : n < length E = omega (arith, count) in
       ap (option_and_then (exec t)) (slice_get-get_or E n [] lt') ∙ runs n e d lt is
 
-  pub entry_found : (n : ℕ) (e : Entry) → slice_get x.entries.items n ≡ Some e → option_and_then (exec t) (slice_get E n) ≡ Some (node_at e)
+  pub entry_found : (n : ℕ) (e : ExpandedPlan) → slice_get x.entries.items n ≡ Some e → option_and_then (exec t) (slice_get E n) ≡ Some (node_at e)
   entry_found n e at = entry_node n e e (slice_get_within x.entries.items n e at) (sym (get_or_from_slice_get x.entries.items n e e at))
 
   pub entry_missing : (n : ℕ) → slice_get x.entries.items n ≡ None → option_and_then (exec t) (slice_get E n) ≡ None
@@ -143,7 +143,7 @@ module _ (x : ExpandedPlans) (h : IsExpanded x) where
             absurd (lost x.entries.items n lt none)
       ] refl)
     where
-      lost : (es : List Entry) (n : ℕ) → n < length es → slice_get es n ≡ None → ⊥
+      lost : (es : List ExpandedPlan) (n : ℕ) → n < length es → slice_get es n ≡ None → ⊥
       lost [] n lt e = omega (arith, lt)
       lost (e ∷ es) zero lt is = none-some e (sym is)
       lost (e ∷ es) (suc n) lt is = lost es n (omega (arith, lt)) is
@@ -151,14 +151,14 @@ module _ (x : ExpandedPlans) (h : IsExpanded x) where
   pub no_entry : (n : ℕ) → length x.entries.items ≤ n → option_and_then (exec t) (slice_get E n) ≡ None
   no_entry n le = ap (option_and_then (exec t)) (slice_get_past E n (omega (arith, count)))
 
-  pub entry_state : (n : ℕ) (e d : Entry) → n < length x.entries.items → e ≡ get_or x.entries.items n d → IsStateOf t e.state
+  pub entry_state : (n : ℕ) (e d : ExpandedPlan) → n < length x.entries.items → e ≡ get_or x.entries.items n d → IsStateOf t e.state
   entry_state n e d lt is = exec-state t (get_or E n []) (node_at e) (runs n e d lt is)
 
   pub posted-any : (k : Kid) → is_posted (unmarked x) k ≡ list_any (same_kid k) (posted_by t E)
   posted-any k = nat_lt-position_or_len (same_kid k) (posted_by t E)
 
   -- a successor of an entry is posted where its action is applicable
-  pub entry_posted : (k : Kid) (e d : Entry) → k.parent < length x.entries.items → e ≡ get_or x.entries.items k.parent d → is_applicable t (Some (node_at e)) k.action ≡ is_posted (unmarked x) k
+  pub entry_posted : (k : Kid) (e d : ExpandedPlan) → k.parent < length x.entries.items → e ≡ get_or x.entries.items k.parent d → is_applicable t (Some (node_at e)) k.action ≡ is_posted (unmarked x) k
   entry_posted k e d lt is =
       let lt' : k.parent < length E = omega (arith, count) in
       let other : same_kid k root ≡ false = ap (λ b. b && (k.action == ROOT_ACTION)) (ne_eqb k.parent ROOT_PARENT (λ e. omega (arith, short))) in
@@ -170,7 +170,7 @@ module _ (x : ExpandedPlans) (h : IsExpanded x) where
       ∙ (ap (λ b. b || list_any (same_kid k) (kids_from t 0 E)) (sym other) ∙ sym (posted-any k)))))
 
   -- and leads where the action's step does
-  pub entry_leads : (k : Kid) (e d : Entry) (to : Node) → k.parent < length x.entries.items → e ≡ get_or x.entries.items k.parent d → step_by t (node_at e) k.action ≡ Some to → node_of (unmarked x) k ≡ Some to
+  pub entry_leads : (k : Kid) (e d : ExpandedPlan) (to : Node) → k.parent < length x.entries.items → e ≡ get_or x.entries.items k.parent d → step_by t (node_at e) k.action ≡ Some to → node_of (unmarked x) k ≡ Some to
   entry_leads k e d to lt is at =
       let lt' : k.parent < length E = omega (arith, count) in
       let r = node_at e in

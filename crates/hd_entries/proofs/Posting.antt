@@ -21,7 +21,7 @@ use Rattle.hd_node.proofs.Steps.{children-actions}
 use Rattle.hd_entries.specs.Kids.{kids_of, kids_from}
 use Rattle.hd_entries.specs.Settling.{IsOf, entry_of}
 use Rattle.hd_entries.specs.Holding.{node_at}
-use Rattle.hd_entries.specs.declared.entry.Entry.{Entry}
+use Rattle.hd_entries.specs.declared.entry.ExpandedPlan.{ExpandedPlan}
 use Rattle.hd_entries.specs.Growing.{entered_by, kids_at, kids_in, with_kids, actions_of, posted_one, posted_all}
 
 -- ---- the successors of one entry
@@ -106,12 +106,12 @@ actions_at t e r own is =
 
 pub kids_led :
     (t : Task) (n : ℕ) (outcomes : List Outcome) (more : List (List ℕ)) → AllByRecursion (IsOf t) outcomes
-    → map (exec t) more ≡ map (λ (e : Entry). Some (node_at e)) (entered_by outcomes) → kids_from t n more ≡ posted_for n outcomes
+    → map (exec t) more ≡ map (λ (e : ExpandedPlan). Some (node_at e)) (entered_by outcomes) → kids_from t n more ≡ posted_for n outcomes
 kids_led t n [] [] own leads = refl
 kids_led t n [] (p ∷ more) own leads = absurd (cc)
 kids_led t n (Expanded e ∷ outcomes) [] own leads = absurd (cc)
 kids_led t n (Expanded e ∷ outcomes) (p ∷ more) own leads =
-    let parts = cons_parts (exec t p) (Some (node e.state e.cost)) (map (exec t) more) (map (λ (x : Entry). Some (node_at x)) (entered_by outcomes)) leads in
+    let parts = cons_parts (exec t p) (Some (node e.state e.cost)) (map (exec t) more) (map (λ (x : ExpandedPlan). Some (node_at x)) (entered_by outcomes)) leads in
     ap₂ (λ (actions : List ℕ) (ks : List Kid). kids_of n actions ++ ks)
     (actions_at t e (exec t p) own.0 parts.0)
     (kids_led t (n + 1) outcomes more own.1 parts.1)

@@ -3,7 +3,7 @@ use Rattle.std.proofs.Common.{◌≡◌, ℕ, zero, suc, ◌<◌, List, [], ◌�
 use Rattle.std.proofs.lemmas.Option.{same_Some}
 use Rattle.hd_task.specs.declared.state.State.{State}
 use Rattle.hd_zobrist.specs.Hash.{state_hash}
-use Rattle.hd_entries.specs.declared.entry.Entry.{Entry}
+use Rattle.hd_entries.specs.declared.entry.ExpandedPlan.{ExpandedPlan}
 use Rattle.hd_entries.specs.declared.entry.Label.{Label}
 use Rattle.hd_entries.specs.Table.{entry_from, entries_in, AreLabels}
 
@@ -20,12 +20,12 @@ states_count (l ∷ ls) [] all = absurd all
 states_count (l ∷ ls) (s ∷ ss) all = ap suc (states_count ls ss all.1)
 
 -- a label and a state of one number are those of an entry
-pub record IsEntryAt (ls : List Label) (ss : List State) (i : ℕ) (l : Label) (s : State) (e : Entry) : Type 0 where
+pub record IsEntryAt (ls : List Label) (ss : List State) (i : ℕ) (l : Label) (s : State) (e : ExpandedPlan) : Type 0 where
   pub hash : l.hash ≡ state_hash s
   pub there : entry_from l s ≡ get_or (entries_in ls ss) i e
 
 pub entry_at :
-    (ls : List Label) (ss : List State) (i : ℕ) (l : Label) (s : State) (e : Entry) → AreLabels ls ss → i < length ls → l ≡ get_or ls i l → slice_get ss i ≡ Some s
+    (ls : List Label) (ss : List State) (i : ℕ) (l : Label) (s : State) (e : ExpandedPlan) → AreLabels ls ss → i < length ls → l ≡ get_or ls i l → slice_get ss i ≡ Some s
     → IsEntryAt ls ss i l s e
 entry_at [] ss i l s e all lt label state = absurd (omega (arith, lt))
 entry_at (k ∷ ls) [] i l s e all lt label state = absurd all
@@ -51,4 +51,4 @@ pub entries_push : (ls : List Label) (ss : List State) (l : Label) (s : State) �
 entries_push [] [] l s all = refl
 entries_push [] (u ∷ ss) l s all = absurd all
 entries_push (k ∷ ls) [] l s all = absurd all
-entries_push (k ∷ ls) (u ∷ ss) l s all = ap (λ (es : List Entry). entry_from k u ∷ es) (entries_push ls ss l s all.1)
+entries_push (k ∷ ls) (u ∷ ss) l s all = ap (λ (es : List ExpandedPlan). entry_from k u ∷ es) (entries_push ls ss l s all.1)

@@ -9,7 +9,7 @@ use Rattle.std.proofs.lemmas.List.{get_or_at, get_or-map, get_or-take, length-ma
 use Rattle.hd_task.specs.declared.plan.Kid.{Kid}
 use Rattle.hd_task.specs.declared.plan.TheConstants.{ROOT_PARENT, ROOT_ACTION}
 use Rattle.hd_task.specs.Entries.{plan_from, plan_of, with_entry}
-use Rattle.hd_entries.specs.declared.entry.Entry.{Entry}
+use Rattle.hd_entries.specs.declared.entry.ExpandedPlan.{ExpandedPlan}
 use Rattle.hd_entries.specs.declared.expanded.ExpandedPlans.{ExpandedPlans}
 use Rattle.hd_tables.specs.Kids.{root}
 use Rattle.hd_entries.specs.Settling.{expansions}
@@ -91,7 +91,7 @@ parent_names expanded k p ne is =
 
 -- ---- the entries of a book
 
-module _ (x : ExpandedPlans) (h : IsExpanded x) (n : ℕ) (e : Entry) (lt : n < length x.entries.items) (at : e ≡ get_or x.entries.items n e) where
+module _ (x : ExpandedPlans) (h : IsExpanded x) (n : ℕ) (e : ExpandedPlan) (lt : n < length x.entries.items) (at : e ≡ get_or x.entries.items n e) where
   abbrev E : List (List ℕ)
   E = expansions (unmarked x)
 

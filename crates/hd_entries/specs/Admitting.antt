@@ -7,7 +7,7 @@ use Rattle.hd_node.specs.Outcome.{kid_of}
 use Rattle.hd_node.specs.declared.batch.Outcome.{Outcome}
 use Rattle.hd_entries.specs.declared.refusal.Refusal.{Refusal}
 use Rattle.hd_entries.specs.declared.refusal.Refusal.TheVariants.{UnknownParent, NotAKid, SettledBefore, NoMemory}
-use Rattle.hd_entries.specs.declared.content.Content.{Content}
+use Rattle.hd_entries.specs.declared.content.EntriesContent.{EntriesContent}
 use Rattle.hd_entries.specs.Settling.{BookState, knows_parent, place_of, is_posted, is_marked, refusal_by, with_mark, entry_of}
 use Rattle.hd_entries.specs.Growing.{kids_in}
 
@@ -53,7 +53,7 @@ with_marks table marks = record {
 }
 
 -- the parts are as they were, but for the marks and the room that there is
-pub record SameButMarks (c d : Content) : Type 0 where
+pub record SameButMarks (c d : EntriesContent) : Type 0 where
   pub task : d.expanded.task.now ≡ c.expanded.task.now
   pub entries : d.expanded.entries.items ≡ c.expanded.entries.items
   pub best : d.expanded.best ≡ c.expanded.best
@@ -63,7 +63,7 @@ pub record SameButMarks (c d : Content) : Type 0 where
   pub most : d.most ≡ c.most
 
 -- there is room for what outcomes add: entries and successors
-pub record HasRoomFor (c : Content) (outcomes : List Outcome) : Type 0 where
+pub record HasRoomFor (c : EntriesContent) (outcomes : List Outcome) : Type 0 where
   pub entries : length (flat_map entry_of outcomes) ≤ c.expanded.entries.room
   pub entered : length (flat_map entry_of outcomes) ≤ c.kids.entry_room
   pub kids : kids_in outcomes ≤ c.kids.kid_room

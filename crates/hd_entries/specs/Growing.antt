@@ -9,17 +9,17 @@ use Rattle.hd_node.specs.Children.{ChildView}
 use Rattle.hd_node.specs.declared.batch.Outcome.{Outcome}
 use Rattle.hd_node.specs.declared.batch.Outcome.TheVariants.{Expanded, Duplicate, Bounded}
 use Rattle.hd_task.specs.Plans.{node}
-use Rattle.hd_entries.specs.declared.entry.Entry.{Entry}
+use Rattle.hd_entries.specs.declared.entry.ExpandedPlan.{ExpandedPlan}
 use Rattle.hd_entries.specs.declared.entry.Best.{Best}
 
 -- the entry that an outcome adds, if it is an expansion
-abbrev pub entered : Outcome → List Entry
+abbrev pub entered : Outcome → List ExpandedPlan
 entered (Expanded e) = record { kid = e.kid; state = e.state; cost = e.cost } ∷ []
 entered (Duplicate k by) = []
 entered (Bounded k h) = []
 
 -- the entries that outcomes add
-abbrev pub entered_by : List Outcome → List Entry
+abbrev pub entered_by : List Outcome → List ExpandedPlan
 entered_by outcomes = flat_map entered outcomes
 
 -- an entry of a number, at a cost

@@ -13,10 +13,10 @@ use Rattle.hd_node.specs.Children.{ChildView}
 use Rattle.hd_node.specs.Parcel.{ParcelView}
 use Rattle.hd_node.specs.declared.batch.Outcome.{Outcome}
 use Rattle.hd_node.specs.declared.batch.Outcome.TheVariants.{Expanded, Duplicate, Bounded}
-use Rattle.hd_entries.specs.declared.entry.Entry.{Entry}
+use Rattle.hd_entries.specs.declared.entry.ExpandedPlan.{ExpandedPlan}
 use Rattle.hd_entries.specs.declared.entry.Best.{Best}
 use Rattle.hd_entries.specs.declared.expanded.ExpandedPlans.{ExpandedPlans}
-use Rattle.hd_entries.specs.declared.content.Content.{Content}
+use Rattle.hd_entries.specs.declared.content.EntriesContent.{EntriesContent}
 use Rattle.hd_tables.specs.Kids.{KidsView, kid_from}
 use Rattle.hd_entries.specs.Kids.{posted_by}
 use Rattle.hd_entries.specs.Settling.{BookState, IsKept, entry_of, expansions}
@@ -78,11 +78,11 @@ abbrev pub parcel_of : ParcelView → Released
 parcel_of p = record { kid = p.kid; state = p.state; cost = p.cost }
 
 -- the successor that an entry is
-abbrev pub kid_at : Entry → Kid
+abbrev pub kid_at : ExpandedPlan → Kid
 kid_at e = e.kid
 
 -- the node that an entry's plan leads to: its state and its cost
-abbrev pub node_at : Entry → Node
+abbrev pub node_at : ExpandedPlan → Node
 node_at e = node e.state e.cost
 
 -- the plans that some entries name
@@ -94,7 +94,7 @@ abbrev pub posted_count : BookState → ℕ
 posted_count b = length (generated b.task (expansions b))
 
 -- the state of the book that has these entries, and these marks for the successors that they post
-abbrev pub state_by : Task → List Entry → List Bool → BookState
+abbrev pub state_by : Task → List ExpandedPlan → List Bool → BookState
 state_by t entries marks = record { task = t; entries = map kid_at entries; marks = marks }
 
 -- the state of the book that has these expanded plans, and these marks for their successors
@@ -106,11 +106,11 @@ abbrev pub unmarked : ExpandedPlans → BookState
 unmarked x = state_with x []
 
 -- the state of the book that the parts keep: its entries, and the marks of their successors
-abbrev pub state_of : Content → BookState
+abbrev pub state_of : EntriesContent → BookState
 state_of c = state_with c.expanded c.kids.marks
 
 -- the search that the parts keep, as contracts see it
-abbrev pub view_of : Content → EntriesView
+abbrev pub view_of : EntriesContent → EntriesView
 view_of c = record { state = state_of c; most = c.most }
 
 -- ---- what the parts keep
@@ -133,7 +133,7 @@ IsParcelOf t p = p.task ≡ t
 
 -- what the expanded plans keep: the entries name plans, which lead to their nodes; and the best of
 -- them and the first departure are as they are said to be
-pub record AreExpanded (t : Task) (entries : List Entry) (best : Option Best) (departure : Option Departure) : Type 0 where
+pub record AreExpanded (t : Task) (entries : List ExpandedPlan) (best : Option Best) (departure : Option Departure) : Type 0 where
   pub named : plans_of (map kid_at entries) ≡ Some (plans_at (map kid_at entries))
   pub short : length entries < ROOT_PARENT
   pub nodes : map (exec t) (plans_at (map kid_at entries)) ≡ map (λ e. Some (node_at e)) entries
@@ -145,12 +145,12 @@ abbrev pub IsExpanded : ExpandedPlans → Type 0
 IsExpanded x = AreExpanded x.task.now x.entries.items x.best x.departure
 
 -- a table has the successors that entries post
-pub record HasKids (t : Task) (entries : List Entry) (table : KidsView) : Type 0 where
+pub record HasKids (t : Task) (entries : List ExpandedPlan) (table : KidsView) : Type 0 where
   pub posted : table.kids ≡ posted_by t (plans_at (map kid_at entries))
   pub entered : table.entries ≡ length entries
 
 -- what the parts always keep
-pub record IsHeldBy (t : Task) (entries : List Entry) (best : Option Best) (departure : Option Departure) (table : KidsView) (most : ℕ) : Type 0 where
+pub record IsHeldBy (t : Task) (entries : List ExpandedPlan) (best : Option Best) (departure : Option Departure) (table : KidsView) (most : ℕ) : Type 0 where
   pub kept : IsKept (state_by t entries table.marks)
   pub plans : AreExpanded t entries best departure
   pub posts : HasKids t entries table
@@ -158,5 +158,5 @@ pub record IsHeldBy (t : Task) (entries : List Entry) (best : Option Best) (depa
   pub numbered : most < ROOT_PARENT
 
 -- the parts of a search agree: its entries, the successors that they post, and the limits
-abbrev pub IsHeld : Content → Type 0
+abbrev pub IsHeld : EntriesContent → Type 0
 IsHeld c = IsHeldBy c.expanded.task.now c.expanded.entries.items c.expanded.best c.expanded.departure c.kids c.most

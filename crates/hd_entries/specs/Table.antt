@@ -4,22 +4,22 @@ use Rattle.hd_task.specs.declared.state.State.{State}
 use Rattle.hd_task.specs.declared.task.Task.{Task}
 use Rattle.hd_zobrist.specs.Hash.{state_hash}
 use Rattle.hd_tables.specs.Widths.{Widths}
-use Rattle.hd_entries.specs.declared.entry.Entry.{Entry}
+use Rattle.hd_entries.specs.declared.entry.ExpandedPlan.{ExpandedPlan}
 use Rattle.hd_entries.specs.declared.entry.Label.{Label}
 
 -- how many atoms and fluents the state of each entry has, the entries, and how many can be pushed
 -- without asking for memory
 pub record TableView : Type 0 where
   pub widths : Widths
-  pub items : List Entry
+  pub items : List ExpandedPlan
   pub room : ℕ
 
 -- the entry of a label, with its state
-abbrev pub entry_from : Label → State → Entry
+abbrev pub entry_from : Label → State → ExpandedPlan
 entry_from l s = record { kid = l.kid; state = s; cost = l.cost }
 
 -- the entries of labels, with a state for each
-abbrev pub entries_in : List Label → List State → List Entry
+abbrev pub entries_in : List Label → List State → List ExpandedPlan
 entries_in [] states = []
 entries_in (l ∷ ls) [] = []
 entries_in (l ∷ ls) (s ∷ ss) = entry_from l s ∷ entries_in ls ss

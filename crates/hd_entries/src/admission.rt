@@ -10,12 +10,12 @@ ghost use Rattle.hd_entries.specs.Holding.{node_at, state_with, unmarked, IsExpa
 ghost use Rattle.hd_entries.specs.declared.refusal.Refusal.TheVariants as Refusal;
 
 use crate::Refusal;
-use crate::entry::{Best, Place};
+use crate::entry::{Best, DraftNode};
 use crate::expanded::ExpandedPlans;
 use hd_hmax::EstimateValue;
-use hd_tables::{Draft, KidTable, Row};
 use hd_node::{By, Outcome};
 use hd_pack::{Layout, Packed, pack};
+use hd_tables::{Draft, KidTable, Row};
 use hd_task::{ActionId, Kid, NoMemory, ROOT_ACTION, ROOT_PARENT, Task};
 use std::alloc::Global;
 
@@ -28,7 +28,7 @@ fn are_states_equal(one: &Packed, other: &Draft) -> bool
 }
 
 /// Reports whether a node has a place's state at no greater cost.
-fn is_no_dearer(state: &Packed, cost: u64, reached: &Place) -> bool
+fn is_no_dearer(state: &Packed, cost: u64, reached: &DraftNode) -> bool
     ensures { result ≡ dominates (Some (node state.now cost))
         (Some (node reached.now.state reached.now.cost)) }
 {
@@ -50,7 +50,7 @@ impl<'t> ExpandedPlans<'t> {
     /// # Errors
     /// - `NoMemory`: there is no room for the state: only for the root, or where the place was of
     ///   no such state before.
-    fn reach(&self, kid: Kid, reached: &mut Place) -> Result<(), NoMemory>
+    fn reach(&self, kid: Kid, reached: &mut DraftNode) -> Result<(), NoMemory>
         requires held { IsExpanded self.now }
         requires known { knows_parent (unmarked self.now) kid ≡ true }
         requires posted { is_posted (unmarked self.now) kid ≡ true }
@@ -77,7 +77,7 @@ impl<'t> ExpandedPlans<'t> {
     }
 
     /// Reports whether what a duplicate names has a state at no greater cost.
-    fn dominates(&self, earlier: &[Outcome<'t>], by: By, reached: &Place) -> bool
+    fn dominates(&self, earlier: &[Outcome<'t>], by: By, reached: &DraftNode) -> bool
         requires held { IsExpanded self.now }
         ensures { result ≡ dominates (node_by (unmarked self.now) earlier.now by)
             (Some (node reached.now.state reached.now.cost)) }
@@ -99,7 +99,7 @@ impl<'t> ExpandedPlans<'t> {
     }
 
     /// Reports whether a cost and an estimate reach the bound, or the estimate is infinite.
-    fn reaches(&self, reached: &Place, estimate: EstimateValue) -> bool
+    fn reaches(&self, reached: &DraftNode, estimate: EstimateValue) -> bool
         requires held { IsExpanded self.now }
         ensures { result ≡ reaches (bound_of self.now.task.now (expansions (unmarked self.now)))
             (Some (node reached.now.state reached.now.cost)) (estimated estimate) }
@@ -118,7 +118,7 @@ impl<'t> ExpandedPlans<'t> {
         &self,
         earlier: &[Outcome<'t>],
         outcome: &Outcome<'t>,
-        reached: &Place,
+        reached: &DraftNode,
     ) -> Option<Refusal>
         requires held { IsExpanded self.now }
         requires leads { node_of (unmarked self.now) (kid_of outcome.now)
@@ -163,7 +163,7 @@ impl<'t> ExpandedPlans<'t> {
     fn judged(
         &self,
         kids: &KidTable,
-        reached: &mut Place,
+        reached: &mut DraftNode,
         earlier: &[Outcome<'t>],
         outcome: &Outcome<'t>,
     ) -> Result<usize, Refusal>
@@ -199,7 +199,7 @@ impl<'t> ExpandedPlans<'t> {
     pub(crate) fn settle_from(
         &self,
         kids: &mut KidTable,
-        reached: &mut Place,
+        reached: &mut DraftNode,
         outcomes: &[Outcome<'t>],
         number: usize,
     ) -> Result<(), Refusal>

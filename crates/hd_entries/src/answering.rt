@@ -9,7 +9,7 @@ ghost use Rattle.hd_entries.specs.Holding.{posted_count, settled_count, state_of
 ghost use Rattle.hd_entries.specs.Answers.{IsAnswer, IsBoundPlanOf, IsValidPlan, IsTrueAnswer};
 
 use crate::Verdict;
-use crate::content::Content;
+use crate::content::EntriesContent;
 use crate::expanded::ExpandedPlans;
 use crate::hashed_row::HashedRow;
 use hd_task::{ActionId, NoMemory, Plan, ROOT_PARENT};
@@ -56,7 +56,7 @@ impl<'t> ExpandedPlans<'t> {
     }
 }
 
-impl<'t> Content<'t> {
+impl<'t> EntriesContent<'t> {
     /// Returns how many successors are posted.
     pub(crate) fn posted(&self) -> u64
         requires held { IsHeld self.now }

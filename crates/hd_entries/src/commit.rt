@@ -12,11 +12,11 @@ ghost use Rattle.hd_entries.specs.Refusing.{refusal_to, IsRefusalTo};
 ghost use Rattle.hd_entries.specs.declared.refusal.Refusal.TheVariants as Refusal;
 
 use crate::Refusal;
-use crate::content::Content;
+use crate::content::EntriesContent;
 use crate::settling::{enter, found_after, kids_of, post_all};
 use crate::table::EntryTable;
-use hd_tables::KidTable;
 use hd_node::{Batch, Outcome, Parcel};
+use hd_tables::KidTable;
 use hd_task::NoMemory;
 use std::alloc::Global;
 
@@ -59,7 +59,7 @@ fn make_room<'t>(
     Vec::with_capacity(alloc, kid_count)
 }
 
-impl<'t> Content<'t> {
+impl<'t> EntriesContent<'t> {
     /// Reports whether there is room for so many entries more.
     pub(crate) fn has_room(&self, more: usize) -> bool
         requires held { IsHeld self.now }

@@ -1,5 +1,5 @@
 //! The parts of what is held of a search.
-use crate::entry::Place;
+use crate::entry::DraftNode;
 use crate::expanded::ExpandedPlans;
 use hd_tables::KidTable;
 use hd_task::{NoMemory, Task};
@@ -8,17 +8,17 @@ use std::alloc::Global;
 
 /// The parts of what is held of a search.
 #[derive(Debug, Drop)]
-pub(crate) struct Content<'t> {
+pub(crate) struct EntriesContent<'t> {
     pub(crate) expanded: ExpandedPlans<'t>,
     /// What the expanded plans have posted, and what of it is settled.
     pub(crate) kids: KidTable,
     /// Where the successor leads that was judged last: a commit does not allocate for it.
-    pub(crate) reached: Place,
+    pub(crate) reached: DraftNode,
     /// How many entries there may be.
     pub(crate) most: u64,
 }
 
-impl<'t> Content<'t> {
+impl<'t> EntriesContent<'t> {
     ghost use Rattle.std.specs.Prelude.{◌≡◌, [], ◌∷◌, None, false, IfOk};
     ghost use Rattle.hd_tables.specs.Kids.{root};
 
@@ -26,7 +26,11 @@ impl<'t> Content<'t> {
     ///
     /// # Errors
     /// - `NoMemory`: there is no room for it.
-    pub(crate) fn new(alloc: Global, task: &'t Task, most: u64) -> Result<Content<'t>, NoMemory>
+    pub(crate) fn new(
+        alloc: Global,
+        task: &'t Task,
+        most: u64,
+    ) -> Result<EntriesContent<'t>, NoMemory>
         ensures task { IfOk result (λ c. c.expanded.task.now ≡ task.now) }
         ensures entries { IfOk result (λ c. c.expanded.entries.items ≡ []) }
         ensures best { IfOk result (λ c. c.expanded.best ≡ None) }
@@ -38,10 +42,10 @@ impl<'t> Content<'t> {
     {
         let words = Words::new(alloc, task)?;
         let kids = KidTable::new(alloc)?;
-        Ok(Content {
+        Ok(EntriesContent {
             expanded: ExpandedPlans::none(alloc, task, words),
             kids,
-            reached: Place::empty(alloc),
+            reached: DraftNode::empty(alloc),
             most,
         })
     }

@@ -1,6 +1,6 @@
 //! The entries of a search.
 use crate::commit::count_entries;
-use crate::content::Content;
+use crate::content::EntriesContent;
 use crate::{HashedRow, Listener, Refusal, Verdict};
 use hd_node::{Batch, Parcel};
 use hd_task::{Departure, Kid, NoMemory, Plan, Task};
@@ -11,7 +11,7 @@ use std::marker::Model;
 /// batch is accepted that is not justified.
 #[derive(Debug, Drop)]
 pub struct Entries<'t> {
-    content: Content<'t>,
+    content: EntriesContent<'t>,
 }
 
 impl<'t> Model for Entries<'t> {
@@ -51,7 +51,7 @@ impl<'t> Entries<'t> {
         ensures { IfOk result (λ b. b ≡ no_entries task.now most) }
     {
         Ok(Entries {
-            content: Content::new(alloc, task, most)?,
+            content: EntriesContent::new(alloc, task, most)?,
         })
     }
 
@@ -79,7 +79,7 @@ impl<'t> Entries<'t> {
         ensures lead { IfOk result (λ r. AllByRecursion (LeadsThere r.0.state) r.1.items) }
         ensures refused { IfErr result (λ e. IsFaultOf task.now most entries.now e.0 e.1) }
     {
-        let (content, parcels) = Content::resume(alloc, task, most, entries, heard)?;
+        let (content, parcels) = EntriesContent::resume(alloc, task, most, entries, heard)?;
         Ok((Entries { content }, parcels))
     }
 

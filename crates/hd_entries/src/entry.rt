@@ -11,7 +11,7 @@ use std::alloc::Global;
 
 /// An expanded plan: the successor that names it, and where it leads.
 #[derive(Debug, Drop)]
-pub(crate) struct Entry<'e> {
+pub(crate) struct ExpandedPlan<'e> {
     pub(crate) kid: Kid,
     pub(crate) state: HashedRow<'e>,
     pub(crate) cost: u64,
@@ -29,17 +29,17 @@ pub(crate) struct Label {
 /// Where a successor leads, and what its plan costs. It is written over from one successor to the
 /// next.
 #[derive(Debug, Drop)]
-pub(crate) struct Place {
+pub(crate) struct DraftNode {
     pub(crate) state: Draft,
     pub(crate) cost: u64,
 }
 
-impl Place {
+impl DraftNode {
     /// Returns a place that leads nowhere yet. It does not allocate.
-    pub(crate) fn empty(alloc: Global) -> Place
+    pub(crate) fn empty(alloc: Global) -> DraftNode
         ensures { result.cost ≡ 0 }
     {
-        Place {
+        DraftNode {
             state: Draft::empty(alloc),
             cost: 0,
         }
@@ -60,9 +60,9 @@ fn are_states_equal(one: &Row<'_>, other: &Draft) -> bool
     other.row().is(one)
 }
 
-impl<'e> Entry<'e> {
+impl<'e> ExpandedPlan<'e> {
     /// Reports whether it has a place's state at no greater cost.
-    pub(crate) fn is_no_dearer(&self, reached: &Place) -> bool
+    pub(crate) fn is_no_dearer(&self, reached: &DraftNode) -> bool
         ensures { result ≡ dominates (Some (node_at self.now))
             (Some (node reached.now.state reached.now.cost)) }
     {

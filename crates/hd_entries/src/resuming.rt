@@ -11,7 +11,7 @@ ghost use Rattle.hd_entries.specs.Waiting.{left_at, left_in, IsAgain, IsExpansio
 ghost use Rattle.hd_entries.specs.declared.refusal.Refusal.TheVariants as Refusal;
 
 use crate::Refusal;
-use crate::content::Content;
+use crate::content::EntriesContent;
 use crate::hearing::{Listener, tell};
 use crate::releasing::release_kids;
 use hd_node::{Batch, Expansion, Outcome, Parcel};
@@ -75,7 +75,7 @@ fn taken<'t>(waiting: &mut Vec<Option<Parcel<'t>>>, place: usize) -> Option<Parc
     waiting[place].take()
 }
 
-impl<'t> Content<'t> {
+impl<'t> EntriesContent<'t> {
     /// Returns the place of a successor that can be the next entry.
     ///
     /// # Errors
@@ -237,7 +237,7 @@ impl<'t> Content<'t> {
         Ok(vec![in alloc; Some(parcel)]?)
     }
 
-    /// Makes these successors the entries again, as [`Content::enter_all`], by an index of the
+    /// Makes these successors the entries again, as [`EntriesContent::enter_all`], by an index of the
     /// task.
     fn enter_list<H: Listener>(
         &mut self,
@@ -271,7 +271,7 @@ impl<'t> Content<'t> {
         alloc: Global,
         task: &'t Task,
         most: u64,
-    ) -> Result<(Content<'t>, Vec<Option<Parcel<'t>>>), NoMemory>
+    ) -> Result<(EntriesContent<'t>, Vec<Option<Parcel<'t>>>), NoMemory>
         requires { most < ROOT_PARENT }
         ensures held { IfOk result (λ r. IsHeld r.0) }
         ensures task { IfOk result (λ r. r.0.expanded.task.now ≡ task.now) }
@@ -279,7 +279,7 @@ impl<'t> Content<'t> {
         ensures most { IfOk result (λ r. r.0.most ≡ most) }
         ensures again { IfOk result (λ r. IsAgain (state_of r.0) r.1.items) }
     {
-        let content = Content::new(alloc, task, most)?;
+        let content = EntriesContent::new(alloc, task, most)?;
         let waiting = content.only_root(alloc)?;
         Ok((content, waiting))
     }
@@ -291,7 +291,7 @@ impl<'t> Content<'t> {
         most: u64,
         entries: &[Kid],
         heard: &H,
-    ) -> Result<(Content<'t>, Vec<Option<Parcel<'t>>>), (u64, Refusal)>
+    ) -> Result<(EntriesContent<'t>, Vec<Option<Parcel<'t>>>), (u64, Refusal)>
         requires numbered { most < ROOT_PARENT }
         requires room { length entries.now ≤ most }
         ensures held { IfOk result (λ r. IsHeld r.0) }
@@ -303,7 +303,7 @@ impl<'t> Content<'t> {
         ensures fault { IfErr result (λ e. (e.1 ≡ Refusal.NoMemory)
             ⊎ (first_fault task.now [] entries.now ≡ Some e)) }
     {
-        match Content::emptied(alloc, task, most) {
+        match EntriesContent::emptied(alloc, task, most) {
             Ok((mut content, mut waiting)) => {
                 content.enter_list(alloc, &mut waiting, entries, heard)?;
                 Ok((content, waiting))
@@ -320,7 +320,7 @@ impl<'t> Content<'t> {
         most: u64,
         entries: &[Kid],
         heard: &H,
-    ) -> Result<(Content<'t>, Vec<Parcel<'t>>), (u64, Refusal)>
+    ) -> Result<(EntriesContent<'t>, Vec<Parcel<'t>>), (u64, Refusal)>
         requires { most < ROOT_PARENT }
         ensures held { IfOk result (λ r. IsHeld r.0) }
         ensures state { IfOk result (λ r. state_of r.0 ≡ resumed_state task.now entries.now) }
@@ -334,7 +334,7 @@ impl<'t> Content<'t> {
         if entries.len() as u64 > most {
             return Err((0, Refusal::Full));
         }
-        let (content, waiting) = Content::resumed(alloc, task, most, entries, heard)?;
+        let (content, waiting) = EntriesContent::resumed(alloc, task, most, entries, heard)?;
         match left_of(alloc, waiting) {
             Ok(parcels) => Ok((content, parcels)),
             Err(_error) => Err((0, Refusal::NoMemory)),

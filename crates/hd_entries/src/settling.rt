@@ -15,8 +15,8 @@ ghost use Rattle.hd_entries.specs.Growing.{entered, entered_by, better, best_by,
 
 use crate::entry::Best;
 use crate::table::EntryTable;
-use hd_tables::KidTable;
 use hd_node::{Child, Expansion, Outcome};
+use hd_tables::KidTable;
 use hd_task::{Departure, GoalTest, Task};
 
 /// Returns how many successors the expansions among outcomes have.

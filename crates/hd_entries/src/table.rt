@@ -3,11 +3,11 @@ ghost use Rattle.std.specs.Prelude.{◌≡◌, ◌+◌, ◌<◌, ◌≤◌, ◌+
 ghost use Rattle.hd_tables.specs.declared.chunks.TheConstants.{MOST_ITEMS};
 ghost use Rattle.hd_tables.specs.Widths.{HasWidths};
 
-use crate::entry::{Entry, Label};
+use crate::entry::{ExpandedPlan, Label};
 use crate::hashed_row::HashedRow;
-use hd_tables::{Chunks, RowBlocks};
 use hd_node::Hashed;
 use hd_pack::Layout;
+use hd_tables::{Chunks, RowBlocks};
 use hd_task::{Kid, NoMemory};
 use std::alloc::Global;
 use std::marker::Model;
@@ -60,12 +60,12 @@ impl EntryTable {
     }
 
     /// Returns the entry of this number.
-    pub(crate) fn at(&self, number: usize) -> Entry<'_>
+    pub(crate) fn at(&self, number: usize) -> ExpandedPlan<'_>
         requires { number < length self.now.items }
         ensures { result ≡ slice_index_or self.now.items number result }
     {
         let label = self.labels.at(number);
-        Entry {
+        ExpandedPlan {
             kid: label.kid,
             state: HashedRow::known(self.states.at(number), label.hash),
             cost: label.cost,
@@ -73,7 +73,7 @@ impl EntryTable {
     }
 
     /// Returns the entry of this number, if there is such an entry.
-    pub(crate) fn get(&self, number: usize) -> Option<Entry<'_>>
+    pub(crate) fn get(&self, number: usize) -> Option<ExpandedPlan<'_>>
         ensures { result ≡ slice_get self.now.items number }
     {
         if number < self.len() {

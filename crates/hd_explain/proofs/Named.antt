@@ -6,9 +6,9 @@ use Rattle.hd_lifted.specs.declared.task.LiftedTask.{LiftedTask}
 use Rattle.hd_lifted.specs.declared.instance.Instance.{Instance}
 use Rattle.hd_lifted.specs.WellFormed.{HasDistinctNames}
 use Rattle.hd_lifted.specs.Steps.{Reached, start}
-use Rattle.hd_judge.specs.declared.fault.Fault.{Fault}
-use Rattle.hd_judge.specs.declared.fault.Fault.TheVariants.{NoSuchAction, NotApplicable, Departs, GoalUnmet}
-use Rattle.hd_judge.specs.declared.fault.Stop.TheVariants as stops
+use Rattle.hd_judge.specs.declared.fault.PlanFault.{PlanFault}
+use Rattle.hd_judge.specs.declared.fault.PlanFault.TheVariants.{NoSuchAction, NotApplicable, Departs, GoalUnmet}
+use Rattle.hd_judge.specs.declared.fault.PlanStop.TheVariants as stops
 use Rattle.hd_judge.specs.Asking.{asked_of_goal}
 use Rattle.hd_judge.specs.Refusals.{fault_of, IsReasonOfStep, TellsUnexplained, IsReasonOfGoal, GoalUnexplained}
 use Rattle.hd_judge.specs.Validity.{Passes}
@@ -47,7 +47,7 @@ step_told t r here n s i reason names why = (
 pub step_passes : (t : LiftedTask) (r here : Reached) (n : ℕ) (s : Step) (i : Instance) → HasNamesOf t s i → Passes t r n i here → PassesBy t r n s here
 step_passes t r here n s i names passes = record { instance = i; is_step = record { instance = passes.instance; names = names }; passes = passes }
 
-pub step_untold : (t : LiftedTask) (r here : Reached) (n : ℕ) (s : Step) (i : Instance) (fault : Fault) → HasDistinctNames t → HasNamesOf t s i
+pub step_untold : (t : LiftedTask) (r here : Reached) (n : ℕ) (s : Step) (i : Instance) (fault : PlanFault) → HasDistinctNames t → HasNamesOf t s i
     → TellsUnexplained t r n i fault → HaltsAt t r n s here halts.Untold
 step_untold t r here n s i fault distinct names told = (fault, stops_named t r n s i (stops.At fault) distinct names told.0, told.1)
 
@@ -96,13 +96,13 @@ goal_told t r reason why n = (fault_of GoalUnmet (Departs n) reason, (refl, refl
 pub goal_met : (t : LiftedTask) (r : Reached) → IsOnWay t r → ((n : ℕ) → asked_of_goal t r n ≡ None) → (n : ℕ) → HaltsFrom t r n [] r halts.Untold
 goal_met t r way met n = inl (r, (refl, met n), way)
 
-pub goal_untold : (t : LiftedTask) (r : Reached) (fault : Fault) → GoalUnexplained t r fault → (n : ℕ) → HaltsFrom t r n [] r halts.Untold
+pub goal_untold : (t : LiftedTask) (r : Reached) (fault : PlanFault) → GoalUnexplained t r fault → (n : ℕ) → HaltsFrom t r n [] r halts.Untold
 goal_untold t r fault told n = inr (fault, told.0 n, told.1)
 
 -- ---- the whole
 
 -- a reason is that of a fault which is reported
-explains_tells : (t : LiftedTask) (r : Reached) (n : ℕ) (steps : List Step) (fault : Fault) (here : Reached) (p : PlanReason)
+explains_tells : (t : LiftedTask) (r : Reached) (n : ℕ) (steps : List Step) (fault : PlanFault) (here : Reached) (p : PlanReason)
     → ExplainsFrom t r n steps fault here p.instance p.reason → TellsFromBy t r n steps fault
 explains_tells t r n [] fault here p e = goal_reason_asked t r n p.reason e.2 ∙ ap Some (sym e.3)
 explains_tells t r n (s ∷ steps) fault here p e =

@@ -4,8 +4,8 @@ use Rattle.hd_plan.specs.declared.step.Step.{Step}
 use Rattle.hd_lifted.specs.declared.task.LiftedTask.{LiftedTask}
 use Rattle.hd_lifted.specs.declared.instance.Instance.{Instance}
 use Rattle.hd_lifted.specs.Steps.{Reached, start}
-use Rattle.hd_judge.specs.declared.fault.Fault.{Fault}
-use Rattle.hd_judge.specs.declared.fault.Fault.TheVariants.{NotApplicable, Departs, GoalUnmet}
+use Rattle.hd_judge.specs.declared.fault.PlanFault.{PlanFault}
+use Rattle.hd_judge.specs.declared.fault.PlanFault.TheVariants.{NotApplicable, Departs, GoalUnmet}
 use Rattle.hd_judge.specs.declared.reason.Reason.{Reason}
 use Rattle.hd_judge.specs.Refusals.{fault_of, is_explained, IsReasonOfStep, IsReasonOfGoal}
 use Rattle.hd_judge.specs.Way.{IsOnWay}
@@ -17,7 +17,7 @@ use Rattle.hd_explain.specs.declared.plan.Halt.TheVariants as halts
 use Rattle.hd_explain.specs.Texts.{text_of}
 
 -- the n-th step, which is one of this instance, has the fault for this reason, and is taken here
-pub record IsReasonOfNamed (t : LiftedTask) (r : Reached) (n : ℕ) (s : Step) (fault : Fault) (here : Reached) (of : Option Instance) (reason : Reason) : Type 0 where
+pub record IsReasonOfNamed (t : LiftedTask) (r : Reached) (n : ℕ) (s : Step) (fault : PlanFault) (here : Reached) (of : Option Instance) (reason : Reason) : Type 0 where
   pub instance : Instance
   pub is_step : IsStep t s instance
   pub is_here : r ≡ here
@@ -28,7 +28,7 @@ pub record IsReasonOfNamed (t : LiftedTask) (r : Reached) (n : ℕ) (s : Step) (
 -- of a list of steps, the first of which is the n-th, and then of the goal, the first that does not
 -- pass has the fault for this reason: it is a step of this instance, or the goal, which is of none,
 -- and those before it lead here
-abbrev pub ExplainsFrom : LiftedTask → Reached → ℕ → List Step → Fault → Reached → Option Instance → Reason → Type 0
+abbrev pub ExplainsFrom : LiftedTask → Reached → ℕ → List Step → PlanFault → Reached → Option Instance → Reason → Type 0
 ExplainsFrom t r n [] fault here of reason =
     (r ≡ here) × (of ≡ None) × IsReasonOfGoal t r reason × (fault ≡ fault_of GoalUnmet (Departs n) reason)
 ExplainsFrom t r n (s ∷ steps) fault here of reason =
@@ -37,7 +37,7 @@ ExplainsFrom t r n (s ∷ steps) fault here of reason =
 -- this is why a plan of steps is not valid: it is the reason of the plan's first fault, a step's of
 -- this instance or the goal's, where the steps before lead
 pub record IsReasonOfPlan (t : LiftedTask) (steps : List Step) (here : Reached) (of : Option Instance) (reason : Reason) : Type 0 where
-  pub fault : Fault
+  pub fault : PlanFault
   pub is_first : IsFirstFaultBy t steps fault
   pub explains : ExplainsFrom t (start t) 1 steps fault here of reason
 
@@ -58,7 +58,7 @@ pub record TellsReason (t : LiftedTask) (steps : List Step) (line : List ℕ) : 
 abbrev pub NeedsNoReason : LiftedTask → List Step → Type 0
 NeedsNoReason t steps =
     ((cost : ℕ) × IsValidatedBy t steps cost)
-    ⊎ ((fault : Fault) × IsFirstFaultBy t steps fault × (is_explained fault ≡ false))
+    ⊎ ((fault : PlanFault) × IsFirstFaultBy t steps fault × (is_explained fault ≡ false))
 
 -- ---- what the code answers
 
@@ -67,17 +67,17 @@ NeedsNoReason t steps =
 abbrev pub NeedsNoReasonFrom : LiftedTask → Reached → ℕ → List Step → Type 0
 NeedsNoReasonFrom t r n steps =
     ((end : Reached) × ClearsFromBy t r n steps end × IsOnWay t end)
-    ⊎ ((fault : Fault) × TellsFromBy t r n steps fault × (is_explained fault ≡ false))
+    ⊎ ((fault : PlanFault) × TellsFromBy t r n steps fault × (is_explained fault ≡ false))
 
 -- they have a reason
 abbrev pub HasReasonFrom : LiftedTask → Reached → ℕ → List Step → Reached → PlanReason → Type 0
-HasReasonFrom t r n steps here p = (fault : Fault) × ExplainsFrom t r n steps fault here p.instance p.reason
+HasReasonFrom t r n steps here p = (fault : PlanFault) × ExplainsFrom t r n steps fault here p.instance p.reason
 
 -- the way ends at the n-th step: it has a fault that says all that there is to say, or one with a
 -- reason
 abbrev pub HaltsAt : LiftedTask → Reached → ℕ → Step → Reached → Halt → Type 0
-HaltsAt t r n s here halts.Untold = (fault : Fault) × TellsStepBy t r n s fault × (is_explained fault ≡ false)
-HaltsAt t r n s here (halts.Told p) = (fault : Fault) × IsReasonOfNamed t r n s fault here p.instance p.reason
+HaltsAt t r n s here halts.Untold = (fault : PlanFault) × TellsStepBy t r n s fault × (is_explained fault ≡ false)
+HaltsAt t r n s here (halts.Told p) = (fault : PlanFault) × IsReasonOfNamed t r n s fault here p.instance p.reason
 
 -- the same of steps and the goal
 abbrev pub HaltsFrom : LiftedTask → Reached → ℕ → List Step → Reached → Halt → Type 0

@@ -9,7 +9,7 @@ use Rattle.hd_base.specs.declared.operation.Operation.TheVariants.{Add, Subtract
 use Rattle.hd_base.specs.declared.relation.Relation.{Relation}
 use Rattle.hd_base.specs.declared.relation.Relation.TheVariants.{Less, LessOrEqual, Equal, GreaterOrEqual, Greater}
 use Rattle.hd_base.specs.Expression.{Expression, leaf, negate, binary}
-use Rattle.hd_lifted.specs.declared.schema.Applied.{Applied}
+use Rattle.hd_lifted.specs.declared.schema.AppliedSymbol.{AppliedSymbol}
 use Rattle.hd_lifted.specs.declared.schema.Ground.{Ground}
 use Rattle.hd_lifted.specs.declared.schema.Literal.{Literal}
 use Rattle.hd_lifted.specs.declared.schema.Equality.{Equality}
@@ -52,12 +52,12 @@ operation_sign Subtract = codes "(- "
 operation_sign Multiply = codes "(* "
 
 -- a number in decimal, or a fluent
-abbrev pub leaf_text : LiftedTask → List ℕ → Operand Applied → List ℕ
+abbrev pub leaf_text : LiftedTask → List ℕ → Operand AppliedSymbol → List ℕ
 leaf_text t objects (Number n) = signed_decimal n
 leaf_text t objects (Fluent f) = fluent_text t (ground_form_of objects f)
 
 -- an expression in parentheses, each sign before its operands
-abbrev pub expression_text : LiftedTask → List ℕ → Expression (Operand Applied) → List ℕ
+abbrev pub expression_text : LiftedTask → List ℕ → Expression (Operand AppliedSymbol) → List ℕ
 expression_text t objects (leaf l) = leaf_text t objects l
 expression_text t objects (negate x) = codes "(- " ++ expression_text t objects x ++ codes ")"
 expression_text t objects (binary o x y) =

@@ -10,7 +10,7 @@ ghost use Rattle.hd_explain.specs.Plans.{objects_of, TellsReason, NeedsNoReason,
 
 use crate::text::text_of;
 use hd_base::{NoMemory, Seed};
-use hd_judge::{Lookups, Place, Reason, Refusal, Stop, begin, explain_goal, explain_step};
+use hd_judge::{Lookups, Place, PlanRefusal, PlanStop, Reason, begin, explain_goal, explain_step};
 use hd_lifted::{Checked, Instance};
 use hd_plan::{Step, TaskNames, instance_of};
 use std::alloc::{AllocError, Global};
@@ -60,16 +60,16 @@ fn explain_next<'a>(
             drop(instance);
             Ok(None)
         }
-        Err(Refusal::For(reason)) => Ok(Some(Halt::Told(PlanReason {
+        Err(PlanRefusal::For(reason)) => Ok(Some(Halt::Told(PlanReason {
             instance: Some(instance),
             reason,
         }))),
-        Err(Refusal::At(Stop::At(fault))) => {
+        Err(PlanRefusal::At(PlanStop::At(fault))) => {
             drop(fault);
             drop(instance);
             Ok(Some(Halt::Untold))
         }
-        Err(Refusal::At(Stop::NoMemory)) => {
+        Err(PlanRefusal::At(PlanStop::NoMemory)) => {
             drop(instance);
             Err(AllocError)
         }
@@ -89,15 +89,15 @@ fn explain_end<'a>(
 {
     match explain_goal(alloc, lookups, place) {
         Ok(()) => Ok(Halt::Untold),
-        Err(Refusal::For(reason)) => Ok(Halt::Told(PlanReason {
+        Err(PlanRefusal::For(reason)) => Ok(Halt::Told(PlanReason {
             instance: None,
             reason,
         })),
-        Err(Refusal::At(Stop::At(fault))) => {
+        Err(PlanRefusal::At(PlanStop::At(fault))) => {
             drop(fault);
             Ok(Halt::Untold)
         }
-        Err(Refusal::At(Stop::NoMemory)) => Err(AllocError),
+        Err(PlanRefusal::At(PlanStop::NoMemory)) => Err(AllocError),
     }
 }
 

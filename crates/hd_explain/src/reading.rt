@@ -8,7 +8,7 @@ ghost use Rattle.hd_explain.specs.Readings.{reading_at, changing_fluents, fluent
 
 use hd_base::{ExprParts, NoMemory, Operand, Sequence};
 use hd_judge::{NewValue, Place, Reason, is_cost};
-use hd_lifted::{Applied, Comparison, Expr, Ground, NumericEffect, ground_form_of, is_same};
+use hd_lifted::{AppliedSymbol, Comparison, Expr, Ground, NumericEffect, ground_form_of, is_same};
 use std::alloc::Global;
 
 /// A fluent in its ground form, with its value at a place, if it has one there.
@@ -24,7 +24,7 @@ fn push_reading(
     readings: &mut Vec<Reading>,
     place: &Place,
     objects: &[usize],
-    said: &Applied,
+    said: &AppliedSymbol,
 ) -> Result<(), NoMemory>
     ensures { OnOk result (readings.new.items ≡ readings.old.items
         ++ reading_at (reached_in place.now).state.values (ground_form_of objects.now said.now)
@@ -84,7 +84,7 @@ fn push_change(
     readings: &mut Vec<Reading>,
     place: &Place,
     objects: &[usize],
-    fluent: &Applied,
+    fluent: &AppliedSymbol,
     said: &NumericEffect,
 ) -> Result<(), NoMemory>
     ensures { OnOk result (readings.new.items ≡ readings.old.items
@@ -105,7 +105,7 @@ fn push_changes(
     readings: &mut Vec<Reading>,
     place: &Place,
     objects: &[usize],
-    fluent: &Applied,
+    fluent: &AppliedSymbol,
     said: &[NumericEffect],
 ) -> Result<(), NoMemory>
     ensures { OnOk result (readings.new.items ≡ readings.old.items

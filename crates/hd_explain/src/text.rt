@@ -8,9 +8,9 @@ ghost use Rattle.hd_explain.specs.Texts.{literal_text, same_text, equality_text,
 
 use crate::reading::{Reading, readings_of};
 use hd_base::{ExprParts, NoMemory, Operand, Operation, Relation};
-use hd_judge::{Departure, NewValue, Place, Reason};
+use hd_judge::{DepartingPart, NewValue, Place, Reason};
 use hd_lifted::{
-    Applied, Comparison, Equality, Expr, Ground, Leaf, LiftedTask, Literal, Signature,
+    AppliedSymbol, Comparison, Equality, Expr, Ground, Leaf, LiftedTask, Literal, Signature,
     ground_form_of, object_of,
 };
 use std::alloc::Global;
@@ -83,7 +83,7 @@ fn push_fluent(
     text: &mut String,
     task: &LiftedTask,
     objects: &[usize],
-    said: &Applied,
+    said: &AppliedSymbol,
 ) -> Result<(), NoMemory>
     ensures { OnOk result (string_bytes text.new ≡ string_bytes text.old
         ++ fluent_text task.now (ground_form_of objects.now said.now)) }
@@ -251,7 +251,7 @@ fn push_departure(
     text: &mut String,
     task: &LiftedTask,
     objects: &[usize],
-    departure: &Departure<'_>,
+    departure: &DepartingPart<'_>,
 ) -> Result<(), NoMemory>
     ensures { OnOk result (string_bytes text.new ≡ string_bytes text.old
         ++ (expression_text task.now objects.now departure.now.part.now
@@ -268,7 +268,7 @@ fn push_changed(
     task: &LiftedTask,
     objects: &[usize],
     words: &str,
-    fluent: &Applied,
+    fluent: &AppliedSymbol,
     value: i128,
 ) -> Result<(), NoMemory>
     ensures { OnOk result (string_bytes text.new ≡ string_bytes text.old

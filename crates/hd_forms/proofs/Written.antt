@@ -8,14 +8,14 @@ use Rattle.hd_forms.specs.declared.error.ReadError.TheVariants as errors
 use Rattle.hd_forms.specs.declared.forms.Form as forms
 use Rattle.hd_forms.specs.declared.forms.Form.{Form, the_lemmas}
 use Rattle.hd_forms.specs.declared.forms.OpenForm.{OpenForm}
-use Rattle.hd_forms.specs.declared.word.Word.{Word}
+use Rattle.hd_forms.specs.declared.word.FormWord.{FormWord}
 use Rattle.hd_forms.specs.Forms.{Mark, opening, closing, symbol, Forms, none, word, list, append, marks_of, mark_of, marks_from, fault_from, parenthesis_fault}
 use Rattle.hd_forms.specs.View.{form_view, forms_view}
 use Rattle.hd_forms.specs.Nesting.{open_marks, marks_written}
 
 -- ---- one form more
 
-view-word : (at : ℕ) (w : Word) → form_view (forms.Word at w) ≡ word at w none
+view-word : (at : ℕ) (w : FormWord) → form_view (forms.Word at w) ≡ word at w none
 view-word at w = search (rules, the_lemmas)
 
 view-list : (from : ℕ) (inside : Vec Form Global) (to : ℕ)
@@ -50,7 +50,7 @@ marks-push : (fs : List Form) (f : Form)
 marks-push fs f = ap marks_of (view-push fs f) ∙ marks-append (forms_view fs) (form_view f)
 
 -- a word after what was read
-pub marks_written-word : (os : List OpenForm) (fs : List Form) (at : ℕ) (w : Word)
+pub marks_written-word : (os : List OpenForm) (fs : List Form) (at : ℕ) (w : FormWord)
     → marks_written os (fs ++ forms.Word at w ∷ []) ≡ marks_written os fs ++ symbol at w ∷ []
 marks_written-word os fs at w =
     ap (λ (ms : List Mark). flat_map open_marks os ++ ms)

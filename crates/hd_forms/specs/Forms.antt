@@ -7,15 +7,15 @@ use Rattle.hd_lex.specs.declared.token.Word.TheVariants as tokens
 use Rattle.hd_forms.specs.declared.error.ReadError.{ReadError}
 use Rattle.hd_forms.specs.declared.error.ReadError.TheVariants as errors
 use Rattle.hd_forms.specs.declared.forms.TheConstants.{MOST_OPEN}
-use Rattle.hd_forms.specs.declared.word.Word.{Word}
-use Rattle.hd_forms.specs.declared.word.Word.TheVariants as words
+use Rattle.hd_forms.specs.declared.word.FormWord.{FormWord}
+use Rattle.hd_forms.specs.declared.word.FormWord.TheVariants as words
 use Rattle.hd_forms.specs.Word.{name_word}
 
 -- a parenthesis or another word, with the place of its first byte (own)
 pub data Mark : Type 0 where
   opening : ℕ → Mark
   closing : ℕ → Mark
-  symbol : ℕ → Word → Mark
+  symbol : ℕ → FormWord → Mark
 
 -- the mark at this place of a word of the lexer (own)
 abbrev pub mark_at : ℕ → lexer.Word → Mark
@@ -40,7 +40,7 @@ marks_from ts = map mark_of ts
 -- which stand at two places, with the forms in it and what follows it (own)
 pub data Forms : Type 0 where
   none : Forms
-  word : ℕ → Word → Forms → Forms
+  word : ℕ → FormWord → Forms → Forms
   list : ℕ → Forms → ℕ → Forms → Forms
 
 -- how forms are written: a word as itself, a form as '(', the forms in it, and ')' (BNF)

@@ -6,8 +6,8 @@ use Rattle.hd_base.specs.Options.{◌>>=◌}
 use Rattle.hd_forms.specs.declared.error.ReadError.{ReadError}
 use Rattle.hd_forms.specs.declared.error.ReadError.TheVariants as errors
 use Rattle.hd_forms.specs.declared.names.NameAt.{NameAt}
-use Rattle.hd_forms.specs.declared.word.Word.{Word}
-use Rattle.hd_forms.specs.declared.word.Word.TheVariants as words
+use Rattle.hd_forms.specs.declared.word.FormWord.{FormWord}
+use Rattle.hd_forms.specs.declared.word.FormWord.TheVariants as words
 use Rattle.hd_forms.specs.Forms.{Forms, none, word, list}
 
 -- the errors of the grammar, and lack of memory
@@ -31,7 +31,7 @@ Refuses (errors.TooDeep at) read = ⊥
 -- ---- single words
 
 -- the name of a word that is one
-abbrev pub name_in : Word → Option (List ℕ)
+abbrev pub name_in : FormWord → Option (List ℕ)
 name_in words.And = None
 name_in words.Not = None
 name_in (words.Change k) = None
@@ -43,7 +43,7 @@ name_in (words.Operator o) = None
 name_in (words.Number v) = None
 
 -- the name of a keyword
-abbrev pub keyword_in : Word → Option (List ℕ)
+abbrev pub keyword_in : FormWord → Option (List ℕ)
 keyword_in words.And = None
 keyword_in words.Not = None
 keyword_in (words.Change k) = None
@@ -55,7 +55,7 @@ keyword_in (words.Operator o) = None
 keyword_in (words.Number v) = None
 
 -- the name of a variable
-abbrev pub variable_in : Word → Option (List ℕ)
+abbrev pub variable_in : FormWord → Option (List ℕ)
 variable_in words.And = None
 variable_in words.Not = None
 variable_in (words.Change k) = None
@@ -67,7 +67,7 @@ variable_in (words.Operator o) = None
 variable_in (words.Number v) = None
 
 -- the number that a word is
-abbrev pub number_in : Word → Option ℤ
+abbrev pub number_in : FormWord → Option ℤ
 number_in words.And = None
 number_in words.Not = None
 number_in (words.Change k) = None

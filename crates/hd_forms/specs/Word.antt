@@ -2,9 +2,9 @@
 -- "BNF" is the BNF of PDDL 2.1 (Fox and Long 2003, its appendix); "own" is a rule of this project.
 use Rattle.std.specs.Prelude.{ℕ, List, Bool, ◌||◌, codes, if◌then◌else◌}
 use Rattle.std.specs.Str.{bytes_eq}
-use Rattle.hd_forms.specs.declared.word.Change.TheVariants as changes
-use Rattle.hd_forms.specs.declared.word.Word.{Word}
-use Rattle.hd_forms.specs.declared.word.Word.TheVariants as words
+use Rattle.hd_forms.specs.declared.word.ChangeWord.TheVariants as changes
+use Rattle.hd_forms.specs.declared.word.FormWord.{FormWord}
+use Rattle.hd_forms.specs.declared.word.FormWord.TheVariants as words
 
 -- the words of parts of PDDL that are not read, as far as they are spelled as names (BNF; which
 -- parts are read is own)
@@ -17,7 +17,7 @@ is_unsupported_name word =
 
 -- what a word spelled as a name says: 'and', 'not', a change, a part that is not read, or a name
 -- (BNF; that no other word of these is a name, own)
-abbrev pub name_word : List ℕ → Word
+abbrev pub name_word : List ℕ → FormWord
 name_word name =
     if bytes_eq name (codes "and") then words.And
     else (if bytes_eq name (codes "not") then words.Not

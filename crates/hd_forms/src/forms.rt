@@ -6,8 +6,8 @@ ghost use Rattle.hd_forms.specs.Nesting.{marks_written};
 ghost use Rattle.hd_forms.specs.declared.forms.OpenForm.{OpenForm};
 
 use crate::error::ReadError;
-use crate::place::Place;
-use crate::word::{Word, name_word};
+use crate::place::TextPlace;
+use crate::word::{FormWord, name_word};
 use hd_base::exact;
 use hd_lex::Token;
 use std::alloc::Global;
@@ -26,12 +26,12 @@ const ROOM: usize = 3;
 pub enum Form {
     Word {
         at: usize,
-        word: Word,
+        word: FormWord,
     },
     List {
         /// It stands first, beside the byte that tells a word from a list, so that a form is no
         /// larger than 40 bytes.
-        to: Place,
+        to: TextPlace,
         from: usize,
         inside: Vec<Form>,
     },
@@ -63,7 +63,7 @@ fn begin(
 }
 
 /// Adds a word to the innermost form.
-fn add(forms: &mut Vec<Form>, at: usize, word: Word) -> Result<(), ReadError>
+fn add(forms: &mut Vec<Form>, at: usize, word: FormWord) -> Result<(), ReadError>
     ensures written { OnOk result ((around : List OpenForm)
         → marks_written around forms.new.items
         ≡ marks_written around forms.old.items ++ symbol at word ∷ []) }
@@ -84,7 +84,7 @@ fn push_list(
         ≡ forms.old.items ++ Form.List at from inside ∷ []) }
     ensures no_memory { IfErr result (λ e. e ≡ ReadError.NoMemory) }
 {
-    let to = Place::of(at)?;
+    let to = TextPlace::of(at)?;
     forms.push(Form::List { to, from, inside })?;
     Ok(())
 }
@@ -132,10 +132,10 @@ pub fn take(
             None => Err(ReadError::Unbalanced(at)),
         },
         hd_lex::Word::Name(name) => add(forms, at, name_word(name)),
-        hd_lex::Word::Variable(name) => add(forms, at, Word::Variable(name)),
-        hd_lex::Word::Keyword(name) => add(forms, at, Word::Keyword(name)),
-        hd_lex::Word::Number(number) => add(forms, at, Word::Number(number)),
-        hd_lex::Word::SignedNumber(number) => add(forms, at, Word::Number(number)),
-        hd_lex::Word::Operator(operator) => add(forms, at, Word::Operator(operator)),
+        hd_lex::Word::Variable(name) => add(forms, at, FormWord::Variable(name)),
+        hd_lex::Word::Keyword(name) => add(forms, at, FormWord::Keyword(name)),
+        hd_lex::Word::Number(number) => add(forms, at, FormWord::Number(number)),
+        hd_lex::Word::SignedNumber(number) => add(forms, at, FormWord::Number(number)),
+        hd_lex::Word::Operator(operator) => add(forms, at, FormWord::Operator(operator)),
     }
 }

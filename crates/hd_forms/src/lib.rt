@@ -26,7 +26,7 @@ pub use names::{
     NameAt, behind_keyword, behind_name, end_at, find_keyword, group_at, name_at, number_at,
     placed_name,
 };
-pub use place::Place;
+pub use place::TextPlace;
 pub use refusal::{first_refusal, form_refusal};
 pub use text::text_forms;
-pub use word::{Change, Word};
+pub use word::{ChangeWord, FormWord};

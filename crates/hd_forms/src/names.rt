@@ -8,7 +8,7 @@ ghost use Rattle.hd_forms.specs.View.{forms_view};
 use crate::error::ReadError;
 use crate::forms::Form;
 use crate::refusal::{first_refusal, form_refusal};
-use crate::word::Word;
+use crate::word::FormWord;
 use hd_base::Name;
 use std::alloc::{AllocError, Global};
 
@@ -36,7 +36,7 @@ pub fn name_at(alloc: Global, forms: &[Form], end: usize) -> Result<(NameAt, &[F
         [
             Form::Word {
                 at,
-                word: Word::Name(name),
+                word: FormWord::Name(name),
             },
             rest @ ..,
         ] => {
@@ -61,7 +61,7 @@ pub fn number_at(
         [
             Form::Word {
                 at,
-                word: Word::Number(number),
+                word: FormWord::Number(number),
             },
             rest @ ..,
         ] => Ok((*number, *at, rest)),
@@ -109,7 +109,7 @@ pub fn behind_name<'a>(
     match forms {
         [
             Form::Word {
-                word: Word::Name(name),
+                word: FormWord::Name(name),
                 ..
             },
             rest @ ..,
@@ -133,7 +133,7 @@ pub fn find_keyword<'a>(text: &str, forms: &'a [Form]) -> Option<&'a [Form]>
     match forms {
         [
             Form::Word {
-                word: Word::Keyword(name),
+                word: FormWord::Keyword(name),
                 ..
             },
             rest @ ..,

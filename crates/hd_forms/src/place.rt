@@ -7,13 +7,13 @@ use std::marker::Model;
 /// A place in a text, counted from 0, in six bytes: so it takes no more room beside the kind of a
 /// form, or of a leaf, than the kind alone would.
 #[derive(Debug, Drop)]
-pub struct Place {
+pub struct TextPlace {
     low: u16,
     middle: u16,
     high: u16,
 }
 
-impl Model for Place {
+impl Model for TextPlace {
     ghost use Rattle.std.specs.Prelude.{ℕ, ◌+◌, ◌*◌};
 
     ghost Value = { ℕ };
@@ -21,10 +21,10 @@ impl Model for Place {
     ghost view = { λ p. p.low + 65536 * p.middle + 4294967296 * p.high };
 }
 
-impl Place {
+impl TextPlace {
     /// Returns the place `at`. No memory holds a text that has a place of 2^48 or more, so that is
     /// want of memory.
-    pub fn of(at: usize) -> Result<Place, AllocError>
+    pub fn of(at: usize) -> Result<TextPlace, AllocError>
         ensures { IfOk result (λ p. p ≡ at) }
     {
         let above = at / 65_536;
@@ -32,7 +32,7 @@ impl Place {
         if high >= 65_536 {
             return Err(AllocError);
         }
-        Ok(Place {
+        Ok(TextPlace {
             low: (at % 65_536) as u16,
             middle: (above % 65_536) as u16,
             high: high as u16,

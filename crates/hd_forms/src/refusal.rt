@@ -4,20 +4,20 @@ ghost use Rattle.hd_forms.specs.Reading.{IsOfGrammar};
 
 use crate::error::ReadError;
 use crate::forms::Form;
-use crate::word::{Word, is_unsupported_keyword};
+use crate::word::{FormWord, is_unsupported_keyword};
 use hd_lex::Operator;
 use std::alloc::{AllocError, Global};
 
 /// Returns the word as it is written, if it belongs to a part of PDDL that is not read.
-fn unsupported_text(alloc: Global, word: &Word) -> Result<Option<String>, AllocError> {
+fn unsupported_text(alloc: Global, word: &FormWord) -> Result<Option<String>, AllocError> {
     match word {
-        Word::Unsupported(name) => return Ok(Some(String::from_str(alloc, name.as_str())?)),
-        Word::Keyword(name) => {
+        FormWord::Unsupported(name) => return Ok(Some(String::from_str(alloc, name.as_str())?)),
+        FormWord::Keyword(name) => {
             if is_unsupported_keyword(name.as_str()) {
                 return Ok(Some(format!(in alloc; ":{name}")?));
             }
         }
-        Word::Operator(Operator::Divide) => return Ok(Some(String::from_str(alloc, "/")?)),
+        FormWord::Operator(Operator::Divide) => return Ok(Some(String::from_str(alloc, "/")?)),
         _ => {}
     }
     Ok(None)
@@ -25,7 +25,7 @@ fn unsupported_text(alloc: Global, word: &Word) -> Result<Option<String>, AllocE
 
 /// Refuses a token at the place `from`. Where this word, which stands at `at`, belongs to a part
 /// that is not read, it is to blame.
-fn refusal_by(alloc: Global, word: &Word, at: usize, from: usize) -> ReadError
+fn refusal_by(alloc: Global, word: &FormWord, at: usize, from: usize) -> ReadError
     ensures { IsOfGrammar result }
 {
     match unsupported_text(alloc, word) {

@@ -8,7 +8,7 @@ use hd_lex::Operator;
 
 /// How an effect changes a number.
 #[derive(Clone, Copy, Debug, PartialEq, Eq)]
-pub enum Change {
+pub enum ChangeWord {
     Assign,
     Increase,
     Decrease,
@@ -17,11 +17,11 @@ pub enum Change {
 
 /// A word that is no parenthesis.
 #[derive(Drop)]
-pub enum Word {
+pub enum FormWord {
     And,
     Not,
     /// The word that begins an effect on a number.
-    Change(Change),
+    Change(ChangeWord),
     /// A word spelled as a name that belongs to a part of PDDL that is not read, so that nothing
     /// can be named by it.
     Unsupported(Name),
@@ -57,25 +57,25 @@ pub fn is_unsupported_keyword(word: &str) -> bool {
 }
 
 /// Returns what a word spelled as a name says.
-pub fn name_word(name: Name) -> Word
+pub fn name_word(name: Name) -> FormWord
     ensures { result ≡ name_word name }
 {
     let text = name.as_str();
     if text == "and" {
-        Word::And
+        FormWord::And
     } else if text == "not" {
-        Word::Not
+        FormWord::Not
     } else if text == "assign" {
-        Word::Change(Change::Assign)
+        FormWord::Change(ChangeWord::Assign)
     } else if text == "increase" {
-        Word::Change(Change::Increase)
+        FormWord::Change(ChangeWord::Increase)
     } else if text == "decrease" {
-        Word::Change(Change::Decrease)
+        FormWord::Change(ChangeWord::Decrease)
     } else if text == "scale-up" {
-        Word::Change(Change::ScaleUp)
+        FormWord::Change(ChangeWord::ScaleUp)
     } else if is_unsupported_name(text) {
-        Word::Unsupported(name)
+        FormWord::Unsupported(name)
     } else {
-        Word::Name(name)
+        FormWord::Name(name)
     }
 }

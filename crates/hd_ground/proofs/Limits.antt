@@ -20,7 +20,7 @@ use Rattle.hd_grounding.specs.Faults.{met_by_all, undefined_in, negative_in, IsT
 use Rattle.hd_images.specs.Meeting.{IsMet, with_forms, goal_atoms}
 use Rattle.hd_images.proofs.TaskAtoms.{IsTooLarge-from_gathered, NumbersAtoms-from_gathered}
 use Rattle.hd_images.proofs.TaskFluents.{IsTooLarge-from_met, NumbersFluents-from_met, undefined_in-met}
-use Rattle.hd_reach.specs.declared.error.Stop.TheVariants.{TooMany}
+use Rattle.hd_reach.specs.declared.error.ReachStop.TheVariants.{TooMany}
 use Rattle.hd_reach.specs.declared.reading.Limits.{Limits}
 use Rattle.hd_reach.specs.Reaching.{StopsReaching}
 use Rattle.hd_grounding.specs.Counted.{HaveFewAmounts, AreCounted}

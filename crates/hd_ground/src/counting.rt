@@ -15,10 +15,10 @@ use crate::GroundError;
 use crate::amounts::have_more_amounts;
 use crate::faults::{action_text, fluent_text};
 use hd_base::{Seed, Sequence};
-use hd_images::{Numbers, atoms_in, first_negative, first_undefined, met_by_all};
+use hd_images::{NumberedForms, atoms_in, first_negative, first_undefined, met_by_all};
 use hd_judge::Lookups;
 use hd_lifted::{Ground, Instance, LiftedTask};
-use hd_reach::{Limits, Reached, Stop, reached_of};
+use hd_reach::{Limits, ReachStop, Reachable, reached_of};
 use hd_task::{MAX_ACTIONS, MAX_ATOMS, MAX_FLUENTS};
 use std::alloc::Global;
 
@@ -26,26 +26,26 @@ use std::alloc::Global;
 #[derive(Drop)]
 pub struct Counted {
     pub instances: Sequence<Instance>,
-    pub atoms: Numbers,
-    pub fluents: Numbers,
+    pub atoms: NumberedForms,
+    pub fluents: NumberedForms,
     /// The first fluent that is met and has no first value, if there is one.
     pub undefined: Option<Ground>,
 }
 
 /// Returns why a search for instances stops, within the limits of a task.
 #[tactic(auto, using(crate::proofs::Limits::too_many))]
-fn stopped(stop: Stop) -> GroundError
+fn stopped(stop: ReachStop) -> GroundError
     ensures { (t : LiftedTask) (limits : Limits) → limits.actions ≡ MAX_ACTIONS
         → limits.atoms ≡ MAX_ATOMS → StopsReaching t limits stop → Tells t result }
 {
     match stop {
-        Stop::TooMany => GroundError::TooMany,
-        Stop::NoMemory => GroundError::NoMemory,
+        ReachStop::TooMany => GroundError::TooMany,
+        ReachStop::NoMemory => GroundError::NoMemory,
     }
 }
 
 /// Returns the kept instances and the atoms that they reach, where they are not too many.
-fn kept_of(alloc: Global, seed: Seed, task: &LiftedTask) -> Result<Reached, GroundError>
+fn kept_of(alloc: Global, seed: Seed, task: &LiftedTask) -> Result<Reachable, GroundError>
     ensures reached { IfOk result (λ r. HasReached task.now r.instances r.atoms) }
     ensures few { IfOk result (λ r. length r.instances ≤ MAX_ACTIONS) }
     ensures few_amounts { IfOk result (λ r. HaveFewAmounts task.now r.instances) }
@@ -73,7 +73,7 @@ fn atoms_of(
     seed: Seed,
     task: &LiftedTask,
     reached: &[Ground],
-) -> Result<Numbers, GroundError>
+) -> Result<NumberedForms, GroundError>
     requires { (g : Ground) → IsReachable task.now g ↔ Contains reached.now g }
     ensures numbers { IfOk result (NumbersAtoms task.now) }
     ensures few { IfOk result (λ n. length n ≤ MAX_ATOMS) }
@@ -84,7 +84,7 @@ fn atoms_of(
         drop(forms);
         return Err(GroundError::TooMany);
     }
-    Ok(Numbers::of(forms)?)
+    Ok(NumberedForms::of(forms)?)
 }
 
 /// Returns the task's fluents by number, where they are not too many, and the first one that is met
@@ -95,7 +95,7 @@ fn fluents_of(
     seed: Seed,
     lookups: &Lookups<'_>,
     instances: &[Instance],
-) -> Result<(Numbers, Option<Ground>), GroundError>
+) -> Result<(NumberedForms, Option<Ground>), GroundError>
     requires { NumbersInstances lookups.now instances.now }
     ensures numbers { IfOk result (λ p. NumbersFluents lookups.now p.0) }
     ensures few { IfOk result (λ p. length p.0 ≤ MAX_FLUENTS) }
@@ -108,7 +108,7 @@ fn fluents_of(
         return Err(GroundError::TooMany);
     }
     match first_undefined(alloc, lookups, &met) {
-        Ok(undefined) => match Numbers::of(met) {
+        Ok(undefined) => match NumberedForms::of(met) {
             Ok(numbers) => Ok((numbers, undefined)),
             Err(error) => {
                 drop(undefined);
@@ -128,7 +128,7 @@ pub fn counted_of(alloc: Global, seed: Seed, lookups: &Lookups<'_>) -> Result<Co
     ensures undefined { IfOk result (λ c. c.undefined ≡ undefined_in lookups.now c.instances) }
     ensures refusal { IfErr result (Tells lookups.now) }
 {
-    let Reached { instances, atoms } = kept_of(alloc, seed, lookups.task())?;
+    let Reachable { instances, atoms } = kept_of(alloc, seed, lookups.task())?;
     let numbered = atoms_of(alloc, seed, lookups.task(), atoms.as_slice());
     drop(atoms);
     match numbered {

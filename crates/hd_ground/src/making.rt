@@ -11,7 +11,7 @@ ghost use Rattle.hd_grounding.specs.Counted.{AreCounted, AreFaultless};
 
 use crate::counting::Counted;
 use hd_base::{NoMemory, Sequence};
-use hd_images::{Numbers, action_of, condition_of, forms_of, names_in, start_in};
+use hd_images::{NumberedForms, action_of, condition_of, forms_of, names_in, start_in};
 use hd_judge::Lookups;
 use hd_lifted::Instance;
 use hd_task::{Action, Condition, GroundForm, Names, State, Task};
@@ -27,7 +27,7 @@ struct Printed {
 
 /// Where a search begins, and where it ends.
 #[derive(Drop)]
-struct Ends {
+struct GroundEnds {
     initial: State,
     goal: Condition,
 }
@@ -35,8 +35,8 @@ struct Ends {
 /// Returns what atoms and fluents are printed as.
 fn both_forms(
     alloc: Global,
-    atoms: &Numbers,
-    fluents: &Numbers,
+    atoms: &NumberedForms,
+    fluents: &NumberedForms,
 ) -> Result<(Sequence<GroundForm>, Sequence<GroundForm>), NoMemory>
     ensures atoms { IfOk result (λ p. p.0 ≡ map form_of atoms.now) }
     ensures fluents { IfOk result (λ p. p.1 ≡ map form_of fluents.now) }
@@ -55,8 +55,8 @@ fn both_forms(
 fn printed_of(
     alloc: Global,
     lookups: &Lookups<'_>,
-    atoms: &Numbers,
-    fluents: &Numbers,
+    atoms: &NumberedForms,
+    fluents: &NumberedForms,
 ) -> Result<Printed, NoMemory>
     ensures names { IfOk result (λ p. p.names ≡ names_in lookups.now) }
     ensures atoms { IfOk result (λ p. p.atoms ≡ map form_of atoms.now) }
@@ -80,9 +80,9 @@ fn printed_of(
 fn ends_of(
     alloc: Global,
     lookups: &Lookups<'_>,
-    atoms: &Numbers,
-    fluents: &Numbers,
-) -> Result<Ends, NoMemory>
+    atoms: &NumberedForms,
+    fluents: &NumberedForms,
+) -> Result<GroundEnds, NoMemory>
     ensures initial { IfOk result (λ e. e.initial ≡ start_in lookups.now atoms.now fluents.now) }
     ensures goal { IfOk result (λ e. e.goal
         ≡ condition_of atoms.now fluents.now [] lookups.now.goal) }
@@ -90,7 +90,7 @@ fn ends_of(
     let none: [usize; 0] = [];
     let goal = condition_of(alloc, atoms, fluents, none.as_slice(), &lookups.task().goal)?;
     match start_in(alloc, lookups, atoms, fluents) {
-        Ok(initial) => Ok(Ends { initial, goal }),
+        Ok(initial) => Ok(GroundEnds { initial, goal }),
         Err(error) => {
             drop(goal);
             Err(error)
@@ -102,8 +102,8 @@ fn ends_of(
 fn actions_of(
     alloc: Global,
     lookups: &Lookups<'_>,
-    atoms: &Numbers,
-    fluents: &Numbers,
+    atoms: &NumberedForms,
+    fluents: &NumberedForms,
     instances: &[Instance],
 ) -> Result<Sequence<Action>, NoMemory>
     requires { NumbersInstances lookups.now instances.now }
@@ -118,7 +118,7 @@ fn actions_of(
 }
 
 /// Returns the task of parts that fit together.
-fn task_with(printed: Printed, ends: Ends, actions: Sequence<Action>, metric: bool) -> Task
+fn task_with(printed: Printed, ends: GroundEnds, actions: Sequence<Action>, metric: bool) -> Task
     requires { parts_fit printed.names printed.atoms printed.fluents ends.initial actions
         ends.goal metric ≡ true }
     ensures { HasParts printed.names printed.atoms printed.fluents ends.initial actions
@@ -129,7 +129,7 @@ fn task_with(printed: Printed, ends: Ends, actions: Sequence<Action>, metric: bo
         atoms,
         fluents,
     } = printed;
-    let Ends { initial, goal } = ends;
+    let GroundEnds { initial, goal } = ends;
     match Task::new(names, atoms, fluents, initial, actions, goal, metric) {
         Some(task) => task,
         None => unreachable!(),

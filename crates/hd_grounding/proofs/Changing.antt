@@ -5,7 +5,7 @@ use Rattle.std.proofs.lemmas.Bool.{eqb-true, eq-eqb, false_from_ne_true}
 use Rattle.std.proofs.lemmas.Option.{same_Some}
 use Rattle.std.proofs.lemmas.List.Folds.{list_any-append}
 use Rattle.hd_base.proofs.Truth.{or-false, each_way}
-use Rattle.hd_lifted.specs.declared.schema.Applied.{Applied}
+use Rattle.hd_lifted.specs.declared.schema.AppliedSymbol.{AppliedSymbol}
 use Rattle.hd_lifted.specs.declared.schema.Ground.{Ground}
 use Rattle.hd_lifted.specs.declared.schema.Schema.{Schema}
 use Rattle.hd_lifted.specs.States as domain
@@ -37,7 +37,7 @@ module _ (atoms : List Ground) (rising : AllPairs (λ x y. ComesBefore (form_key
       subst (λ x. domain.same h x ≡ true) is (same-refl h))
       ∙ sym (or-false (j == k))
 
-  names_agree : (objects : List ℕ) (xs : List Applied) (k : ℕ) (g : Ground) → slice_get atoms k ≡ Some g
+  names_agree : (objects : List ℕ) (xs : List AppliedSymbol) (k : ℕ) (g : Ground) → slice_get atoms k ≡ Some g
       → lifted.names_atom objects xs g ≡ names_atom (numbers_of atoms objects xs) k
   names_agree objects [] k g at = refl
   names_agree objects (a ∷ xs) k g at =

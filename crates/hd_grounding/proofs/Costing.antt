@@ -11,7 +11,7 @@ use Rattle.hd_base.specs.Expression.{Expression, leaf, negate, binary}
 use Rattle.hd_base.proofs.Lists.{AllByRecursion-slice_get}
 use Rattle.hd_base.proofs.Members.{Contains-from_filter}
 use Rattle.hd_base.proofs.Tests.{find-None, list_all-from_each}
-use Rattle.hd_lifted.specs.declared.schema.Applied.{Applied}
+use Rattle.hd_lifted.specs.declared.schema.AppliedSymbol.{AppliedSymbol}
 use Rattle.hd_lifted.specs.declared.schema.Ground.{Ground}
 use Rattle.hd_lifted.specs.declared.schema.NumericEffect.{NumericEffect}
 use Rattle.hd_lifted.specs.declared.schema.Schema.{Schema}
@@ -73,7 +73,7 @@ module _ (t : LiftedTask) (fluents : List Ground) (objects : List ℕ) where
   -- ---- amounts that are constant
 
   -- what became a number was constant
-  fluent_constant : (f : Applied) (changed : Bool)
+  fluent_constant : (f : AppliedSymbol) (changed : Bool)
       → is_number
       (if not changed then leaf (Number (unwrap_or (lifted_value.value_of (first_value t.values) objects (leaf (Fluent f))) (pos 0)))
       else expression_of fluents objects (leaf (Fluent f))) ≡ true
@@ -81,7 +81,7 @@ module _ (t : LiftedTask) (fluents : List Ground) (objects : List ℕ) where
   fluent_constant f true number = absurd (true≢false (sym number))
   fluent_constant f false number = refl
 
-  constant_from : (x : Expression (Operand Applied)) → is_number (amount_of t fluents objects x) ≡ true → is_constant t x ≡ true
+  constant_from : (x : Expression (Operand AppliedSymbol)) → is_number (amount_of t fluents objects x) ≡ true → is_constant t x ≡ true
   constant_from (leaf (Number v)) number = refl
   constant_from (leaf (Fluent f)) number = fluent_constant f (is_changed t f.symbol) number
   constant_from (negate x) number = absurd (true≢false (sym number))

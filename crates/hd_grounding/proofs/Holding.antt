@@ -10,7 +10,7 @@ use Rattle.hd_base.specs.Expression.{Expression, leaf, negate, binary}
 use Rattle.hd_base.specs.Numbers.{result_of}
 use Rattle.hd_base.specs.Values.{of_both}
 use Rattle.hd_base.proofs.Members.{Contains-first, Contains-later}
-use Rattle.hd_lifted.specs.declared.schema.Applied.{Applied}
+use Rattle.hd_lifted.specs.declared.schema.AppliedSymbol.{AppliedSymbol}
 use Rattle.hd_lifted.specs.declared.schema.Ground.{Ground}
 use Rattle.hd_lifted.specs.declared.schema.Literal as lifted_literal
 use Rattle.hd_lifted.specs.declared.schema.Comparison as lifted_comparison
@@ -36,7 +36,7 @@ module _ (atoms fluents : List Ground) (s : domain.State) (n : State) (agree : A
       agree.same_values k.number g k.place ∙ ap (λ o. Some (fluent_of n.fluents (unwrap_or o 0))) (sym k.is)
 
   pub value_agrees :
-      (e : Expression (Operand Applied)) → ((g : Ground) → Contains (fluents_in objects e) g → Contains fluents g)
+      (e : Expression (Operand AppliedSymbol)) → ((g : Ground) → Contains (fluents_in objects e) g → Contains fluents g)
       → lifted_value.value_of s.values objects e ≡ Some (value_of n.fluents (expression_of fluents objects e))
   value_agrees (leaf (Number v)) read = refl
   value_agrees (leaf (Fluent a)) read = fluent_agrees (domain.ground_form_of objects a) (read (domain.ground_form_of objects a) (Contains-first (domain.ground_form_of objects a) []))

@@ -15,7 +15,7 @@ use Rattle.hd_base.proofs.Places.{left_of, place_of}
 use Rattle.hd_base.proofs.Lists.{AllByRecursion-slice_get}
 use Rattle.hd_lifted.specs.declared.schema.Argument.{Argument}
 use Rattle.hd_lifted.specs.declared.schema.Argument.TheVariants.{Parameter, Object}
-use Rattle.hd_lifted.specs.declared.schema.Applied.{Applied}
+use Rattle.hd_lifted.specs.declared.schema.AppliedSymbol.{AppliedSymbol}
 use Rattle.hd_lifted.specs.declared.schema.Ground.{Ground}
 use Rattle.hd_lifted.specs.declared.schema.Literal.{Literal}
 use Rattle.hd_lifted.specs.declared.schema.Comparison.{Comparison}
@@ -104,7 +104,7 @@ module _ (t : LiftedTask) where
     arguments_typed (a ∷ xs) [] zip = absurd zip
     arguments_typed (a ∷ xs) (u ∷ wanted) zip = (argument_typed a u zip.0, arguments_typed xs wanted zip.1)
 
-    pub applied_ground : (symbols : List Signature) (a : Applied) → IsApplied t symbols types a → IsGround t symbols (ground_form_of objects a)
+    pub applied_ground : (symbols : List Signature) (a : AppliedSymbol) → IsApplied t symbols types a → IsGround t symbols (ground_form_of objects a)
     applied_ground symbols a is =
         let m = there_from (λ (s : Signature). AllZip (IsArgumentOf t types) a.arguments s.parameters) symbols a.symbol is in
         some_from (λ (s : Signature). AreOfTypes t (map (object_of objects) a.arguments) s.parameters) symbols a.symbol
@@ -112,7 +112,7 @@ module _ (t : LiftedTask) where
 
     -- ---- fluents that are met
 
-    expression_ground : (e : Expression (Operand Applied)) → IsExpression t types e → (g : Ground) → Contains (fluents_in objects e) g → IsGround t t.functions g
+    expression_ground : (e : Expression (Operand AppliedSymbol)) → IsExpression t types e → (g : Ground) → Contains (fluents_in objects e) g → IsGround t t.functions g
     expression_ground (leaf (Number v)) is g c = absurd (Contains-nil g c)
     expression_ground (leaf (Fluent a)) is g c =
         elim (Contains-cons_cases (ground_form_of objects a) [] g c) [
@@ -136,7 +136,7 @@ module _ (t : LiftedTask) where
           | inr c ↦ expression_ground from.0.right is.1 g c
         ]
 
-    changed_ground : (cost : Bool) (a : Applied) → IsApplied t t.functions types a
+    changed_ground : (cost : Bool) (a : AppliedSymbol) → IsApplied t t.functions types a
         → (g : Ground) → Contains (if cost then [] else ground_form_of objects a ∷ []) g → IsGround t t.functions g
     changed_ground true a is g c = absurd (Contains-nil g c)
     changed_ground false a is g c =
@@ -193,14 +193,14 @@ module _ (t : LiftedTask) where
 
     -- ---- what an instance applies to its objects
 
-    applied_of : (i : Instance) (is : IsInstance t i) (a : Applied) → IsApplied t t.predicates is.schema.parameters a → IsGround t t.predicates (ground_form_of i.objects a)
+    applied_of : (i : Instance) (is : IsInstance t i) (a : AppliedSymbol) → IsApplied t t.predicates is.schema.parameters a → IsGround t t.predicates (ground_form_of i.objects a)
     applied_of i is a asked = applied_ground i.objects is.schema.parameters is.typed t.predicates a asked
 
-    pub adds_ground : (i : Instance) (is : IsInstance t i) (a : Applied) → Contains is.schema.adds a → IsGround t t.predicates (ground_form_of i.objects a)
+    pub adds_ground : (i : Instance) (is : IsInstance t i) (a : AppliedSymbol) → Contains is.schema.adds a → IsGround t t.predicates (ground_form_of i.objects a)
     adds_ground i is a c =
         applied_of i is a (each-from_all (IsApplied t t.predicates is.schema.parameters) is.schema.adds a (schema_is i.schema is.schema is.is_schema).adds c)
 
-    pub deletes_ground : (i : Instance) (is : IsInstance t i) (a : Applied) → Contains is.schema.deletes a → IsGround t t.predicates (ground_form_of i.objects a)
+    pub deletes_ground : (i : Instance) (is : IsInstance t i) (a : AppliedSymbol) → Contains is.schema.deletes a → IsGround t t.predicates (ground_form_of i.objects a)
     deletes_ground i is a c =
         applied_of i is a (each-from_all (IsApplied t t.predicates is.schema.parameters) is.schema.deletes a (schema_is i.schema is.schema is.is_schema).deletes c)
 

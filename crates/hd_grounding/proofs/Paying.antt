@@ -7,7 +7,7 @@ use Rattle.hd_base.specs.declared.expression.Operand.{Operand}
 use Rattle.hd_base.specs.declared.expression.Operand.TheVariants.{Number, Fluent}
 use Rattle.hd_base.specs.Expression.{Expression, leaf, negate, binary}
 use Rattle.hd_base.specs.Values.{of_both}
-use Rattle.hd_lifted.specs.declared.schema.Applied.{Applied}
+use Rattle.hd_lifted.specs.declared.schema.AppliedSymbol.{AppliedSymbol}
 use Rattle.hd_lifted.specs.declared.schema.Ground.{Ground}
 use Rattle.hd_lifted.specs.declared.schema.NumericEffect.{NumericEffect}
 use Rattle.hd_lifted.specs.declared.schema.Schema.{Schema}
@@ -27,7 +27,7 @@ use Rattle.hd_grounding.proofs.Holding.{value_agrees}
 
 module _ (t : LiftedTask) (atoms fluents : List Ground) (s : domain.State) (n : State) (agree : Agree atoms fluents s n) (first : KeepsFirstValues t s) (objects : List ℕ) where
   fluent_amount :
-      (f : Applied) (changed : Bool) → is_changed t f.symbol ≡ changed
+      (f : AppliedSymbol) (changed : Bool) → is_changed t f.symbol ≡ changed
       → ((g : Ground) → Contains (fluents_in objects (leaf (Fluent f))) g → Contains fluents g)
       → lifted_value.value_of s.values objects (leaf (Fluent f))
       ≡ Some (value_of n.fluents
@@ -40,7 +40,7 @@ module _ (t : LiftedTask) (atoms fluents : List Ground) (s : domain.State) (n : 
       now ∙ ap (λ o. Some (unwrap_or o (pos 0))) (sym at_first)
 
   amount_agrees :
-      (e : Expression (Operand Applied)) → ((g : Ground) → Contains (fluents_in objects e) g → Contains fluents g)
+      (e : Expression (Operand AppliedSymbol)) → ((g : Ground) → Contains (fluents_in objects e) g → Contains fluents g)
       → lifted_value.value_of s.values objects e ≡ Some (value_of n.fluents (amount_of t fluents objects e))
   amount_agrees (leaf (Number v)) read = refl
   amount_agrees (leaf (Fluent f)) read = fluent_amount f (is_changed t f.symbol) refl read

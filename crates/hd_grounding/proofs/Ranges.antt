@@ -14,10 +14,10 @@ use Rattle.hd_base.proofs.Members.{Contains-first, Contains-map, Contains-filter
 use Rattle.hd_base.proofs.Places.{place_of}
 use Rattle.hd_base.proofs.Tests.{list_all-from_each}
 use Rattle.hd_base.proofs.Truth.{each_way}
-use Rattle.hd_lifted.specs.declared.schema.Applied.{Applied}
+use Rattle.hd_lifted.specs.declared.schema.AppliedSymbol.{AppliedSymbol}
 use Rattle.hd_lifted.specs.declared.schema.Ground.{Ground}
-use Rattle.hd_lifted.specs.declared.schema.Change as lifted_change
-use Rattle.hd_lifted.specs.declared.schema.Change.TheVariants as lifted_changes
+use Rattle.hd_lifted.specs.declared.schema.ChangeKind as lifted_change
+use Rattle.hd_lifted.specs.declared.schema.ChangeKind.TheVariants as lifted_changes
 use Rattle.hd_lifted.specs.declared.schema.Comparison as lifted_comparison
 use Rattle.hd_lifted.specs.declared.schema.Condition as lifted_condition
 use Rattle.hd_lifted.specs.declared.schema.NumericEffect.{NumericEffect}
@@ -28,9 +28,9 @@ use Rattle.hd_lifted.specs.Expressions as lifted_value
 use Rattle.hd_lifted.specs.Conditions as meaning
 use Rattle.hd_lifted.specs.Effects as lifted
 use Rattle.hd_task.specs.declared.state.State.{State}
-use Rattle.hd_task.specs.declared.effect.Term.{Term}
+use Rattle.hd_task.specs.declared.effect.SumPart.{SumPart}
 use Rattle.hd_task.specs.declared.effect.Effect.{Effect}
-use Rattle.hd_task.specs.declared.effect.Change.{Change}
+use Rattle.hd_task.specs.declared.effect.ValueChange.{ValueChange}
 use Rattle.hd_task.specs.declared.action.Action.{Action}
 use Rattle.hd_task.specs.declared.task.Task.{Task}
 use Rattle.hd_task.specs.Conditions.{literals_hold, comparison_stays, condition_departs}
@@ -52,7 +52,7 @@ use Rattle.hd_grounding.proofs.Steps.{met, compatible, change_there}
 -- ---- changes
 
 -- a change of a single effect stays in the range where its amount does
-one_stays : (f : List ℤ) (c : lifted_change.Change) (x : Expr) → change_stays f (change_by c x (term_by c x ∷ [])) ≡ (stays_in_range f x && true)
+one_stays : (f : List ℤ) (c : lifted_change.ChangeKind) (x : Expr) → change_stays f (change_by c x (term_by c x ∷ [])) ≡ (stays_in_range f x && true)
 one_stays f lifted_changes.Assign x = sym (and-true (stays_in_range f x))
 one_stays f lifted_changes.ScaleUp x = sym (and-true (stays_in_range f x))
 one_stays f lifted_changes.Increase x = refl
@@ -60,7 +60,7 @@ one_stays f lifted_changes.Decrease x = refl
 one_stays f lifted_changes.Cost x = refl
 
 -- a sum does where each of its terms does
-sum_stays : (f : List ℤ) (c : lifted_change.Change) (x : Expr) (terms : List Term) → lifted.stands_alone c ≡ false
+sum_stays : (f : List ℤ) (c : lifted_change.ChangeKind) (x : Expr) (terms : List SumPart) → lifted.stands_alone c ≡ false
     → change_stays f (change_by c x terms) ≡ list_all (term_stays f) terms
 sum_stays f lifted_changes.Assign x terms alone = absurd (cc)
 sum_stays f lifted_changes.ScaleUp x terms alone = absurd (cc)
@@ -68,7 +68,7 @@ sum_stays f lifted_changes.Increase x terms alone = refl
 sum_stays f lifted_changes.Decrease x terms alone = refl
 sum_stays f lifted_changes.Cost x terms alone = refl
 
-term_stays-by : (f : List ℤ) (c : lifted_change.Change) (x : Expr) → term_stays f (term_by c x) ≡ stays_in_range f x
+term_stays-by : (f : List ℤ) (c : lifted_change.ChangeKind) (x : Expr) → term_stays f (term_by c x) ≡ stays_in_range f x
 term_stays-by f lifted_changes.Assign x = refl
 term_stays-by f lifted_changes.ScaleUp x = refl
 term_stays-by f lifted_changes.Increase x = refl
@@ -87,7 +87,7 @@ module _ (fluents : List Ground) (f : List ℤ) (objects : List ℕ) where
       ∙ ap (λ b. amount_stays e && b) (terms_stay es)
 
   -- the change that effects make stays where each of their amounts does
-  pub change_stays-of : (es : List NumericEffect) (c : Change)
+  pub change_stays-of : (es : List NumericEffect) (c : ValueChange)
       → ((x : NumericEffect) → Contains es x → lifted.stands_alone x.change ≡ false) ⊎ (length es ≤ 1)
       → change_of fluents objects es ≡ Some c → change_stays f c ≡ list_all amount_stays es
   change_stays-of [] c shape is = absurd (none-some c is)
@@ -102,11 +102,11 @@ module _ (fluents : List Ground) (f : List ℤ) (objects : List ℕ) where
       ∙ terms_stay (e ∷ g ∷ es))
 
   -- a change comes from an effect, and an effect makes a change
-  effect_there : (es : List NumericEffect) (c : Change) → change_of fluents objects es ≡ Some c → (e : NumericEffect) × Contains es e
+  effect_there : (es : List NumericEffect) (c : ValueChange) → change_of fluents objects es ≡ Some c → (e : NumericEffect) × Contains es e
   effect_there [] c is = absurd (none-some c is)
   effect_there (e ∷ es) c is = (e, Contains-first e es)
 
-  change_made : (es : List NumericEffect) (e : NumericEffect) → Contains es e → (c : Change) × (change_of fluents objects es ≡ Some c)
+  change_made : (es : List NumericEffect) (e : NumericEffect) → Contains es e → (c : ValueChange) × (change_of fluents objects es ≡ Some c)
   change_made [] e c = absurd (Contains-nil e c)
   change_made (x ∷ es) e c = (change_by x.change (expression_of fluents objects x.amount) (map (term_of fluents objects) (x ∷ es)), refl)
 
@@ -114,7 +114,7 @@ module _ (fluents : List Ground) (f : List ℤ) (objects : List ℕ) where
 
 module _ (atoms fluents : List Ground) (s : domain.State) (n : State) (agree : Agree atoms fluents s n) (objects : List ℕ) where
   stays_agrees :
-      (e : Expression (Operand Applied)) → ((g : Ground) → Contains (fluents_in objects e) g → Contains fluents g)
+      (e : Expression (Operand AppliedSymbol)) → ((g : Ground) → Contains (fluents_in objects e) g → Contains fluents g)
       → lifted_value.stays_in_range s.values objects e ≡ stays_in_range n.fluents (expression_of fluents objects e)
   stays_agrees (leaf (Number v)) read = refl
   stays_agrees (leaf (Fluent a)) read = ap fits (value_agrees atoms fluents s n agree objects (leaf (Fluent a)) read)
@@ -161,7 +161,7 @@ module _ (atoms fluents : List Ground) (s : domain.State) (n : State) (agree : A
 
   module _ (t : LiftedTask) (first : KeepsFirstValues t s) where
     fluent_paid :
-        (a : Applied) (changed : Bool) → is_changed t a.symbol ≡ changed
+        (a : AppliedSymbol) (changed : Bool) → is_changed t a.symbol ≡ changed
         → ((g : Ground) → Contains (fluents_in objects (leaf (Fluent a))) g → Contains fluents g)
         → lifted_value.stays_in_range s.values objects (leaf (Fluent a))
         ≡ stays_in_range n.fluents
@@ -174,7 +174,7 @@ module _ (atoms fluents : List Ground) (s : domain.State) (n : State) (agree : A
         ap fits now ∙ ap (λ o. in_range (unwrap_or o (pos 0))) (sym at_first)
 
     pub paid_alike :
-        (e : Expression (Operand Applied)) → ((g : Ground) → Contains (fluents_in objects e) g → Contains fluents g)
+        (e : Expression (Operand AppliedSymbol)) → ((g : Ground) → Contains (fluents_in objects e) g → Contains fluents g)
         → lifted_value.stays_in_range s.values objects e ≡ stays_in_range n.fluents (amount_of t fluents objects e)
     paid_alike (leaf (Number v)) read = refl
     paid_alike (leaf (Fluent a)) read = fluent_paid a (is_changed t a.symbol) refl read
@@ -202,13 +202,13 @@ module _ (t : LiftedTask) (u : Task) (made : IsGrounding t u) (i : Instance) (b 
   amount_alike : (e : NumericEffect) → Contains of.schema.effects e → lifted_value.stays_in_range s.values i.objects e.amount ≡ amount e
   amount_alike e c = stays_agrees made.atoms made.fluents s n agree i.objects e.amount (read e c)
 
-  changes_alike : (g : Ground) (c : Change) → change_of made.fluents i.objects (on g) ≡ Some c → change_stays n.fluents c ≡ list_all amount (on g)
+  changes_alike : (g : Ground) (c : ValueChange) → change_of made.fluents i.objects (on g) ≡ Some c → change_stays n.fluents c ≡ list_all amount (on g)
   changes_alike g c is =
       change_stays-of made.fluents n.fluents i.objects (on g) c
       (one_or_sums made.atoms made.fluents s n agree i.objects g of.schema.effects (compatible t u made i b kept of)) is
 
   -- a fluent's new value is in the range in both or in neither
-  value_alike : (k : ℕ) (g : Ground) (c : Change) → slice_get made.fluents k ≡ Some g → change_of made.fluents i.objects (on g) ≡ Some c
+  value_alike : (k : ℕ) (g : Ground) (c : ValueChange) → slice_get made.fluents k ≡ Some g → change_of made.fluents i.objects (on g) ≡ Some c
       → fits (lifted.value_after s.values of.schema i.objects g) ≡ in_range (value_by_change n.fluents c (fluent_of n.fluents k))
   value_alike k g c at is =
       ap fits

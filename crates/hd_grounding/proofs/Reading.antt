@@ -11,17 +11,17 @@ use Rattle.hd_base.specs.declared.expression.Operand.TheVariants.{Number, Fluent
 use Rattle.hd_base.specs.Expression.{Expression, leaf, negate, binary}
 use Rattle.hd_base.proofs.Members.{Contains-first, Contains-cons_cases, Contains-nil, Contains-flat_map, Contains-from_flat_map}
 use Rattle.hd_base.proofs.Tests.{list_all-from_each}
-use Rattle.hd_lifted.specs.declared.schema.Applied.{Applied}
+use Rattle.hd_lifted.specs.declared.schema.AppliedSymbol.{AppliedSymbol}
 use Rattle.hd_lifted.specs.declared.schema.Ground.{Ground}
 use Rattle.hd_lifted.specs.declared.schema.Literal as lifted_literal
 use Rattle.hd_lifted.specs.declared.schema.Comparison as lifted_comparison
 use Rattle.hd_lifted.specs.declared.schema.NumericEffect.{NumericEffect}
-use Rattle.hd_lifted.specs.declared.schema.Change as lifted_change
-use Rattle.hd_lifted.specs.declared.schema.Change.TheVariants as lifted_changes
+use Rattle.hd_lifted.specs.declared.schema.ChangeKind as lifted_change
+use Rattle.hd_lifted.specs.declared.schema.ChangeKind.TheVariants as lifted_changes
 use Rattle.hd_lifted.specs.States.{ground_form_of}
 use Rattle.hd_task.specs.declared.condition.Literal.{Literal}
-use Rattle.hd_task.specs.declared.effect.Term.{Term}
-use Rattle.hd_task.specs.declared.effect.Change.{Change}
+use Rattle.hd_task.specs.declared.effect.SumPart.{SumPart}
+use Rattle.hd_task.specs.declared.effect.ValueChange.{ValueChange}
 use Rattle.hd_task.specs.WellFormed.{reads_below, comparison_reads_below, term_reads_below, change_reads_below}
 use Rattle.hd_lifted.specs.Met.{fluents_in, met_by_comparison, changed_by, met_by_effect}
 use Rattle.hd_grounding.specs.Images.{number_of, if_any, numbers_of, literal_at, literal_of, expression_of, comparison_of, term_by, term_of, change_by, change_of}
@@ -37,7 +37,7 @@ if_any-some (Some y) x c = elim (Contains-cons_cases y [] x c) [ inl e ↦ ap So
 pub number_below : (forms : List Ground) (g : Ground) (k : ℕ) → number_of forms g ≡ Some k → nat_lt k (length forms) ≡ true
 number_below forms g k e = below forms k g (number_of-place forms g k e)
 
-pub numbers_below : (forms : List Ground) (objects : List ℕ) (xs : List Applied) → list_all (λ i. nat_lt i (length forms)) (numbers_of forms objects xs) ≡ true
+pub numbers_below : (forms : List Ground) (objects : List ℕ) (xs : List AppliedSymbol) → list_all (λ i. nat_lt i (length forms)) (numbers_of forms objects xs) ≡ true
 numbers_below forms objects xs =
     list_all-from_each (λ i. nat_lt i (length forms)) (numbers_of forms objects xs) (λ i c.
     let from = Contains-from_flat_map (λ a. if_any (number_of forms (ground_form_of objects a))) xs i c in
@@ -63,7 +63,7 @@ module _ (fluents : List Ground) (objects : List ℕ) where
   abbrev pub AreRead : List Ground → Type 0
   AreRead met = (g : Ground) → Contains met g → Contains fluents g
 
-  pub expression_reads : (e : Expression (Operand Applied)) → AreRead (fluents_in objects e) → reads_below (length fluents) (expression_of fluents objects e) ≡ true
+  pub expression_reads : (e : Expression (Operand AppliedSymbol)) → AreRead (fluents_in objects e) → reads_below (length fluents) (expression_of fluents objects e) ≡ true
   expression_reads (leaf (Number v)) read = refl
   expression_reads (leaf (Fluent a)) read =
       let g = ground_form_of objects a in
@@ -99,14 +99,14 @@ module _ (fluents : List Ground) (objects : List ℕ) where
   amounts_read es read e among g c =
       read g (Contains-flat_map (met_by_effect objects) es e g among (Contains-append_right (changed_by objects e) (fluents_in objects e.amount) g c))
 
-  term_reads : (n : ℕ) (c : lifted_change.Change) (x : Expression (Operand ℕ)) → reads_below n x ≡ true → term_reads_below n (term_by c x) ≡ true
+  term_reads : (n : ℕ) (c : lifted_change.ChangeKind) (x : Expression (Operand ℕ)) → reads_below n x ≡ true → term_reads_below n (term_by c x) ≡ true
   term_reads n lifted_changes.Assign x e = e
   term_reads n lifted_changes.ScaleUp x e = e
   term_reads n lifted_changes.Increase x e = e
   term_reads n lifted_changes.Decrease x e = e
   term_reads n lifted_changes.Cost x e = e
 
-  change_reads : (n : ℕ) (c : lifted_change.Change) (x : Expression (Operand ℕ)) (terms : List Term)
+  change_reads : (n : ℕ) (c : lifted_change.ChangeKind) (x : Expression (Operand ℕ)) (terms : List SumPart)
       → reads_below n x ≡ true → list_all (term_reads_below n) terms ≡ true → change_reads_below n (change_by c x terms) ≡ true
   change_reads n lifted_changes.Assign x terms e all = e
   change_reads n lifted_changes.ScaleUp x terms e all = e
@@ -114,7 +114,7 @@ module _ (fluents : List Ground) (objects : List ℕ) where
   change_reads n lifted_changes.Decrease x terms e all = all
   change_reads n lifted_changes.Cost x terms e all = all
 
-  pub changes_read : (es : List NumericEffect) (c : Change) → HaveReadAmounts es → change_of fluents objects es ≡ Some c → change_reads_below (length fluents) c ≡ true
+  pub changes_read : (es : List NumericEffect) (c : ValueChange) → HaveReadAmounts es → change_of fluents objects es ≡ Some c → change_reads_below (length fluents) c ≡ true
   changes_read [] c read e = absurd (none-some c e)
   changes_read (f ∷ es) c read e =
       let n = length fluents in
@@ -124,5 +124,5 @@ module _ (fluents : List Ground) (objects : List ℕ) where
       list_all-from_each (λ (h : NumericEffect). term_reads_below n (term_of fluents objects h)) (f ∷ es)
       (λ h among. term_reads n h.change (expression_of fluents objects h.amount) (expression_reads h.amount (read h among))) in
       let all : list_all (term_reads_below n) terms ≡ true = list_all-map (term_reads_below n) (term_of fluents objects) (f ∷ es) ∙ each in
-      subst (λ (d : Change). change_reads_below n d ≡ true) (same_Some (change_by f.change x terms) c e)
+      subst (λ (d : ValueChange). change_reads_below n d ≡ true) (same_Some (change_by f.change x terms) c e)
       (change_reads n f.change x terms (expression_reads f.amount (read f (Contains-first f es))) all)

@@ -8,7 +8,7 @@ use Rattle.std.proofs.lemmas.List.FromFn.{get_or-map-range_with_len}
 use Rattle.std.proofs.lemmas.Option.{same_Some, slice_get_within}
 use Rattle.hd_base.specs.Values.{of_both}
 use Rattle.hd_base.proofs.Tests.{find-Some, find-None}
-use Rattle.hd_lifted.specs.declared.schema.Applied.{Applied}
+use Rattle.hd_lifted.specs.declared.schema.AppliedSymbol.{AppliedSymbol}
 use Rattle.hd_lifted.specs.declared.schema.Ground.{Ground}
 use Rattle.hd_lifted.specs.declared.schema.Schema.{Schema}
 use Rattle.hd_lifted.specs.declared.task.LiftedTask.{LiftedTask}
@@ -20,7 +20,7 @@ use Rattle.hd_lifted.specs.Steps as lifted_step
 use Rattle.hd_lifted.specs.Steps.{Reached}
 use Rattle.hd_task.specs.declared.state.State.{State}
 use Rattle.hd_task.specs.declared.effect.Effect.{Effect}
-use Rattle.hd_task.specs.declared.effect.Change.{Change}
+use Rattle.hd_task.specs.declared.effect.ValueChange.{ValueChange}
 use Rattle.hd_task.specs.declared.action.Action.{Action}
 use Rattle.hd_task.specs.declared.task.Task.{Task}
 use Rattle.hd_task.specs.Conditions.{has_atom, holds}
@@ -85,7 +85,7 @@ module _ (t : LiftedTask) (u : Task) (made : IsGrounding t u) (i : Instance) (b 
         get_or-map-range_with_len (λ j. value_after n.fluents j (effect_on b j)) 0 (length u.fluents) k k (pos 0)
         (omega (arith, slice_get_within made.fluents k g at, ap length made.fluents_are ∙ length-map made.fluents form_of)) (omega arith)
 
-    abbrev change_on : Ground → Option Change
+    abbrev change_on : Ground → Option ValueChange
     change_on g = change_of made.fluents i.objects (filter (is_on i.objects g) of.schema.effects)
 
     -- an effect of the action is the change of its fluent
@@ -96,10 +96,10 @@ module _ (t : LiftedTask) (u : Task) (made : IsGrounding t u) (i : Instance) (b 
         sym (ap change_on here) ∙ is.is_change
 
     -- each change of a fluent is an effect of the action
-    pub change_there : (k : ℕ) (g : Ground) (c : Change) → slice_get made.fluents k ≡ Some g → change_on g ≡ Some c → Contains b.effects (record { fluent = k; change = c })
+    pub change_there : (k : ℕ) (g : Ground) (c : ValueChange) → slice_get made.fluents k ≡ Some g → change_on g ≡ Some c → Contains b.effects (record { fluent = k; change = c })
     change_there k g c at is = (of.effects.exactly (record { fluent = k; change = c })).0 (record { fluent = g; is_numbered = at; is_change = is })
 
-    unchanged : (k : ℕ) (g : Ground) (o : Option Change) → slice_get made.fluents k ≡ Some g → change_on g ≡ o → effect_on b k ≡ None → o ≡ None
+    unchanged : (k : ℕ) (g : Ground) (o : Option ValueChange) → slice_get made.fluents k ≡ Some g → change_on g ≡ o → effect_on b k ≡ None → o ≡ None
     unchanged k g None at is none = refl
     unchanged k g (Some c) at is none =
         absurd (true≢false (sym (eq-eqb k k refl) ∙ find-None (λ (e : Effect). e.fluent == k) b.effects (record { fluent = k; change = c }) none (change_there k g c at is)))
@@ -117,7 +117,7 @@ module _ (t : LiftedTask) (u : Task) (made : IsGrounding t u) (i : Instance) (b 
     added_numbered g none =
         false_from_ne_true (lifted.names_atom i.objects of.schema.adds g)
         (λ e.
-        let k = passing-from_any (λ (a : Applied). domain.same (domain.ground_form_of i.objects a) g) of.schema.adds e in
+        let k = passing-from_any (λ (a : AppliedSymbol). domain.same (domain.ground_form_of i.objects a) g) of.schema.adds e in
         none (reachable_numbered t u made g
         (added i of.schema k.value g kept of.is_schema k.among (same-true (domain.ground_form_of i.objects k.value) g k.passes))))
 

@@ -9,8 +9,8 @@ use Rattle.hd_base.specs.Expression.{Expression}
 use Rattle.hd_base.specs.Values.{of_both}
 use Rattle.hd_base.proofs.Members.{Contains-first, Contains-later, Contains-cons_cases, Contains-flat_map, Contains-from_filter, passes-from_filter}
 use Rattle.hd_lifted.specs.declared.schema.Ground.{Ground}
-use Rattle.hd_lifted.specs.declared.schema.Change.{Change}
-use Rattle.hd_lifted.specs.declared.schema.Change.TheVariants.{Assign, ScaleUp, Increase, Decrease, Cost}
+use Rattle.hd_lifted.specs.declared.schema.ChangeKind.{ChangeKind}
+use Rattle.hd_lifted.specs.declared.schema.ChangeKind.TheVariants.{Assign, ScaleUp, Increase, Decrease, Cost}
 use Rattle.hd_lifted.specs.declared.schema.NumericEffect.{NumericEffect}
 use Rattle.hd_lifted.specs.declared.schema.Schema.{Schema}
 use Rattle.hd_lifted.specs.States as domain
@@ -27,7 +27,7 @@ use Rattle.hd_grounding.specs.Images.{expression_of, is_on, term_by, term_of, ch
 use Rattle.hd_grounding.specs.Agreement.{Agree, HasNumberedEffects}
 use Rattle.hd_grounding.proofs.Holding.{value_agrees}
 
-skipped : (c : Change) (b : Bool) (x amount : Option ℤ) → (not (lifted.is_cost c) && b) ≡ false → (if b then lifted.value_by_change c x amount else x) ≡ x
+skipped : (c : ChangeKind) (b : Bool) (x amount : Option ℤ) → (not (lifted.is_cost c) && b) ≡ false → (if b then lifted.value_by_change c x amount else x) ≡ x
 skipped Cost b x amount e = either_way b x
 skipped Assign true x amount e = absurd (true≢false e)
 skipped Assign false x amount e = refl
@@ -38,7 +38,7 @@ skipped Increase false x amount e = refl
 skipped Decrease true x amount e = absurd (true≢false e)
 skipped Decrease false x amount e = refl
 
-taken : (c : Change) (b : Bool) (x amount : Option ℤ) → (not (lifted.is_cost c) && b) ≡ true → (if b then lifted.value_by_change c x amount else x) ≡ lifted.value_by_change c x amount
+taken : (c : ChangeKind) (b : Bool) (x amount : Option ℤ) → (not (lifted.is_cost c) && b) ≡ true → (if b then lifted.value_by_change c x amount else x) ≡ lifted.value_by_change c x amount
 taken Cost b x amount e = absurd (true≢false (sym e))
 taken Assign true x amount e = refl
 taken Assign false x amount e = absurd (true≢false (sym e))
@@ -50,7 +50,7 @@ taken Decrease true x amount e = refl
 taken Decrease false x amount e = absurd (true≢false (sym e))
 
 -- an increase or a decrease is a term of a sum
-term_agrees : (f : List ℤ) (c : Change) (z : ℤ) (amount : Option ℤ) (x : Expression (Operand ℕ)) → amount ≡ Some (value_of f x)
+term_agrees : (f : List ℤ) (c : ChangeKind) (z : ℤ) (amount : Option ℤ) (x : Expression (Operand ℕ)) → amount ≡ Some (value_of f x)
     → lifted.stands_alone c ≡ false → lifted.is_cost c ≡ false
     → lifted.value_by_change c (Some z) amount ≡ Some (with_term f z (term_by c x))
 term_agrees f Assign z amount x e alone paid = absurd (true≢false alone)
@@ -60,7 +60,7 @@ term_agrees f Decrease z amount x e alone paid = ap (of_both (λ x y. x -ℤ y) 
 term_agrees f Cost z amount x e alone paid = absurd (true≢false paid)
 
 -- a single effect is one change
-one_agrees : (f : List ℤ) (c : Change) (z : ℤ) (amount : Option ℤ) (x : Expression (Operand ℕ)) → amount ≡ Some (value_of f x)
+one_agrees : (f : List ℤ) (c : ChangeKind) (z : ℤ) (amount : Option ℤ) (x : Expression (Operand ℕ)) → amount ≡ Some (value_of f x)
     → lifted.is_cost c ≡ false
     → lifted.value_by_change c (Some z) amount ≡ Some (value_by_change f (change_by c x (term_by c x ∷ [])) z)
 one_agrees f Assign z amount x e paid = e
@@ -70,7 +70,7 @@ one_agrees f Decrease z amount x e paid = ap (of_both (λ x y. x -ℤ y) (Some z
 one_agrees f Cost z amount x e paid = absurd (true≢false paid)
 
 -- several effects are a sum
-sum_is : (f : List ℤ) (c : Change) (x : Expression (Operand ℕ)) (terms : List _) (z : ℤ) → lifted.stands_alone c ≡ false
+sum_is : (f : List ℤ) (c : ChangeKind) (x : Expression (Operand ℕ)) (terms : List _) (z : ℤ) → lifted.stands_alone c ≡ false
     → fold (with_term f) z terms ≡ value_by_change f (change_by c x terms) z
 sum_is f Assign x terms z alone = absurd (true≢false alone)
 sum_is f ScaleUp x terms z alone = absurd (true≢false alone)

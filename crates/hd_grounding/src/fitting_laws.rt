@@ -1,7 +1,7 @@
 //! Laws over the definitions. Each function does nothing: its contract is the law.
 ghost use Rattle.std.specs.Prelude.{◌≡◌, true, List, Contains};
 ghost use Rattle.std.specs.List.{AllZip};
-ghost use Rattle.hd_lifted.specs.declared.schema.Applied.{Applied};
+ghost use Rattle.hd_lifted.specs.declared.schema.AppliedSymbol.{AppliedSymbol};
 ghost use Rattle.hd_lifted.specs.declared.schema.Ground.{Ground};
 ghost use Rattle.hd_lifted.specs.declared.schema.Literal.{Literal};
 ghost use Rattle.hd_lifted.specs.declared.task.LiftedTask.{LiftedTask};
@@ -48,10 +48,10 @@ pub fn grounded_parts_are_a_grounding()
 /// Law: what an instance of a well formed task applies to its objects is of the declared types: the
 /// atoms that it asks for, adds and deletes, and the fluents that it meets.
 pub fn instances_are_typed()
-    ensures adds { (t : LiftedTask) (i : Instance) (is : IsInstance t i) (a : Applied)
+    ensures adds { (t : LiftedTask) (i : Instance) (is : IsInstance t i) (a : AppliedSymbol)
         → IsWellFormed t → Contains is.schema.adds a
         → IsGround t t.predicates (ground_form_of i.objects a) }
-    ensures deletes { (t : LiftedTask) (i : Instance) (is : IsInstance t i) (a : Applied)
+    ensures deletes { (t : LiftedTask) (i : Instance) (is : IsInstance t i) (a : AppliedSymbol)
         → IsWellFormed t → Contains is.schema.deletes a
         → IsGround t t.predicates (ground_form_of i.objects a) }
     ensures literals { (t : LiftedTask) (i : Instance) (is : IsInstance t i) (l : Literal)

@@ -18,4 +18,3 @@
 pub mod fitting_laws;
 pub mod laws;
 pub mod transfer_laws;
-

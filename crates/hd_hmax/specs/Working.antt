@@ -7,7 +7,7 @@ use Rattle.hd_task.specs.declared.state.State.{State}
 use Rattle.hd_task.specs.declared.action.Action.{Action}
 use Rattle.hd_task.specs.declared.task.Task.{Task}
 use Rattle.hd_task.specs.Conditions.{literal_holds}
-use Rattle.hd_hmax.specs.declared.queue.Queue.{Queue}
+use Rattle.hd_hmax.specs.declared.queue.RuleQueue.{RuleQueue}
 use Rattle.hd_hmax.specs.declared.settling.Work.{Work}
 use Rattle.hd_hmax.specs.Costs.{greater, plus_price}
 use Rattle.hd_hmax.specs.Prices.{price}
@@ -95,7 +95,7 @@ HasStarted t s pending = (b : Bool) (i : ℕ) → i ≤ length t.atoms → liter
 -- ---- as the code keeps it
 
 -- a rule waits in a queue
-abbrev pub Waits : Queue → Ready → Type 0
+abbrev pub Waits : RuleQueue → Ready → Type 0
 Waits q = WaitsIn q.run.items q.taken (heap_items q.heap)
 
 -- each rule's count is that of its open places, and of those that it is still to be told of

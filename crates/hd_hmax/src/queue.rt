@@ -13,7 +13,7 @@ use std::collections::BinaryHeap;
 ///
 /// Most come in the order of their costs: they stand in a row, the others in a heap.
 #[derive(Debug, Drop)]
-pub(crate) struct Queue {
+pub(crate) struct RuleQueue {
     /// Rules in the order of their costs; those before `taken` were taken out.
     run: Vec<Reverse<(u128, u32)>>,
     taken: usize,
@@ -57,18 +57,18 @@ fn push_late(heap: &mut BinaryHeap<Reverse<(u128, u32)>>, item: Reverse<(u128, u
     }
 }
 
-impl Queue {
+impl RuleQueue {
     /// Returns a queue with room for so many rules.
     ///
     /// # Errors
     /// - `NoMemory`: there is no room for twice as many.
-    pub(crate) fn new(alloc: Global, room: usize) -> Result<Queue, NoMemory>
+    pub(crate) fn new(alloc: Global, room: usize) -> Result<RuleQueue, NoMemory>
         ensures run { IfOk result (λ q. room ≤ vec_capacity q.run) }
         ensures heap { IfOk result (λ q. room ≤ heap_capacity q.heap) }
     {
         let run = Vec::with_capacity(alloc, room)?;
         let heap = BinaryHeap::with_capacity(alloc, room)?;
-        Ok(Queue {
+        Ok(RuleQueue {
             run,
             taken: 0,
             last: 0,

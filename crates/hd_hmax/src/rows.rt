@@ -7,13 +7,13 @@ use std::marker::Model;
 
 /// Rows of numbers, which contracts see as a list of lists.
 #[derive(Debug, Drop)]
-pub(crate) struct Rows {
+pub(crate) struct NumberRows {
     items: Vec<u32>,
     /// Where each row starts, and where the last one ends.
     starts: Vec<usize>,
 }
 
-impl Model for Rows {
+impl Model for NumberRows {
     ghost use Rattle.std.specs.Prelude.{ℕ, List};
     ghost use Rattle.hd_hmax.specs.Rows.{rows_of, IsLaid};
 
@@ -24,15 +24,15 @@ impl Model for Rows {
     ghost invariant = { λ r. IsLaid r.starts.items r.items.items };
 }
 
-impl Rows {
+impl NumberRows {
     /// Returns no rows.
     ///
     /// # Errors
     /// - `NoMemory`: there is no room for a number.
-    pub(crate) fn none(alloc: Global) -> Result<Rows, NoMemory>
+    pub(crate) fn none(alloc: Global) -> Result<NumberRows, NoMemory>
         ensures { IfOk result (λ rows. rows ≡ []) }
     {
-        Ok(Rows {
+        Ok(NumberRows {
             items: Vec::new(alloc),
             starts: vec![in alloc; 0]?,
         })

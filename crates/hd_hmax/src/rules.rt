@@ -9,7 +9,7 @@ ghost use Rattle.hd_task.specs.Effects.{names_atom};
 ghost use Rattle.hd_hmax.specs.Rules.{place, place_at, places, asked_of, asked_by, asked, needs, times, is_asked, added_places, deleted_places, brings_of, IsTransposed, AreRulesOf};
 
 use crate::prices::prices_of;
-use crate::rows::Rows;
+use crate::rows::NumberRows;
 use hd_base::{NoMemory, Sequence};
 use hd_task::{Action, Literal, Task};
 use std::alloc::Global;
@@ -26,9 +26,9 @@ pub(crate) struct Rules<'t> {
     /// By rule: how many places it needs.
     pub(crate) counts: Vec<usize>,
     /// By place: the rules that need it.
-    pub(crate) askers: Rows,
+    pub(crate) askers: NumberRows,
     /// By action: the places of what it brings about, if a rule needs them.
-    pub(crate) brings: Rows,
+    pub(crate) brings: NumberRows,
     // The places fit 32 bits.
     ghost few: { atoms ≤ MAX_ATOMS },
     // They are those of the task.
@@ -154,10 +154,10 @@ fn add_rule(
 }
 
 /// Returns a copy of `lists` as rows.
-fn rows_of(alloc: Global, lists: &[Sequence<u32>]) -> Result<Rows, NoMemory>
+fn rows_of(alloc: Global, lists: &[Sequence<u32>]) -> Result<NumberRows, NoMemory>
     ensures { IfOk result (λ rows. rows ≡ lists.now) }
 {
-    let mut rows = Rows::none(alloc)?;
+    let mut rows = NumberRows::none(alloc)?;
     for list in lists {
         rows.push(list.as_slice())?;
     }
@@ -165,7 +165,7 @@ fn rows_of(alloc: Global, lists: &[Sequence<u32>]) -> Result<Rows, NoMemory>
 }
 
 /// Returns by place the rules that need it, and by rule how many places it needs.
-fn askers_of(alloc: Global, task: &Task) -> Result<(Rows, Vec<usize>), NoMemory>
+fn askers_of(alloc: Global, task: &Task) -> Result<(NumberRows, Vec<usize>), NoMemory>
     ensures { IfOk result (λ r. IsTransposed task.now r.0 r.1.items) }
 {
     let atoms = task.atoms.len();
@@ -181,7 +181,7 @@ fn askers_of(alloc: Global, task: &Task) -> Result<(Rows, Vec<usize>), NoMemory>
 }
 
 /// Reports whether a rule needs a place.
-fn is_asked(askers: &Rows, place: usize) -> bool
+fn is_asked(askers: &NumberRows, place: usize) -> bool
     requires { place < length askers.now }
     ensures { result ≡ is_asked askers.now place }
 {
@@ -189,7 +189,12 @@ fn is_asked(askers: &Rows, place: usize) -> bool
 }
 
 /// Puts the places of added atoms after others, if a rule needs them.
-fn push_added(row: &mut Vec<u32>, atoms: usize, askers: &Rows, adds: &[u32]) -> Result<(), NoMemory>
+fn push_added(
+    row: &mut Vec<u32>,
+    atoms: usize,
+    askers: &NumberRows,
+    adds: &[u32],
+) -> Result<(), NoMemory>
     requires few { atoms ≤ MAX_ATOMS }
     requires places { length askers.now ≡ places atoms }
     ensures { OnOk result (row.new.items
@@ -208,7 +213,7 @@ fn push_added(row: &mut Vec<u32>, atoms: usize, askers: &Rows, adds: &[u32]) -> 
 fn push_deleted(
     row: &mut Vec<u32>,
     atoms: usize,
-    askers: &Rows,
+    askers: &NumberRows,
     adds: &[u32],
     deletes: &[u32],
 ) -> Result<(), NoMemory>
@@ -232,7 +237,7 @@ fn push_deleted(
 fn brings_of(
     alloc: Global,
     atoms: usize,
-    askers: &Rows,
+    askers: &NumberRows,
     action: &Action,
 ) -> Result<Vec<u32>, NoMemory>
     requires few { atoms ≤ MAX_ATOMS }
@@ -250,14 +255,14 @@ fn brings_of(
 fn all_brings(
     alloc: Global,
     atoms: usize,
-    askers: &Rows,
+    askers: &NumberRows,
     actions: &[Action],
-) -> Result<Rows, NoMemory>
+) -> Result<NumberRows, NoMemory>
     requires few { atoms ≤ MAX_ATOMS }
     requires places { length askers.now ≡ places atoms }
     ensures { IfOk result (λ rows. rows ≡ map (brings_of atoms askers.now) actions.now) }
 {
-    let mut rows = Rows::none(alloc)?;
+    let mut rows = NumberRows::none(alloc)?;
     for action in actions {
         let row = brings_of(alloc, atoms, askers, action)?;
         rows.push(row.as_slice())?;

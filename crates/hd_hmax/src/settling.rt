@@ -6,7 +6,7 @@ ghost use Rattle.hd_hmax.specs.Rounds.{hmax};
 ghost use Rattle.hd_hmax.specs.Rules.{places, row};
 ghost use Rattle.hd_hmax.specs.Working.{value_at, is_open, IsTold, HasStarted, Counted, Fair, IsAllReady, HasRoom, HasWidth, Waits, load, StayClosed};
 
-use crate::queue::Queue;
+use crate::queue::RuleQueue;
 use crate::rules::{Rules, place_at};
 use hd_base::NoMemory;
 use hd_task::Reads;
@@ -19,7 +19,7 @@ pub(crate) struct Work {
     pending: Vec<bool>,
     /// By rule: how many of the places that it needs are open.
     left: Vec<usize>,
-    queue: Queue,
+    queue: RuleQueue,
 }
 
 /// Opens all places.
@@ -180,7 +180,7 @@ impl Work {
         let count = rules.counts.len();
         let pending = vec![in alloc; true; 2 * rules.atoms + 2]?;
         let left = vec![in alloc; 0; count]?;
-        let queue = Queue::new(alloc, count)?;
+        let queue = RuleQueue::new(alloc, count)?;
         Ok(Work {
             pending,
             left,

@@ -13,12 +13,12 @@ use Rattle.hd_base.specs.declared.expression.Operand.{Operand}
 use Rattle.hd_base.specs.Expression.{Expression}
 use Rattle.hd_lifted.specs.declared.schema.Ground.{Ground}
 use Rattle.hd_lifted.specs.declared.schema.NumericEffect.{NumericEffect}
-use Rattle.hd_lifted.specs.declared.schema.Change as lifted_change
-use Rattle.hd_lifted.specs.declared.schema.Change.TheVariants as lifted_changes
+use Rattle.hd_lifted.specs.declared.schema.ChangeKind as lifted_change
+use Rattle.hd_lifted.specs.declared.schema.ChangeKind.TheVariants as lifted_changes
 use Rattle.hd_lifted.specs.States.{same, ground_form_of}
 use Rattle.hd_lifted.specs.Effects.{is_cost}
-use Rattle.hd_task.specs.declared.effect.Term.{Term}
-use Rattle.hd_task.specs.declared.effect.Change.{Change}
+use Rattle.hd_task.specs.declared.effect.SumPart.{SumPart}
+use Rattle.hd_task.specs.declared.effect.ValueChange.{ValueChange}
 use Rattle.hd_lifted.specs.Numbering.{form_key}
 use Rattle.hd_lifted.proofs.Passing.{Contains-slice_get}
 use Rattle.hd_lifted.proofs.Rising.{before_itself}
@@ -61,7 +61,7 @@ on_number forms target g k n rising is at =
     (λ e. let one : target ≡ g = same-true target g e in
     eq-eqb k n (same_Some k n (sym is ∙ (ap (number_of forms) one ∙ number_of-rising forms g n rising at))))
 
-pub change_at-put : (fluents : List Ground) (objects : List ℕ) (e : NumericEffect) (k n : ℕ) (before after : Option Change)
+pub change_at-put : (fluents : List Ground) (objects : List ℕ) (e : NumericEffect) (k n : ℕ) (before after : Option ValueChange)
     → IsRising fluents → is_cost e.change ≡ false → number_of fluents (ground_form_of objects e.fluent) ≡ Some k
     → after ≡ (if nat_eq k n then Some (change_with before e.change (expression_of fluents objects e.amount)) else before)
     → after ≡ change_at fluents objects e n before
@@ -79,7 +79,7 @@ change_at-put fluents objects e k n before after rising paid is put =
           (on_number fluents target g k n rising is at ∙ ap (λ (c : Bool). not c && same target g) (sym paid))
     ] refl
 
-pub change_at-none : (fluents : List Ground) (objects : List ℕ) (e : NumericEffect) (n : ℕ) (before : Option Change)
+pub change_at-none : (fluents : List Ground) (objects : List ℕ) (e : NumericEffect) (n : ℕ) (before : Option ValueChange)
     → number_of fluents (ground_form_of objects e.fluent) ≡ None → before ≡ change_at fluents objects e n before
 change_at-none fluents objects e n before none =
     let target = ground_form_of objects e.fluent in
@@ -95,7 +95,7 @@ change_at-none fluents objects e n before none =
 
 -- ---- one effect after the other
 
-with-by : (first : lifted_change.Change) (y : Expression (Operand ℕ)) (terms : List Term) (c : lifted_change.Change) (x : Expression (Operand ℕ))
+with-by : (first : lifted_change.ChangeKind) (y : Expression (Operand ℕ)) (terms : List SumPart) (c : lifted_change.ChangeKind) (x : Expression (Operand ℕ))
     → change_with (Some (change_by first y terms)) c x ≡ change_by first y (terms ++ term_by c x ∷ [])
 with-by lifted_changes.Assign y terms c x = refl
 with-by lifted_changes.ScaleUp y terms c x = refl

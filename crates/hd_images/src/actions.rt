@@ -3,7 +3,7 @@ ghost use Rattle.std.specs.Prelude.{◌≡◌, ◌<◌, length, IfOk};
 ghost use Rattle.hd_grounding.specs.Images.{numbers_of, condition_of, costs_of};
 ghost use Rattle.hd_grounding.specs.Grounding.{form_of_instance, HasEffectsOf, IsActionOf};
 
-use crate::Numbers;
+use crate::NumberedForms;
 use crate::conditions::{condition_of, numbers_of};
 use crate::costs::costs_of;
 use crate::effects::effects_of;
@@ -23,8 +23,8 @@ type ChangedNumbers = (Sequence<Effect>, Sequence<Expr>);
 /// Returns what an instance is printed as, and its condition.
 fn described(
     alloc: Global,
-    atoms: &Numbers,
-    fluents: &Numbers,
+    atoms: &NumberedForms,
+    fluents: &NumberedForms,
     instance: &Instance,
     schema: &Schema,
 ) -> Result<(GroundForm, Condition), NoMemory>
@@ -46,7 +46,7 @@ fn described(
 /// Returns the atoms that a schema with objects deletes, and those that it adds.
 fn changed_atoms(
     alloc: Global,
-    atoms: &Numbers,
+    atoms: &NumberedForms,
     objects: &[usize],
     schema: &Schema,
 ) -> Result<ChangedAtoms, NoMemory>
@@ -67,7 +67,7 @@ fn changed_atoms(
 fn changed_numbers(
     alloc: Global,
     lookups: &Lookups<'_>,
-    fluents: &Numbers,
+    fluents: &NumberedForms,
     objects: &[usize],
     schema: &Schema,
 ) -> Result<ChangedNumbers, NoMemory>
@@ -89,8 +89,8 @@ fn changed_numbers(
 fn changed(
     alloc: Global,
     lookups: &Lookups<'_>,
-    atoms: &Numbers,
-    fluents: &Numbers,
+    atoms: &NumberedForms,
+    fluents: &NumberedForms,
     objects: &[usize],
     schema: &Schema,
 ) -> Result<(ChangedAtoms, ChangedNumbers), NoMemory>
@@ -118,8 +118,8 @@ fn changed(
 pub fn action_of(
     alloc: Global,
     lookups: &Lookups<'_>,
-    atoms: &Numbers,
-    fluents: &Numbers,
+    atoms: &NumberedForms,
+    fluents: &NumberedForms,
     instance: &Instance,
 ) -> Result<Action, NoMemory>
     requires { instance.now.schema < length lookups.now.schemas }

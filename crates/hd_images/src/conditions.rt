@@ -2,10 +2,10 @@
 ghost use Rattle.std.specs.Prelude.{◌≡◌, map, flat_map, IfOk};
 ghost use Rattle.hd_grounding.specs.Images.{numbers_of, literal_of, comparison_of, condition_of};
 
-use crate::Numbers;
+use crate::NumberedForms;
 use crate::expressions::expression_of;
 use hd_base::{NoMemory, Sequence};
-use hd_lifted::{Applied, equalities_hold};
+use hd_lifted::{AppliedSymbol, equalities_hold};
 use hd_task::{Comparison, Condition, Literal};
 use std::alloc::Global;
 
@@ -15,9 +15,9 @@ use std::alloc::Global;
 /// - Lack of memory.
 pub fn numbers_of(
     alloc: Global,
-    atoms: &Numbers,
+    atoms: &NumberedForms,
     objects: &[usize],
-    said: &[Applied],
+    said: &[AppliedSymbol],
 ) -> Result<Sequence<u32>, NoMemory>
     ensures { IfOk result (λ s. s ≡ numbers_of atoms.now objects.now said.now) }
 {
@@ -33,7 +33,7 @@ pub fn numbers_of(
 /// Returns the literals `said` by their atoms' numbers, without those whose atom has no number.
 fn literals_of(
     alloc: Global,
-    atoms: &Numbers,
+    atoms: &NumberedForms,
     objects: &[usize],
     said: &[hd_lifted::Literal],
 ) -> Result<Sequence<Literal>, NoMemory>
@@ -54,7 +54,7 @@ fn literals_of(
 /// Returns a comparison, each fluent by its number.
 fn comparison_of(
     alloc: Global,
-    fluents: &Numbers,
+    fluents: &NumberedForms,
     objects: &[usize],
     said: &hd_lifted::Comparison,
 ) -> Result<Comparison, NoMemory>
@@ -77,7 +77,7 @@ fn comparison_of(
 /// Returns the comparisons `said`, each fluent by its number.
 fn comparisons_of(
     alloc: Global,
-    fluents: &Numbers,
+    fluents: &NumberedForms,
     objects: &[usize],
     said: &[hd_lifted::Comparison],
 ) -> Result<Sequence<Comparison>, NoMemory>
@@ -97,8 +97,8 @@ fn comparisons_of(
 /// - Lack of memory.
 pub fn condition_of(
     alloc: Global,
-    atoms: &Numbers,
-    fluents: &Numbers,
+    atoms: &NumberedForms,
+    fluents: &NumberedForms,
     objects: &[usize],
     said: &hd_lifted::Condition,
 ) -> Result<Condition, NoMemory>

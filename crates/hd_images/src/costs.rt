@@ -3,7 +3,7 @@ ghost use Rattle.std.specs.Prelude.{◌≡◌, length, filter, IfOk};
 ghost use Rattle.hd_lifted.specs.Questions.{is_paid};
 ghost use Rattle.hd_grounding.specs.Images.{amount_of, costs_of};
 
-use crate::Numbers;
+use crate::NumberedForms;
 use crate::expressions::expression_of;
 use hd_base::{ExprParts, NoMemory, Operand, Sequence};
 use hd_judge::{Lookups, is_cost};
@@ -15,7 +15,7 @@ use std::alloc::Global;
 fn amount_of(
     alloc: Global,
     lookups: &Lookups<'_>,
-    fluents: &Numbers,
+    fluents: &NumberedForms,
     objects: &[usize],
     said: &hd_lifted::Expr,
 ) -> Result<Expr, NoMemory>
@@ -51,7 +51,7 @@ pub fn count_costs(effects: &[NumericEffect]) -> usize
 pub fn costs_of(
     alloc: Global,
     lookups: &Lookups<'_>,
-    fluents: &Numbers,
+    fluents: &NumberedForms,
     objects: &[usize],
     schema: &Schema,
 ) -> Result<Sequence<Expr>, NoMemory>

@@ -6,30 +6,30 @@ ghost use Rattle.hd_grounding.specs.Images.{term_by};
 ghost use Rattle.hd_grounding.specs.Grounding.{HasEffectsOf};
 ghost use Rattle.hd_images.specs.Gathering.{change_with, change_at, change_in, effect_from};
 
-use crate::Numbers;
+use crate::NumberedForms;
 use crate::expressions::expression_of;
 use hd_base::{NoMemory, Sequence};
 use hd_judge::is_cost;
 use hd_lifted::{NumericEffect, Schema};
-use hd_task::{Change, Effect, Expr, Term};
+use hd_task::{Effect, Expr, SumPart, ValueChange};
 use std::alloc::Global;
 use std::collections::BTreeMap;
 
 /// Returns a part of a sum.
-fn term_by(change: hd_lifted::Change, amount: Expr) -> Term
+fn term_by(change: hd_lifted::ChangeKind, amount: Expr) -> SumPart
     ensures { result ≡ term_by change amount }
 {
     match change {
-        hd_lifted::Change::Decrease => Term::Decrease(amount),
-        hd_lifted::Change::Assign
-        | hd_lifted::Change::ScaleUp
-        | hd_lifted::Change::Increase
-        | hd_lifted::Change::Cost => Term::Increase(amount),
+        hd_lifted::ChangeKind::Decrease => SumPart::Decrease(amount),
+        hd_lifted::ChangeKind::Assign
+        | hd_lifted::ChangeKind::ScaleUp
+        | hd_lifted::ChangeKind::Increase
+        | hd_lifted::ChangeKind::Cost => SumPart::Increase(amount),
     }
 }
 
 /// Returns `terms` with `term` at the end.
-fn with_term(terms: Sequence<Term>, term: Term) -> Result<Sequence<Term>, NoMemory>
+fn with_term(terms: Sequence<SumPart>, term: SumPart) -> Result<Sequence<SumPart>, NoMemory>
     ensures { IfOk result (λ s. s ≡ terms ++ term ∷ []) }
 {
     let mut terms = terms.into_vec();
@@ -41,24 +41,29 @@ fn with_term(terms: Sequence<Term>, term: Term) -> Result<Sequence<Term>, NoMemo
 /// increases and decreases add up.
 fn change_with(
     alloc: Global,
-    before: Option<Change>,
-    change: hd_lifted::Change,
+    before: Option<ValueChange>,
+    change: hd_lifted::ChangeKind,
     amount: Expr,
-) -> Result<Change, NoMemory>
+) -> Result<ValueChange, NoMemory>
     ensures { IfOk result (λ c. c ≡ change_with before change amount) }
 {
     match before {
-        Some(Change::Sum(terms)) => Ok(Change::Sum(with_term(terms, term_by(change, amount))?)),
+        Some(ValueChange::Sum(terms)) => Ok(ValueChange::Sum(with_term(
+            terms,
+            term_by(change, amount),
+        )?)),
         Some(alone) => {
             drop(amount);
             Ok(alone)
         }
         None => match change {
-            hd_lifted::Change::Assign => Ok(Change::Assign(amount)),
-            hd_lifted::Change::ScaleUp => Ok(Change::ScaleUp(amount)),
-            hd_lifted::Change::Increase | hd_lifted::Change::Decrease | hd_lifted::Change::Cost => {
+            hd_lifted::ChangeKind::Assign => Ok(ValueChange::Assign(amount)),
+            hd_lifted::ChangeKind::ScaleUp => Ok(ValueChange::ScaleUp(amount)),
+            hd_lifted::ChangeKind::Increase
+            | hd_lifted::ChangeKind::Decrease
+            | hd_lifted::ChangeKind::Cost => {
                 let none = Sequence::from_vec(Vec::with_capacity(alloc, 1)?);
-                Ok(Change::Sum(with_term(none, term_by(change, amount))?))
+                Ok(ValueChange::Sum(with_term(none, term_by(change, amount))?))
             }
         },
     }
@@ -67,9 +72,9 @@ fn change_with(
 /// Adds an effect on the fluent `number` to `changes`: `change` by `amount`.
 fn put(
     alloc: Global,
-    changes: &mut BTreeMap<u32, Change>,
+    changes: &mut BTreeMap<u32, ValueChange>,
     number: u32,
-    change: hd_lifted::Change,
+    change: hd_lifted::ChangeKind,
     amount: Expr,
 ) -> Result<(), NoMemory>
     ensures { IfOk result (λ _. (n : ℕ) → get nat_cmp changes.new n
@@ -85,8 +90,8 @@ fn put(
 /// Adds `effect` to `changes`, unless it is a cost or its fluent has no number.
 fn gather(
     alloc: Global,
-    changes: &mut BTreeMap<u32, Change>,
-    fluents: &Numbers,
+    changes: &mut BTreeMap<u32, ValueChange>,
+    fluents: &NumberedForms,
     objects: &[usize],
     effect: &NumericEffect,
 ) -> Result<(), NoMemory>
@@ -107,7 +112,10 @@ fn gather(
 }
 
 /// Returns the effects that these changes are.
-fn effects_from(alloc: Global, changes: BTreeMap<u32, Change>) -> Result<Sequence<Effect>, NoMemory>
+fn effects_from(
+    alloc: Global,
+    changes: BTreeMap<u32, ValueChange>,
+) -> Result<Sequence<Effect>, NoMemory>
     ensures effects { IfOk result (λ s. s ≡ map effect_from changes.entries) }
     ensures ordered { IsOrdered nat_cmp changes }
 {
@@ -121,10 +129,10 @@ fn effects_from(alloc: Global, changes: BTreeMap<u32, Change>) -> Result<Sequenc
 /// Returns the changes by number that these effects make.
 fn changes_of(
     alloc: Global,
-    fluents: &Numbers,
+    fluents: &NumberedForms,
     objects: &[usize],
     effects: &[NumericEffect],
-) -> Result<BTreeMap<u32, Change>, NoMemory>
+) -> Result<BTreeMap<u32, ValueChange>, NoMemory>
     ensures { IfOk result (λ m. (n : ℕ) → get nat_cmp m n
         ≡ change_in fluents.now objects.now effects.now n) }
 {
@@ -142,7 +150,7 @@ fn changes_of(
 /// - Lack of memory.
 pub fn effects_of(
     alloc: Global,
-    fluents: &Numbers,
+    fluents: &NumberedForms,
     objects: &[usize],
     schema: &Schema,
 ) -> Result<Sequence<Effect>, NoMemory>

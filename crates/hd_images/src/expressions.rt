@@ -2,7 +2,7 @@
 ghost use Rattle.std.specs.Prelude.{◌≡◌, IfOk};
 ghost use Rattle.hd_grounding.specs.Images.{operand_of, expression_of};
 
-use crate::Numbers;
+use crate::NumberedForms;
 use hd_base::{ExprParts, NoMemory, Operand};
 use hd_lifted::Leaf;
 use hd_task::Expr;
@@ -11,7 +11,7 @@ use std::alloc::Global;
 /// Returns a number, or a fluent by its number.
 fn operand_of(
     alloc: Global,
-    fluents: &Numbers,
+    fluents: &NumberedForms,
     objects: &[usize],
     said: &Leaf,
 ) -> Result<Operand<u32>, NoMemory>
@@ -32,7 +32,7 @@ fn operand_of(
 /// - Lack of memory.
 pub fn expression_of(
     alloc: Global,
-    fluents: &Numbers,
+    fluents: &NumberedForms,
     objects: &[usize],
     said: &hd_lifted::Expr,
 ) -> Result<Expr, NoMemory>

@@ -6,7 +6,7 @@ ghost use Rattle.hd_images.specs.Meeting.{with_form};
 
 use hd_base::{NoMemory, Seed};
 use hd_judge::copy_of;
-use hd_lifted::{Applied, Ground, ground_form_of};
+use hd_lifted::{AppliedSymbol, Ground, ground_form_of};
 use indexmap::IndexSet;
 use std::alloc::Global;
 use std::marker::Model;
@@ -79,7 +79,7 @@ impl Forms {
         &mut self,
         alloc: Global,
         objects: &[usize],
-        said: &Applied,
+        said: &AppliedSymbol,
     ) -> Result<(), NoMemory>
         ensures { IfOk result (λ _. self.new
             ≡ with_form self.old (ground_form_of objects.now said.now)) }

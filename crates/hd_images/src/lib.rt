@@ -5,10 +5,10 @@
 //! exactly its value. [`action_of`] and [`effects_of`] meet `IsActionOf` and `HasEffectsOf`.
 //! [`first_undefined`] and [`first_negative`] find what the errors name.
 //!
-//! [`Forms`] gathers ground forms, each once; [`Numbers`] numbers them by symbol, then by objects.
+//! [`Forms`] gathers ground forms, each once; [`NumberedForms`] numbers them by symbol, then by objects.
 //! Both are hash sets, and a form of up to four objects needs no memory of its own. hd_judge's
 //! `Lookups` has the first values and the functions that change. Start reading at [`action_of`],
-//! then at [`Numbers`].
+//! then at [`NumberedForms`].
 #![tactic(auto)]
 
 mod actions;
@@ -36,6 +36,6 @@ pub use forms::Forms;
 pub use met::met_by_all;
 pub use names::{form_of_instance, forms_of, names_in};
 pub use negative::first_negative;
-pub use numbers::Numbers;
+pub use numbers::NumberedForms;
 pub use start::start_in;
 pub use undefined::first_undefined;

@@ -2,7 +2,7 @@
 ghost use Rattle.std.specs.Prelude.{◌≡◌, map, IfOk};
 ghost use Rattle.hd_grounding.specs.Grounding.{form_of, form_of_instance, names_in};
 
-use crate::Numbers;
+use crate::NumberedForms;
 use hd_base::{Name, NoMemory, Sequence};
 use hd_lifted::{Ground, Instance, LiftedTask, Object, Schema, Signature};
 use hd_task::{GroundForm, Names};
@@ -37,7 +37,7 @@ fn form_of(alloc: Global, form: &Ground) -> Result<GroundForm, NoMemory>
 ///
 /// # Errors
 /// - Lack of memory.
-pub fn forms_of(alloc: Global, numbers: &Numbers) -> Result<Sequence<GroundForm>, NoMemory>
+pub fn forms_of(alloc: Global, numbers: &NumberedForms) -> Result<Sequence<GroundForm>, NoMemory>
     ensures { IfOk result (λ s. s ≡ map form_of numbers.now) }
 {
     let mut forms = Vec::new(alloc);

@@ -7,7 +7,7 @@ ghost use Rattle.hd_images.specs.Order.{IsRising};
 
 use crate::Forms;
 use hd_base::{NoMemory, Seed};
-use hd_lifted::{Applied, Ground, ground_form_of};
+use hd_lifted::{AppliedSymbol, Ground, ground_form_of};
 use indexmap::IndexSet;
 use std::alloc::Global;
 use std::marker::Model;
@@ -15,11 +15,11 @@ use std::marker::Model;
 /// Ground atoms, or ground fluents, which are numbered from 0 in the order of their symbols and
 /// then of their objects. Contracts see the list of them.
 #[derive(Drop)]
-pub struct Numbers {
+pub struct NumberedForms {
     table: IndexSet<Ground, Seed>,
 }
 
-impl Model for Numbers {
+impl Model for NumberedForms {
     ghost use Rattle.std.specs.Prelude.{List};
     ghost use Rattle.hd_lifted.specs.declared.schema.Ground.{Ground};
     ghost use Rattle.hd_images.specs.Order.{AreNumbered};
@@ -31,12 +31,12 @@ impl Model for Numbers {
     ghost invariant = { λ n. AreNumbered n.table.keys };
 }
 
-impl Numbers {
+impl NumberedForms {
     /// Returns these forms by number.
     ///
     /// # Errors
     /// - Lack of memory.
-    pub fn of(forms: Forms) -> Result<Numbers, NoMemory>
+    pub fn of(forms: Forms) -> Result<NumberedForms, NoMemory>
         requires { length forms ≤ 2 ^ 32 }
         ensures exactly { IfOk result (HasExactly (Contains forms) form_key) }
         ensures as_many { IfOk result (λ n. length n ≡ length forms) }
@@ -44,7 +44,7 @@ impl Numbers {
         let Forms { table } = forms;
         let mut table = table;
         table.sort_unstable()?;
-        Ok(Numbers { table })
+        Ok(NumberedForms { table })
     }
 
     /// Law: each form comes before the next, so that it has one number. Nothing is computed.
@@ -86,7 +86,7 @@ impl Numbers {
         &self,
         alloc: Global,
         objects: &[usize],
-        said: &Applied,
+        said: &AppliedSymbol,
     ) -> Result<Option<u32>, NoMemory>
         ensures { IfOk result (λ n. n ≡ number_of self.now (ground_form_of objects.now said.now)) }
     {

@@ -3,7 +3,7 @@ ghost use Rattle.std.specs.Prelude.{◌≡◌, map, unwrap_or, pos, IfOk};
 ghost use Rattle.hd_lifted.specs.States.{is_listed, first_value};
 ghost use Rattle.hd_grounding.specs.Grounding.{start_in};
 
-use crate::Numbers;
+use crate::NumberedForms;
 use hd_base::{NoMemory, Sequence};
 use hd_judge::Lookups;
 use hd_lifted::Ground;
@@ -11,7 +11,11 @@ use hd_task::State;
 use std::alloc::Global;
 
 /// Returns for each of `atoms`, by number, whether it is in `listed`.
-fn bits_of(alloc: Global, atoms: &Numbers, listed: &[Ground]) -> Result<Sequence<bool>, NoMemory>
+fn bits_of(
+    alloc: Global,
+    atoms: &NumberedForms,
+    listed: &[Ground],
+) -> Result<Sequence<bool>, NoMemory>
     ensures { IfOk result (λ s. s ≡ map (is_listed listed.now) atoms.now) }
 {
     atoms.are_rising();
@@ -28,7 +32,7 @@ fn bits_of(alloc: Global, atoms: &Numbers, listed: &[Ground]) -> Result<Sequence
 fn values_of(
     alloc: Global,
     lookups: &Lookups<'_>,
-    fluents: &Numbers,
+    fluents: &NumberedForms,
 ) -> Result<Sequence<i64>, NoMemory>
     ensures { IfOk result (λ s. s
         ≡ map (λ g. unwrap_or (first_value lookups.now.values g) (pos 0)) fluents.now) }
@@ -47,8 +51,8 @@ fn values_of(
 pub fn start_in(
     alloc: Global,
     lookups: &Lookups<'_>,
-    atoms: &Numbers,
-    fluents: &Numbers,
+    atoms: &NumberedForms,
+    fluents: &NumberedForms,
 ) -> Result<State, NoMemory>
     ensures { IfOk result (λ s. s ≡ start_in lookups.now atoms.now fluents.now) }
 {

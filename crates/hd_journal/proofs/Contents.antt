@@ -8,8 +8,8 @@ use Rattle.hd_image.specs.declared.version.Version.TheVariants.{Two}
 use Rattle.hd_image.specs.declared.header.TheConstants.{FIRST_GATE, DIGEST_LEN}
 use Rattle.hd_image.specs.Image.{counted, front}
 use Rattle.hd_image.specs.Stops.{IsBeforeOrAfter, IsMaking}
-use Rattle.hd_store.specs.declared.change.Change.{Change}
-use Rattle.hd_store.specs.declared.change.Change.TheVariants.{Write, Cut, FailedSync}
+use Rattle.hd_store.specs.declared.change.DiskChange.{DiskChange}
+use Rattle.hd_store.specs.declared.change.DiskChange.TheVariants.{Write, Cut, FailedSync}
 use Rattle.hd_store.specs.declared.error.StoreError.{StoreError}
 use Rattle.hd_store.specs.declared.error.StoreError.TheVariants.{NoMemory, Failed}
 use Rattle.hd_store.specs.Bytes.{written_over, IsPartOfWrite, IsPartOfCut}
@@ -25,7 +25,7 @@ use Rattle.hd_journal.proofs.Passing.{IsPart, IsStroke}
 
 -- ---- one change
 
-broke : (P : List ℕ → Type 0) (old new : Device) (change : Change) (Part : List ℕ → Type 0) → P (content_of old)
+broke : (P : List ℕ → Type 0) (old new : Device) (change : DiskChange) (Part : List ℕ → Type 0) → P (content_of old)
     → ((now : List ℕ) → Part now → P now) → BreaksOff old change Part new → P (content_of new)
 broke P old new change Part holds part breaks =
     elim breaks [

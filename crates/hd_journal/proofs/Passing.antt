@@ -1,8 +1,8 @@
 -- What a stop leaves at each moment while a change is made sure of, and while one follows the
 -- other.
 use Rattle.std.proofs.Common.{◌≡◌, inl, inr, ℕ, List, [], ◌∷◌, ◌++◌, length, Result, Ok, Err, refl, sym, ap, ◌∙◌, subst, append_assoc}
-use Rattle.hd_store.specs.declared.change.Change.{Change}
-use Rattle.hd_store.specs.declared.change.Change.TheVariants.{Write, Cut, Sync, FailedSync}
+use Rattle.hd_store.specs.declared.change.DiskChange.{DiskChange}
+use Rattle.hd_store.specs.declared.change.DiskChange.TheVariants.{Write, Cut, Sync, FailedSync}
 use Rattle.hd_store.specs.declared.error.StoreError.{StoreError}
 use Rattle.hd_store.specs.declared.error.StoreError.TheVariants.{NoMemory, Failed}
 use Rattle.hd_store.specs.Bytes.{IsPartOfWrite, IsPartOfCut}
@@ -71,7 +71,7 @@ leaves_torn P device (Cutting len) now is settled part = λ found left.
     part found ((cut_torn device.start device.steps len now found settled).0 left)
 leaves_torn P device Syncing now is settled part = absurd is
 
-broke : (P : List ℕ → Type 0) (old new : Device) (change : Change) (Part : List ℕ → Type 0)
+broke : (P : List ℕ → Type 0) (old new : Device) (change : DiskChange) (Part : List ℕ → Type 0)
     → Leaves P old.start old.steps → ((now : List ℕ) → Leaves P old.start (step change now ∷ old.steps))
     → BreaksOff old change Part new → LeavesSince P old new
 broke P old new change Part before behind breaks =

@@ -1,7 +1,7 @@
 -- Calls made one after the other.
 use Rattle.std.proofs.Common.{◌≡◌, inl, inr, ℕ, List, [], ◌∷◌, ◌++◌, length, Err, refl, ap}
-use Rattle.hd_store.specs.declared.change.Change.{Change}
-use Rattle.hd_store.specs.declared.change.Change.TheVariants.{Write, Cut, FailedSync}
+use Rattle.hd_store.specs.declared.change.DiskChange.{DiskChange}
+use Rattle.hd_store.specs.declared.change.DiskChange.TheVariants.{Write, Cut, FailedSync}
 use Rattle.hd_store.specs.declared.error.StoreError.TheVariants.{Failed}
 use Rattle.hd_store.specs.Bytes.{IsPartOfWrite, IsPartOfCut}
 use Rattle.hd_store.specs.Calls.{BreaksOff}
@@ -17,7 +17,7 @@ led_on old new (call ∷ calls) a =
       | inr ends ↦ absurd ends
     ]
 
-broke_counted : (old new : Device) (change : Change) (Part : List ℕ → Type 0) → BreaksOff old change Part new
+broke_counted : (old new : Device) (change : DiskChange) (Part : List ℕ → Type 0) → BreaksOff old change Part new
     → new.failures ≡ one_more old.failures
 broke_counted old new change Part breaks =
     elim breaks [

@@ -1,7 +1,7 @@
 -- Calls that change a device, and lists of them that are made one after the other. (Our own.)
 use Rattle.std.specs.Prelude.{◌≡◌, ◌⊎◌, ℕ, ◌+◌, ◌<◌, List, [], ◌∷◌, length, take, Result, Ok, Err}
-use Rattle.hd_store.specs.declared.change.Change.{Change}
-use Rattle.hd_store.specs.declared.change.Change.TheVariants.{Write, Cut, Sync, FailedSync}
+use Rattle.hd_store.specs.declared.change.DiskChange.{DiskChange}
+use Rattle.hd_store.specs.declared.change.DiskChange.TheVariants.{Write, Cut, Sync, FailedSync}
 use Rattle.hd_store.specs.declared.error.StoreError.{StoreError}
 use Rattle.hd_store.specs.declared.error.StoreError.TheVariants.{NoMemory, Failed}
 use Rattle.hd_store.specs.Ahead.{foretold_by, GoesAsForetold}
@@ -17,7 +17,7 @@ pub data Call : Type 0 where
   Syncing : Call
 
 -- the change that is begun
-abbrev pub change_of : Call → Change
+abbrev pub change_of : Call → DiskChange
 change_of (Writing at bytes) = Write at (length bytes)
 change_of (Cutting len) = Cut len
 change_of Syncing = Sync

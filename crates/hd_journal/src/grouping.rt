@@ -5,8 +5,8 @@ ghost use Rattle.hd_image.specs.declared.entry.TheConstants.{MAX_GROUP};
 ghost use Rattle.hd_image.specs.Image.{IsGroup, fits_parent};
 ghost use Rattle.hd_journal.specs.Appending.{Appends, AppendsOne, Breaks};
 
-use hd_base::NoMemory;
 use crate::{Group, Journal, JournalError, Kid, MAX_GROUP};
+use hd_base::NoMemory;
 use hd_store::Store;
 use std::alloc::Global;
 

@@ -20,7 +20,7 @@ use Rattle.hd_lifted.specs.Plans.{IsInstance, step_by, exec_from, exec}
 use Rattle.hd_lifted.specs.Departures.{instance_departs, goal_departs}
 use Rattle.hd_lifted.specs.Met.{met_by, met_by_goal, met_by_comparison, met_by_effect}
 use Rattle.hd_lifted.proofs.Sound.{exec_from-none}
-use Rattle.hd_judge.specs.declared.fault.Fault.{Fault}
+use Rattle.hd_judge.specs.declared.fault.PlanFault.{PlanFault}
 use Rattle.hd_lifted.specs.Questions.{is_defined, costs_negative}
 use Rattle.hd_judge.specs.Asking.{asked_of_goal}
 use Rattle.hd_judge.specs.Way.{IsOnWay}
@@ -246,15 +246,15 @@ faultless-from_validated t p cost k =
 
 -- ---- the laws
 
-pub validated-no_fault : (t : LiftedTask) (p : List Instance) (cost : ℕ) (e : Fault) → IsValidated t p cost → IsFirstFault t p e → ⊥
+pub validated-no_fault : (t : LiftedTask) (p : List Instance) (cost : ℕ) (e : PlanFault) → IsValidated t p cost → IsFirstFault t p e → ⊥
 validated-no_fault t p cost e k tells =
     let f = faultless-from_validated t p cost k in
     clears_tells t (start t) 1 p f.0 e f.1 tells
 
-pub first_fault-one : (t : LiftedTask) (p : List Instance) (d e : Fault) → IsFirstFault t p d → IsFirstFault t p e → d ≡ e
+pub first_fault-one : (t : LiftedTask) (p : List Instance) (d e : PlanFault) → IsFirstFault t p d → IsFirstFault t p e → d ≡ e
 first_fault-one t p d e one other = tells_once t (start t) 1 p d e one other
 
-pub judged : (t : LiftedTask) (p : List Instance) → ((cost : ℕ) → IsValidated t p cost → ⊥) → ((e : Fault) → IsFirstFault t p e → ⊥) → ⊥
+pub judged : (t : LiftedTask) (p : List Instance) → ((cost : ℕ) → IsValidated t p cost → ⊥) → ((e : PlanFault) → IsFirstFault t p e → ⊥) → ⊥
 judged t p validated tells =
     clears_or_tells t (start t) 1 p
     (λ end clears. let c = faultless-cost t p end clears in validated c.0 (validated-from_faultless t p end c.0 clears c.1)) tells

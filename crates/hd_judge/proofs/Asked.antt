@@ -18,8 +18,8 @@ use Rattle.hd_lifted.specs.Steps.{Reached, step}
 use Rattle.hd_lifted.specs.Plans.{IsInstance, step_of, step_by}
 use Rattle.hd_lifted.specs.Departures.{cost_stays, departs_by, instance_departs, goal_departs}
 use Rattle.hd_lifted.specs.Met.{met_by, met_by_goal}
-use Rattle.hd_judge.specs.declared.fault.Fault.{Fault}
-use Rattle.hd_judge.specs.declared.fault.Fault.TheVariants.{NotApplicable, Undefined, NegativeCost, Departs, GoalUnmet}
+use Rattle.hd_judge.specs.declared.fault.PlanFault.{PlanFault}
+use Rattle.hd_judge.specs.declared.fault.PlanFault.TheVariants.{NotApplicable, Undefined, NegativeCost, Departs, GoalUnmet}
 use Rattle.hd_judge.specs.Fault.{unless}
 use Rattle.hd_lifted.specs.Questions.{is_defined, first_undefined, costs_negative}
 use Rattle.hd_judge.specs.Reasons.{HoldWithin}
@@ -28,7 +28,7 @@ use Rattle.hd_judge.specs.Asking.{asked_of_fluents, asked_of_comparisons, asked_
 
 -- ---- single questions
 
-unless-none : (b : Bool) (f : Fault) → unless b f ≡ None → b ≡ true
+unless-none : (b : Bool) (f : PlanFault) → unless b f ≡ None → b ≡ true
 unless-none true f e = refl
 unless-none false f e = absurd (none-some f (sym e))
 
@@ -127,7 +127,7 @@ taken-from_unasked t r n i is e =
 -- ---- what is asked before a step, one question after the other
 
 -- what follows its literals and its fluents
-abbrev asked_then : LiftedTask → Reached → ℕ → Instance → Schema → Option Fault
+abbrev asked_then : LiftedTask → Reached → ℕ → Instance → Schema → Option PlanFault
 asked_then t r n i a =
     option_or (unless (not (costs_negative t a i.objects)) (NegativeCost i))
     (asked_of_comparisons r.state i.objects a.condition (Departs n) (NotApplicable n))

@@ -8,7 +8,7 @@ use Rattle.hd_base.specs.declared.expression.Operand.{Operand}
 use Rattle.hd_base.specs.Expression.{Expression, leaf, negate, binary}
 use Rattle.hd_base.specs.Numbers.{in_range, fits}
 use Rattle.hd_base.specs.declared.range.TheConstants.{RANGE_END}
-use Rattle.hd_lifted.specs.declared.schema.Applied.{Applied}
+use Rattle.hd_lifted.specs.declared.schema.AppliedSymbol.{AppliedSymbol}
 use Rattle.hd_lifted.specs.declared.schema.NumericEffect.{NumericEffect}
 use Rattle.hd_lifted.specs.declared.schema.Ground.{Ground}
 use Rattle.hd_lifted.specs.States.{Values, same, ground_form_of}
@@ -22,7 +22,7 @@ use Rattle.hd_judge.specs.Effects.{IsNear, with_change, new_value_in, AreNear}
 -- ---- amounts
 
 -- an amount that stays is in the range
-pub stays-fits : (v : Values) (objects : List ℕ) (e : Expression (Operand Applied)) → stays_in_range v objects e ≡ true → fits (value_of v objects e) ≡ true
+pub stays-fits : (v : Values) (objects : List ℕ) (e : Expression (Operand AppliedSymbol)) → stays_in_range v objects e ≡ true → fits (value_of v objects e) ≡ true
 stays-fits v objects (leaf l) stays = stays
 stays-fits v objects (negate x) stays = (and_parts (stays_in_range v objects x) _ stays).1
 stays-fits v objects (binary o x y) stays = (and_parts (stays_in_range v objects x && stays_in_range v objects y) _ stays).1

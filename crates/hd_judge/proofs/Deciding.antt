@@ -6,14 +6,14 @@ use Rattle.hd_lifted.specs.declared.task.LiftedTask.{LiftedTask}
 use Rattle.hd_lifted.specs.declared.instance.Instance.{Instance}
 use Rattle.hd_lifted.specs.Steps.{Reached}
 use Rattle.hd_lifted.specs.Plans.{IsInstance}
-use Rattle.hd_judge.specs.declared.fault.Fault.{Fault}
-use Rattle.hd_judge.specs.declared.fault.Fault.TheVariants.{NoSuchAction}
+use Rattle.hd_judge.specs.declared.fault.PlanFault.{PlanFault}
+use Rattle.hd_judge.specs.declared.fault.PlanFault.TheVariants.{NoSuchAction}
 use Rattle.hd_judge.specs.Asking.{asked_of_step, asked_of_goal}
 use Rattle.hd_judge.specs.Validity.{Passes, TellsStep, no_instance, fails, TellsFrom, ClearsFrom}
 use Rattle.hd_judge.proofs.Asked.{taken-from_unasked, taken-leads}
 
 -- a step that passes reports nothing
-pub passes_tells : (t : LiftedTask) (r : Reached) (n : ℕ) (i : Instance) (to : Reached) (e : Fault) → Passes t r n i to → TellsStep t r n i e → ⊥
+pub passes_tells : (t : LiftedTask) (r : Reached) (n : ℕ) (i : Instance) (to : Reached) (e : PlanFault) → Passes t r n i to → TellsStep t r n i e → ⊥
 passes_tells t r n i to e p (no_instance not is) = not p.instance
 passes_tells t r n i to e p (fails is tells) = none-some e (sym p.unasked ∙ tells)
 
@@ -22,7 +22,7 @@ pub passes_once : (t : LiftedTask) (r : Reached) (n m : ℕ) (i : Instance) (to 
 passes_once t r n m i to other p q = same_Some to other (sym p.leads ∙ q.leads)
 
 -- never both
-pub clears_tells : (t : LiftedTask) (r : Reached) (n : ℕ) (p : List Instance) (end : Reached) (e : Fault) → ClearsFrom t r n p end → TellsFrom t r n p e → ⊥
+pub clears_tells : (t : LiftedTask) (r : Reached) (n : ℕ) (p : List Instance) (end : Reached) (e : PlanFault) → ClearsFrom t r n p end → TellsFrom t r n p e → ⊥
 clears_tells t r n [] end e clears tells = none-some e (sym clears.1 ∙ tells)
 clears_tells t r n (i ∷ p) end e clears tells =
     elim tells [
@@ -33,14 +33,14 @@ clears_tells t r n (i ∷ p) end e clears tells =
     ]
 
 -- one step reports one fault
-step_tells_once : (t : LiftedTask) (r : Reached) (n : ℕ) (i : Instance) (d e : Fault) → TellsStep t r n i d → TellsStep t r n i e → d ≡ e
+step_tells_once : (t : LiftedTask) (r : Reached) (n : ℕ) (i : Instance) (d e : PlanFault) → TellsStep t r n i d → TellsStep t r n i e → d ≡ e
 step_tells_once t r n i d e (no_instance not is) (no_instance also other) = is ∙ sym other
 step_tells_once t r n i d e (no_instance not is) (fails one other) = absurd (not one)
 step_tells_once t r n i d e (fails one is) (no_instance not other) = absurd (not one)
 step_tells_once t r n i d e (fails one is) (fails also other) = same_Some d e (sym is ∙ other)
 
 -- a plan has one first fault
-pub tells_once : (t : LiftedTask) (r : Reached) (n : ℕ) (p : List Instance) (d e : Fault) → TellsFrom t r n p d → TellsFrom t r n p e → d ≡ e
+pub tells_once : (t : LiftedTask) (r : Reached) (n : ℕ) (p : List Instance) (d e : PlanFault) → TellsFrom t r n p d → TellsFrom t r n p e → d ≡ e
 tells_once t r n [] d e one other = same_Some d e (sym one ∙ other)
 tells_once t r n (i ∷ p) d e one other =
     elim one [
@@ -56,7 +56,7 @@ tells_once t r n (i ∷ p) d e one other =
 
 -- never neither
 pub clears_or_tells :
-    (t : LiftedTask) (r : Reached) (n : ℕ) (p : List Instance) → ((end : Reached) → ClearsFrom t r n p end → ⊥) → ((e : Fault) → TellsFrom t r n p e → ⊥) → ⊥
+    (t : LiftedTask) (r : Reached) (n : ℕ) (p : List Instance) → ((end : Reached) → ClearsFrom t r n p end → ⊥) → ((e : PlanFault) → TellsFrom t r n p e → ⊥) → ⊥
 clears_or_tells t r n [] clears tells =
     elim (asked_of_goal t r n) as (λ o. asked_of_goal t r n ≡ o → ⊥) [
       | None ↦ λ e. clears r (refl, e)

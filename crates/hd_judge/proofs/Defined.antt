@@ -10,10 +10,10 @@ use Rattle.hd_base.specs.Expression.{Expression, leaf, negate, binary}
 use Rattle.hd_base.specs.Numbers.{result_of}
 use Rattle.hd_base.specs.Values.{of_both}
 use Rattle.hd_base.proofs.Members.{Contains-first}
-use Rattle.hd_lifted.specs.declared.schema.Applied.{Applied}
+use Rattle.hd_lifted.specs.declared.schema.AppliedSymbol.{AppliedSymbol}
 use Rattle.hd_lifted.specs.declared.schema.Ground.{Ground}
-use Rattle.hd_lifted.specs.declared.schema.Change.{Change}
-use Rattle.hd_lifted.specs.declared.schema.Change.TheVariants.{Assign, ScaleUp, Increase, Decrease, Cost}
+use Rattle.hd_lifted.specs.declared.schema.ChangeKind.{ChangeKind}
+use Rattle.hd_lifted.specs.declared.schema.ChangeKind.TheVariants.{Assign, ScaleUp, Increase, Decrease, Cost}
 use Rattle.hd_lifted.specs.declared.schema.NumericEffect.{NumericEffect}
 use Rattle.hd_lifted.specs.States.{Values, same, ground_form_of}
 use Rattle.hd_lifted.specs.Expressions.{value_of}
@@ -36,7 +36,7 @@ turned_some : (x : Option ℤ) → is_some x ≡ true → is_some (option_map ne
 turned_some None a = absurd (true≢false (sym a))
 turned_some (Some x) a = refl
 
-pub value_some : (v : Values) (objects : List ℕ) (e : Expression (Operand Applied)) → HaveValues v (fluents_in objects e) → is_some (value_of v objects e) ≡ true
+pub value_some : (v : Values) (objects : List ℕ) (e : Expression (Operand AppliedSymbol)) → HaveValues v (fluents_in objects e) → is_some (value_of v objects e) ≡ true
 value_some v objects (leaf (Number n)) h = refl
 value_some v objects (leaf (Fluent a)) h = h.each (ground_form_of objects a) (Contains-first (ground_form_of objects a) [])
 value_some v objects (negate x) h = turned_some (value_of v objects x) (value_some v objects x h)
@@ -48,7 +48,7 @@ value_some v objects (binary o x y) h =
 pub amount_some : (v : Values) (objects : List ℕ) (e : NumericEffect) → HaveValues v (met_by_effect objects e) → is_some (value_of v objects e.amount) ≡ true
 amount_some v objects e h = value_some v objects e.amount (values_right v (changed_by objects e) (fluents_in objects e.amount) h)
 
-change_some : (c : Change) (x amount : Option ℤ) → is_some x ≡ true → is_some amount ≡ true → is_some (value_by_change c x amount) ≡ true
+change_some : (c : ChangeKind) (x amount : Option ℤ) → is_some x ≡ true → is_some amount ≡ true → is_some (value_by_change c x amount) ≡ true
 change_some Assign x amount a b = b
 change_some ScaleUp x amount a b = both_some _ x amount a b
 change_some Increase x amount a b = both_some _ x amount a b

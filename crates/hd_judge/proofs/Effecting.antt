@@ -14,8 +14,8 @@ use Rattle.hd_base.proofs.Members.{Contains-first, Contains-later, Contains-flat
 use Rattle.hd_base.proofs.Options.{cond_then_some}
 use Rattle.hd_base.proofs.Tests.{list_all-from_each}
 use Rattle.hd_lifted.specs.declared.schema.Ground.{Ground}
-use Rattle.hd_lifted.specs.declared.schema.Change.{Change}
-use Rattle.hd_lifted.specs.declared.schema.Change.TheVariants.{Assign, ScaleUp, Increase, Decrease, Cost}
+use Rattle.hd_lifted.specs.declared.schema.ChangeKind.{ChangeKind}
+use Rattle.hd_lifted.specs.declared.schema.ChangeKind.TheVariants.{Assign, ScaleUp, Increase, Decrease, Cost}
 use Rattle.hd_lifted.specs.declared.schema.NumericEffect.{NumericEffect}
 use Rattle.hd_lifted.specs.declared.schema.Schema.{Schema}
 use Rattle.hd_lifted.specs.States.{Values, same, ground_form_of}
@@ -75,7 +75,7 @@ changed_there v objects e g have t =
 
 -- ---- one more effect
 
-kept_by : (c : Change) (s : Bool) (x amount : Option ℤ) → not (is_cost c) && s ≡ false → (if s then value_by_change c x amount else x) ≡ x
+kept_by : (c : ChangeKind) (s : Bool) (x amount : Option ℤ) → not (is_cost c) && s ≡ false → (if s then value_by_change c x amount else x) ≡ x
 kept_by c false x amount e = refl
 kept_by Assign true x amount e = absurd (true≢false e)
 kept_by ScaleUp true x amount e = absurd (true≢false e)

@@ -13,10 +13,10 @@ use Rattle.hd_lifted.specs.Steps.{Reached, step}
 use Rattle.hd_lifted.specs.Plans.{IsInstance, step_of, step_by}
 use Rattle.hd_lifted.specs.Departures.{cost_stays}
 use Rattle.hd_lifted.specs.Met.{met_by}
-use Rattle.hd_judge.specs.declared.fault.Fault.TheVariants.{NotApplicable, NoSuchAction, Departs, GoalUnmet}
-use Rattle.hd_judge.specs.declared.fault.Stop.TheVariants as stops
-use Rattle.hd_judge.specs.declared.refusal.Refusal.{Refusal}
-use Rattle.hd_judge.specs.declared.refusal.Refusal.TheVariants as refusals
+use Rattle.hd_judge.specs.declared.fault.PlanFault.TheVariants.{NotApplicable, NoSuchAction, Departs, GoalUnmet}
+use Rattle.hd_judge.specs.declared.fault.PlanStop.TheVariants as stops
+use Rattle.hd_judge.specs.declared.refusal.PlanRefusal.{PlanRefusal}
+use Rattle.hd_judge.specs.declared.refusal.PlanRefusal.TheVariants as refusals
 use Rattle.hd_judge.specs.Fault.{unless, StopsAt, StopsBy}
 use Rattle.hd_lifted.specs.Questions.{first_undefined}
 use Rattle.hd_judge.specs.Asking.{asked_after, asked_of_goal}
@@ -46,7 +46,7 @@ compatible_by t i a is at =
 pub unknown_told : (t : LiftedTask) (r : Reached) (n : ℕ) (i : Instance) → (IsInstance t i → ⊥) → TellsUnexplained t r n i (NoSuchAction n)
 unknown_told t r n i none = (no_instance none refl, refl)
 
-pub refused_before : (t : LiftedTask) (r : Reached) (n : ℕ) (i : Instance) (a : Schema) (e : Refusal) → IsInstance t i → slice_get t.schemas i.schema ≡ Some a
+pub refused_before : (t : LiftedTask) (r : Reached) (n : ℕ) (i : Instance) (a : Schema) (e : PlanRefusal) → IsInstance t i → slice_get t.schemas i.schema ≡ Some a
     → RefusesBy (IsReasonBefore t r i a) (TellsBefore t r n i a) e
     → RefusesBy (λ reason. IsReasonOfStep t r i reason × (r ≡ r)) (TellsUnexplained t r n i) e
 refused_before t r n i a (refusals.For reason) is at why = ((is, a, at, inl why), refl)
@@ -54,7 +54,7 @@ refused_before t r n i a (refusals.At (stops.At f)) is at told =
     (fails is (asked-schema t r n i a at ∙ ap (λ o. option_or o (asked_after t r n i a)) told.0), told.1)
 refused_before t r n i a (refusals.At stops.NoMemory) is at told = tt
 
-pub refused_then : (t : LiftedTask) (r to : Reached) (n : ℕ) (i : Instance) (a : Schema) (e : Refusal) → IsInstance t i
+pub refused_then : (t : LiftedTask) (r to : Reached) (n : ℕ) (i : Instance) (a : Schema) (e : PlanRefusal) → IsInstance t i
     → slice_get t.schemas i.schema ≡ Some a → IsBefore t r i a
     → RefusesFor (λ reason. IsReasonOfEffects t r a i.objects reason × (to ≡ r)) e
     → RefusesBy (λ reason. IsReasonOfStep t r i reason × (to ≡ r)) (TellsUnexplained t r n i) e
@@ -64,14 +64,14 @@ refused_then t r to n i a (refusals.At stops.NoMemory) is at before told = tt
 
 -- ---- what is reported
 
-pub refusal_told : (t : LiftedTask) (r to : Reached) (n : ℕ) (i : Instance) (e : Refusal)
+pub refusal_told : (t : LiftedTask) (r to : Reached) (n : ℕ) (i : Instance) (e : PlanRefusal)
     → RefusesBy (λ reason. IsReasonOfStep t r i reason × (to ≡ r)) (TellsUnexplained t r n i) e
     → StopsBy (TellsStep t r n i) (stop_of (NotApplicable n) (Departs n) e)
 refusal_told t r to n i (refusals.For reason) why = fails why.0.0 (reason_asked t r n i reason why.0)
 refusal_told t r to n i (refusals.At (stops.At f)) told = told.0
 refusal_told t r to n i (refusals.At stops.NoMemory) told = tt
 
-pub goal_told : (t : LiftedTask) (r : Reached) (n : ℕ) (e : Refusal) → RefusesBy (IsReasonOfGoal t r) (GoalUnexplained t r) e
+pub goal_told : (t : LiftedTask) (r : Reached) (n : ℕ) (e : PlanRefusal) → RefusesBy (IsReasonOfGoal t r) (GoalUnexplained t r) e
     → StopsAt (stop_of GoalUnmet (Departs n) e) (asked_of_goal t r n)
 goal_told t r n (refusals.For reason) why = goal_reason_asked t r n reason why
 goal_told t r n (refusals.At (stops.At f)) told = told.0 n

@@ -4,7 +4,7 @@ use Rattle.std.specs.Prelude.{ℤ}
 use Rattle.hd_base.specs.declared.expression.Operand.{Operand}
 use Rattle.hd_base.specs.Expression.{Expression, leaf, negate, binary}
 use Rattle.hd_base.specs.Numbers.{in_range, fits}
-use Rattle.hd_lifted.specs.declared.schema.Applied.{Applied}
+use Rattle.hd_lifted.specs.declared.schema.AppliedSymbol.{AppliedSymbol}
 use Rattle.hd_lifted.specs.declared.schema.Comparison.{Comparison}
 use Rattle.hd_lifted.specs.States.{Values}
 use Rattle.hd_lifted.specs.Expressions.{value_of, stays_in_range}
@@ -20,14 +20,14 @@ false_and false b is = refl
 false_and true b is = absurd (true≢false is)
 
 -- what has a value out of the range doesn't stay
-out_stays : (v : Values) (objects : List ℕ) (e : Expression (Operand Applied)) (z : ℤ) → value_of v objects e ≡ Some z → in_range z ≡ false
+out_stays : (v : Values) (objects : List ℕ) (e : Expression (Operand AppliedSymbol)) (z : ℤ) → value_of v objects e ≡ Some z → in_range z ≡ false
     → stays_in_range v objects e ≡ false
 out_stays v objects (leaf l) z is out = ap fits is ∙ out
 out_stays v objects (negate x) z is out = and_false (stays_in_range v objects x) _ (ap fits is ∙ out)
 out_stays v objects (binary o x y) z is out = and_false (stays_in_range v objects x && stays_in_range v objects y) _ (ap fits is ∙ out)
 
 -- nor does what it is a part of
-pub departs-stays : (v : Values) (objects : List ℕ) (e p : Expression (Operand Applied)) (z : ℤ) → IsDeparture v objects e p z
+pub departs-stays : (v : Values) (objects : List ℕ) (e p : Expression (Operand AppliedSymbol)) (z : ℤ) → IsDeparture v objects e p z
     → stays_in_range v objects e ≡ false
 departs-stays v objects (leaf l) p z d = out_stays v objects (leaf l) z d.1.value_is d.1.out
 departs-stays v objects (negate x) p z d =
@@ -46,10 +46,10 @@ departs-stays v objects (binary o x y) p z d =
           ])
     ]
 
-pub departs_left : (v : Values) (objects : List ℕ) (c : Comparison) (p : Expression (Operand Applied)) (z : ℤ) → IsDeparture v objects c.left p z
+pub departs_left : (v : Values) (objects : List ℕ) (c : Comparison) (p : Expression (Operand AppliedSymbol)) (z : ℤ) → IsDeparture v objects c.left p z
     → comparison_stays v objects c ≡ false
 departs_left v objects c p z d = false_and (stays_in_range v objects c.left) (stays_in_range v objects c.right) (departs-stays v objects c.left p z d)
 
-pub departs_right : (v : Values) (objects : List ℕ) (c : Comparison) (p : Expression (Operand Applied)) (z : ℤ) → IsDeparture v objects c.right p z
+pub departs_right : (v : Values) (objects : List ℕ) (c : Comparison) (p : Expression (Operand AppliedSymbol)) (z : ℤ) → IsDeparture v objects c.right p z
     → comparison_stays v objects c ≡ false
 departs_right v objects c p z d = and_false (stays_in_range v objects c.left) (stays_in_range v objects c.right) (departs-stays v objects c.right p z d)

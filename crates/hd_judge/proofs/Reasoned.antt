@@ -15,8 +15,8 @@ use Rattle.hd_lifted.specs.Conditions.{literal_holds, equality_holds, comparison
 use Rattle.hd_lifted.specs.Effects.{is_negative, effects_stay}
 use Rattle.hd_lifted.specs.Steps.{Reached, step}
 use Rattle.hd_lifted.specs.Departures.{cost_stays}
-use Rattle.hd_judge.specs.declared.fault.Fault.{Fault}
-use Rattle.hd_judge.specs.declared.fault.Fault.TheVariants.{NotApplicable, Departs, GoalUnmet}
+use Rattle.hd_judge.specs.declared.fault.PlanFault.{PlanFault}
+use Rattle.hd_judge.specs.declared.fault.PlanFault.TheVariants.{NotApplicable, Departs, GoalUnmet}
 use Rattle.hd_judge.specs.declared.reason.Reason.{Reason}
 use Rattle.hd_judge.specs.declared.reason.Reason.TheVariants as reasons
 use Rattle.hd_judge.specs.Fault.{unless}
@@ -32,7 +32,7 @@ use Rattle.hd_judge.proofs.Stepping.{step_stays}
 
 -- ---- parts of a condition
 
-literals_fail : (s : State) (objects : List ℕ) (c : Condition) (unmet departs : Fault) (reason : Reason) → IsReasonOfLiterals s objects c reason
+literals_fail : (s : State) (objects : List ℕ) (c : Condition) (unmet departs : PlanFault) (reason : Reason) → IsReasonOfLiterals s objects c reason
     → (literals_hold s objects c ≡ false) × (fault_of unmet departs reason ≡ unmet)
 literals_fail s objects c unmet departs (reasons.Literal l) why = (
   false_and (list_all (literal_holds s.atoms objects) c.literals) (list_all (equality_holds objects) c.equalities)
@@ -46,7 +46,7 @@ literals_fail s objects c unmet departs (reasons.Equality e) why = (
 )
 literals_fail s objects c unmet departs _ why = absurd why
 
-comparisons_fail : (s : State) (objects : List ℕ) (c : Condition) (unmet departs : Fault) (reason : Reason)
+comparisons_fail : (s : State) (objects : List ℕ) (c : Condition) (unmet departs : PlanFault) (reason : Reason)
     → IsReasonOfComparisons s.values objects c.comparisons reason
     → asked_of_comparisons s objects c departs unmet ≡ Some (fault_of unmet departs reason)
 comparisons_fail s objects c unmet departs (reasons.Subexpression d) why =
@@ -59,7 +59,7 @@ comparisons_fail s objects c unmet departs _ why = absurd why
 
 -- ---- effects
 
-effects_fail : (t : LiftedTask) (r : Reached) (a : Schema) (objects : List ℕ) (unmet departs : Fault) (reason : Reason)
+effects_fail : (t : LiftedTask) (r : Reached) (a : Schema) (objects : List ℕ) (unmet departs : PlanFault) (reason : Reason)
     → holds r.state objects a.condition ≡ true → IsReasonOfEffects t r a objects reason
     → ((effects_stay r.state.values a objects && cost_stays (step t r a objects)) ≡ false) × (fault_of unmet departs reason ≡ departs)
 unfolding effects_stay

@@ -15,7 +15,7 @@ use Rattle.hd_judge.specs.declared.reason.Reason.{Reason}
 use Rattle.hd_judge.specs.declared.reason.Reason.TheVariants as reasons
 use Rattle.hd_judge.specs.declared.reason.StepCost.{StepCost}
 use Rattle.hd_judge.specs.declared.reason.NewValue.{NewValue}
-use Rattle.hd_judge.specs.declared.reason.Departure.{Departure}
+use Rattle.hd_judge.specs.declared.reason.DepartingPart.{DepartingPart}
 use Rattle.hd_judge.specs.declared.changes.Changes.{Changes}
 use Rattle.hd_judge.specs.Effects.{AreChangesOf, amount_stays, change_fits, new_value_in}
 use Rattle.hd_judge.specs.Departures.{IsDeparture}
@@ -65,12 +65,12 @@ IsReasonOfEffects t r a objects _ = ⊥
 -- ---- what the code answers
 
 -- an amount that is there, or its departure
-abbrev pub JudgesAmount : Values → List ℕ → NumericEffect → Result ℤ Departure → Type 0
+abbrev pub JudgesAmount : Values → List ℕ → NumericEffect → Result ℤ DepartingPart → Type 0
 JudgesAmount v objects e (Ok x) = (amount_stays v objects e ≡ true) × (value_of v objects e.amount ≡ Some x)
 JudgesAmount v objects e (Err d) = (amount_stays v objects e ≡ false) × IsDeparture v objects e.amount d.part.now d.value
 
 -- the new values and the sum of the costs, or the first departure of amounts
-abbrev pub JudgesChanges : Values → List ℕ → List NumericEffect → Result Changes Departure → Type 0
+abbrev pub JudgesChanges : Values → List ℕ → List NumericEffect → Result Changes DepartingPart → Type 0
 JudgesChanges v objects es (Ok c) = (list_all (amount_stays v objects) es ≡ true) × AreChangesOf v objects es c
 JudgesChanges v objects es (Err d) =
     (of : NumericEffect) × (departing_effect v objects es ≡ Some of) × IsDeparture v objects of.amount d.part.now d.value

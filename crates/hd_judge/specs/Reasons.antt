@@ -10,7 +10,7 @@ use Rattle.hd_lifted.specs.declared.schema.Condition.{Condition}
 use Rattle.hd_lifted.specs.States.{Values, State}
 use Rattle.hd_lifted.specs.Expressions.{stays_in_range}
 use Rattle.hd_lifted.specs.Conditions.{literal_holds, equality_holds, comparison_holds, comparison_stays}
-use Rattle.hd_judge.specs.declared.reason.Departure.{Departure}
+use Rattle.hd_judge.specs.declared.reason.DepartingPart.{DepartingPart}
 use Rattle.hd_judge.specs.declared.reason.Reason.{Reason}
 use Rattle.hd_judge.specs.declared.reason.Reason.TheVariants as reasons
 use Rattle.hd_judge.specs.declared.comparison.Compared.{Compared}
@@ -34,7 +34,7 @@ abbrev pub failing_comparison : Values → List ℕ → List Comparison → Opti
 failing_comparison v objects comparisons = find (λ c. not (comparison_holds v objects c)) comparisons
 
 -- where a comparison leaves the range, its left side first
-abbrev pub IsDepartureOfComparison : Values → List ℕ → Comparison → Departure → Type 0
+abbrev pub IsDepartureOfComparison : Values → List ℕ → Comparison → DepartingPart → Type 0
 IsDepartureOfComparison v objects c d =
     IsDeparture v objects c.left d.part.now d.value
     ⊎ ((stays_in_range v objects c.left ≡ true) × IsDeparture v objects c.right d.part.now d.value)

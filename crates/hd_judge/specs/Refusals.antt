@@ -10,14 +10,14 @@ use Rattle.hd_lifted.specs.Conditions.{literals_hold, comparisons_stay, comparis
 use Rattle.hd_lifted.specs.Steps.{Reached}
 use Rattle.hd_lifted.specs.Plans.{IsInstance}
 use Rattle.hd_lifted.specs.Met.{met_by, met_by_goal}
-use Rattle.hd_judge.specs.declared.fault.Fault.{Fault}
-use Rattle.hd_judge.specs.declared.fault.Fault.TheVariants.{NoSuchAction, NotApplicable, Undefined, NegativeCost, Departs, GoalUnmet}
-use Rattle.hd_judge.specs.declared.fault.Stop.{Stop}
-use Rattle.hd_judge.specs.declared.fault.Stop.TheVariants as stops
+use Rattle.hd_judge.specs.declared.fault.PlanFault.{PlanFault}
+use Rattle.hd_judge.specs.declared.fault.PlanFault.TheVariants.{NoSuchAction, NotApplicable, Undefined, NegativeCost, Departs, GoalUnmet}
+use Rattle.hd_judge.specs.declared.fault.PlanStop.{PlanStop}
+use Rattle.hd_judge.specs.declared.fault.PlanStop.TheVariants as stops
 use Rattle.hd_judge.specs.declared.reason.Reason.{Reason}
 use Rattle.hd_judge.specs.declared.reason.Reason.TheVariants as reasons
-use Rattle.hd_judge.specs.declared.refusal.Refusal.{Refusal}
-use Rattle.hd_judge.specs.declared.refusal.Refusal.TheVariants as refusals
+use Rattle.hd_judge.specs.declared.refusal.PlanRefusal.{PlanRefusal}
+use Rattle.hd_judge.specs.declared.refusal.PlanRefusal.TheVariants as refusals
 use Rattle.hd_judge.specs.Fault.{StopsBy}
 use Rattle.hd_lifted.specs.Questions.{first_undefined, costs_negative}
 use Rattle.hd_judge.specs.Asking.{asked_before, asked_of_goal}
@@ -29,7 +29,7 @@ use Rattle.hd_judge.specs.EffectReasons.{IsReasonOfEffects}
 
 -- the fault that a reason is one of: a part of a condition that does not hold is of the one, what
 -- leaves the range of the other
-abbrev pub fault_of : Fault → Fault → Reason → Fault
+abbrev pub fault_of : PlanFault → PlanFault → Reason → PlanFault
 fault_of unmet departs (reasons.Literal l) = unmet
 fault_of unmet departs (reasons.Equality e) = unmet
 fault_of unmet departs (reasons.Comparison c) = unmet
@@ -39,7 +39,7 @@ fault_of unmet departs (reasons.NegativeCost c) = departs
 fault_of unmet departs (reasons.PlanCost c) = departs
 
 -- a fault is one that a reason belongs to; the others say all that there is to say
-abbrev pub is_explained : Fault → Bool
+abbrev pub is_explained : PlanFault → Bool
 is_explained (NoSuchAction n) = false
 is_explained (NotApplicable n) = true
 is_explained (Undefined g) = false
@@ -48,17 +48,17 @@ is_explained (Departs n) = true
 is_explained GoalUnmet = true
 
 -- what is reported of a refusal
-abbrev pub stop_of : Fault → Fault → Refusal → Stop
+abbrev pub stop_of : PlanFault → PlanFault → PlanRefusal → PlanStop
 stop_of unmet departs (refusals.For reason) = stops.At (fault_of unmet departs reason)
 stop_of unmet departs (refusals.At stop) = stop
 
 -- a refusal is for such a reason, or at such a fault, or for lack of memory
-abbrev pub RefusesBy : (Reason → Type 0) → (Fault → Type 0) → Refusal → Type 0
+abbrev pub RefusesBy : (Reason → Type 0) → (PlanFault → Type 0) → PlanRefusal → Type 0
 RefusesBy IsReason Tells (refusals.For reason) = IsReason reason
 RefusesBy IsReason Tells (refusals.At stop) = StopsBy Tells stop
 
 -- it is for such a reason, or for lack of memory
-abbrev pub RefusesFor : (Reason → Type 0) → Refusal → Type 0
+abbrev pub RefusesFor : (Reason → Type 0) → PlanRefusal → Type 0
 RefusesFor IsReason refusal = RefusesBy IsReason (λ fault. ⊥) refusal
 
 -- ---- a step
@@ -86,7 +86,7 @@ IsReasonBefore t r i a reason =
     × (costs_negative t a i.objects ≡ false) × IsReasonOfComparisons r.state.values i.objects a.condition.comparisons reason)
 
 -- or it does without a reason
-abbrev pub TellsBefore : LiftedTask → Reached → ℕ → Instance → Schema → Fault → Type 0
+abbrev pub TellsBefore : LiftedTask → Reached → ℕ → Instance → Schema → PlanFault → Type 0
 TellsBefore t r n i a fault = (asked_before t r n i a ≡ Some fault) × (is_explained fault ≡ false)
 
 -- this is why a step of an instance is refused: why a question before it reports a fault; or, where
@@ -97,7 +97,7 @@ IsReasonOfStep t r i reason =
     × (IsReasonBefore t r i a reason ⊎ (IsBefore t r i a × IsReasonOfEffects t r a i.objects reason))
 
 -- or it is refused without a reason
-abbrev pub TellsUnexplained : LiftedTask → Reached → ℕ → Instance → Fault → Type 0
+abbrev pub TellsUnexplained : LiftedTask → Reached → ℕ → Instance → PlanFault → Type 0
 TellsUnexplained t r n i fault = TellsStep t r n i fault × (is_explained fault ≡ false)
 
 -- ---- the goal
@@ -112,5 +112,5 @@ IsReasonOfGoal t r reason =
     × IsReasonOfComparisons r.state.values [] t.goal.comparisons reason)
 
 -- or it is not met without a reason, whatever the number of steps
-abbrev pub GoalUnexplained : LiftedTask → Reached → Fault → Type 0
+abbrev pub GoalUnexplained : LiftedTask → Reached → PlanFault → Type 0
 GoalUnexplained t r fault = ((n : ℕ) → asked_of_goal t r n ≡ Some fault) × (is_explained fault ≡ false)

@@ -7,8 +7,8 @@ use Rattle.hd_lifted.specs.Steps.{Reached, start}
 use Rattle.hd_lifted.specs.Plans.{IsInstance, step_by, exec, IsValidAt}
 use Rattle.hd_lifted.specs.Departures.{instance_departs, goal_departs}
 use Rattle.hd_lifted.specs.Met.{met_by, met_by_goal}
-use Rattle.hd_judge.specs.declared.fault.Fault.{Fault}
-use Rattle.hd_judge.specs.declared.fault.Fault.TheVariants.{NoSuchAction}
+use Rattle.hd_judge.specs.declared.fault.PlanFault.{PlanFault}
+use Rattle.hd_judge.specs.declared.fault.PlanFault.TheVariants.{NoSuchAction}
 use Rattle.hd_lifted.specs.Questions.{is_defined, costs_negative}
 use Rattle.hd_judge.specs.Asking.{asked_of_step, asked_of_goal}
 
@@ -57,13 +57,13 @@ pub record Passes (t : LiftedTask) (r : Reached) (n : ℕ) (i : Instance) (to : 
 
 -- the n-th step is one of no instance, or else it is the fault that the first failing question
 -- about it reports
-pub data TellsStep (t : LiftedTask) (r : Reached) (n : ℕ) (i : Instance) (fault : Fault) : Type 0 where
+pub data TellsStep (t : LiftedTask) (r : Reached) (n : ℕ) (i : Instance) (fault : PlanFault) : Type 0 where
   no_instance : (IsInstance t i → ⊥) → fault ≡ NoSuchAction n → TellsStep t r n i fault
   fails : IsInstance t i → asked_of_step t r n i ≡ Some fault → TellsStep t r n i fault
 
 -- of a list of steps, the first of which is the n-th, and then of the goal, the first failing
 -- question reports this fault
-abbrev pub TellsFrom : LiftedTask → Reached → ℕ → List Instance → Fault → Type 0
+abbrev pub TellsFrom : LiftedTask → Reached → ℕ → List Instance → PlanFault → Type 0
 TellsFrom t r n [] fault = asked_of_goal t r n ≡ Some fault
 TellsFrom t r n (i ∷ p) fault = TellsStep t r n i fault ⊎ ((to : Reached) × Passes t r n i to × TellsFrom t to (n + 1) p fault)
 
@@ -73,7 +73,7 @@ ClearsFrom t r n [] end = (r ≡ end) × (asked_of_goal t r n ≡ None)
 ClearsFrom t r n (i ∷ p) end = (to : Reached) × Passes t r n i to × ClearsFrom t to (n + 1) p end
 
 -- a plan's first fault
-abbrev pub IsFirstFault : LiftedTask → List Instance → Fault → Type 0
+abbrev pub IsFirstFault : LiftedTask → List Instance → PlanFault → Type 0
 IsFirstFault t p fault = TellsFrom t (start t) 1 p fault
 
 -- a plan without a fault, and where it leads

@@ -6,11 +6,11 @@ ghost use Rattle.hd_judge.specs.Refusals.{RefusesBy, IsBefore, IsReasonBefore, T
 
 use crate::comparison::explain_comparisons;
 use crate::condition::explain_literals;
-use crate::fault::{Fault, Stop};
+use crate::fault::{PlanFault, PlanStop};
 use crate::instances::copy_of;
 use crate::lookups::Lookups;
 use crate::negative::costs_negative;
-use crate::refusal::Refusal;
+use crate::refusal::PlanRefusal;
 use crate::table::Place;
 use crate::undefined::{undefined_goal, undefined_schema};
 use hd_lifted::{Instance, Schema};
@@ -27,7 +27,7 @@ pub(crate) fn ask_before<'a>(
     number: u64,
     instance: &Instance,
     schema: &'a Schema,
-) -> Result<(), Refusal<'a>>
+) -> Result<(), PlanRefusal<'a>>
     ensures before { OnOk result (IsBefore lookups.now (reached_in place.now) instance.now
         schema.now) }
     ensures refuses { IfErr result (RefusesBy (IsReasonBefore lookups.now (reached_in place.now)
@@ -36,18 +36,18 @@ pub(crate) fn ask_before<'a>(
 {
     let objects = instance.objects.as_slice();
     if let Some(reason) = explain_literals(alloc, place, objects, &schema.condition)? {
-        return Err(Refusal::For(reason));
+        return Err(PlanRefusal::For(reason));
     }
     if let Some(fluent) = undefined_schema(alloc, lookups, objects, schema)? {
-        return Err(Refusal::At(Stop::At(Fault::Undefined(fluent))));
+        return Err(PlanRefusal::At(PlanStop::At(PlanFault::Undefined(fluent))));
     }
     if costs_negative(alloc, lookups, schema, objects)? {
-        let fault = Fault::NegativeCost(copy_of(alloc, instance)?);
-        return Err(Refusal::At(Stop::At(fault)));
+        let fault = PlanFault::NegativeCost(copy_of(alloc, instance)?);
+        return Err(PlanRefusal::At(PlanStop::At(fault)));
     }
     let comparisons = schema.condition.comparisons.as_slice();
     match explain_comparisons(alloc, place, objects, comparisons)? {
-        Some(reason) => Err(Refusal::For(reason)),
+        Some(reason) => Err(PlanRefusal::For(reason)),
         None => Ok(()),
     }
 }
@@ -63,7 +63,7 @@ pub fn explain_goal<'a>(
     alloc: Global,
     lookups: &Lookups<'a>,
     place: &Place,
-) -> Result<(), Refusal<'a>>
+) -> Result<(), PlanRefusal<'a>>
     ensures met { OnOk result ((n : ℕ)
         → asked_of_goal lookups.now (reached_in place.now) n ≡ None) }
     ensures refuses { IfErr result (RefusesBy (IsReasonOfGoal lookups.now (reached_in place.now))
@@ -72,13 +72,13 @@ pub fn explain_goal<'a>(
     let none: [usize; 0] = [];
     let goal = &lookups.task().goal;
     if let Some(reason) = explain_literals(alloc, place, none.as_slice(), goal)? {
-        return Err(Refusal::For(reason));
+        return Err(PlanRefusal::For(reason));
     }
     if let Some(fluent) = undefined_goal(alloc, lookups)? {
-        return Err(Refusal::At(Stop::At(Fault::Undefined(fluent))));
+        return Err(PlanRefusal::At(PlanStop::At(PlanFault::Undefined(fluent))));
     }
     match explain_comparisons(alloc, place, none.as_slice(), goal.comparisons.as_slice())? {
-        Some(reason) => Err(Refusal::For(reason)),
+        Some(reason) => Err(PlanRefusal::For(reason)),
         None => Ok(()),
     }
 }

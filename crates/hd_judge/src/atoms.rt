@@ -6,7 +6,7 @@ ghost use Rattle.hd_judge.specs.Tables.{truth_in};
 
 use crate::table::Truths;
 use hd_base::NoMemory;
-use hd_lifted::{Applied, Schema, ground_form_of};
+use hd_lifted::{AppliedSymbol, Schema, ground_form_of};
 use std::alloc::Global;
 
 /// Makes `atoms` with `objects` false in `truths`.
@@ -14,7 +14,7 @@ fn take_out(
     alloc: Global,
     truths: &mut Truths,
     objects: &[usize],
-    atoms: &[Applied],
+    atoms: &[AppliedSymbol],
 ) -> Result<(), NoMemory>
     ensures { OnOk result ((g : Ground) → truth_in truths.new g
         ≡ (truth_in truths.old g && not (names_atom objects.now atoms.now g))) }
@@ -30,7 +30,7 @@ fn put_in(
     alloc: Global,
     truths: &mut Truths,
     objects: &[usize],
-    atoms: &[Applied],
+    atoms: &[AppliedSymbol],
 ) -> Result<(), NoMemory>
     ensures { OnOk result ((g : Ground) → truth_in truths.new g
         ≡ (names_atom objects.now atoms.now g || truth_in truths.old g)) }

@@ -6,7 +6,7 @@ ghost use Rattle.hd_lifted.specs.Effects.{is_cost};
 ghost use Rattle.hd_judge.specs.Tables.{has_function};
 
 use hd_base::{NoMemory, Seed};
-use hd_lifted::{Change, NumericEffect, Schema};
+use hd_lifted::{ChangeKind, NumericEffect, Schema};
 use indexmap::IndexSet;
 use std::alloc::Global;
 
@@ -17,12 +17,13 @@ pub(crate) struct Changed {
 }
 
 /// Reports whether an effect is a part of the cost.
-pub fn is_cost(change: Change) -> bool
+pub fn is_cost(change: ChangeKind) -> bool
     ensures { result ≡ is_cost change }
 {
     match change {
-        Change::Assign | Change::ScaleUp | Change::Increase | Change::Decrease => false,
-        Change::Cost => true,
+        ChangeKind::Assign | ChangeKind::ScaleUp | ChangeKind::Increase | ChangeKind::Decrease =>
+            false,
+        ChangeKind::Cost => true,
     }
 }
 

@@ -4,8 +4,8 @@ ghost use Rattle.hd_lifted.specs.Conditions.{relation_holds_if};
 ghost use Rattle.hd_judge.specs.Tables.{reached_in};
 ghost use Rattle.hd_judge.specs.Reasons.{MeansCompared, ExplainsComparisons};
 
-use crate::expression::{Outcome, outcome_of};
-use crate::reason::{Departure, Reason};
+use crate::expression::{Evaluated, outcome_of};
+use crate::reason::{DepartingPart, Reason};
 use crate::table::Place;
 use hd_base::{NoMemory, Relation};
 use hd_lifted::Comparison;
@@ -17,7 +17,7 @@ pub(crate) enum Compared<'a> {
     /// Whether it holds: each subexpression is in the range.
     Holds(bool),
     /// A subexpression is out of the range, and those of its own are not.
-    Departs(Departure<'a>),
+    Departs(DepartingPart<'a>),
 }
 
 /// Reports whether two values compare in this way: if one is missing, they don't.
@@ -41,12 +41,12 @@ fn compare<'a>(
     ensures { IfOk result (MeansCompared (reached_in place.now).state.values objects.now said.now) }
 {
     let left = match outcome_of(alloc, place, objects, &said.left)? {
-        Outcome::Value(value) => value,
-        Outcome::Departs(departure) => return Ok(Compared::Departs(departure)),
+        Evaluated::Value(value) => value,
+        Evaluated::Departs(departure) => return Ok(Compared::Departs(departure)),
     };
     let right = match outcome_of(alloc, place, objects, &said.right)? {
-        Outcome::Value(value) => value,
-        Outcome::Departs(departure) => return Ok(Compared::Departs(departure)),
+        Evaluated::Value(value) => value,
+        Evaluated::Departs(departure) => return Ok(Compared::Departs(departure)),
     };
     Ok(Compared::Holds(relation_holds(said.relation, left, right)))
 }

@@ -5,7 +5,7 @@ ghost use Rattle.std.specs.Option.{option_or};
 ghost use Rattle.hd_base.specs.Numbers.{in_range, fits};
 ghost use Rattle.hd_base.specs.declared.range.TheConstants.{RANGE_END};
 ghost use Rattle.hd_lifted.specs.declared.schema.Ground.{Ground};
-ghost use Rattle.hd_lifted.specs.declared.schema.Change.TheVariants.{ScaleUp};
+ghost use Rattle.hd_lifted.specs.declared.schema.ChangeKind.TheVariants.{ScaleUp};
 ghost use Rattle.hd_lifted.specs.States.{same, ground_form_of};
 ghost use Rattle.hd_lifted.specs.Expressions.{value_of};
 ghost use Rattle.hd_lifted.specs.Effects.{value_by_change, with_cost, effects_clash};
@@ -18,13 +18,13 @@ ghost use Rattle.hd_judge.specs.Refusals.{RefusesFor};
 
 use crate::changed::is_cost;
 use crate::changes::Changes;
-use crate::expression::{Outcome, narrow, outcome_of};
+use crate::expression::{Evaluated, narrow, outcome_of};
 use crate::lookups::Lookups;
-use crate::reason::{Departure, NewValue, Reason, StepCost};
-use crate::refusal::Refusal;
+use crate::reason::{DepartingPart, NewValue, Reason, StepCost};
+use crate::refusal::PlanRefusal;
 use crate::table::{Numbers, Place};
 use hd_base::{NoMemory, total_cost};
-use hd_lifted::{Change, Ground, LiftedTask, NumericEffect, Schema, ground_form_of};
+use hd_lifted::{ChangeKind, Ground, LiftedTask, NumericEffect, Schema, ground_form_of};
 use std::alloc::Global;
 
 // ---- one effect
@@ -35,7 +35,7 @@ fn amount_of<'a>(
     place: &Place,
     objects: &[usize],
     effect: &'a NumericEffect,
-) -> Result<Result<i64, Departure<'a>>, NoMemory>
+) -> Result<Result<i64, DepartingPart<'a>>, NoMemory>
     requires there { HaveValues (reached_in place.now).state.values
         (met_by_effect objects.now effect.now) }
     ensures amount { IfOk result (JudgesAmount (reached_in place.now).state.values objects.now
@@ -43,8 +43,8 @@ fn amount_of<'a>(
     ensures in_range { IfOk result (λ judged. IfOk judged (λ x. in_range x ≡ true)) }
 {
     match outcome_of(alloc, place, objects, &effect.amount)? {
-        Outcome::Value(amount) => Ok(Ok(amount.unwrap())),
-        Outcome::Departs(departure) => Ok(Err(departure)),
+        Evaluated::Value(amount) => Ok(Ok(amount.unwrap())),
+        Evaluated::Departs(departure) => Ok(Err(departure)),
     }
 }
 
@@ -80,7 +80,7 @@ fn times(value: i64, amount: i64) -> i128
 /// Returns the value that a change makes of the one so far, where a scaling has changed nothing so
 /// far. The value is not judged.
 #[tactic(auto, using(crate::proofs::Changing::near_more))]
-fn value_by_change(change: Change, old: i64, so_far: i128, amount: i64) -> i128
+fn value_by_change(change: ChangeKind, old: i64, so_far: i128, amount: i64) -> i128
     requires near { IsNear (2 ^ 126) (pos 0) so_far }
     requires in_range { in_range amount ≡ true }
     requires alone { change ≡ ScaleUp → so_far ≡ old }
@@ -89,11 +89,11 @@ fn value_by_change(change: Change, old: i64, so_far: i128, amount: i64) -> i128
         → IsNear (n + RANGE_END) (pos 0) result }
 {
     match change {
-        Change::Assign => i128::from(amount),
-        Change::ScaleUp => times(old, amount),
-        Change::Increase => plus(so_far, amount),
-        Change::Decrease => minus(so_far, amount),
-        Change::Cost => so_far,
+        ChangeKind::Assign => i128::from(amount),
+        ChangeKind::ScaleUp => times(old, amount),
+        ChangeKind::Increase => plus(so_far, amount),
+        ChangeKind::Decrease => minus(so_far, amount),
+        ChangeKind::Cost => so_far,
     }
 }
 
@@ -181,7 +181,7 @@ fn changes_of<'a>(
     place: &Place,
     objects: &[usize],
     effects: &'a [NumericEffect],
-) -> Result<Result<Changes, Departure<'a>>, NoMemory>
+) -> Result<Result<Changes, DepartingPart<'a>>, NoMemory>
     requires there { HaveValues (reached_in place.now).state.values
         (flat_map (met_by_effect objects.now) effects.now) }
     requires compatible { effects_clash objects.now effects.now ≡ false }
@@ -283,7 +283,7 @@ fn judge_changes<'a>(
     objects: &[usize],
     schema: &'a Schema,
     changes: &Changes,
-) -> Result<u64, Refusal<'a>>
+) -> Result<u64, PlanRefusal<'a>>
     requires changes { AreChangesOf (reached_in place.now).state.values objects.now
         schema.now.effects changes.now }
     requires stay { list_all (amount_stays (reached_in place.now).state.values objects.now)
@@ -295,12 +295,12 @@ fn judge_changes<'a>(
 {
     let effects = schema.effects.as_slice();
     if let Some(new) = leaving_effect(alloc, changes, objects, effects)? {
-        return Err(Refusal::For(Reason::NewValue(new)));
+        return Err(PlanRefusal::For(Reason::NewValue(new)));
     }
     let step = step_cost(lookups.task(), changes.cost);
     match plus_cost(place.cost, step, effects) {
         Ok(cost) => Ok(cost),
-        Err(reason) => Err(Refusal::For(reason)),
+        Err(reason) => Err(PlanRefusal::For(reason)),
     }
 }
 
@@ -314,7 +314,7 @@ pub(crate) fn judge_effects<'a>(
     place: &Place,
     objects: &[usize],
     schema: &'a Schema,
-) -> Result<(Changes, u64), Refusal<'a>>
+) -> Result<(Changes, u64), PlanRefusal<'a>>
     requires there { HaveValues (reached_in place.now).state.values
         (flat_map (met_by_effect objects.now) schema.now.effects) }
     requires compatible { effects_clash objects.now schema.now.effects ≡ false }
@@ -331,7 +331,7 @@ pub(crate) fn judge_effects<'a>(
                 Err(refusal)
             }
         },
-        Err(departure) => Err(Refusal::For(Reason::Subexpression(departure))),
+        Err(departure) => Err(PlanRefusal::For(Reason::Subexpression(departure))),
     }
 }
 

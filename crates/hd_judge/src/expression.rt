@@ -7,7 +7,7 @@ ghost use Rattle.hd_lifted.specs.Expressions.{leaf_value};
 ghost use Rattle.hd_judge.specs.Tables.{reached_in};
 ghost use Rattle.hd_judge.specs.Departures.{MeansOutcome, IsOutcomeBy};
 
-use crate::reason::Departure;
+use crate::reason::DepartingPart;
 use crate::table::Place;
 use hd_base::{ExprParts, NoMemory, Operand, Operation, RANGE_END};
 use hd_lifted::{Expr, Leaf, ground_form_of};
@@ -15,11 +15,11 @@ use std::alloc::Global;
 
 /// What the computation of an expression comes to.
 #[derive(Clone, Copy)]
-pub(crate) enum Outcome<'a> {
+pub(crate) enum Evaluated<'a> {
     /// Its value, if it has one: each subexpression is in the range.
     Value(Option<i64>),
     /// A subexpression is out of the range, and those of its own are not.
-    Departs(Departure<'a>),
+    Departs(DepartingPart<'a>),
 }
 
 /// Returns a value, if it is in the range.
@@ -34,12 +34,12 @@ pub(crate) fn narrow(value: i128) -> Option<i64>
 }
 
 /// Returns an expression's value, or the expression itself where that is out of the range.
-fn judged<'a>(said: &'a Expr, value: i128) -> Outcome<'a>
+fn judged<'a>(said: &'a Expr, value: i128) -> Evaluated<'a>
     ensures { IsOutcomeBy said.now (Some value) result }
 {
     match narrow(value) {
-        Some(value) => Outcome::Value(Some(value)),
-        None => Outcome::Departs(Departure { part: said, value }),
+        Some(value) => Evaluated::Value(Some(value)),
+        None => Evaluated::Departs(DepartingPart { part: said, value }),
     }
 }
 
@@ -63,12 +63,12 @@ fn leaf_value(
 }
 
 /// Returns the value of an expression with its sign turned.
-fn negated<'a>(said: &'a Expr, inner: Option<i64>) -> Outcome<'a>
+fn negated<'a>(said: &'a Expr, inner: Option<i64>) -> Evaluated<'a>
     ensures { IsOutcomeBy said.now (option_map neg_ℤ inner) result }
 {
     match inner {
         Some(number) => judged(said, -i128::from(number)),
-        None => Outcome::Value(None),
+        None => Evaluated::Value(None),
     }
 }
 
@@ -91,12 +91,12 @@ fn combined<'a>(
     operation: Operation,
     left: Option<i64>,
     right: Option<i64>,
-) -> Outcome<'a>
+) -> Evaluated<'a>
     ensures { IsOutcomeBy said.now (of_both (result_of operation) left right) result }
 {
     match (left, right) {
         (Some(left), Some(right)) => judged(said, result_of(operation, left, right)),
-        _ => Outcome::Value(None),
+        _ => Evaluated::Value(None),
     }
 }
 
@@ -107,25 +107,25 @@ pub(crate) fn outcome_of<'a>(
     place: &Place,
     objects: &[usize],
     said: &'a Expr,
-) -> Result<Outcome<'a>, NoMemory>
+) -> Result<Evaluated<'a>, NoMemory>
     ensures { IfOk result (MeansOutcome (reached_in place.now).state.values objects.now said.now) }
 {
     match said.parts() {
         ExprParts::Leaf(leaf) => match leaf_value(alloc, place, objects, leaf)? {
             Some(number) => Ok(judged(said, i128::from(number))),
-            None => Ok(Outcome::Value(None)),
+            None => Ok(Evaluated::Value(None)),
         },
         ExprParts::Negate(inner) => match outcome_of(alloc, place, objects, inner)? {
-            Outcome::Value(value) => Ok(negated(said, value)),
+            Evaluated::Value(value) => Ok(negated(said, value)),
             departs => Ok(departs),
         },
         ExprParts::Binary(operation, left, right) => {
             let left = match outcome_of(alloc, place, objects, left)? {
-                Outcome::Value(value) => value,
+                Evaluated::Value(value) => value,
                 departs => return Ok(departs),
             };
             let right = match outcome_of(alloc, place, objects, right)? {
-                Outcome::Value(value) => value,
+                Evaluated::Value(value) => value,
                 departs => return Ok(departs),
             };
             Ok(combined(said, operation, left, right))

@@ -1,13 +1,13 @@
 //! What a validation reports.
 ghost use Rattle.std.specs.Prelude.{◌≡◌};
-ghost use Rattle.hd_judge.specs.declared.fault.Stop.TheVariants.{NoMemory};
+ghost use Rattle.hd_judge.specs.declared.fault.PlanStop.TheVariants.{NoMemory};
 
 use hd_lifted::{Ground, Instance};
 use std::alloc::{AllocError, AllocFailed};
 
 /// Why a plan is not valid, or can't be judged. Steps are numbered from 1.
 #[derive(Debug, PartialEq, Eq, Drop)]
-pub enum Fault {
+pub enum PlanFault {
     /// The step is one of no instance of the task: there is no such schema, its objects are not as
     /// many or not of the types that it asks for, or two of its effects clash.
     NoSuchAction(u64),
@@ -26,25 +26,25 @@ pub enum Fault {
 
 /// Why a validation stops.
 #[derive(Debug, PartialEq, Eq, Drop)]
-pub enum Stop {
+pub enum PlanStop {
     /// At a fault of the plan.
-    At(Fault),
+    At(PlanFault),
     /// Memory ran out.
     NoMemory,
 }
 
-impl From<AllocError> for Stop {
+impl From<AllocError> for PlanStop {
     ghost from_gives = { λ _ error. error ≡ NoMemory };
 
-    fn from(_error: AllocError) -> Stop {
-        Stop::NoMemory
+    fn from(_error: AllocError) -> PlanStop {
+        PlanStop::NoMemory
     }
 }
 
-impl<T: Drop> From<AllocFailed<T>> for Stop {
+impl<T: Drop> From<AllocFailed<T>> for PlanStop {
     ghost from_gives = { λ _ error. error ≡ NoMemory };
 
-    fn from(_error: AllocFailed<T>) -> Stop {
-        Stop::NoMemory
+    fn from(_error: AllocFailed<T>) -> PlanStop {
+        PlanStop::NoMemory
     }
 }

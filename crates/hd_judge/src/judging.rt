@@ -9,10 +9,10 @@ ghost use Rattle.hd_judge.specs.Validity.{Passes, TellsStep};
 ghost use Rattle.hd_judge.specs.Way.{IsOnWay};
 
 use crate::asking::{ask_before, explain_goal};
-use crate::fault::{Fault, Stop};
+use crate::fault::{PlanFault, PlanStop};
 use crate::instances::schema_of;
 use crate::lookups::Lookups;
-use crate::refusal::{Refusal, stop_of};
+use crate::refusal::{PlanRefusal, stop_of};
 use crate::step::take_step;
 use crate::table::{Numbers, Place, Truths};
 use hd_base::{NoMemory, Seed};
@@ -54,7 +54,7 @@ pub fn explain_step<'a>(
     place: &mut Place,
     number: u64,
     instance: &Instance,
-) -> Result<(), Refusal<'a>>
+) -> Result<(), PlanRefusal<'a>>
     requires way { IsOnWay lookups.now (reached_in place.old) }
     ensures passes { OnOk result (Passes lookups.now (reached_in place.old) number instance.now
         (reached_in place.new)) }
@@ -65,7 +65,7 @@ pub fn explain_step<'a>(
         (TellsUnexplained lookups.now (reached_in place.old) number instance.now)) }
 {
     let Some(schema) = schema_of(lookups.task(), instance) else {
-        return Err(Refusal::At(Stop::At(Fault::NoSuchAction(number))));
+        return Err(PlanRefusal::At(PlanStop::At(PlanFault::NoSuchAction(number))));
     };
     ask_before(alloc, lookups, place, number, instance, schema)?;
     take_step(alloc, lookups, place, instance.objects.as_slice(), schema)?;
@@ -84,7 +84,7 @@ pub fn judge_step(
     place: &mut Place,
     number: u64,
     instance: &Instance,
-) -> Result<(), Stop>
+) -> Result<(), PlanStop>
     requires way { IsOnWay lookups.now (reached_in place.old) }
     ensures passes { OnOk result (Passes lookups.now (reached_in place.old) number instance.now
         (reached_in place.new)) }
@@ -95,8 +95,8 @@ pub fn judge_step(
     match explain_step(alloc, lookups, place, number, instance) {
         Ok(()) => Ok(()),
         Err(refusal) => {
-            let unmet = Fault::NotApplicable(number);
-            Err(stop_of(unmet, Fault::Departs(number), refusal))
+            let unmet = PlanFault::NotApplicable(number);
+            Err(stop_of(unmet, PlanFault::Departs(number), refusal))
         }
     }
 }
@@ -111,11 +111,11 @@ pub fn judge_goal(
     lookups: &Lookups<'_>,
     place: &Place,
     number: u64,
-) -> Result<(), Stop>
+) -> Result<(), PlanStop>
     ensures { Asks result (asked_of_goal lookups.now (reached_in place.now) number) }
 {
     match explain_goal(alloc, lookups, place) {
         Ok(()) => Ok(()),
-        Err(refusal) => Err(stop_of(Fault::GoalUnmet, Fault::Departs(number), refusal)),
+        Err(refusal) => Err(stop_of(PlanFault::GoalUnmet, PlanFault::Departs(number), refusal)),
     }
 }

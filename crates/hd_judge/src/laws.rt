@@ -3,7 +3,7 @@
 ghost use Rattle.std.specs.Prelude.{◌≡◌, ℕ, List, Some, pos};
 ghost use Rattle.hd_lifted.specs.declared.task.LiftedTask.{LiftedTask};
 ghost use Rattle.hd_lifted.specs.declared.instance.Instance.{Instance};
-ghost use Rattle.hd_judge.specs.declared.fault.Fault.{Fault};
+ghost use Rattle.hd_judge.specs.declared.fault.PlanFault.{PlanFault};
 ghost use Rattle.hd_lifted.specs.Steps.{Reached};
 ghost use Rattle.hd_judge.specs.Validity.{IsValidated, IsFirstFault, IsFaultless};
 
@@ -13,12 +13,12 @@ ghost use Rattle.hd_judge.specs.Validity.{IsValidated, IsFirstFault, IsFaultless
 /// So the order of the questions decides only which fault is reported, and no plan that is valid by
 /// the meaning alone is refused.
 pub fn plans_are_judged()
-    ensures never_both { (t : LiftedTask) (p : List Instance) (cost : ℕ) (fault : Fault)
+    ensures never_both { (t : LiftedTask) (p : List Instance) (cost : ℕ) (fault : PlanFault)
         → IsValidated t p cost → IsFirstFault t p fault → ⊥ }
     ensures never_neither { (t : LiftedTask) (p : List Instance)
         → ((cost : ℕ) → IsValidated t p cost → ⊥)
-        → ((fault : Fault) → IsFirstFault t p fault → ⊥) → ⊥ }
-    ensures one_fault { (t : LiftedTask) (p : List Instance) (fault other : Fault)
+        → ((fault : PlanFault) → IsFirstFault t p fault → ⊥) → ⊥ }
+    ensures one_fault { (t : LiftedTask) (p : List Instance) (fault other : PlanFault)
         → IsFirstFault t p fault → IsFirstFault t p other → fault ≡ other }
 {}
 

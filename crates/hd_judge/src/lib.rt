@@ -39,12 +39,12 @@ mod undefined;
 
 pub use asking::explain_goal;
 pub use changed::is_cost;
-pub use fault::{Fault, Stop};
+pub use fault::{PlanFault, PlanStop};
 pub use instances::schema_of;
 pub use judging::{begin, explain_step, judge_goal, judge_step};
 pub use lookups::Lookups;
 pub use negative::costs_negative;
-pub use reason::{Departure, NewValue, Reason, StepCost};
-pub use refusal::Refusal;
+pub use reason::{DepartingPart, NewValue, Reason, StepCost};
+pub use refusal::PlanRefusal;
 pub use table::{Place, copy_of};
 pub use undefined::undefined_schema;

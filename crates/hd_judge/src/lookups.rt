@@ -8,7 +8,7 @@ ghost use Rattle.hd_lifted.specs.Amounts.{is_constant};
 use crate::changed::Changed;
 use crate::table::Numbers;
 use hd_base::{ExprParts, NoMemory, Operand, Seed};
-use hd_lifted::{Applied, Expr, Ground, Leaf, LiftedTask, ground_form_of};
+use hd_lifted::{AppliedSymbol, Expr, Ground, Leaf, LiftedTask, ground_form_of};
 use std::alloc::Global;
 use std::marker::Model;
 
@@ -94,7 +94,7 @@ impl<'a> Lookups<'a> {
         &self,
         alloc: Global,
         objects: &[usize],
-        said: &Applied,
+        said: &AppliedSymbol,
     ) -> Result<Option<i64>, NoMemory>
         ensures { IfOk result (λ v. v
             ≡ first_value self.now.values (ground_form_of objects.now said.now)) }

@@ -3,7 +3,7 @@ use hd_lifted::{Comparison, Equality, Expr, Literal, NumericEffect};
 
 /// A subexpression that is out of the range.
 #[derive(Clone, Copy)]
-pub struct Departure<'a> {
+pub struct DepartingPart<'a> {
     pub part: &'a Expr,
     /// Its exact value.
     pub value: i128,
@@ -41,7 +41,7 @@ pub enum Reason<'a> {
     /// This comparison does not hold.
     Comparison(&'a Comparison),
     /// This subexpression of a comparison or of an amount is out of the range.
-    Subexpression(Departure<'a>),
+    Subexpression(DepartingPart<'a>),
     /// The new value of a fluent is out of the range.
     NewValue(NewValue<'a>),
     /// The step's cost is negative.

@@ -13,7 +13,7 @@ ghost use Rattle.hd_judge.specs.Way.{IsOnWay};
 use crate::atoms::change_atoms;
 use crate::effect::{judge_effects, put_values};
 use crate::lookups::Lookups;
-use crate::refusal::Refusal;
+use crate::refusal::PlanRefusal;
 use crate::table::Place;
 use hd_lifted::Schema;
 use std::alloc::Global;
@@ -29,7 +29,7 @@ pub(crate) fn take_step<'a>(
     place: &mut Place,
     objects: &[usize],
     schema: &'a Schema,
-) -> Result<(), Refusal<'a>>
+) -> Result<(), PlanRefusal<'a>>
     requires compatible { effects_clash objects.now schema.now.effects ≡ false }
     requires defined { first_undefined lookups.now (met_by objects.now schema.now) ≡ None }
     requires met { holds (state_in place.old) objects.now schema.now.condition ≡ true }

@@ -8,7 +8,9 @@ ghost use Rattle.hd_lifted.specs.Questions.{first_undefined};
 use crate::changed::is_cost;
 use crate::lookups::Lookups;
 use hd_base::{ExprParts, NoMemory, Operand};
-use hd_lifted::{Applied, Comparison, Expr, Ground, Leaf, NumericEffect, Schema, ground_form_of};
+use hd_lifted::{
+    AppliedSymbol, Comparison, Expr, Ground, Leaf, NumericEffect, Schema, ground_form_of,
+};
 use std::alloc::Global;
 
 /// Returns a fluent, if it has no first value.
@@ -16,7 +18,7 @@ fn if_undefined(
     alloc: Global,
     lookups: &Lookups<'_>,
     objects: &[usize],
-    said: &Applied,
+    said: &AppliedSymbol,
 ) -> Result<Option<Ground>, NoMemory>
     ensures { IfOk result (λ g. g
         ≡ first_undefined lookups.now (ground_form_of objects.now said.now ∷ [])) }

@@ -7,8 +7,8 @@ use Rattle.std.proofs.lemmas.Bool.{or_parts}
 use Rattle.std.proofs.lemmas.List.Elements.{All-head, All-tail}
 use Rattle.std.proofs.lemmas.Option.{none-some, same_Some}
 use Rattle.hd_lifted.specs.declared.schema.Ground.{Ground}
-use Rattle.hd_lifted.specs.declared.schema.Change.{Change}
-use Rattle.hd_lifted.specs.declared.schema.Change.TheVariants.{Assign, ScaleUp, Increase, Decrease, Cost}
+use Rattle.hd_lifted.specs.declared.schema.ChangeKind.{ChangeKind}
+use Rattle.hd_lifted.specs.declared.schema.ChangeKind.TheVariants.{Assign, ScaleUp, Increase, Decrease, Cost}
 use Rattle.hd_lifted.specs.declared.schema.NumericEffect.{NumericEffect}
 use Rattle.hd_lifted.specs.declared.schema.Schema.{Schema}
 use Rattle.hd_lifted.specs.declared.task.LiftedTask.{LiftedTask}
@@ -31,7 +31,7 @@ elsewhere true objects x y e = absurd (true≢false e)
 elsewhere false objects x y e = refl
 
 -- an effect on another function, or a cost, leaves a value as it is
-left_alone : (c : Change) (symbol objects : Bool) (x amount : Option ℤ) → (not (is_cost c) && symbol) ≡ false
+left_alone : (c : ChangeKind) (symbol objects : Bool) (x amount : Option ℤ) → (not (is_cost c) && symbol) ≡ false
     → (if symbol && objects then value_by_change c x amount else x) ≡ x
 left_alone Assign symbol objects x amount e = elsewhere symbol objects (value_by_change Assign x amount) x e
 left_alone ScaleUp symbol objects x amount e = elsewhere symbol objects (value_by_change ScaleUp x amount) x e

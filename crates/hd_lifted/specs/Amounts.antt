@@ -4,7 +4,7 @@ use Rattle.std.specs.List.{list_any}
 use Rattle.hd_base.specs.declared.expression.Operand.{Operand}
 use Rattle.hd_base.specs.declared.expression.Operand.TheVariants.{Number, Fluent}
 use Rattle.hd_base.specs.Expression.{Expression, leaf, negate, binary}
-use Rattle.hd_lifted.specs.declared.schema.Applied.{Applied}
+use Rattle.hd_lifted.specs.declared.schema.AppliedSymbol.{AppliedSymbol}
 use Rattle.hd_lifted.specs.declared.schema.NumericEffect.{NumericEffect}
 use Rattle.hd_lifted.specs.declared.schema.Schema.{Schema}
 use Rattle.hd_lifted.specs.declared.task.LiftedTask.{LiftedTask}
@@ -24,7 +24,7 @@ is_changed t f = list_any (is_changed_by f) t.schemas
 
 -- an amount is constant where it is a number, or a fluent of a function that no schema changes;
 -- every other is dependent
-abbrev pub is_constant : LiftedTask → Expression (Operand Applied) → Bool
+abbrev pub is_constant : LiftedTask → Expression (Operand AppliedSymbol) → Bool
 is_constant t (leaf (Number v)) = true
 is_constant t (leaf (Fluent a)) = not (is_changed t a.symbol)
 is_constant t (negate x) = false

@@ -4,10 +4,10 @@ use Rattle.std.specs.Prelude.{ℕ, Bool, true, false, not, ◌&&◌, ◌||◌, i
 use Rattle.std.specs.List.{list_any, list_all, fold}
 use Rattle.hd_base.specs.Numbers.{fits}
 use Rattle.hd_base.specs.Values.{of_both}
-use Rattle.hd_lifted.specs.declared.schema.Applied.{Applied}
+use Rattle.hd_lifted.specs.declared.schema.AppliedSymbol.{AppliedSymbol}
 use Rattle.hd_lifted.specs.declared.schema.Ground.{Ground}
-use Rattle.hd_lifted.specs.declared.schema.Change.{Change}
-use Rattle.hd_lifted.specs.declared.schema.Change.TheVariants.{Assign, ScaleUp, Increase, Decrease, Cost}
+use Rattle.hd_lifted.specs.declared.schema.ChangeKind.{ChangeKind}
+use Rattle.hd_lifted.specs.declared.schema.ChangeKind.TheVariants.{Assign, ScaleUp, Increase, Decrease, Cost}
 use Rattle.hd_lifted.specs.declared.schema.NumericEffect.{NumericEffect}
 use Rattle.hd_lifted.specs.declared.schema.Schema.{Schema}
 use Rattle.hd_lifted.specs.declared.task.LiftedTask.{LiftedTask}
@@ -17,7 +17,7 @@ use Rattle.hd_lifted.specs.Expressions.{value_of, stays_in_range}
 -- ---- atoms
 
 -- whether a list of atoms has this one
-abbrev pub names_atom : List ℕ → List Applied → Ground → Bool
+abbrev pub names_atom : List ℕ → List AppliedSymbol → Ground → Bool
 names_atom objects atoms g = list_any (λ a. same (ground_form_of objects a) g) atoms
 
 -- (s minus Del) union Add: the action adds the atom, or it was true and the action doesn't delete
@@ -28,7 +28,7 @@ atoms_after atoms a objects g = names_atom objects a.adds g || (atoms g && not (
 -- ---- effects that don't go together
 
 -- a change that has to be the only one of its fluent
-abbrev pub stands_alone : Change → Bool
+abbrev pub stands_alone : ChangeKind → Bool
 stands_alone Assign = true
 stands_alone ScaleUp = true
 stands_alone Increase = false
@@ -50,7 +50,7 @@ effects_clash objects (e ∷ es) = list_any (clash objects e) es || effects_clas
 
 -- what a change makes of a value by an amount. Only an assignment gives a value to a fluent that
 -- has none; an amount without a value leaves its fluent without one, and the step stays defined
-abbrev pub value_by_change : Change → Option ℤ → Option ℤ → Option ℤ
+abbrev pub value_by_change : ChangeKind → Option ℤ → Option ℤ → Option ℤ
 value_by_change Assign x amount = amount
 value_by_change ScaleUp x amount = of_both (λ x y. x *ℤ y) x amount
 value_by_change Increase x amount = of_both (λ x y. x +ℤ y) x amount
@@ -75,7 +75,7 @@ state_after s a objects = record { atoms = atoms_after s.atoms a objects; values
 -- ---- costs
 
 -- an effect is a part of the cost
-abbrev pub is_cost : Change → Bool
+abbrev pub is_cost : ChangeKind → Bool
 is_cost Assign = false
 is_cost ScaleUp = false
 is_cost Increase = false

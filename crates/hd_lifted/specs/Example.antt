@@ -2,12 +2,12 @@
 use Rattle.std.specs.Prelude.{ℕ, Bool, true, false, List, [], ◌∷◌, codes, Option, Some, None, ℤ, pos}
 use Rattle.hd_base.specs.declared.relation.Relation.TheVariants.{GreaterOrEqual}
 use Rattle.hd_lifted.specs.declared.schema.Argument.TheVariants.{Parameter, Object}
-use Rattle.hd_lifted.specs.declared.schema.Applied.{Applied}
+use Rattle.hd_lifted.specs.declared.schema.AppliedSymbol.{AppliedSymbol}
 use Rattle.hd_lifted.specs.declared.schema.Ground.{Ground}
 use Rattle.hd_lifted.specs.declared.schema.Literal.{Literal}
 use Rattle.hd_lifted.specs.declared.schema.Condition.{Condition}
-use Rattle.hd_lifted.specs.declared.schema.Change.{Change}
-use Rattle.hd_lifted.specs.declared.schema.Change.TheVariants.{Assign, Increase, Decrease, Cost}
+use Rattle.hd_lifted.specs.declared.schema.ChangeKind.{ChangeKind}
+use Rattle.hd_lifted.specs.declared.schema.ChangeKind.TheVariants.{Assign, Increase, Decrease, Cost}
 use Rattle.hd_lifted.specs.declared.schema.NumericEffect.{NumericEffect}
 use Rattle.hd_lifted.specs.declared.schema.Schema.{Schema}
 use Rattle.hd_lifted.specs.declared.task.Object.{Object as TaskObject}
@@ -30,16 +30,16 @@ abbrev ground_form : ℕ → List ℕ → Ground
 ground_form symbol objects = record { symbol = symbol; objects = objects }
 
 -- a symbol without arguments, with one parameter, with the first two
-abbrev alone : ℕ → Applied
+abbrev alone : ℕ → AppliedSymbol
 alone symbol = record { symbol = symbol; arguments = [] }
 
-abbrev unary : ℕ → ℕ → Applied
+abbrev unary : ℕ → ℕ → AppliedSymbol
 unary symbol k = record { symbol = symbol; arguments = Parameter k ∷ [] }
 
-abbrev binary : ℕ → Applied
+abbrev binary : ℕ → AppliedSymbol
 binary symbol = record { symbol = symbol; arguments = Parameter 0 ∷ Parameter 1 ∷ [] }
 
-abbrev wanted : Applied → Literal
+abbrev wanted : AppliedSymbol → Literal
 wanted a = record { atom = a; positive = true }
 
 -- a condition on atoms alone
@@ -50,13 +50,13 @@ abbrev always : Condition
 always = when []
 
 -- the expressions that are a number, and the value of a fluent
-abbrev number : ℤ → Expression (Operand Applied)
+abbrev number : ℤ → Expression (Operand AppliedSymbol)
 number n = leaf (Number n)
 
-abbrev fluent : Applied → Expression (Operand Applied)
+abbrev fluent : AppliedSymbol → Expression (Operand AppliedSymbol)
 fluent a = leaf (Fluent a)
 
-abbrev effect : Change → Applied → Expression (Operand Applied) → NumericEffect
+abbrev effect : ChangeKind → AppliedSymbol → Expression (Operand AppliedSymbol) → NumericEffect
 effect change target amount = record { change = change; fluent = target; amount = amount }
 
 abbrev signature : List ℕ → List ℕ → Signature

@@ -4,7 +4,7 @@ use Rattle.std.specs.Prelude.{ℕ, if◌then◌else◌, List, [], ◌∷◌, ◌
 use Rattle.hd_base.specs.declared.expression.Operand.{Operand}
 use Rattle.hd_base.specs.declared.expression.Operand.TheVariants.{Number, Fluent}
 use Rattle.hd_base.specs.Expression.{Expression, leaf, negate, binary}
-use Rattle.hd_lifted.specs.declared.schema.Applied.{Applied}
+use Rattle.hd_lifted.specs.declared.schema.AppliedSymbol.{AppliedSymbol}
 use Rattle.hd_lifted.specs.declared.schema.Ground.{Ground}
 use Rattle.hd_lifted.specs.declared.schema.Comparison.{Comparison}
 use Rattle.hd_lifted.specs.declared.schema.NumericEffect.{NumericEffect}
@@ -14,7 +14,7 @@ use Rattle.hd_lifted.specs.States.{ground_form_of}
 use Rattle.hd_lifted.specs.Effects.{is_cost}
 
 -- the fluents that an expression reads, from the left
-abbrev pub fluents_in : List ℕ → Expression (Operand Applied) → List Ground
+abbrev pub fluents_in : List ℕ → Expression (Operand AppliedSymbol) → List Ground
 fluents_in objects (leaf (Number v)) = []
 fluents_in objects (leaf (Fluent a)) = ground_form_of objects a ∷ []
 fluents_in objects (negate x) = fluents_in objects x

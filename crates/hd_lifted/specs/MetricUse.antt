@@ -5,7 +5,7 @@ use Rattle.std.specs.Option.{IsSomeAnd}
 use Rattle.hd_base.specs.declared.expression.Operand.{Operand}
 use Rattle.hd_base.specs.declared.expression.Operand.TheVariants.{Number, Fluent}
 use Rattle.hd_base.specs.Expression.{Expression, leaf, negate, binary}
-use Rattle.hd_lifted.specs.declared.schema.Applied.{Applied}
+use Rattle.hd_lifted.specs.declared.schema.AppliedSymbol.{AppliedSymbol}
 use Rattle.hd_lifted.specs.declared.schema.Comparison.{Comparison}
 use Rattle.hd_lifted.specs.declared.schema.NumericEffect.{NumericEffect}
 use Rattle.hd_lifted.specs.declared.schema.Schema.{Schema}
@@ -15,7 +15,7 @@ use Rattle.hd_lifted.specs.declared.task.Signature.{Signature}
 use Rattle.hd_lifted.specs.Effects.{is_cost}
 
 -- an expression reads no fluent of a function
-abbrev pub IsFreeOf : ℕ → Expression (Operand Applied) → Type 0
+abbrev pub IsFreeOf : ℕ → Expression (Operand AppliedSymbol) → Type 0
 IsFreeOf f (leaf (Number v)) = Unit {0}
 IsFreeOf f (leaf (Fluent a)) = a.symbol ≢ f
 IsFreeOf f (negate x) = IsFreeOf f x

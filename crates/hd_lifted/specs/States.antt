@@ -5,7 +5,7 @@ use Rattle.std.specs.List.{list_any}
 use Rattle.std.specs.Cmp.Lexicographic.{pointwise}
 use Rattle.hd_lifted.specs.declared.schema.Argument.{Argument}
 use Rattle.hd_lifted.specs.declared.schema.Argument.TheVariants.{Parameter, Object}
-use Rattle.hd_lifted.specs.declared.schema.Applied.{Applied}
+use Rattle.hd_lifted.specs.declared.schema.AppliedSymbol.{AppliedSymbol}
 use Rattle.hd_lifted.specs.declared.schema.Ground.{Ground}
 use Rattle.hd_lifted.specs.declared.task.InitialValue.{InitialValue}
 use Rattle.hd_lifted.specs.declared.task.LiftedTask.{LiftedTask}
@@ -31,7 +31,7 @@ object_of objects (Parameter k) = slice_index_or objects k 0
 object_of objects (Object o) = o
 
 -- an atom or a fluent with objects in the place of its arguments
-abbrev pub ground_form_of : List ℕ → Applied → Ground
+abbrev pub ground_form_of : List ℕ → AppliedSymbol → Ground
 ground_form_of objects a = record { symbol = a.symbol; objects = map (object_of objects) a.arguments }
 
 -- ---- the initial state

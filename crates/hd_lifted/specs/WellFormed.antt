@@ -10,7 +10,7 @@ use Rattle.hd_base.specs.Numbers.{in_range}
 use Rattle.hd_base.specs.Expression.{Expression, leaf, negate, binary}
 use Rattle.hd_lifted.specs.declared.schema.Argument.{Argument}
 use Rattle.hd_lifted.specs.declared.schema.Argument.TheVariants.{Parameter, Object}
-use Rattle.hd_lifted.specs.declared.schema.Applied.{Applied}
+use Rattle.hd_lifted.specs.declared.schema.AppliedSymbol.{AppliedSymbol}
 use Rattle.hd_lifted.specs.declared.schema.Ground.{Ground}
 use Rattle.hd_lifted.specs.declared.schema.Literal.{Literal}
 use Rattle.hd_lifted.specs.declared.schema.Equality.{Equality}
@@ -35,7 +35,7 @@ IsArgumentOf t ps (Object o) wanted = IsOfType t o wanted
 
 -- an atom or a fluent: its predicate or function is declared, and its arguments are as many as
 -- asked, each of the type asked
-abbrev pub IsApplied : LiftedTask → List Signature → List ℕ → Applied → Type 0
+abbrev pub IsApplied : LiftedTask → List Signature → List ℕ → AppliedSymbol → Type 0
 IsApplied t symbols ps a = IsSomeAnd (slice_get symbols a.symbol) (λ s. AllZip (IsArgumentOf t ps) a.arguments s.parameters)
 
 -- the same of a ground atom or fluent
@@ -53,7 +53,7 @@ IsFirstValue t v = IsGround t t.functions v.fluent × (in_range v.value ≡ true
 -- ---- expressions, conditions and effects
 
 -- each fluent of an expression is one of the task
-abbrev pub IsExpression : LiftedTask → List ℕ → Expression (Operand Applied) → Type 0
+abbrev pub IsExpression : LiftedTask → List ℕ → Expression (Operand AppliedSymbol) → Type 0
 IsExpression t ps (leaf (Number v)) = Unit {0}
 IsExpression t ps (leaf (Fluent a)) = IsApplied t t.functions ps a
 IsExpression t ps (negate x) = IsExpression t ps x

@@ -35,7 +35,7 @@ pub use reading::{
     are_of_types, effects_clash, equalities_hold, ground_form_of, is_of_type, is_same, object_of,
 };
 pub use schema::{
-    Applied, Argument, Change, Comparison, Condition, Equality, Expr, Ground, Leaf, Literal,
-    NumericEffect, Schema,
+    AppliedSymbol, Argument, ChangeKind, Comparison, Condition, Equality, Expr, Ground, Leaf,
+    Literal, NumericEffect, Schema,
 };
 pub use task::{InitialValue, LiftedTask, Object, Signature};

@@ -24,7 +24,7 @@ impl Default for Argument {
 
 /// A predicate or a function, by its number, with its arguments.
 #[derive(Debug, PartialEq, Eq, Drop)]
-pub struct Applied {
+pub struct AppliedSymbol {
     /// The number of the predicate or function.
     pub symbol: usize,
     pub arguments: Sequence<Argument>,
@@ -42,7 +42,7 @@ pub struct Ground {
 /// That an atom is true, or that it is false.
 #[derive(Debug, PartialEq, Eq, Drop)]
 pub struct Literal {
-    pub atom: Applied,
+    pub atom: AppliedSymbol,
     /// Whether it has to be true.
     pub positive: bool,
 }
@@ -58,7 +58,7 @@ pub struct Equality {
 
 /// A number, or the value of a fluent with arguments. What it is applied to has memory of its own,
 /// since every part of an expression is as wide as its widest leaf.
-pub type Leaf = Operand<Boxed<Applied>>;
+pub type Leaf = Operand<Boxed<AppliedSymbol>>;
 
 /// A numeric expression over numbers and fluents with arguments.
 pub type Expr = hd_base::Expr<Leaf>;
@@ -81,7 +81,7 @@ pub struct Condition {
 
 /// How a numeric effect changes its fluent.
 #[derive(Clone, Copy, Debug, PartialEq, Eq)]
-pub enum Change {
+pub enum ChangeKind {
     /// The amount is the value.
     Assign,
     /// The value is multiplied by the amount.
@@ -97,8 +97,8 @@ pub enum Change {
 /// A change of a fluent by an amount.
 #[derive(Debug, Drop)]
 pub struct NumericEffect {
-    pub change: Change,
-    pub fluent: Applied,
+    pub change: ChangeKind,
+    pub fluent: AppliedSymbol,
     pub amount: Expr,
 }
 
@@ -109,8 +109,8 @@ pub struct Schema {
     /// The numbers of the parameters' types.
     pub parameters: Sequence<usize>,
     pub condition: Condition,
-    pub deletes: Sequence<Applied>,
-    pub adds: Sequence<Applied>,
+    pub deletes: Sequence<AppliedSymbol>,
+    pub adds: Sequence<AppliedSymbol>,
     /// The numeric effects, in the text's order.
     pub effects: Sequence<NumericEffect>,
 }

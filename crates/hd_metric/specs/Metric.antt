@@ -5,8 +5,8 @@ use Rattle.std.specs.List.{list_any}
 use Rattle.std.specs.Option.{option_map}
 use Rattle.std.specs.Str.{bytes_eq}
 use Rattle.hd_forms.specs.declared.names.NameAt.{NameAt}
-use Rattle.hd_forms.specs.declared.word.Change.{Change}
-use Rattle.hd_forms.specs.declared.word.Change.TheVariants.{Assign, ScaleUp, Increase, Decrease}
+use Rattle.hd_forms.specs.declared.word.ChangeWord.{ChangeWord}
+use Rattle.hd_forms.specs.declared.word.ChangeWord.TheVariants.{Assign, ScaleUp, Increase, Decrease}
 use Rattle.hd_terms.specs.declared.tree.Condition.{Condition}
 use Rattle.hd_terms.specs.declared.tree.Condition.TheVariants as conditions
 use Rattle.hd_terms.specs.declared.tree.Effect.{Effect}
@@ -47,7 +47,7 @@ read_by_condition f (c ∷ cs) = read_by_part f c or read_by_condition f cs
 
 -- a change of it has to be an increase, else its name is reported, by an amount that does not read
 -- it
-abbrev pub change_of_metric : List ℕ → FluentChange → Change → Option ℕ
+abbrev pub change_of_metric : List ℕ → FluentChange → ChangeWord → Option ℕ
 change_of_metric f c Increase = read_in f c.amount
 change_of_metric f c Assign = Some c.fluent.name.at
 change_of_metric f c ScaleUp = Some c.fluent.name.at

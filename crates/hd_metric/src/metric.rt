@@ -6,7 +6,7 @@ ghost use Rattle.hd_metric.specs.Metric.{read_in, read_by_part, read_by_conditio
 
 use crate::fault::BadMetric;
 use hd_base::Name;
-use hd_forms::{Change, NameAt};
+use hd_forms::{ChangeWord, NameAt};
 use hd_pddl::{Action, DomainAst, Init, ProblemAst};
 use hd_terms::{Condition, Effect, Expr, ExprParts, FluentChange, Leaf};
 
@@ -69,10 +69,10 @@ fn change_of_metric(function: &Name, change: &FluentChange) -> Option<usize>
     ensures { result ≡ change_of_metric function.now change.now change.now.change }
 {
     match change.change {
-        Change::Increase => read_in(function, &change.amount),
-        Change::Assign => Some(change.fluent.name.at),
-        Change::ScaleUp => Some(change.fluent.name.at),
-        Change::Decrease => Some(change.fluent.name.at),
+        ChangeWord::Increase => read_in(function, &change.amount),
+        ChangeWord::Assign => Some(change.fluent.name.at),
+        ChangeWord::ScaleUp => Some(change.fluent.name.at),
+        ChangeWord::Decrease => Some(change.fluent.name.at),
     }
 }
 

@@ -5,7 +5,7 @@ ghost use Rattle.hd_names.specs.Names.{DeclaresNames, DeclaresTypes};
 ghost use Rattle.hd_names.specs.Scope.{ChecksTable, ChecksSignatures};
 
 use crate::fault::NameStop;
-use crate::names::{Names, declare, type_of};
+use crate::names::{NumberedNames, declare, type_of};
 use crate::table::Table;
 use hd_base::Sequence;
 use hd_pddl::Signature;
@@ -16,8 +16,8 @@ use std::alloc::Global;
 pub fn declare_all(
     alloc: Global,
     kind: ItemKind,
-    types: &Names,
-    names: &mut Names,
+    types: &NumberedNames,
+    names: &mut NumberedNames,
     declared: &[Typed],
 ) -> Result<Sequence<usize>, NameStop>
     ensures names { DeclaresNames result names.new kind types.now names.old declared.now }
@@ -37,7 +37,7 @@ pub fn declare_all(
 pub fn table_of(
     alloc: Global,
     kind: ItemKind,
-    types: &Names,
+    types: &NumberedNames,
     declared: &[Typed],
 ) -> Result<Table<usize>, NameStop>
     ensures { ChecksTable result kind types.now declared.now }
@@ -50,7 +50,7 @@ pub fn table_of(
 /// Returns the numbers of the types of a signature's parameters.
 fn parameter_types(
     alloc: Global,
-    types: &Names,
+    types: &NumberedNames,
     declared: &[Typed],
 ) -> Result<Sequence<usize>, NameStop>
     ensures { DeclaresTypes result kinds.Variable types.now [] declared.now }
@@ -62,7 +62,7 @@ fn parameter_types(
 /// Returns the table of predicates, or of functions, with the types of their parameters.
 pub fn signatures_of(
     alloc: Global,
-    types: &Names,
+    types: &NumberedNames,
     declared: &[Signature],
 ) -> Result<Table<Sequence<usize>>, NameStop>
     ensures { ChecksSignatures result types.now declared.now }

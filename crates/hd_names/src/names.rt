@@ -17,11 +17,11 @@ use std::marker::Model;
 
 /// Names, each once, which contracts see as the list of their bytes. A name's number is its place.
 #[derive(Debug, Drop)]
-pub struct Names {
+pub struct NumberedNames {
     names: IndexSet<String, Seed>,
 }
 
-impl Model for Names {
+impl Model for NumberedNames {
     ghost use Rattle.std.specs.Prelude.{List, ℕ, map, string_bytes};
 
     ghost Value = { List (List ℕ) };
@@ -29,21 +29,21 @@ impl Model for Names {
     ghost view = { λ n. map string_bytes n.names.keys };
 }
 
-impl Names {
+impl NumberedNames {
     /// Returns no names, in a table that hashes by this seed.
-    pub fn none(alloc: Global, seed: Seed) -> Names
+    pub fn none(alloc: Global, seed: Seed) -> NumberedNames
         ensures { result ≡ [] }
     {
-        Names {
+        NumberedNames {
             names: IndexSet::with_hasher(alloc, seed),
         }
     }
 
     /// Returns no names, in a table that hashes as this one does.
-    pub fn none_alike(&self, alloc: Global) -> Names
+    pub fn none_alike(&self, alloc: Global) -> NumberedNames
         ensures { result ≡ [] }
     {
-        Names::none(alloc, self.seed())
+        NumberedNames::none(alloc, self.seed())
     }
 
     /// Returns what the table hashes by, which contracts do not see.
@@ -127,7 +127,12 @@ pub fn duplicate(alloc: Global, kind: ItemKind, name: &NameAt) -> NameStop
 }
 
 /// Returns the number of a name that is used.
-pub fn known(alloc: Global, kind: ItemKind, names: &Names, name: &NameAt) -> Result<usize, NameStop>
+pub fn known(
+    alloc: Global,
+    kind: ItemKind,
+    names: &NumberedNames,
+    name: &NameAt,
+) -> Result<usize, NameStop>
     ensures { Knows result kind names.now name.now }
 {
     match names.place_of(&name.name) {
@@ -140,7 +145,7 @@ pub fn known(alloc: Global, kind: ItemKind, names: &Names, name: &NameAt) -> Res
 pub fn declare(
     alloc: Global,
     kind: ItemKind,
-    names: &mut Names,
+    names: &mut NumberedNames,
     name: &NameAt,
 ) -> Result<(), NameStop>
     ensures { Declares result names.new kind names.old name.now }
@@ -153,7 +158,11 @@ pub fn declare(
 }
 
 /// Returns the number of a type that is named: `object`, which is 0, if none is.
-pub fn type_of(alloc: Global, types: &Names, of: &Option<TypeName>) -> Result<usize, NameStop>
+pub fn type_of(
+    alloc: Global,
+    types: &NumberedNames,
+    of: &Option<TypeName>,
+) -> Result<usize, NameStop>
     ensures { KnowsType result types.now of.now }
 {
     match of {

@@ -4,7 +4,7 @@ ghost use Rattle.hd_names.specs.Scope.{metric_in, ChecksScope, ChecksObjects};
 
 use crate::declared::{declare_all, signatures_of, table_of};
 use crate::fault::NameStop;
-use crate::names::Names;
+use crate::names::NumberedNames;
 use crate::table::Table;
 use hd_base::Sequence;
 use hd_forms::NameAt;
@@ -18,7 +18,7 @@ use std::alloc::Global;
 #[derive(Debug, Drop)]
 pub struct Scope {
     /// `object`, the types that are listed, and those that are only supertypes.
-    pub types: Names,
+    pub types: NumberedNames,
     /// Which type is below which.
     pub hierarchy: Hierarchy,
     /// The objects that the text may name, with their types.
@@ -32,7 +32,7 @@ pub struct Scope {
 }
 
 /// Returns the number of the metric's function.
-fn metric_of(functions: &Names, metric: &Option<NameAt>) -> Option<usize>
+fn metric_of(functions: &NumberedNames, metric: &Option<NameAt>) -> Option<usize>
     ensures { result ≡ metric_in functions.now metric.now }
 {
     match metric {
@@ -49,7 +49,7 @@ fn metric_of(functions: &Names, metric: &Option<NameAt>) -> Option<usize>
 #[tactic(auto, unfolding(crate::specs::Scope::scope_of, crate::specs::Scope::scope_fault))]
 pub fn scope_of(
     alloc: Global,
-    types: Names,
+    types: NumberedNames,
     hierarchy: Hierarchy,
     domain: &DomainAst,
     metric: &Option<NameAt>,

@@ -7,7 +7,7 @@ ghost use Rattle.hd_names.specs.Scope.{with_supertype, with_supertypes, type_nam
 ghost use Rattle.hd_names.specs.declared.fault.NameFault.TheVariants.{TypeCycle};
 
 use crate::fault::{NameFault, NameStop};
-use crate::names::{Names, declare, spelled};
+use crate::names::{NumberedNames, declare, spelled};
 use hd_base::{Name, Seed, Sequence};
 use hd_forms::NameAt;
 use hd_lifted::Hierarchy;
@@ -15,17 +15,21 @@ use hd_terms::{ItemKind, TypeName, Typed};
 use std::alloc::{AllocError, Global};
 
 /// Returns the names that are there before any type is listed: `object` alone.
-fn object_alone(alloc: Global, seed: Seed) -> Result<Names, AllocError>
+fn object_alone(alloc: Global, seed: Seed) -> Result<NumberedNames, AllocError>
     ensures { IfOk result (λ names. names ≡ codes "object" ∷ []) }
 {
-    let mut names = Names::none(alloc, seed);
+    let mut names = NumberedNames::none(alloc, seed);
     let object = Name::of(alloc, "object")?;
     names.add(alloc, &object)?;
     Ok(names)
 }
 
 /// Adds the supertype `of`, if one is named, to `names`, unless it is there already.
-fn add_supertype(alloc: Global, names: &mut Names, of: &Option<TypeName>) -> Result<(), AllocError>
+fn add_supertype(
+    alloc: Global,
+    names: &mut NumberedNames,
+    of: &Option<TypeName>,
+) -> Result<(), AllocError>
     ensures { IfOk result (λ _. names.new ≡ with_supertype names.old of.now) }
 {
     if let Some(name) = of {
@@ -39,7 +43,11 @@ fn add_supertype(alloc: Global, names: &mut Names, of: &Option<TypeName>) -> Res
 }
 
 /// Adds the supertypes in `listed` to `names`, those that are not there yet.
-fn add_supertypes(alloc: Global, names: &mut Names, listed: &[Typed]) -> Result<(), AllocError>
+fn add_supertypes(
+    alloc: Global,
+    names: &mut NumberedNames,
+    listed: &[Typed],
+) -> Result<(), AllocError>
     ensures { IfOk result (λ _. names.new ≡ with_supertypes names.old listed.now) }
 {
     let mut rest = listed;
@@ -51,7 +59,7 @@ fn add_supertypes(alloc: Global, names: &mut Names, listed: &[Typed]) -> Result<
 }
 
 /// Declares the types in `listed`, after those that are in `names`.
-fn declare_types(alloc: Global, names: &mut Names, listed: &[Typed]) -> Result<(), NameStop>
+fn declare_types(alloc: Global, names: &mut NumberedNames, listed: &[Typed]) -> Result<(), NameStop>
     ensures { DeclaresListed result names.new names.old listed.now }
 {
     let mut rest = listed;
@@ -63,7 +71,7 @@ fn declare_types(alloc: Global, names: &mut Names, listed: &[Typed]) -> Result<(
 }
 
 /// Returns the names of all types, by number, in a table that hashes by `seed`.
-pub fn types_of(alloc: Global, seed: Seed, listed: &[Typed]) -> Result<Names, NameStop>
+pub fn types_of(alloc: Global, seed: Seed, listed: &[Typed]) -> Result<NumberedNames, NameStop>
     ensures { ChecksTypes result listed.now }
 {
     let mut names = object_alone(alloc, seed)?;
@@ -73,7 +81,7 @@ pub fn types_of(alloc: Global, seed: Seed, listed: &[Typed]) -> Result<Names, Na
 }
 
 /// Returns the number of a type: `object`, which is 0, if none is named.
-pub fn number_of_type(types: &Names, of: &Option<TypeName>) -> usize
+pub fn number_of_type(types: &NumberedNames, of: &Option<TypeName>) -> usize
     ensures { result ≡ type_number types.now of.now }
 {
     match of {
@@ -85,7 +93,7 @@ pub fn number_of_type(types: &Names, of: &Option<TypeName>) -> usize
 /// Returns the numbers of the types of the names `declared`.
 pub fn numbers_of_types(
     alloc: Global,
-    types: &Names,
+    types: &NumberedNames,
     declared: &[Typed],
 ) -> Result<Sequence<usize>, AllocError>
     ensures { IfOk result (λ numbers. numbers ≡ types_of types.now declared.now) }
@@ -118,7 +126,11 @@ fn cycle_among(alloc: Global, listed: &[Typed], number: usize) -> NameStop
 }
 
 /// Returns the numbers of the types above each type but `object`.
-fn parents_of(alloc: Global, types: &Names, listed: &[Typed]) -> Result<Vec<usize>, AllocError>
+fn parents_of(
+    alloc: Global,
+    types: &NumberedNames,
+    listed: &[Typed],
+) -> Result<Vec<usize>, AllocError>
     requires { types.now ≡ type_names listed.now }
     ensures { IfOk result (λ v. v.items ≡ parents_of listed.now) }
 {
@@ -130,7 +142,11 @@ fn parents_of(alloc: Global, types: &Names, listed: &[Typed]) -> Result<Vec<usiz
 }
 
 /// Returns the hierarchy of the types, of which none may lie on a cycle.
-pub fn hierarchy_of(alloc: Global, types: &Names, listed: &[Typed]) -> Result<Hierarchy, NameStop>
+pub fn hierarchy_of(
+    alloc: Global,
+    types: &NumberedNames,
+    listed: &[Typed],
+) -> Result<Hierarchy, NameStop>
     requires { types.now ≡ type_names listed.now }
     ensures { Climbs result listed.now }
 {

@@ -5,7 +5,7 @@ use Rattle.std.specs.Prelude.{find, nat_le}
 use Rattle.hd_task.specs.declared.task.Task.{Task}
 use Rattle.hd_task.specs.declared.departure.DepartsBy.{DepartsBy}
 use Rattle.hd_task.specs.Plans.{Node}
-use Rattle.hd_successors.specs.declared.watching.Watch.{Watch}
+use Rattle.hd_successors.specs.declared.watching.WatchedAtoms.{WatchedAtoms}
 use Rattle.hd_successors.specs.Watching.{IsWatchedBy, is_candidate, candidates}
 use Rattle.hd_successors.proofs.Judging.{none_applies, none_departs, first_candidate, no_candidate}
 use Rattle.hd_node.specs.Children.{ChildView, child_at, departing_by}
@@ -16,7 +16,7 @@ pub record FindsAlike (t : Task) (r : Node) (from n : ℕ) : Type 0 where
   pub children : children_below t r n ≡ children_below t r from
   pub found : found_below t r n ≡ found_below t r from
 
-module _ (t : Task) (r : Node) (ws : List Watch) (watched : IsWatchedBy t.actions ws) where
+module _ (t : Task) (r : Node) (ws : List WatchedAtoms) (watched : IsWatchedBy t.actions ws) where
   -- an action that is no candidate adds nothing
   nothing_more : (n : ℕ) → is_candidate ws r.state n ≡ false → FindsAlike t r n (n + 1)
   nothing_more n none =

@@ -3,7 +3,7 @@ use Rattle.std.proofs.Common.{◌≡◌, ℕ, ◌+◌, ◌-◌, ◌*◌, ◌/◌
 use Rattle.std.proofs.lemmas.Bool.{cases_lt}
 use Rattle.std.proofs.lemmas.List.{get_or_append_left, get_or-append_right}
 use Rattle.std.proofs.lemmas.Grind.{get_or_default_zero}
-use Rattle.hd_open.specs.declared.counts.Counts.{Counts}
+use Rattle.hd_open.specs.declared.counts.NodeCounts.{NodeCounts}
 use Rattle.hd_open.specs.Live.{place_at}
 use Rattle.hd_open.specs.Counts.{start_of, part_at, IsRaised, AreSome, AreBelowLimit, AreCounts}
 use Rattle.hd_open.proofs.Lowest.{start_less}
@@ -11,7 +11,7 @@ use Rattle.hd_open.proofs.Places.{IsPlaced, place_more_some, place_at-le, place_
 
 module _ {A : Type 0} where
   pub counts_raised :
-      (slots slots' : List (Option A)) (c d : Counts) (i : ℕ) → AreCounts slots c → IsRaised c.parts.items d.parts.items (i / 64) → d.all ≡ c.all + 1
+      (slots slots' : List (Option A)) (c d : NodeCounts) (i : ℕ) → AreCounts slots c → IsRaised c.parts.items d.parts.items (i / 64) → d.all ≡ c.all + 1
       → IsPlaced slots slots' i → length slots' ≤ 64 * length d.parts.items → AreCounts slots' d
   counts_raised slots slots' c d i k r one p covering = record {
     parts = λ end some_there within.
@@ -36,7 +36,7 @@ module _ {A : Type 0} where
   }
 
   pub counts_lowered :
-      (slots slots' : List (Option A)) (c d : Counts) (i : ℕ) → AreCounts slots c → IsRaised d.parts.items c.parts.items (i / 64) → c.all ≡ d.all + 1
+      (slots slots' : List (Option A)) (c d : NodeCounts) (i : ℕ) → AreCounts slots c → IsRaised d.parts.items c.parts.items (i / 64) → c.all ≡ d.all + 1
       → IsPlaced slots' slots i → length slots' ≤ 64 * length d.parts.items → AreCounts slots' d
   counts_lowered slots slots' c d i k r one p covering = record {
     parts = λ end some_there within.
@@ -62,7 +62,7 @@ module _ {A : Type 0} where
 
   -- ---- parts that have a node, and the greatest numbers
 
-  pub some_counted : (slots : List (Option A)) (c : Counts) (i : ℕ) (x : A) → AreCounts slots c → slice_get slots i ≡ Some (Some x) → AreSome c.parts.items (i / 64)
+  pub some_counted : (slots : List (Option A)) (c : NodeCounts) (i : ℕ) (x : A) → AreCounts slots c → slice_get slots i ≡ Some (Some x) → AreSome c.parts.items (i / 64)
   some_counted slots c i x k at end within has =
       let here : place_at slots (i + 1) ≡ place_at slots i + 1 = place_more_some slots i x at in
       let is = k.parts end (let past = has.upto in omega arith) within in
@@ -71,14 +71,14 @@ module _ {A : Type 0} where
       omega arith
 
   -- there is a node in all
-  pub some_in_all : (slots : List (Option A)) (c : Counts) (i : ℕ) (x : A) → AreCounts slots c → slice_get slots i ≡ Some (Some x) → 0 < c.all
+  pub some_in_all : (slots : List (Option A)) (c : NodeCounts) (i : ℕ) (x : A) → AreCounts slots c → slice_get slots i ≡ Some (Some x) → 0 < c.all
   some_in_all slots c i x k at =
       let here : place_at slots (i + 1) ≡ place_at slots i + 1 = place_more_some slots i x at in
       let all = place_at-le-all slots (i + 1) in
       let is = k.all in
       omega arith
 
-  below_limit : (slots : List (Option A)) (c : Counts) (group : ℕ) → AreCounts slots c → c.all + 1 < 2 ^ 64 → AreBelowLimit c.parts.items group
+  below_limit : (slots : List (Option A)) (c : NodeCounts) (group : ℕ) → AreCounts slots c → c.all + 1 < 2 ^ 64 → AreBelowLimit c.parts.items group
   below_limit slots c group k less end within has =
       let is = k.parts end (let past = has.upto in omega arith) within in
       let most = place_at-le-all slots (64 * end) in
@@ -86,29 +86,29 @@ module _ {A : Type 0} where
       omega arith
 
   -- one more can be counted than there are slots
-  pub fits_more : (slots : List (Option A)) (c : Counts) (group : ℕ) → AreCounts slots c → length slots + 1 < 2 ^ 64 → AreBelowLimit c.parts.items group
+  pub fits_more : (slots : List (Option A)) (c : NodeCounts) (group : ℕ) → AreCounts slots c → length slots + 1 < 2 ^ 64 → AreBelowLimit c.parts.items group
   fits_more slots c group k few =
       let all = k.all in
       let live_few = length-live-le slots in
       below_limit slots c group k (omega arith)
 
   -- a node more can be counted where a slot is empty
-  pub fits_back : (slots : List (Option A)) (c : Counts) (i : ℕ) → AreCounts slots c → slice_get slots i ≡ Some None → length slots < 2 ^ 64 → AreBelowLimit c.parts.items (i / 64)
+  pub fits_back : (slots : List (Option A)) (c : NodeCounts) (i : ℕ) → AreCounts slots c → slice_get slots i ≡ Some None → length slots < 2 ^ 64 → AreBelowLimit c.parts.items (i / 64)
   fits_back slots c i k empty few =
       let all = k.all in
       let fewer = length-live-lt slots i empty in
       below_limit slots c (i / 64) k (omega arith)
 
-  pub all_fits : (slots : List (Option A)) (c : Counts) → AreCounts slots c → c.all ≤ length slots
+  pub all_fits : (slots : List (Option A)) (c : NodeCounts) → AreCounts slots c → c.all ≤ length slots
   all_fits slots c k = let all = k.all in let few = length-live-le slots in omega arith
 
-  pub all_fits_back : (slots : List (Option A)) (c : Counts) (i : ℕ) → AreCounts slots c → slice_get slots i ≡ Some None → c.all < length slots
+  pub all_fits_back : (slots : List (Option A)) (c : NodeCounts) (i : ℕ) → AreCounts slots c → slice_get slots i ≡ Some None → c.all < length slots
   all_fits_back slots c i k empty = let all = k.all in let fewer = length-live-lt slots i empty in omega arith
 
   -- ---- nodes come and go
 
   pub counted_push :
-      (slots after : List (Option A)) (x : A) (c d : Counts) (i : ℕ) → after ≡ slots ++ Some x ∷ [] → i ≡ length slots → AreCounts slots c
+      (slots after : List (Option A)) (x : A) (c d : NodeCounts) (i : ℕ) → after ≡ slots ++ Some x ∷ [] → i ≡ length slots → AreCounts slots c
       → length slots < 64 * length c.parts.items → IsRaised c.parts.items d.parts.items (i / 64) → d.all ≡ c.all + 1 → AreCounts after d
   counted_push slots after x c d i is at k room r one =
       let s : IsRaised c.parts.items d.parts.items (length slots / 64) = subst (λ (j : ℕ). IsRaised c.parts.items d.parts.items (j / 64)) at r in
@@ -118,7 +118,7 @@ module _ {A : Type 0} where
       (counts_raised slots (slots ++ Some x ∷ []) c d (length slots) k s one (placed_push slots x) (omega arith))
 
   pub counted_left :
-      (slots : List (Option A)) (x : A) (c d : Counts) (i : ℕ) → slice_get slots i ≡ Some (Some x) → AreCounts slots c
+      (slots : List (Option A)) (x : A) (c d : NodeCounts) (i : ℕ) → slice_get slots i ≡ Some (Some x) → AreCounts slots c
       → IsRaised d.parts.items c.parts.items (i / 64) → c.all ≡ d.all + 1 → AreCounts (set slots i None) d
   counted_left slots x c d i at k r one =
       let same : length (set slots i None) ≡ length slots = length-set slots i None in
@@ -127,7 +127,7 @@ module _ {A : Type 0} where
       counts_lowered slots (set slots i None) c d i k r one (placed_left slots i x at) (omega arith)
 
   pub counted_back :
-      (slots : List (Option A)) (x : A) (c d : Counts) (i : ℕ) → slice_get slots i ≡ Some None → AreCounts slots c
+      (slots : List (Option A)) (x : A) (c d : NodeCounts) (i : ℕ) → slice_get slots i ≡ Some None → AreCounts slots c
       → IsRaised c.parts.items d.parts.items (i / 64) → d.all ≡ c.all + 1 → AreCounts (set slots i (Some x)) d
   counted_back slots x c d i at k r one =
       let same : length (set slots i (Some x)) ≡ length slots = length-set slots i (Some x) in
@@ -138,7 +138,7 @@ module _ {A : Type 0} where
   -- ---- a group more
 
   pub counted_cover :
-      (slots : List (Option A)) (c d : Counts) (before : ℕ) → AreCounts slots c → length c.parts.items ≤ length slots / 64
+      (slots : List (Option A)) (c d : NodeCounts) (before : ℕ) → AreCounts slots c → length c.parts.items ≤ length slots / 64
       → before ≡ place_at slots (64 * start_of (length slots / 64 + 1)) → d.parts.items ≡ c.parts.items ++ (c.all - before) ∷ [] → d.all ≡ c.all
       → AreCounts slots d
   counted_cover slots c d before k full is added same = record {
@@ -185,7 +185,7 @@ module _ {A : Type 0} where
 
   -- a part more
   pub place_more :
-      (slots : List (Option A)) (c : Counts) (end start part sum arrival : ℕ) → AreCounts slots c → 0 < end → end ≤ length c.parts.items
+      (slots : List (Option A)) (c : NodeCounts) (end start part sum arrival : ℕ) → AreCounts slots c → 0 < end → end ≤ length c.parts.items
       → start ≡ start_of end → part ≡ get_or c.parts.items (end - 1) part → place_at slots (64 * end) + sum ≡ arrival
       → place_at slots (64 * start) + (sum + part) ≡ arrival
   place_more slots c end start part sum arrival k some_there within at read was =
@@ -199,7 +199,7 @@ module _ {A : Type 0} where
 
   -- a group farther, after one at which a part starts
   pub group_more :
-      (slots : List (Option A)) (c : Counts) (end start part left place : ℕ) → AreCounts slots c → 0 < end → end ≤ length c.parts.items
+      (slots : List (Option A)) (c : NodeCounts) (end start part left place : ℕ) → AreCounts slots c → 0 < end → end ≤ length c.parts.items
       → start ≡ start_of end → part ≡ get_or c.parts.items (end - 1) part → part ≤ left → place_at slots (64 * start) + left ≡ place
       → place_at slots (64 * end) + (left - part) ≡ place
   group_more slots c end start part left place k some_there within at read le was =

@@ -9,8 +9,8 @@ use Rattle.std.proofs.lemmas.Nat.Bits.{bit_at-zero, bit_at_ones, bit_at_ones_abo
 use Rattle.std.proofs.lemmas.List.{get_or_append_left, get_or_push, get_or_past, get_or-take, get_or-replicate, length-replicate, length-take, take-take, append-nil}
 use Rattle.std.proofs.Math.Seq.{take-append_seam}
 use Rattle.std.proofs.lemmas.List.Elements.{filter_more}
-use Rattle.hd_open.specs.declared.counts.Counts.{Counts}
-use Rattle.hd_open.specs.declared.queue.Queue.{Queue}
+use Rattle.hd_open.specs.declared.counts.NodeCounts.{NodeCounts}
+use Rattle.hd_open.specs.declared.queue.OpenQueue.{OpenQueue}
 use Rattle.hd_open.specs.Live.{live, packed, place_at}
 use Rattle.hd_open.specs.Marks.{mark_at, mark_of, AreMarks}
 use Rattle.hd_open.specs.Counts.{start_of, part_at, AreCounts}
@@ -122,7 +122,7 @@ module _ {A : Type 0} where
   }
 
   pub counts_packed :
-      (slots : List (Option A)) (c : Counts) → c.all ≡ length (live slots)
+      (slots : List (Option A)) (c : NodeCounts) → c.all ≡ length (live slots)
       → ((end : ℕ) → 0 < end → end ≤ length c.parts.items → 64 * start_of end + part_at c.parts.items end ≡ min (64 * end) c.all)
       → c.all ≤ 64 * length c.parts.items → AreCounts (packed slots) c
   counts_packed slots c is parts covers = record {
@@ -208,7 +208,7 @@ module _ {A : Type 0} where
   -- ---- a queue of nodes that stand together
 
   -- the queue has an entry for each node, and no others
-  pub record IsQueueOf (total : A → Option ℕ) (slots : List (Option A)) (q : Queue) : Type 0 where
+  pub record IsQueueOf (total : A → Option ℕ) (slots : List (Option A)) (q : OpenQueue) : Type 0 where
     pub queued : IsQueued total slots q
     pub orderly : IsOrderly q
     pub single : IsSingle q
@@ -216,7 +216,7 @@ module _ {A : Type 0} where
 
   module _ (total : A → Option ℕ) where
     pub queue_push :
-        (slots after : List (Option A)) (q r : Queue) (x : A) (t : Option ℕ) (n : ℕ) → IsQueueOf total slots q → t ≡ total x → n ≡ length slots
+        (slots after : List (Option A)) (q r : OpenQueue) (x : A) (t : Option ℕ) (n : ℕ) → IsQueueOf total slots q → t ≡ total x → n ≡ length slots
         → after ≡ slots ++ Some x ∷ [] → IsOrderly r → Has r t n → ((g : Option ℕ) (k : ℕ) → Has q g k → Has r g k)
         → ((g : Option ℕ) (k : ℕ) → Has r g k → Has q g k ⊎ ((t ≡ g) × (n ≡ k))) → IsQueueOf total after r
     queue_push slots after q r x t n o at_total at is orderly added stays only =

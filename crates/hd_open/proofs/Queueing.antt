@@ -6,7 +6,7 @@ use Rattle.std.specs.BTreeMap.{is_at}
 use Rattle.std.specs.BTreeSet.{BTreeSet, contains, Updates, IsLowerBound, IsUnchanged}
 use Rattle.std.proofs.lemmas.Bool.{cases_lt, cases_order, lt-ltb}
 use Rattle.std.proofs.lemmas.Option.{none-some, same_Some}
-use Rattle.hd_open.specs.declared.queue.Queue.{Queue}
+use Rattle.hd_open.specs.declared.queue.OpenQueue.{OpenQueue}
 use Rattle.hd_open.specs.Totals.{IsNotAfter}
 use Rattle.hd_open.specs.Live.{live, IsBestArrival}
 use Rattle.hd_open.specs.Marks.{mark_at, AreMarks}
@@ -35,20 +35,20 @@ cond_went false c held = held
 -- ---- an entry comes
 
 -- after an arrival has come, or not
-pub record IsAdded (q r : Queue) (total : Option ℕ) (arrival : ℕ) : Type 0 where
+pub record IsAdded (q r : OpenQueue) (total : Option ℕ) (arrival : ℕ) : Type 0 where
   pub orderly : IsOrderly r
   pub added : Has r total arrival
   pub stays : (g : Option ℕ) (k : ℕ) → Has q g k → Has r g k
   pub only : (g : Option ℕ) (k : ℕ) → Has r g k → Has q g k ⊎ ((total ≡ g) × (arrival ≡ k))
 
 -- the same arrivals are there
-pub record IsSame (q r : Queue) : Type 0 where
+pub record IsSame (q r : OpenQueue) : Type 0 where
   pub orderly : IsOrderly r
   pub stays : (g : Option ℕ) (k : ℕ) → Has q g k → Has r g k
   pub only : (g : Option ℕ) (k : ℕ) → Has r g k → Has q g k
 
 pub covered :
-    (q r : Queue) → IsOrderly q → ((t : ℕ) → bucket r.small.items t ≡ bucket q.small.items t) → length r.small.items ≤ 65536
+    (q r : OpenQueue) → IsOrderly q → ((t : ℕ) → bucket r.small.items t ≡ bucket q.small.items t) → length r.small.items ≤ 65536
     → r.least ≡ q.least → r.large ≡ q.large → r.dead ≡ q.dead → IsSame q r
 covered q r o same few least large dead = record {
   orderly = record {
@@ -76,7 +76,7 @@ covered q r o same few least large dead = record {
 
 -- an arrival comes after the others of its bucket
 pub added_small :
-    (q r : Queue) (small : List (List ℕ)) (total arrival : ℕ) → IsOrderly q → IsBelow q arrival
+    (q r : OpenQueue) (small : List (List ℕ)) (total arrival : ℕ) → IsOrderly q → IsBelow q arrival
     → ((t : ℕ) → bucket small t ≡ bucket q.small.items t) → length small ≤ 65536 → total < length small
     → r.small.items ≡ set small total (bucket small total ++ arrival ∷ []) → r.least ≤ q.least → r.least ≤ total → r.large ≡ q.large → r.dead ≡ q.dead
     → IsAdded q r (Some total) arrival
@@ -143,7 +143,7 @@ added_small q r small total arrival o latest same few within is least_old least_
 
 -- an arrival of a total without a bucket
 pub added_large :
-    (q r : Queue) (total arrival : ℕ) → IsOrderly q → 65536 ≤ total → Updates entry_cmp q.large r.large (total, arrival) true
+    (q r : OpenQueue) (total arrival : ℕ) → IsOrderly q → 65536 ≤ total → Updates entry_cmp q.large r.large (total, arrival) true
     → r.small.items ≡ q.small.items → r.least ≡ q.least → r.dead ≡ q.dead → (contains entry_cmp r.large (total, arrival) ≡ true) → IsAdded q r (Some total) arrival
 added_large q r total arrival o large up small least dead there = record {
   orderly = record {
@@ -175,7 +175,7 @@ added_large q r total arrival o large up small least dead there = record {
 
 -- an arrival without a total
 pub added_dead :
-    (q r : Queue) (arrival : ℕ) → IsOrderly q → IsBelow q arrival → r.dead ≡ q.dead ++ arrival ∷ [] → r.small.items ≡ q.small.items → r.least ≡ q.least
+    (q r : OpenQueue) (arrival : ℕ) → IsOrderly q → IsBelow q arrival → r.dead ≡ q.dead ++ arrival ∷ [] → r.small.items ≡ q.small.items → r.least ≡ q.least
     → r.large ≡ q.large → IsAdded q r None arrival
 added_dead q r arrival o latest is small least large = record {
   orderly = record {
@@ -204,12 +204,12 @@ added_dead q r arrival o latest is small least large = record {
 
 -- ---- the first one
 
-lacks_large : (q : Queue) → q.large.keys ≡ [] → (t k : ℕ) → contains entry_cmp q.large (t, k) ≡ false
+lacks_large : (q : OpenQueue) → q.large.keys ≡ [] → (t k : ℕ) → contains entry_cmp q.large (t, k) ≡ false
 lacks_large q none t k = ap (λ (ks : List (ℕ × ℕ)). list_any (is_at (entry_cmp (t, k))) ks) none
 
 -- the first one of the first bucket that has one
 pub least_small :
-    (q : Queue) (total arrival : ℕ) → IsOrderly q → total < length q.small.items → slice_get (bucket q.small.items total) 0 ≡ Some arrival
+    (q : OpenQueue) (total arrival : ℕ) → IsOrderly q → total < length q.small.items → slice_get (bucket q.small.items total) 0 ≡ Some arrival
     → ((t : ℕ) → t < total → bucket q.small.items t ≡ []) → (g : Option ℕ) (k : ℕ) → Has q g k → IsNotAfter (Some total) arrival g k
 least_small q total arrival o within at below (Some t) k has =
     ⊎_elim
@@ -225,7 +225,7 @@ least_small q total arrival o within at below None k has = inl refl
 
 -- the first one of those without a bucket, where no bucket has one
 pub least_large :
-    (q : Queue) (total arrival : ℕ) → ((t : ℕ) → bucket q.small.items t ≡ []) → IsLowerBound entry_cmp q.large (total, arrival)
+    (q : OpenQueue) (total arrival : ℕ) → ((t : ℕ) → bucket q.small.items t ≡ []) → IsLowerBound entry_cmp q.large (total, arrival)
     → (g : Option ℕ) (k : ℕ) → Has q g k → IsNotAfter (Some total) arrival g k
 least_large q total arrival none least (Some t) k has =
     ⊎_elim (λ in_bucket. absurd (none_among (bucket q.small.items t) k (none t) in_bucket))
@@ -234,7 +234,7 @@ least_large q total arrival none least None k has = inl refl
 
 -- the first one of those without a total, if there are no others
 pub least_dead :
-    (q : Queue) (arrival : ℕ) → IsOrderly q → ((t : ℕ) → bucket q.small.items t ≡ []) → q.large.keys ≡ [] → slice_get q.dead 0 ≡ Some arrival
+    (q : OpenQueue) (arrival : ℕ) → IsOrderly q → ((t : ℕ) → bucket q.small.items t ≡ []) → q.large.keys ≡ [] → slice_get q.dead 0 ≡ Some arrival
     → (g : Option ℕ) (k : ℕ) → Has q g k → IsNotAfter None arrival g k
 least_dead q arrival o none no_large at (Some t) k has =
     ⊎_elim (λ in_bucket. absurd (none_among (bucket q.small.items t) k (none t) in_bucket))
@@ -242,7 +242,7 @@ least_dead q arrival o none no_large at (Some t) k has =
 least_dead q arrival o none no_large at None k has = inr (refl, first_least q.dead arrival k o.dead at has)
 
 pub has_none :
-    (q : Queue) → ((t : ℕ) → bucket q.small.items t ≡ []) → q.large.keys ≡ [] → slice_get q.dead 0 ≡ None → (g : Option ℕ) (k : ℕ) → Has q g k → ⊥
+    (q : OpenQueue) → ((t : ℕ) → bucket q.small.items t ≡ []) → q.large.keys ≡ [] → slice_get q.dead 0 ≡ None → (g : Option ℕ) (k : ℕ) → Has q g k → ⊥
 has_none q none no_large no_dead (Some t) k has =
     ⊎_elim (λ in_bucket. none_among (bucket q.small.items t) k (none t) in_bucket)
     (λ in_large. let lacks = lacks_large q no_large t k in absurd (cc)) has
@@ -299,7 +299,7 @@ cleared_bucket words first small total b within each here t =
 
 -- buckets that were empty are, and so are those after them
 pub empty_below :
-    (words : List ℕ) (q : Queue) (small : List (List ℕ)) (total : ℕ) → IsOrderly q
+    (words : List ℕ) (q : OpenQueue) (small : List (List ℕ)) (total : ℕ) → IsOrderly q
     → ((t : ℕ) → AreCleared words (bucket q.small.items t) (bucket small t)) → ((t : ℕ) → q.least ≤ t → t < total → bucket small t ≡ [])
     → (t : ℕ) → t < total → bucket small t ≡ []
 empty_below words q small total o each none t lt =
@@ -309,7 +309,7 @@ empty_below words q small total o each none t lt =
     ]
 
 pub all_empty :
-    (words : List ℕ) (q : Queue) (small : List (List ℕ)) → IsOrderly q → ((t : ℕ) → AreCleared words (bucket q.small.items t) (bucket small t))
+    (words : List ℕ) (q : OpenQueue) (small : List (List ℕ)) → IsOrderly q → ((t : ℕ) → AreCleared words (bucket q.small.items t) (bucket small t))
     → ((t : ℕ) → q.least ≤ t → bucket small t ≡ []) → (t : ℕ) → bucket small t ≡ []
 all_empty words q small o each none t = empty_below words q small (t + 1) o each (λ u le lt. none u le) t (omega arith)
 
@@ -337,7 +337,7 @@ large_only None old new x up same held = ap (λ (ks : List (ℕ × ℕ)). list_a
 
 -- the whole queue
 pub cleared_queue :
-    (words : List ℕ) (q r : Queue) → IsOrderly q → ((t : ℕ) → AreCleared words (bucket q.small.items t) (bucket r.small.items t))
+    (words : List ℕ) (q r : OpenQueue) → IsOrderly q → ((t : ℕ) → AreCleared words (bucket q.small.items t) (bucket r.small.items t))
     → length r.small.items ≡ length q.small.items → ((t : ℕ) → t < r.least → bucket r.small.items t ≡ [])
     → ((t k : ℕ) → mark_at words k ≡ 1 → contains entry_cmp q.large (t, k) ≡ true → contains entry_cmp r.large (t, k) ≡ true)
     → ((t k : ℕ) → contains entry_cmp r.large (t, k) ≡ true → contains entry_cmp q.large (t, k) ≡ true)
@@ -379,7 +379,7 @@ no_first xs none = ap (λ (ys : List ℕ). slice_get ys 0) none
 
 -- the first one of those without a total, if there are no others, is the first of all
 pub found_dead :
-    (words : List ℕ) (q : Queue) (found : Option ℕ) → IsOrderly q → ((t : ℕ) → bucket q.small.items t ≡ []) → q.large.keys ≡ []
+    (words : List ℕ) (q : OpenQueue) (found : Option ℕ) → IsOrderly q → ((t : ℕ) → bucket q.small.items t ≡ []) → q.large.keys ≡ []
     → IfSome found (λ a. slice_get q.dead 0 ≡ Some a) → IfSome found (λ a. mark_at words a ≡ 1) → IfSome found (IsFirst words q)
 found_dead words q (Some a) o none no_large at marked = record {
   total = None;
@@ -394,12 +394,12 @@ found_dead words q None o none no_large at marked = _
 module _ {A : Type 0} (total : A → Option ℕ) where
   -- stale entries go
   pub queued_cleared :
-      (slots : List (Option A)) (words : List ℕ) (q r : Queue) → AreMarks slots words → IsQueued total slots q → IsCleared words q r → IsQueued total slots r
+      (slots : List (Option A)) (words : List ℕ) (q r : OpenQueue) → AreMarks slots words → IsQueued total slots q → IsCleared words q r → IsQueued total slots r
   queued_cleared slots words q r m queued c k x at = c.stays (total x) k (filled_is_marked slots words k x m at) (queued k x at)
 
   -- a node comes after the others
   pub queued_push :
-      (slots : List (Option A)) (q : Queue) (x : A)
+      (slots : List (Option A)) (q : OpenQueue) (x : A)
       → IsQueued total slots q → Has q (total x) (length slots)
       → IsQueued total (slots ++ Some x ∷ []) q
   queued_push slots q x queued new k y at =
@@ -409,13 +409,13 @@ module _ {A : Type 0} (total : A → Option ℕ) where
       (λ else. queued k y else) (slice_get-push_else slots k (Some x) (Some y) at)
 
   -- a node goes
-  pub queued_left : (slots : List (Option A)) (q : Queue) (i : ℕ) → IsQueued total slots q → IsQueued total (set slots i None) q
+  pub queued_left : (slots : List (Option A)) (q : OpenQueue) (i : ℕ) → IsQueued total slots q → IsQueued total (set slots i None) q
   queued_left slots q i queued k y at =
       ⊎_elim (λ here. absurd (none-some y here.1)) (λ else. queued k y else) (slice_get-set_else slots i k None (Some y) at)
 
   -- a node comes back
   pub queued_back :
-      (slots : List (Option A)) (q : Queue) (i : ℕ) (x : A) (t : Option ℕ)
+      (slots : List (Option A)) (q : OpenQueue) (i : ℕ) (x : A) (t : Option ℕ)
       → IsQueued total slots q → Has q t i → t ≡ total x → IsQueued total (set slots i (Some x)) q
   queued_back slots q i x t queued waiting is k y at =
       ⊎_elim (λ here.
@@ -425,12 +425,12 @@ module _ {A : Type 0} (total : A → Option ℕ) where
       (λ else. queued k y else) (slice_get-set_else slots i k (Some x) (Some y) at)
 
   -- where the queue has nothing, there are no nodes
-  pub queued_none : (slots : List (Option A)) (q : Queue) → IsQueued total slots q → ((g : Option ℕ) (k : ℕ) → Has q g k → ⊥) → live slots ≡ []
+  pub queued_none : (slots : List (Option A)) (q : OpenQueue) → IsQueued total slots q → ((g : Option ℕ) (k : ℕ) → Has q g k → ⊥) → live slots ≡ []
   queued_none slots q queued none = live_none slots (λ k x at. none (total x) k (queued k x at))
 
   -- the first entry whose slot is marked is that of the best node
   pub first_best :
-      (slots : List (Option A)) (words : List ℕ) (q : Queue) (a : ℕ)
+      (slots : List (Option A)) (words : List ℕ) (q : OpenQueue) (a : ℕ)
       → AreMarks slots words → IsQueued total slots q → IsSingle q → IsFirst words q a → IsBestArrival total slots a
   first_best slots words q a m queued single f =
       let here = marked_filled slots words a m f.marked in
@@ -443,7 +443,7 @@ module _ {A : Type 0} (total : A → Option ℕ) where
 
   -- the same, of what a call has found
   pub best_found :
-      (slots : List (Option A)) (words ws : List ℕ) (q : Queue) (found : Option ℕ)
+      (slots : List (Option A)) (words ws : List ℕ) (q : OpenQueue) (found : Option ℕ)
       → AreMarks slots words → ws ≡ words → IsQueued total slots q → IsSingle q → IfSome found (IsFirst ws q)
       → IfSome found (λ a. IsBestArrival total slots a)
   best_found slots words ws q (Some a) m is queued single f =
@@ -451,26 +451,26 @@ module _ {A : Type 0} (total : A → Option ℕ) where
   best_found slots words ws q None m is queued single f = f
 
   pub none_found :
-      (slots : List (Option A)) (q : Queue) (found : Option ℕ)
+      (slots : List (Option A)) (q : OpenQueue) (found : Option ℕ)
       → IsQueued total slots q → IfNone found ((g : Option ℕ) (k : ℕ) → Has q g k → ⊥) → IfNone found (live slots ≡ [])
   none_found slots q (Some a) queued none = none
   none_found slots q None queued none = queued_none slots q queued none
 
 -- ---- the greatest arrival, and the totals of arrivals
 
-pub below_less : (q r : Queue) (n : ℕ) → IsBelow q n → ((g : Option ℕ) (k : ℕ) → Has r g k → Has q g k) → IsBelow r n
+pub below_less : (q r : OpenQueue) (n : ℕ) → IsBelow q n → ((g : Option ℕ) (k : ℕ) → Has r g k → Has q g k) → IsBelow r n
 below_less q r n latest only g k has = latest g k (only g k has)
 
 pub below_added :
-    (q r : Queue) (t : Option ℕ) (n : ℕ) → IsBelow q n → ((g : Option ℕ) (k : ℕ) → Has r g k → Has q g k ⊎ ((t ≡ g) × (n ≡ k))) → IsBelow r (n + 1)
+    (q r : OpenQueue) (t : Option ℕ) (n : ℕ) → IsBelow q n → ((g : Option ℕ) (k : ℕ) → Has r g k → Has q g k ⊎ ((t ≡ g) × (n ≡ k))) → IsBelow r (n + 1)
 below_added q r t n latest only g k has =
     ⊎_elim (λ old. let lt = latest g k old in omega arith) (λ new. let is = new.1 in omega arith) (only g k has)
 
-pub single_less : (q r : Queue) → IsSingle q → ((g : Option ℕ) (k : ℕ) → Has r g k → Has q g k) → IsSingle r
+pub single_less : (q r : OpenQueue) → IsSingle q → ((g : Option ℕ) (k : ℕ) → Has r g k → Has q g k) → IsSingle r
 single_less q r single only g h k one other = single g h k (only g k one) (only h k other)
 
 pub single_added :
-    (q r : Queue) (t : Option ℕ) (n : ℕ) → IsSingle q → IsBelow q n → ((g : Option ℕ) (k : ℕ) → Has r g k → Has q g k ⊎ ((t ≡ g) × (n ≡ k)))
+    (q r : OpenQueue) (t : Option ℕ) (n : ℕ) → IsSingle q → IsBelow q n → ((g : Option ℕ) (k : ℕ) → Has r g k → Has q g k ⊎ ((t ≡ g) × (n ≡ k)))
     → IsSingle r
 single_added q r t n single latest only g h k one other =
     ⊎_elim

@@ -5,8 +5,8 @@ use Rattle.std.proofs.lemmas.List.{take-set-le}
 use Rattle.std.proofs.lemmas.Option.{same_Some}
 use Rattle.hd_open.specs.declared.slots.Gap.{Gap}
 use Rattle.hd_open.specs.declared.slots.Hint.{Hint}
-use Rattle.hd_open.specs.declared.counts.Counts.{Counts}
-use Rattle.hd_open.specs.declared.queue.Queue.{Queue}
+use Rattle.hd_open.specs.declared.counts.NodeCounts.{NodeCounts}
+use Rattle.hd_open.specs.declared.queue.OpenQueue.{OpenQueue}
 use Rattle.hd_open.specs.Totals.{IsBest}
 use Rattle.hd_open.specs.Live.{live, place_at, IsBestArrival}
 use Rattle.hd_open.specs.Counts.{AreCounts}
@@ -36,7 +36,7 @@ module _ {A : Type 0} where
   module _ (total : A → Option ℕ) where
     -- a node goes
     pub kept_left :
-        (slots : List (Option A)) (q : Queue) (d : Counts) (i : ℕ) (x : A) → IsQueued total slots q → IsOrderly q → IsSingle q → IsBelow q (length slots)
+        (slots : List (Option A)) (q : OpenQueue) (d : NodeCounts) (i : ℕ) (x : A) → IsQueued total slots q → IsOrderly q → IsSingle q → IsBelow q (length slots)
         → slice_get slots i ≡ Some (Some x) → AreMarks (set slots i None) d.marks.items → AreCounts (set slots i None) d → IsKept total (set slots i None) (Some (gap_at total i x)) None q d
     kept_left slots q d i x queued orderly single latest at marked counted = record {
       queued = queued_left total slots q i queued;
@@ -74,7 +74,7 @@ module _ {A : Type 0} where
 
     -- a node comes back
     pub kept_back :
-        (slots : List (Option A)) (g : Gap) (hint : Option Hint) (q : Queue) (c d : Counts) (x : A) → IsKept total slots (Some g) hint q c → g.total ≡ total x
+        (slots : List (Option A)) (g : Gap) (hint : Option Hint) (q : OpenQueue) (c d : NodeCounts) (x : A) → IsKept total slots (Some g) hint q c → g.total ≡ total x
         → AreMarks (set slots g.arrival (Some x)) d.marks.items → AreCounts (set slots g.arrival (Some x)) d
         → IsKept total (set slots g.arrival (Some x)) None None q d
     kept_back slots g hint q c d x k same marked counted = record {
@@ -91,7 +91,7 @@ module _ {A : Type 0} where
 
     -- a node has come after the others
     pub kept_push :
-        (slots after : List (Option A)) (q r : Queue) (d : Counts) (x : A) (t : Option ℕ) (n : ℕ) → t ≡ total x → n ≡ length slots
+        (slots after : List (Option A)) (q r : OpenQueue) (d : NodeCounts) (x : A) (t : Option ℕ) (n : ℕ) → t ≡ total x → n ≡ length slots
         → after ≡ slots ++ Some x ∷ [] → IsQueued total slots q → IsSingle q → IsBelow q (length slots) → IsOrderly r → Has r t n
         → ((g : Option ℕ) (k : ℕ) → Has q g k → Has r g k) → ((g : Option ℕ) (k : ℕ) → Has r g k → Has q g k ⊎ ((t ≡ g) × (n ≡ k)))
         → AreMarks after d.marks.items → AreCounts after d → IsKept total after None None r d

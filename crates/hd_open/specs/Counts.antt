@@ -1,6 +1,6 @@
 -- Counts of what slots hold, by groups. (Binary indexed trees: Fenwick 1994.)
 use Rattle.std.specs.Prelude.{◌≡◌, ℕ, ◌+◌, ◌-◌, ◌*◌, ◌^◌, ◌<◌, ◌≤◌, List, Option, length, slice_index, bit_and}
-use Rattle.hd_open.specs.declared.counts.Counts.{Counts}
+use Rattle.hd_open.specs.declared.counts.NodeCounts.{NodeCounts}
 use Rattle.hd_open.specs.declared.counts.TheConstants.{GROUP}
 use Rattle.hd_open.specs.Live.{live, place_at}
 
@@ -33,7 +33,7 @@ abbrev pub AreSome : List ℕ → ℕ → Type 0
 AreSome parts group = (end : ℕ) → end ≤ length parts → HasGroup end group → 0 < part_at parts end
 
 -- they are the counts of these slots
-pub record AreCounts {A : Type 0} (slots : List (Option A)) (c : Counts) : Type 0 where
+pub record AreCounts {A : Type 0} (slots : List (Option A)) (c : NodeCounts) : Type 0 where
   pub parts : (end : ℕ) → 0 < end → end ≤ length c.parts.items
       → place_at slots (GROUP * start_of end) + part_at c.parts.items end ≡ place_at slots (GROUP * end)
   pub all : c.all ≡ length (live slots)

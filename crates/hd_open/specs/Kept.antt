@@ -2,8 +2,8 @@
 use Rattle.std.specs.Prelude.{◌≡◌, ℕ, List, Option, Some, None, length, slice_get, option_map, IfSome}
 use Rattle.hd_open.specs.declared.slots.Gap.{Gap}
 use Rattle.hd_open.specs.declared.slots.Hint.{Hint}
-use Rattle.hd_open.specs.declared.counts.Counts.{Counts}
-use Rattle.hd_open.specs.declared.queue.Queue.{Queue}
+use Rattle.hd_open.specs.declared.counts.NodeCounts.{NodeCounts}
+use Rattle.hd_open.specs.declared.queue.OpenQueue.{OpenQueue}
 use Rattle.hd_open.specs.Live.{live, place_at, IsFilled}
 use Rattle.hd_open.specs.Marks.{AreMarks}
 use Rattle.hd_open.specs.Counts.{AreCounts}
@@ -21,7 +21,7 @@ pub record IsHintOf {A : Type 0} (slots : List (Option A)) (h : Hint) : Type 0 w
 
 -- nodes are marked, counted and queued, and the slot of the gap is empty, with its entry still in
 -- the queue
-pub record IsKept {A : Type 0} (total : A → Option ℕ) (slots : List (Option A)) (gap : Option Gap) (hint : Option Hint) (q : Queue) (c : Counts) : Type 0 where
+pub record IsKept {A : Type 0} (total : A → Option ℕ) (slots : List (Option A)) (gap : Option Gap) (hint : Option Hint) (q : OpenQueue) (c : NodeCounts) : Type 0 where
   pub queued : IsQueued total slots q
   pub orderly : IsOrderly q
   pub single : IsSingle q

@@ -4,7 +4,7 @@ use Rattle.std.specs.List.{AllByRecursion}
 use Rattle.std.specs.Ordering.{nat_cmp, ordering_then}
 use Rattle.std.specs.declared.cmp.Ordering.{Ordering}
 use Rattle.std.specs.BTreeSet.{contains}
-use Rattle.hd_open.specs.declared.queue.Queue.{Queue}
+use Rattle.hd_open.specs.declared.queue.OpenQueue.{OpenQueue}
 use Rattle.hd_open.specs.declared.queue.TheConstants.{BUCKETS}
 use Rattle.hd_open.specs.Marks.{mark_at}
 use Rattle.hd_open.specs.Totals.{IsNotAfter}
@@ -28,7 +28,7 @@ abbrev pub bucket : List (List ℕ) → ℕ → List ℕ
 bucket small total = slice_index_or small total []
 
 -- a queue has an arrival with this total
-abbrev pub Has : Queue → Option ℕ → ℕ → Type 0
+abbrev pub Has : OpenQueue → Option ℕ → ℕ → Type 0
 Has q (Some t) arrival = IsAmong (bucket q.small.items t) arrival ⊎ (contains entry_cmp q.large (t, arrival) ≡ true)
 Has q None arrival = IsAmong q.dead arrival
 
@@ -38,7 +38,7 @@ AreEmptyBelow small total = (t : ℕ) → t < total → bucket small t ≡ []
 
 -- in each bucket, and among those that come last, arrivals ascend; totals without a bucket are
 -- greater than those with one
-pub record IsOrderly (q : Queue) : Type 0 where
+pub record IsOrderly (q : OpenQueue) : Type 0 where
   pub ascends : (t : ℕ) → IsAscending (bucket q.small.items t)
   pub few : length q.small.items ≤ BUCKETS
   pub empty : AreEmptyBelow q.small.items q.least
@@ -46,11 +46,11 @@ pub record IsOrderly (q : Queue) : Type 0 where
   pub dead : IsAscending q.dead
 
 -- each arrival is less than this one
-abbrev pub IsBelow : Queue → ℕ → Type 0
+abbrev pub IsBelow : OpenQueue → ℕ → Type 0
 IsBelow q arrival = (g : Option ℕ) (k : ℕ) → Has q g k → k < arrival
 
 -- an arrival has one total
-abbrev pub IsSingle : Queue → Type 0
+abbrev pub IsSingle : OpenQueue → Type 0
 IsSingle q = (g h : Option ℕ) (k : ℕ) → Has q g k → Has q h k → g ≡ h
 
 -- in the second list some of the arrivals may be gone whose slots are not marked
@@ -60,18 +60,18 @@ pub record AreCleared (words before after : List ℕ) : Type 0 where
   pub ascends : IsAscending before → IsAscending after
 
 -- in the second queue some of the arrivals may be gone whose slots are not marked
-pub record IsCleared (words : List ℕ) (before after : Queue) : Type 0 where
+pub record IsCleared (words : List ℕ) (before after : OpenQueue) : Type 0 where
   pub stays : (g : Option ℕ) (k : ℕ) → mark_at words k ≡ 1 → Has before g k → Has after g k
   pub only : (g : Option ℕ) (k : ℕ) → Has after g k → Has before g k
   pub orderly : IsOrderly after
 
 -- an arrival comes no later than each other, and its slot is marked
-pub record IsFirst (words : List ℕ) (q : Queue) (arrival : ℕ) : Type 0 where
+pub record IsFirst (words : List ℕ) (q : OpenQueue) (arrival : ℕ) : Type 0 where
   pub total : Option ℕ
   pub has : Has q total arrival
   pub marked : mark_at words arrival ≡ 1
   pub least : (g : Option ℕ) (k : ℕ) → Has q g k → IsNotAfter total arrival g k
 
 -- each node has its entry
-abbrev pub IsQueued : {A : Type 0} → (A → Option ℕ) → List (Option A) → Queue → Type 0
+abbrev pub IsQueued : {A : Type 0} → (A → Option ℕ) → List (Option A) → OpenQueue → Type 0
 IsQueued {A} total slots q = (k : ℕ) (x : A) → slice_get slots k ≡ Some (Some x) → Has q (total x) k

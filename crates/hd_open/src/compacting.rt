@@ -8,8 +8,8 @@ ghost use Rattle.hd_open.specs.Kept.{IsKept};
 ghost use Rattle.hd_open.specs.declared.counts.TheConstants.{GROUP};
 ghost use Rattle.hd_open.specs.Queue.{IsOrderly, IsSingle, IsBelow, IsQueued};
 
-use crate::counts::{Counts, GROUP, start_of};
-use crate::queue::Queue;
+use crate::counts::{GROUP, NodeCounts, start_of};
+use crate::queue::OpenQueue;
 use crate::waits::Waits;
 use hd_base::NoMemory;
 use std::alloc::Global;
@@ -42,14 +42,18 @@ fn full_parts(alloc: Global, count: usize) -> Result<Vec<usize>, NoMemory>
 }
 
 /// Returns what counts the nodes of these slots, once they are moved together.
-fn packed_counts<T>(slots: &[Option<T>], alloc: Global, count: usize) -> Result<Counts, NoMemory>
+fn packed_counts<T>(
+    slots: &[Option<T>],
+    alloc: Global,
+    count: usize,
+) -> Result<NodeCounts, NoMemory>
     requires { count ≡ length (live slots.now) }
     ensures marked { IfOk result (λ c. AreMarks (packed slots.now) c.marks.items) }
     ensures counted { IfOk result (λ c. AreCounts (packed slots.now) c) }
 {
     let marks = full_marks(alloc, count)?;
     let parts = full_parts(alloc, count)?;
-    Ok(Counts {
+    Ok(NodeCounts {
         marks,
         parts,
         all: count,
@@ -58,13 +62,13 @@ fn packed_counts<T>(slots: &[Option<T>], alloc: Global, count: usize) -> Result<
 
 /// Returns a queue of the nodes of these slots, by the arrivals that they have once they are moved
 /// together.
-fn packed_queue<T: Waits>(slots: &[Option<T>], alloc: Global) -> Result<Queue, NoMemory>
+fn packed_queue<T: Waits>(slots: &[Option<T>], alloc: Global) -> Result<OpenQueue, NoMemory>
     ensures queued { IfOk result (IsQueued T.total (packed slots.now)) }
     ensures orderly { IfOk result IsOrderly }
     ensures single { IfOk result IsSingle }
     ensures latest { IfOk result (λ q. IsBelow q (length (packed slots.now))) }
 {
-    let mut queue = Queue::empty(alloc);
+    let mut queue = OpenQueue::empty(alloc);
     let mut arrival = 0;
     for slot in slots {
         if let Some(node) = slot {
@@ -108,7 +112,7 @@ fn cut<T>(slots: &mut Vec<Option<T>>, count: usize)
 /// Moves the nodes together, so that no slot between them is empty. Nothing happens if there is
 /// no memory for what counts and sorts them there.
 #[inline(never)]
-fn compact<T: Waits>(slots: &mut Vec<Option<T>>, counts: &mut Counts, queue: &mut Queue)
+fn compact<T: Waits>(slots: &mut Vec<Option<T>>, counts: &mut NodeCounts, queue: &mut OpenQueue)
     requires kept { IsKept T.total slots.old.items None None queue.old counts.old }
     ensures kept { IsKept T.total slots.new.items None None queue.new counts.new }
     ensures nodes { live slots.new.items ≡ live slots.old.items }
@@ -133,8 +137,8 @@ fn compact<T: Waits>(slots: &mut Vec<Option<T>>, counts: &mut Counts, queue: &mu
 /// - `NoMemory`: there is none for a slot more.
 pub(crate) fn make_room<T: Waits>(
     slots: &mut Vec<Option<T>>,
-    counts: &mut Counts,
-    queue: &mut Queue,
+    counts: &mut NodeCounts,
+    queue: &mut OpenQueue,
 ) -> Result<(), NoMemory>
     requires kept { IsKept T.total slots.old.items None None queue.old counts.old }
     ensures kept { IsKept T.total slots.new.items None None queue.new counts.new }

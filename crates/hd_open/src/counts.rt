@@ -11,7 +11,7 @@ pub(crate) const GROUP: usize = 64;
 /// Which slots hold a node; counts of groups of slots, each over as many groups as the lowest one
 /// bit of its number says (the binary indexed tree: Fenwick 1994); and the count of all.
 #[derive(Drop)]
-pub(crate) struct Counts {
+pub(crate) struct NodeCounts {
     /// A word for each group, with a bit for each slot.
     pub(crate) marks: Vec<u64>,
     /// At `end - 1` stands how many nodes the groups from `start_of(end)` up to `end` have.
@@ -55,14 +55,14 @@ pub(crate) fn lower_parts(parts: &mut Vec<usize>, group: usize)
     }
 }
 
-impl Counts {
+impl NodeCounts {
     /// Counts of no slots.
-    pub(crate) fn empty(alloc: Global) -> Counts
+    pub(crate) fn empty(alloc: Global) -> NodeCounts
         ensures marks { result.marks.items ≡ [] }
         ensures parts { result.parts.items ≡ [] }
         ensures all { result.all ≡ 0 }
     {
-        Counts {
+        NodeCounts {
             marks: Vec::new(alloc),
             parts: Vec::new(alloc),
             all: 0,

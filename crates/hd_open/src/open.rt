@@ -5,8 +5,8 @@ ghost use Rattle.hd_open.specs.Totals.{IsBest};
 ghost use Rattle.hd_open.specs.Open.{TakesBest, TakesAt, IsGapOf};
 
 use crate::compacting::make_room;
-use crate::counts::Counts;
-use crate::queue::Queue;
+use crate::counts::NodeCounts;
+use crate::queue::OpenQueue;
 use crate::slots::{
     Gap, Hint, append, arrival_by, best_arrival, cover, place_of, put_into, take_from,
 };
@@ -19,8 +19,8 @@ use std::marker::Model;
 #[derive(Drop)]
 pub struct OpenList<T: Waits> {
     slots: Vec<Option<T>>,
-    counts: Counts,
-    queue: Queue,
+    counts: NodeCounts,
+    queue: OpenQueue,
     gap: Option<Gap>,
     /// The place that was told last, with its arrival, if nothing has happened since.
     hint: Option<Hint>,
@@ -48,8 +48,8 @@ impl<T: Waits> OpenList<T> {
     {
         OpenList {
             slots: Vec::new(alloc),
-            counts: Counts::empty(alloc),
-            queue: Queue::empty(alloc),
+            counts: NodeCounts::empty(alloc),
+            queue: OpenQueue::empty(alloc),
             gap: None,
             hint: None,
         }

@@ -17,7 +17,7 @@ pub(crate) const BUCKETS: u64 = 65_536;
 /// without a total come last. An entry may be stale: its node may have left, and its slot is not
 /// marked then.
 #[derive(Drop)]
-pub(crate) struct Queue {
+pub(crate) struct OpenQueue {
     pub(crate) alloc: Global,
     pub(crate) small: Vec<Arrivals>,
     /// No bucket before this one has an arrival.
@@ -110,13 +110,13 @@ fn first_large(large: &mut BTreeSet<(u128, usize)>, words: &[u64]) -> Option<(u1
     None
 }
 
-impl Queue {
+impl OpenQueue {
     /// Returns no arrivals.
-    pub(crate) fn empty(alloc: Global) -> Queue
+    pub(crate) fn empty(alloc: Global) -> OpenQueue
         ensures orderly { IsOrderly result }
         ensures none { (g : Option ℕ) (k : ℕ) → Has result g k → ⊥ }
     {
-        Queue {
+        OpenQueue {
             alloc,
             small: Vec::new(alloc),
             least: 0,

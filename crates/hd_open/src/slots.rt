@@ -7,9 +7,9 @@ ghost use Rattle.hd_open.specs.Kept.{IsHintOf};
 ghost use Rattle.hd_open.specs.declared.counts.TheConstants.{GROUP};
 ghost use Rattle.hd_open.specs.Queue.{IsOrderly, IsSingle, IsBelow, IsQueued};
 
-use crate::counts::{Counts, GROUP, lower_parts, raise_parts, start_of};
+use crate::counts::{GROUP, NodeCounts, lower_parts, raise_parts, start_of};
 use crate::marks::{is_marked, mark, marked_before, unmark};
-use crate::queue::Queue;
+use crate::queue::OpenQueue;
 use crate::waits::Waits;
 use hd_base::NoMemory;
 
@@ -28,7 +28,7 @@ pub(crate) struct Gap {
 }
 
 /// Returns the slot of the node that has `more` nodes before it, from slot `from` on.
-fn filled_after<T>(slots: &[Option<T>], counts: &Counts, from: usize, more: usize) -> usize
+fn filled_after<T>(slots: &[Option<T>], counts: &NodeCounts, from: usize, more: usize) -> usize
     requires marked { AreMarks slots.now counts.now.marks.items }
     requires within { place_at slots.now from + more < length (live slots.now) }
     ensures filled { IsFilled slots.now result }
@@ -49,7 +49,7 @@ fn filled_after<T>(slots: &[Option<T>], counts: &Counts, from: usize, more: usiz
 }
 
 /// Returns how many nodes stand before a group.
-fn counted_before<T>(slots: &[Option<T>], counts: &Counts, group: usize) -> usize
+fn counted_before<T>(slots: &[Option<T>], counts: &NodeCounts, group: usize) -> usize
     requires counted { AreCounts slots.now counts.now }
     requires within { group ≤ length counts.now.parts.items }
     ensures { result ≡ place_at slots.now (GROUP * group) }
@@ -66,7 +66,7 @@ fn counted_before<T>(slots: &[Option<T>], counts: &Counts, group: usize) -> usiz
 }
 
 /// Returns how many nodes stand before an arrival.
-pub(crate) fn place_of<T>(slots: &[Option<T>], counts: &Counts, arrival: usize) -> usize
+pub(crate) fn place_of<T>(slots: &[Option<T>], counts: &NodeCounts, arrival: usize) -> usize
     requires marked { AreMarks slots.now counts.now.marks.items }
     requires counted { AreCounts slots.now counts.now }
     requires within { arrival < length slots.now }
@@ -89,7 +89,7 @@ fn greatest_step(groups: usize) -> usize {
 
 /// Returns a group before which there are no more than so many nodes, and how many more are left
 /// after it.
-fn group_of<T>(slots: &[Option<T>], counts: &Counts, place: usize) -> (usize, usize)
+fn group_of<T>(slots: &[Option<T>], counts: &NodeCounts, place: usize) -> (usize, usize)
     requires counted { AreCounts slots.now counts.now }
     ensures { place_at slots.now (GROUP * result.0) + result.1 ≡ place }
 {
@@ -111,7 +111,7 @@ fn group_of<T>(slots: &[Option<T>], counts: &Counts, place: usize) -> (usize, us
 }
 
 /// Returns the arrival of the node at a place.
-pub(crate) fn arrival_of<T>(slots: &[Option<T>], counts: &Counts, place: usize) -> usize
+pub(crate) fn arrival_of<T>(slots: &[Option<T>], counts: &NodeCounts, place: usize) -> usize
     requires marked { AreMarks slots.now counts.now.marks.items }
     requires counted { AreCounts slots.now counts.now }
     requires within { place < length (live slots.now) }
@@ -125,7 +125,7 @@ pub(crate) fn arrival_of<T>(slots: &[Option<T>], counts: &Counts, place: usize) 
 /// Returns the same, where the arrival of the node at one place may be known.
 pub(crate) fn arrival_by<T>(
     slots: &[Option<T>],
-    counts: &Counts,
+    counts: &NodeCounts,
     hint: Option<Hint>,
     place: usize,
 ) -> usize
@@ -163,7 +163,7 @@ fn cover_words<T>(slots: &[Option<T>], words: &mut Vec<u64>) -> Result<(), NoMem
 ///
 /// # Errors
 /// - `NoMemory`: there is no room for its count.
-pub(crate) fn cover<T>(slots: &[Option<T>], counts: &mut Counts) -> Result<(), NoMemory>
+pub(crate) fn cover<T>(slots: &[Option<T>], counts: &mut NodeCounts) -> Result<(), NoMemory>
     requires marked { AreMarks slots.now counts.old.marks.items }
     requires counted { AreCounts slots.now counts.old }
     ensures marked { AreMarks slots.now counts.new.marks.items }
@@ -184,8 +184,8 @@ pub(crate) fn cover<T>(slots: &[Option<T>], counts: &mut Counts) -> Result<(), N
 /// the way.
 pub(crate) fn best_arrival<T: Waits>(
     slots: &[Option<T>],
-    counts: &Counts,
-    queue: &mut Queue,
+    counts: &NodeCounts,
+    queue: &mut OpenQueue,
 ) -> Option<usize>
     requires marked { AreMarks slots.now counts.now.marks.items }
     requires queued { IsQueued T.total slots.now queue.old }
@@ -203,7 +203,7 @@ pub(crate) fn best_arrival<T: Waits>(
 }
 
 /// Puts a node into a slot of its own, after the others. There is room for it.
-pub(crate) fn append<T>(slots: &mut Vec<Option<T>>, counts: &mut Counts, node: T)
+pub(crate) fn append<T>(slots: &mut Vec<Option<T>>, counts: &mut NodeCounts, node: T)
     requires free { vec_len slots.old < vec_capacity slots.old }
     requires marked { AreMarks slots.old.items counts.old.marks.items }
     requires counted { AreCounts slots.old.items counts.old }
@@ -225,7 +225,7 @@ pub(crate) fn append<T>(slots: &mut Vec<Option<T>>, counts: &mut Counts, node: T
 /// Takes the node out of a slot, which is a gap from then on.
 pub(crate) fn take_from<T: Waits>(
     slots: &mut Vec<Option<T>>,
-    counts: &mut Counts,
+    counts: &mut NodeCounts,
     arrival: usize,
 ) -> (T, Gap)
     requires within { arrival < length slots.old.items }
@@ -253,7 +253,7 @@ pub(crate) fn take_from<T: Waits>(
 /// Puts a node into an empty slot.
 pub(crate) fn put_into<T: Drop>(
     slots: &mut Vec<Option<T>>,
-    counts: &mut Counts,
+    counts: &mut NodeCounts,
     arrival: usize,
     node: T,
 )

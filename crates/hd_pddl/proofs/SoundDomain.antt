@@ -9,8 +9,8 @@ use Rattle.std.specs.Prelude.{codes}
 use Rattle.std.specs.Str.{bytes_eq}
 use Rattle.hd_lex.specs.declared.token.Operator.TheVariants.{Minus}
 use Rattle.hd_forms.specs.declared.names.NameAt.{NameAt}
-use Rattle.hd_forms.specs.declared.word.Word.{Word}
-use Rattle.hd_forms.specs.declared.word.Word.TheVariants.{Name, Keyword, Operator}
+use Rattle.hd_forms.specs.declared.word.FormWord.{FormWord}
+use Rattle.hd_forms.specs.declared.word.FormWord.TheVariants.{Name, Keyword, Operator}
 use Rattle.hd_forms.specs.Forms.{Forms, none, word, list}
 use Rattle.hd_base.specs.Options.{◌>>=◌}
 use Rattle.hd_forms.specs.Reading.{name_in, name_at, group_at, end_at, behind_keyword}
@@ -90,7 +90,7 @@ record ReadsMore (behind : Bool) (f : Forms) (found ts : List Signature) : Type 
   all : ts ≡ found ++ own
 
 -- from what is read after `- number`
-ReadsMore-numbers : (at b : ℕ) (w v : Word) (rest : Forms) (found ts : List Signature) (n : List ℕ)
+ReadsMore-numbers : (at b : ℕ) (w v : FormWord) (rest : Forms) (found ts : List Signature) (n : List ℕ)
     → w ≡ Operator Minus → v ≡ Name n → n ≡ codes "number" → ReadsMore false rest found ts
     → ReadsMore true (word at w (word b v rest)) found ts
 ReadsMore-numbers at b w v rest found ts n minus name number q =

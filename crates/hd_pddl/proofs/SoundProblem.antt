@@ -7,7 +7,7 @@ use Rattle.std.specs.Prelude.{codes}
 use Rattle.hd_lex.specs.declared.token.Operator as signs
 use Rattle.hd_lex.specs.declared.token.Operator.TheVariants.{Equal}
 use Rattle.hd_forms.specs.declared.names.NameAt.{NameAt}
-use Rattle.hd_forms.specs.declared.word.Word.TheVariants.{Not, Name, Keyword, Operator, Number}
+use Rattle.hd_forms.specs.declared.word.FormWord.TheVariants.{Not, Name, Keyword, Operator, Number}
 use Rattle.hd_forms.specs.Forms.{Forms, none, word, list}
 use Rattle.hd_base.specs.Options.{◌>>=◌}
 use Rattle.hd_forms.specs.Reading.{name_at, number_at, group_at, end_at, behind_name, behind_keyword}

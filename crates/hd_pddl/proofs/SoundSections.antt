@@ -4,8 +4,8 @@ use Rattle.std.proofs.lemmas.Option.{same_Some}
 use Rattle.hd_base.proofs.Options.{cond_then_some}
 use Rattle.std.specs.Prelude.{codes}
 use Rattle.hd_forms.specs.declared.names.NameAt.{NameAt}
-use Rattle.hd_forms.specs.declared.word.Word.{Word}
-use Rattle.hd_forms.specs.declared.word.Word.TheVariants.{Name, Keyword}
+use Rattle.hd_forms.specs.declared.word.FormWord.{FormWord}
+use Rattle.hd_forms.specs.declared.word.FormWord.TheVariants.{Name, Keyword}
 use Rattle.hd_forms.specs.Forms.{Forms, none, word, list}
 use Rattle.hd_base.specs.Options.{◌>>=◌}
 use Rattle.hd_forms.specs.Reading.{keyword_in, name_at, group_at, end_at, behind_name, behind_keyword}
@@ -60,7 +60,7 @@ AreRequirements-requirements_of none u e = g.end
 AreRequirements-requirements_of (word at w rest) u e =
     let s = bind_some (keyword_in w) (λ n. cond (is_requirement n) (requirements_of rest) None) u e in
     let t = cond_then_some (is_requirement s.0) (requirements_of rest) u s.2 in
-    subst (λ (v : Word). AreRequirements (word at v rest)) (sym (keyword_in-some w s.0 s.1))
+    subst (λ (v : FormWord). AreRequirements (word at v rest)) (sym (keyword_in-some w s.0 s.1))
     (g.one t.0 (AreRequirements-requirements_of rest u t.1))
 AreRequirements-requirements_of (list a inside b rest) u e = absurd cc
 

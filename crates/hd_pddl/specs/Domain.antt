@@ -3,7 +3,7 @@
 use Rattle.std.specs.Prelude.{ℕ, List, [], ◌∷◌, codes}
 use Rattle.hd_lex.specs.declared.token.Operator.TheVariants.{Minus}
 use Rattle.hd_forms.specs.declared.names.NameAt.{NameAt}
-use Rattle.hd_forms.specs.declared.word.Word.TheVariants.{Name, Keyword, Operator}
+use Rattle.hd_forms.specs.declared.word.FormWord.TheVariants.{Name, Keyword, Operator}
 use Rattle.hd_forms.specs.Forms.{Forms, none, word, list}
 use Rattle.hd_forms.specs.Reading.{placed_name}
 use Rattle.hd_terms.specs.declared.tree.Condition.{Condition}

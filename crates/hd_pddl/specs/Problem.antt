@@ -3,7 +3,7 @@
 use Rattle.std.specs.Prelude.{ℕ, ℤ, List, [], ◌∷◌, Option, Some, None, codes}
 use Rattle.hd_lex.specs.declared.token.Operator.TheVariants.{Equal}
 use Rattle.hd_forms.specs.declared.names.NameAt.{NameAt}
-use Rattle.hd_forms.specs.declared.word.Word.TheVariants.{Not, Name, Operator, Number}
+use Rattle.hd_forms.specs.declared.word.FormWord.TheVariants.{Not, Name, Operator, Number}
 use Rattle.hd_forms.specs.Forms.{Forms, none, word, list}
 use Rattle.hd_forms.specs.Reading.{placed_name}
 use Rattle.hd_terms.specs.declared.tree.Atom.{Atom}

@@ -3,7 +3,7 @@
 use Rattle.std.specs.Prelude.{◌≡◌, ℕ, List, [], Bool, true, ◌||◌, codes}
 use Rattle.std.specs.Str.{bytes_eq}
 use Rattle.hd_forms.specs.declared.names.NameAt.{NameAt}
-use Rattle.hd_forms.specs.declared.word.Word.TheVariants.{Name, Keyword}
+use Rattle.hd_forms.specs.declared.word.FormWord.TheVariants.{Name, Keyword}
 use Rattle.hd_forms.specs.Forms.{Forms, none, word, list}
 use Rattle.hd_forms.specs.Reading.{placed_name}
 

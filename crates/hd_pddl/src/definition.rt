@@ -8,8 +8,8 @@ ghost use Rattle.hd_pddl.specs.Sections.{is_requirement};
 ghost use Rattle.hd_pddl.specs.Reading.{head_at, section_at, requirements_of, behind_requirements};
 
 use hd_forms::{
-    Form, NameAt, ReadError, Word, behind_keyword, behind_name, end_at, find_keyword, form_refusal,
-    group_at, name_at,
+    Form, FormWord, NameAt, ReadError, behind_keyword, behind_name, end_at, find_keyword,
+    form_refusal, group_at, name_at,
 };
 use std::alloc::Global;
 
@@ -87,7 +87,7 @@ fn requirement_refusal(alloc: Global, form: &Form) -> ReadError
     match form {
         Form::Word {
             at,
-            word: Word::Keyword(name),
+            word: FormWord::Keyword(name),
         } => match format!(in alloc; ":{name}") {
             Ok(text) => ReadError::Unsupported(text, *at),
             Err(_) => ReadError::NoMemory,
@@ -105,7 +105,7 @@ fn requirements_of(alloc: Global, forms: &[Form]) -> Result<(), ReadError>
     while let [first, after @ ..] = rest {
         match first {
             Form::Word {
-                word: Word::Keyword(name),
+                word: FormWord::Keyword(name),
                 ..
             } => {
                 if !is_requirement(name.as_str()) {

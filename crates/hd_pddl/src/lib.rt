@@ -20,7 +20,7 @@ mod sections;
 mod tree;
 
 pub use domain::read_domain;
-pub use hd_forms::{Change, NameAt, ReadError};
+pub use hd_forms::{ChangeWord, NameAt, ReadError};
 pub use hd_terms::{
     Atom, Comparison, Condition, Effect, Expr, ExprParts, FluentChange, Leaf, Operation, Relation,
     Term, Typed,

@@ -18,7 +18,7 @@ use crate::sections::names_at;
 use crate::tree::{Init, InitialValue, ProblemAst};
 use hd_base::{Boxed, Sequence};
 use hd_forms::{
-    Form, NameAt, ReadError, Word, behind_keyword, behind_name, end_at, first_refusal,
+    Form, FormWord, NameAt, ReadError, behind_keyword, behind_name, end_at, first_refusal,
     form_refusal, group_at, name_at, number_at, text_forms,
 };
 use hd_terms::{Condition, atom_of, condition_at, is_equal, negated_atom_of};
@@ -63,13 +63,13 @@ fn initial_of(alloc: Global, inside: &[Form], to: usize) -> Result<Init, ReadErr
         [
             Form::Word {
                 at,
-                word: Word::Not,
+                word: FormWord::Not,
             },
             rest @ ..,
         ] => Ok(Init::NotAtom(negated_atom_of(alloc, *at, rest, to)?)),
         [
             Form::Word {
-                word: Word::Operator(operator),
+                word: FormWord::Operator(operator),
                 ..
             },
             rest @ ..,

@@ -9,7 +9,7 @@ ghost use Rattle.hd_pddl.specs.Reading.{names_of, names_at, signature_of, signat
 use crate::definition::find_section;
 use crate::tree::Signature;
 use hd_base::Sequence;
-use hd_forms::{Form, ReadError, Word, first_refusal, form_refusal, name_at};
+use hd_forms::{Form, FormWord, ReadError, first_refusal, form_refusal, name_at};
 use hd_terms::{ItemKind, Typed, is_minus, typed_of};
 use std::alloc::Global;
 
@@ -104,7 +104,7 @@ fn functions_of(alloc: Global, forms: &[Form], end: usize) -> Result<Sequence<Si
                 }
                 let [
                     Form::Word {
-                        word: Word::Name(name),
+                        word: FormWord::Name(name),
                         ..
                     },
                     more @ ..,

@@ -10,8 +10,8 @@ use Rattle.hd_lifted.specs.WellFormed.{HasDistinctNames}
 use Rattle.hd_lifted.specs.Steps.{Reached, start}
 use Rattle.hd_lifted.specs.Plans.{step_by, IsValidAt}
 use Rattle.hd_lifted.proofs.Costs.{one_cost}
-use Rattle.hd_judge.specs.declared.fault.Fault.{Fault}
-use Rattle.hd_judge.specs.declared.fault.Fault.TheVariants.{NoSuchAction}
+use Rattle.hd_judge.specs.declared.fault.PlanFault.{PlanFault}
+use Rattle.hd_judge.specs.declared.fault.PlanFault.TheVariants.{NoSuchAction}
 use Rattle.hd_judge.specs.Asking.{asked_of_step, asked_of_goal}
 use Rattle.hd_judge.specs.Validity.{ClearsFrom}
 use Rattle.hd_judge.proofs.Asked.{taken-from_unasked, taken-leads}
@@ -23,7 +23,7 @@ use Rattle.hd_plan.proofs.Apart.{one_step, one_plan}
 -- ---- one step
 
 -- a step that passes reports nothing
-passes_tells : (t : LiftedTask) (r to : Reached) (n : ℕ) (s : Step) (e : Fault) → HasDistinctNames t → PassesBy t r n s to → TellsStepBy t r n s e → ⊥
+passes_tells : (t : LiftedTask) (r to : Reached) (n : ℕ) (s : Step) (e : PlanFault) → HasDistinctNames t → PassesBy t r n s to → TellsStepBy t r n s e → ⊥
 passes_tells t r to n s e distinct p (names_none none is) = none p.instance p.is_step
 passes_tells t r to n s e distinct p (fails_named i step tells) =
     none-some e (sym p.passes.unasked ∙ (ap (asked_of_step t r n) (one_step t s p.instance i distinct p.is_step step) ∙ tells))
@@ -34,7 +34,7 @@ passes_once t r to other n s distinct p q =
     same_Some to other (sym p.passes.leads ∙ (ap (step_by t r) (one_step t s p.instance q.instance distinct p.is_step q.is_step) ∙ q.passes.leads))
 
 -- one step reports one fault
-step_tells_once : (t : LiftedTask) (r : Reached) (n : ℕ) (s : Step) (d e : Fault) → HasDistinctNames t → TellsStepBy t r n s d → TellsStepBy t r n s e → d ≡ e
+step_tells_once : (t : LiftedTask) (r : Reached) (n : ℕ) (s : Step) (d e : PlanFault) → HasDistinctNames t → TellsStepBy t r n s d → TellsStepBy t r n s e → d ≡ e
 step_tells_once t r n s d e distinct (names_none none is) (names_none also other) = is ∙ sym other
 step_tells_once t r n s d e distinct (names_none none is) (fails_named i step tells) = absurd (none i step)
 step_tells_once t r n s d e distinct (fails_named i step tells) (names_none none is) = absurd (none i step)
@@ -44,7 +44,7 @@ step_tells_once t r n s d e distinct (fails_named i step tells) (fails_named j a
 -- ---- plans
 
 -- never both
-clears_tells : (t : LiftedTask) (r : Reached) (n : ℕ) (steps : List Step) (end : Reached) (e : Fault) → HasDistinctNames t
+clears_tells : (t : LiftedTask) (r : Reached) (n : ℕ) (steps : List Step) (end : Reached) (e : PlanFault) → HasDistinctNames t
     → ClearsFromBy t r n steps end → TellsFromBy t r n steps e → ⊥
 clears_tells t r n [] end e distinct clears tells = none-some e (sym clears.1 ∙ tells)
 clears_tells t r n (s ∷ steps) end e distinct clears tells =
@@ -56,7 +56,7 @@ clears_tells t r n (s ∷ steps) end e distinct clears tells =
     ]
 
 -- one fault
-tells_once : (t : LiftedTask) (r : Reached) (n : ℕ) (steps : List Step) (d e : Fault) → HasDistinctNames t
+tells_once : (t : LiftedTask) (r : Reached) (n : ℕ) (steps : List Step) (d e : PlanFault) → HasDistinctNames t
     → TellsFromBy t r n steps d → TellsFromBy t r n steps e → d ≡ e
 tells_once t r n [] d e distinct one other = same_Some d e (sym one ∙ other)
 tells_once t r n (s ∷ steps) d e distinct one other =
@@ -77,7 +77,7 @@ tells_once t r n (s ∷ steps) d e distinct one other =
 
 -- never neither
 clears_or_tells : (t : LiftedTask) (r : Reached) (n : ℕ) (steps : List Step)
-    → ((end : Reached) → ClearsFromBy t r n steps end → ⊥) → ((e : Fault) → TellsFromBy t r n steps e → ⊥) → ⊥
+    → ((end : Reached) → ClearsFromBy t r n steps end → ⊥) → ((e : PlanFault) → TellsFromBy t r n steps e → ⊥) → ⊥
 clears_or_tells t r n [] clears tells =
     elim (asked_of_goal t r n) as (λ o. asked_of_goal t r n ≡ o → ⊥) [
       | None ↦ λ e. clears r (refl, e)
@@ -138,19 +138,19 @@ validated_from t r steps end cost begins clears is =
 
 -- ---- the laws
 
-pub validated-no_fault : (t : LiftedTask) (steps : List Step) (cost : ℕ) (e : Fault) → HasDistinctNames t → IsValidatedBy t steps cost → IsFirstFaultBy t steps e → ⊥
+pub validated-no_fault : (t : LiftedTask) (steps : List Step) (cost : ℕ) (e : PlanFault) → HasDistinctNames t → IsValidatedBy t steps cost → IsFirstFaultBy t steps e → ⊥
 validated-no_fault t steps cost e distinct v tells =
     let f = faultless-from_validated t v.plan cost v.validated in
     clears_tells t (start t) 1 steps f.0 e distinct (clears_by t (start t) 1 steps v.plan f.0 v.are_steps f.1) tells
 
-pub judged : (t : LiftedTask) (steps : List Step) → ((cost : ℕ) → IsValidatedBy t steps cost → ⊥) → ((e : Fault) → IsFirstFaultBy t steps e → ⊥) → ⊥
+pub judged : (t : LiftedTask) (steps : List Step) → ((cost : ℕ) → IsValidatedBy t steps cost → ⊥) → ((e : PlanFault) → IsFirstFaultBy t steps e → ⊥) → ⊥
 judged t steps validated tells =
     clears_or_tells t (start t) 1 steps
     (λ end clears.
     let c = faultless-cost t (cleared t (start t) 1 steps end clears).plan end (cleared t (start t) 1 steps end clears).clears in
     validated c.0 (validated_by t steps end c.0 clears c.1)) tells
 
-pub first_fault-one : (t : LiftedTask) (steps : List Step) (d e : Fault) → HasDistinctNames t → IsFirstFaultBy t steps d → IsFirstFaultBy t steps e → d ≡ e
+pub first_fault-one : (t : LiftedTask) (steps : List Step) (d e : PlanFault) → HasDistinctNames t → IsFirstFaultBy t steps d → IsFirstFaultBy t steps e → d ≡ e
 first_fault-one t steps d e distinct one other = tells_once t (start t) 1 steps d e distinct one other
 
 same-pos : (m n : ℕ) → pos m ≡ pos n → m ≡ n

@@ -3,7 +3,7 @@ use Rattle.std.proofs.Common.{◌≡◌, ℕ, List, refl}
 use Rattle.hd_plan.specs.declared.step.Step.{Step}
 use Rattle.hd_lifted.specs.declared.task.LiftedTask.{LiftedTask}
 use Rattle.hd_lifted.specs.WellFormed.{HasDistinctNames}
-use Rattle.hd_judge.specs.declared.fault.Fault.TheVariants as faults
+use Rattle.hd_judge.specs.declared.fault.PlanFault.TheVariants as faults
 use Rattle.hd_plan.specs.declared.error.PlanError.{PlanError}
 use Rattle.hd_plan.specs.declared.error.PlanError.TheVariants.{NoSuchAction, NotApplicable, Undefined, NegativeCost, Departs, GoalUnmet, NoMemory}
 use Rattle.hd_plan.specs.Plans.{IsValidatedBy}

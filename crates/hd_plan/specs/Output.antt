@@ -2,8 +2,8 @@
 use Rattle.std.specs.Prelude.{◌≡◌, ℕ, ◌<◌, ◌≤◌, List, Option, Some, length, take, Result, MatchResult}
 use Rattle.std.specs.Io.KnownBytes.{Keeps, Appends}
 use Rattle.std.specs.declared.io.ErrorKind.{ErrorKind}
-use Rattle.hd_plan.specs.declared.output.WriteError.{WriteError}
-use Rattle.hd_plan.specs.declared.output.WriteError.TheVariants.{NoMemory, Device}
+use Rattle.hd_plan.specs.declared.output.WriteFault.{WriteFault}
+use Rattle.hd_plan.specs.declared.output.WriteFault.TheVariants.{NoMemory, Device}
 
 -- a beginning of these bytes was appended, which may be nothing or all
 abbrev pub AppendsFront : Option (List ℕ) → Option (List ℕ) → List ℕ → Type 0
@@ -22,16 +22,16 @@ abbrev pub NotesFault : {X Kind : Type 0} → Option Kind → Option Kind → Re
 NotesFault old new result = MatchResult result (λ _. new ≡ old) (λ kind. new ≡ Some kind)
 
 -- if memory ran out, nothing was written
-abbrev pub KeepsFor : Option (List ℕ) → Option (List ℕ) → WriteError → Type 0
+abbrev pub KeepsFor : Option (List ℕ) → Option (List ℕ) → WriteFault → Type 0
 KeepsFor old new NoMemory = Keeps old new
 KeepsFor old new (Device kind) = Unit {0}
 
 -- the error that is reported is the one that is noted of the writer; lack of memory is none of the
 -- writer's
-abbrev pub IsNoted : Option ErrorKind → Option ErrorKind → WriteError → Type 0
+abbrev pub IsNoted : Option ErrorKind → Option ErrorKind → WriteFault → Type 0
 IsNoted old new NoMemory = new ≡ old
 IsNoted old new (Device kind) = new ≡ Some kind
 
 -- the writer has answered the error that is reported of it, and none where none is reported
-abbrev pub NotesError : {X : Type 0} → Option ErrorKind → Option ErrorKind → Result X WriteError → Type 0
+abbrev pub NotesError : {X : Type 0} → Option ErrorKind → Option ErrorKind → Result X WriteFault → Type 0
 NotesError old new result = MatchResult result (λ _. new ≡ old) (IsNoted old new)

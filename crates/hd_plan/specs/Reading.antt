@@ -6,8 +6,8 @@ use Rattle.hd_lex.specs.declared.token.Word.TheVariants as words
 use Rattle.hd_plan.specs.Text.{IsSilent, IsStepLine, IsGood, ReadsAs, IsFirstBadLine}
 use Rattle.hd_plan.specs.declared.text_error.PlanTextError.{PlanTextError}
 use Rattle.hd_plan.specs.declared.text_error.PlanTextError.TheVariants.{BadLine, NoMemory}
-use Rattle.hd_plan.specs.declared.line.Line.{Line}
-use Rattle.hd_plan.specs.declared.line.Line.TheVariants as lines
+use Rattle.hd_plan.specs.declared.line.PlanLine.{PlanLine}
+use Rattle.hd_plan.specs.declared.line.PlanLine.TheVariants as lines
 use Rattle.hd_plan.specs.declared.step.Step.{Step}
 
 -- what the tokens are
@@ -82,7 +82,7 @@ step_of (w ∷ []) = None
 step_of (w ∷ v ∷ ws) = step_by (is_open w) (name_in v) (args_of ws)
 
 -- what is said of a line holds
-abbrev pub IsSaid : List ℕ → Line → Type 0
+abbrev pub IsSaid : List ℕ → PlanLine → Type 0
 IsSaid line lines.Silent = IsSilent line
 IsSaid line (lines.Step step) = IsStepLine line step
 IsSaid line lines.Bad = ¬ IsGood line

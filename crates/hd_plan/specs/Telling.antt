@@ -4,7 +4,7 @@ use Rattle.hd_plan.specs.declared.step.Step.{Step}
 use Rattle.hd_lifted.specs.declared.schema.Ground.{Ground}
 use Rattle.hd_lifted.specs.declared.instance.Instance.{Instance}
 use Rattle.hd_lifted.specs.declared.task.LiftedTask.{LiftedTask}
-use Rattle.hd_judge.specs.declared.fault.Fault.TheVariants as faults
+use Rattle.hd_judge.specs.declared.fault.PlanFault.TheVariants as faults
 use Rattle.hd_plan.specs.declared.error.PlanError.{PlanError}
 use Rattle.hd_plan.specs.declared.error.PlanError.TheVariants.{NoSuchAction, NotApplicable, Undefined, NegativeCost, Departs, GoalUnmet, NoMemory}
 use Rattle.hd_plan.specs.Texts.{fluent_text, instance_text}

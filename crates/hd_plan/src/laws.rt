@@ -5,7 +5,7 @@ ghost use Rattle.hd_plan.specs.declared.step.Step.{Step};
 ghost use Rattle.hd_lifted.specs.declared.task.LiftedTask.{LiftedTask};
 ghost use Rattle.hd_lifted.specs.declared.instance.Instance.{Instance};
 ghost use Rattle.hd_lifted.specs.WellFormed.{HasDistinctNames};
-ghost use Rattle.hd_judge.specs.declared.fault.Fault.{Fault};
+ghost use Rattle.hd_judge.specs.declared.fault.PlanFault.{PlanFault};
 ghost use Rattle.hd_plan.specs.Naming.{IsStep};
 ghost use Rattle.hd_plan.specs.Plans.{IsValidatedBy, IsFirstFaultBy};
 
@@ -18,12 +18,12 @@ pub fn steps_are_told_apart()
 /// Law: where no name stands twice, a plan of steps is validated or it has a first fault: never
 /// both, and never neither. It has no two first faults, and no two costs.
 pub fn named_plans_are_judged()
-    ensures never_both { (t : LiftedTask) (steps : List Step) (cost : ℕ) (fault : Fault)
+    ensures never_both { (t : LiftedTask) (steps : List Step) (cost : ℕ) (fault : PlanFault)
         → HasDistinctNames t → IsValidatedBy t steps cost → IsFirstFaultBy t steps fault → ⊥ }
     ensures never_neither { (t : LiftedTask) (steps : List Step)
         → ((cost : ℕ) → IsValidatedBy t steps cost → ⊥)
-        → ((fault : Fault) → IsFirstFaultBy t steps fault → ⊥) → ⊥ }
-    ensures one_fault { (t : LiftedTask) (steps : List Step) (fault other : Fault)
+        → ((fault : PlanFault) → IsFirstFaultBy t steps fault → ⊥) → ⊥ }
+    ensures one_fault { (t : LiftedTask) (steps : List Step) (fault other : PlanFault)
         → HasDistinctNames t → IsFirstFaultBy t steps fault → IsFirstFaultBy t steps other
         → fault ≡ other }
     ensures one_cost { (t : LiftedTask) (steps : List Step) (cost other : ℕ)

@@ -36,7 +36,7 @@ mod write;
 pub use error::PlanError;
 pub use law::{each_text_reads_or_has_a_bad_line, what_is_written_is_read_back};
 pub use names::TaskNames;
-pub use output::{Watched, WriteError, put};
+pub use output::{Watched, WriteFault, put};
 pub use read::read_plan;
 pub use step::Step;
 pub use steps::instance_of;

@@ -5,14 +5,14 @@ ghost use Rattle.std.specs.List.{list_all};
 ghost use Rattle.hd_plan.specs.Text.{is_plain_byte};
 ghost use Rattle.hd_plan.specs.Reading.{IsSaid};
 
-use crate::text_error::PlanTextError;
 use crate::step::{Step, step_of};
+use crate::text_error::PlanTextError;
 use hd_lex::{LexError, tokens};
 use std::alloc::Global;
 
 /// What a line says.
 #[derive(Drop)]
-pub enum Line {
+pub enum PlanLine {
     Silent,
     Step(Step),
     Bad,
@@ -27,7 +27,7 @@ fn is_plain(line: &[u8]) -> bool
 
 /// Returns what this line says.
 #[tactic(auto, using(crate::proofs::Lines::line_is_silent, crate::proofs::Lines::line_is_step, crate::proofs::Lines::commented_bad, crate::proofs::Lines::misshaped_bad, crate::proofs::Lines::faulty_bad))]
-pub fn line_of(alloc: Global, line: &[u8]) -> Result<Line, PlanTextError>
+pub fn line_of(alloc: Global, line: &[u8]) -> Result<PlanLine, PlanTextError>
     ensures said { IfOk result (IsSaid line.now) }
     ensures no_memory { IfErr result (λ error. error ≡ PlanTextError.NoMemory) }
 {
@@ -35,17 +35,17 @@ pub fn line_of(alloc: Global, line: &[u8]) -> Result<Line, PlanTextError>
         Ok(tokens) => tokens,
         Err(LexError::NoMemory) => return Err(PlanTextError::NoMemory),
         Err(LexError::BadByte(_) | LexError::BadNumber(_) | LexError::NameTooLong(_)) => {
-            return Ok(Line::Bad);
+            return Ok(PlanLine::Bad);
         }
     };
     if tokens.is_empty() {
-        return Ok(Line::Silent);
+        return Ok(PlanLine::Silent);
     }
     if !is_plain(line) {
-        return Ok(Line::Bad);
+        return Ok(PlanLine::Bad);
     }
     match step_of(alloc, &tokens)? {
-        Some(step) => Ok(Line::Step(step)),
-        None => Ok(Line::Bad),
+        Some(step) => Ok(PlanLine::Step(step)),
+        None => Ok(PlanLine::Bad),
     }
 }

@@ -2,33 +2,33 @@
 ghost use Rattle.std.specs.Prelude.{◌≡◌, ◌<◌, None, Some, length, IfOk, IfErr, OnOk, OnErr};
 ghost use Rattle.std.specs.Io.KnownBytes.{Appends, WriteAppends};
 ghost use Rattle.hd_plan.specs.Output.{AppendsShort, IsPartOf, NotesFault};
-ghost use Rattle.hd_plan.specs.declared.output.WriteError.TheVariants.{NoMemory};
+ghost use Rattle.hd_plan.specs.declared.output.WriteFault.TheVariants.{NoMemory};
 
 use std::alloc::{AllocError, AllocFailed};
 use std::io::{self, Write};
 
 /// Why a text was not written.
 #[derive(Clone, Copy, Debug, PartialEq, Eq)]
-pub enum WriteError {
+pub enum WriteFault {
     /// Memory ran out before anything was written.
     NoMemory,
     /// The writer failed, with this kind of error.
     Device(io::ErrorKind),
 }
 
-impl From<AllocError> for WriteError {
+impl From<AllocError> for WriteFault {
     ghost from_gives = { λ _ error. error ≡ NoMemory };
 
-    fn from(_error: AllocError) -> WriteError {
-        WriteError::NoMemory
+    fn from(_error: AllocError) -> WriteFault {
+        WriteFault::NoMemory
     }
 }
 
-impl<T: Drop> From<AllocFailed<T>> for WriteError {
+impl<T: Drop> From<AllocFailed<T>> for WriteFault {
     ghost from_gives = { λ _ error. error ≡ NoMemory };
 
-    fn from(_error: AllocFailed<T>) -> WriteError {
-        WriteError::NoMemory
+    fn from(_error: AllocFailed<T>) -> WriteFault {
+        WriteFault::NoMemory
     }
 }
 

@@ -8,9 +8,9 @@ ghost use Rattle.hd_plan.specs.Reading.{Adds, IsLineFault};
 ghost use Rattle.hd_plan.specs.declared.text_error.PlanTextError.{PlanTextError};
 ghost use Rattle.hd_plan.specs.declared.step.Step.{Step};
 
-use crate::text_error::PlanTextError;
-use crate::line::{Line, line_of};
+use crate::line::{PlanLine, line_of};
 use crate::step::Step;
+use crate::text_error::PlanTextError;
 use hd_base::Sequence;
 use std::alloc::Global;
 
@@ -43,12 +43,12 @@ fn add_line(
     ensures refusal { IfErr result (IsLineFault line.now number) }
 {
     match line_of(alloc, line)? {
-        Line::Silent => Ok(()),
-        Line::Step(step) => {
+        PlanLine::Silent => Ok(()),
+        PlanLine::Step(step) => {
             steps.push(step)?;
             Ok(())
         }
-        Line::Bad => Err(PlanTextError::BadLine(number)),
+        PlanLine::Bad => Err(PlanTextError::BadLine(number)),
     }
 }
 

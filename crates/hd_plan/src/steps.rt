@@ -2,10 +2,10 @@
 ghost use Rattle.std.specs.Prelude.{◌≡◌, IfOk};
 ghost use Rattle.hd_plan.specs.Tables.{numbers_of, FindsNamed};
 
+use crate::Step;
 use crate::names::{NameTable, TaskNames};
 use hd_base::{Name, NoMemory, Tuple};
 use hd_lifted::Instance;
-use crate::Step;
 use smallvec::SmallVec;
 use std::alloc::Global;
 

@@ -1,14 +1,14 @@
 //! What is reported of a plan that is not validated.
 ghost use Rattle.std.specs.Prelude.{List};
 ghost use Rattle.hd_plan.specs.declared.step.Step.{Step};
-ghost use Rattle.hd_judge.specs.declared.fault.Fault.TheVariants as faults;
+ghost use Rattle.hd_judge.specs.declared.fault.PlanFault.TheVariants as faults;
 ghost use Rattle.hd_judge.specs.Fault.{StopsBy};
 ghost use Rattle.hd_plan.specs.Plans.{IsFirstFaultBy};
 ghost use Rattle.hd_plan.specs.Telling.{Tells};
 
 use crate::error::PlanError;
 use crate::texts::{fluent_text, instance_text};
-use hd_judge::{Fault, Stop};
+use hd_judge::{PlanFault, PlanStop};
 use hd_lifted::{Ground, Instance, LiftedTask};
 use std::alloc::Global;
 
@@ -36,27 +36,27 @@ fn negative_cost(alloc: Global, task: &LiftedTask, instance: &Instance) -> PlanE
 }
 
 /// Reports a fault.
-fn told(alloc: Global, task: &LiftedTask, fault: &Fault) -> PlanError
+fn told(alloc: Global, task: &LiftedTask, fault: &PlanFault) -> PlanError
     ensures { (steps : List Step) → IsFirstFaultBy task.now steps fault.now
         → Tells task.now steps result }
 {
     match fault {
-        Fault::NoSuchAction(step) => PlanError::NoSuchAction(*step),
-        Fault::NotApplicable(step) => PlanError::NotApplicable(*step),
-        Fault::Undefined(fluent) => undefined(alloc, task, fluent),
-        Fault::NegativeCost(instance) => negative_cost(alloc, task, instance),
-        Fault::Departs(step) => PlanError::Departs(*step),
-        Fault::GoalUnmet => PlanError::GoalUnmet,
+        PlanFault::NoSuchAction(step) => PlanError::NoSuchAction(*step),
+        PlanFault::NotApplicable(step) => PlanError::NotApplicable(*step),
+        PlanFault::Undefined(fluent) => undefined(alloc, task, fluent),
+        PlanFault::NegativeCost(instance) => negative_cost(alloc, task, instance),
+        PlanFault::Departs(step) => PlanError::Departs(*step),
+        PlanFault::GoalUnmet => PlanError::GoalUnmet,
     }
 }
 
 /// Reports why a plan is not validated.
-pub(crate) fn error_of(alloc: Global, task: &LiftedTask, stop: &Stop) -> PlanError
+pub(crate) fn error_of(alloc: Global, task: &LiftedTask, stop: &PlanStop) -> PlanError
     ensures { (steps : List Step) → StopsBy (IsFirstFaultBy task.now steps) stop.now
         → Tells task.now steps result }
 {
     match stop {
-        Stop::At(fault) => told(alloc, task, fault),
-        Stop::NoMemory => PlanError::NoMemory,
+        PlanStop::At(fault) => told(alloc, task, fault),
+        PlanStop::NoMemory => PlanError::NoMemory,
     }
 }

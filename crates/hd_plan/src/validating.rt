@@ -5,19 +5,19 @@ ghost use Rattle.hd_lifted.specs.WellFormed.{HasDistinctNames};
 ghost use Rattle.hd_judge.specs.Fault.{StopsBy};
 ghost use Rattle.hd_judge.specs.Tables.{reached_in};
 ghost use Rattle.hd_judge.specs.Way.{IsOnWay};
-ghost use Rattle.hd_judge.specs.declared.fault.Fault.{Fault};
+ghost use Rattle.hd_judge.specs.declared.fault.PlanFault.{PlanFault};
 ghost use Rattle.hd_plan.specs.declared.error.PlanError.{PlanError};
 ghost use Rattle.hd_plan.specs.Plans.{IsValidatedBy, PassesBy, TellsStepBy, TellsFromBy, ClearsFromBy, IsFirstFaultBy};
 ghost use Rattle.hd_plan.specs.Telling.{Tells};
 
+use crate::Step;
 use crate::error::PlanError;
 use crate::names::TaskNames;
 use crate::steps::instance_of;
 use crate::telling::error_of;
 use hd_base::Seed;
-use hd_judge::{Fault, Lookups, Place, Stop, begin, judge_goal, judge_step};
+use hd_judge::{Lookups, Place, PlanFault, PlanStop, begin, judge_goal, judge_step};
 use hd_lifted::Checked;
-use crate::Step;
 use std::alloc::Global;
 
 /// Judges the n-th step, and takes it. After an error the place is of no use.
@@ -28,7 +28,7 @@ fn judge_named(
     place: &mut Place,
     number: u64,
     step: &Step,
-) -> Result<(), Stop>
+) -> Result<(), PlanStop>
     requires same { names.now ≡ lookups.now }
     requires distinct { HasDistinctNames lookups.now }
     requires way { IsOnWay lookups.now (reached_in place.old) }
@@ -39,7 +39,7 @@ fn judge_named(
         step.now)) }
 {
     let Some(instance) = instance_of(alloc, names, step)? else {
-        return Err(Stop::At(Fault::NoSuchAction(number)));
+        return Err(PlanStop::At(PlanFault::NoSuchAction(number)));
     };
     let judged = judge_step(alloc, lookups, place, number, &instance);
     drop(instance);
@@ -53,7 +53,7 @@ fn judge_all(
     lookups: &Lookups<'_>,
     place: &mut Place,
     steps: &[Step],
-) -> Result<(), Stop>
+) -> Result<(), PlanStop>
     requires same { names.now ≡ lookups.now }
     requires distinct { HasDistinctNames lookups.now }
     requires way { IsOnWay lookups.now (reached_in place.old) }
@@ -82,7 +82,7 @@ fn cost_from(
     lookups: &Lookups<'_>,
     mut place: Place,
     steps: &[Step],
-) -> Result<u64, Stop>
+) -> Result<u64, PlanStop>
     requires same { names.now ≡ lookups.now }
     requires distinct { HasDistinctNames lookups.now }
     requires start { reached_in place ≡ start lookups.now }
@@ -97,7 +97,7 @@ fn cost_from(
 }
 
 /// Returns what a plan of a task costs, or where its judgement stops.
-fn cost_of(alloc: Global, seed: Seed, checked: &Checked, steps: &[Step]) -> Result<u64, Stop>
+fn cost_of(alloc: Global, seed: Seed, checked: &Checked, steps: &[Step]) -> Result<u64, PlanStop>
     ensures valid { IfOk result (IsValidatedBy checked.now steps.now) }
     ensures tells { IfErr result (StopsBy (IsFirstFaultBy checked.now steps.now)) }
 {
@@ -106,7 +106,7 @@ fn cost_of(alloc: Global, seed: Seed, checked: &Checked, steps: &[Step]) -> Resu
     let lookups = Lookups::of(alloc, seed, task)?;
     match begin(alloc, seed, task) {
         Ok(place) => cost_from(alloc, &names, &lookups, place, steps),
-        Err(_) => Err(Stop::NoMemory),
+        Err(_) => Err(PlanStop::NoMemory),
     }
 }
 
@@ -132,7 +132,7 @@ pub fn validate(
     // A validated plan is answered, and one with a fault is refused, unless memory ran out.
     ensures valid_plan { (cost : ℕ) → IsValidatedBy checked.now steps.now cost
         → MatchResult result (λ found. found ≡ cost) (λ error. error ≡ PlanError.NoMemory) }
-    ensures faulty_plan { (fault : Fault) → IsFirstFaultBy checked.now steps.now fault
+    ensures faulty_plan { (fault : PlanFault) → IsFirstFaultBy checked.now steps.now fault
         → MatchResult result (λ _. ⊥) (λ error. Tells checked.now steps.now error) }
 {
     let task = checked.task();

@@ -5,7 +5,7 @@ ghost use Rattle.std.specs.Io.KnownBytes.{Appends};
 ghost use Rattle.hd_plan.specs.Output.{AppendsShort, KeepsFor, NotesError};
 ghost use Rattle.hd_plan.specs.PlanText.{arg_text, step_text, step_line, plan_text};
 
-use crate::output::{Watched, WriteError};
+use crate::output::{Watched, WriteFault};
 use crate::step::Step;
 use hd_base::{Name, NoMemory};
 use std::alloc::Global;
@@ -75,7 +75,7 @@ pub fn write_plan<W: Write>(
     steps: &[Step],
     cost: u64,
     out: &mut Watched<'_, W>,
-) -> Result<(), WriteError>
+) -> Result<(), WriteFault>
     // What is written: just that text.
     ensures whole { OnOk result (Appends (W.contents out.old.writer.now)
         (W.contents out.new.writer.now) (plan_text steps.now cost)) }
@@ -96,6 +96,6 @@ pub fn write_plan<W: Write>(
     drop(text);
     match written {
         Ok(()) => Ok(()),
-        Err(kind) => Err(WriteError::Device(kind)),
+        Err(kind) => Err(WriteFault::Device(kind)),
     }
 }

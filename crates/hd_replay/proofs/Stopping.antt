@@ -2,8 +2,8 @@
 use Rattle.std.proofs.Common.{◌≡◌, inl, inr, ℕ, zero, suc, ◌+◌, ◌≤◌, List, [], ◌∷◌, length, Err, Ok, refl, sym, ap, ◌∙◌, subst, arith, true≢false}
 use Rattle.std.proofs.lemmas.Bool.{ne_eqb}
 use Rattle.hd_store.specs.declared.ahead.Ahead.TheVariants.{Unknown, Stops, Well}
-use Rattle.hd_store.specs.declared.change.Change.{Change}
-use Rattle.hd_store.specs.declared.change.Change.TheVariants.{Write, Cut, Sync, FailedSync}
+use Rattle.hd_store.specs.declared.change.DiskChange.{DiskChange}
+use Rattle.hd_store.specs.declared.change.DiskChange.TheVariants.{Write, Cut, Sync, FailedSync}
 use Rattle.hd_store.specs.declared.error.StoreError.TheVariants.{Failed}
 use Rattle.hd_store.specs.Bytes.{IsPartOfWrite, IsPartOfCut}
 use Rattle.hd_store.specs.Calls.{BreaksOff}
@@ -60,7 +60,7 @@ sync_fills start steps now fill found f = record {
 
 module _ (start : List ℕ) (steps : List Step) (new : Device) where
   -- a change that was begun and failed, on a device that is not closed
-  begun : (change : Change) (Part : List ℕ → Type 0) → BreaksOff (planned start steps 0) change Part new
+  begun : (change : DiskChange) (Part : List ℕ → Type 0) → BreaksOff (planned start steps 0) change Part new
       → (now : List ℕ) × (new ≡ broken (planned start steps 0) change now)
   begun change Part breaks =
       elim breaks [
@@ -68,7 +68,7 @@ module _ (start : List ℕ) (steps : List Step) (new : Device) where
         | inr on ↦ (on.1.0, on.1.2)
       ]
 
-  fills_by : (change : Change) (now : List ℕ) (e : Device) → new ≡ broken (planned start steps 0) change now
+  fills_by : (change : DiskChange) (now : List ℕ) (e : Device) → new ≡ broken (planned start steps 0) change now
       → ((fill : ℕ) (found : List ℕ) → IsFilled start (step change now ∷ steps) fill found → IsFilled e.start e.steps fill found) → FillsAs new e
   fills_by change now e is fills fill found f =
       fills fill found (subst (λ (d : Device). IsFilled d.start d.steps fill found) is f)

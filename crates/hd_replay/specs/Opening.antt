@@ -13,8 +13,8 @@ use Rattle.hd_world.specs.Starting.{run_after}
 use Rattle.hd_world.specs.Stops.{File, Opens, at_rest, entries_of, stopped_in}
 use Rattle.hd_world.specs.World.{IsBehind, is_recovered}
 use Rattle.hd_world.specs.Filling.{Filled}
-use Rattle.hd_replay.specs.declared.opening.Opened.{Opened}
-use Rattle.hd_replay.specs.declared.opening.Opened.TheVariants.{Whole, Cut}
+use Rattle.hd_replay.specs.declared.opening.OpenedJournal.{OpenedJournal}
+use Rattle.hd_replay.specs.declared.opening.OpenedJournal.TheVariants.{Whole, Cut}
 use Rattle.hd_replay.specs.Journals.{StandsAs}
 
 -- a journal was opened on a disk that holds this, and no stop falls within the calls that opened
@@ -39,7 +39,7 @@ pub record IsCut (digest content : List ℕ) (stop : Option StopAt) (disk : Memo
   pub started : IsStarted disk left
 
 -- what an opening comes to of a disk that holds this
-abbrev pub IsOpenedBy : List ℕ → List ℕ → Option StopAt → Opened → Type 0
+abbrev pub IsOpenedBy : List ℕ → List ℕ → Option StopAt → OpenedJournal → Type 0
 IsOpenedBy digest content stop (Whole journal) = OpensBefore digest content stop journal
 IsOpenedBy digest content stop (Cut disk) = IsCut digest content stop disk
 

@@ -11,8 +11,8 @@ use crate::seat::Seat;
 use crate::settling::settled;
 use hd_book::Book;
 use hd_journal::{DIGEST_LEN, Group, Journal, JournalError};
-use hd_world::StopAt;
 use hd_store::MemoryDisk;
+use hd_world::StopAt;
 use std::alloc::Global;
 use std::sync::ledger::Ledger;
 

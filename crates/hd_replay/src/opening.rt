@@ -8,13 +8,13 @@ ghost use Rattle.hd_replay.specs.Opening.{OpensBefore, IsOpenedBy};
 use crate::fault::{ReplayFault, told_of_journal};
 use crate::settling::settled;
 use hd_journal::{DIGEST_LEN, Journal, JournalError};
-use hd_world::StopAt;
 use hd_store::MemoryDisk;
+use hd_world::StopAt;
 use std::alloc::Global;
 
 /// What an opening comes to.
 #[derive(Drop)]
-pub(crate) enum Opened {
+pub(crate) enum OpenedJournal {
     /// The journal is open.
     Whole(Journal<MemoryDisk>),
     /// A stop fell in one of its calls, and left this disk.
@@ -67,7 +67,7 @@ fn open_until(
     digest: &[u8; DIGEST_LEN],
     disk: MemoryDisk,
     at: StopAt,
-) -> Result<Opened, ReplayFault>
+) -> Result<OpenedJournal, ReplayFault>
     requires { 1 ≤ at.call }
     ensures { (content : List ℕ) → IsStarted disk content
         → IfOk result (IsOpenedBy digest.now content (Some at)) }
@@ -75,8 +75,8 @@ fn open_until(
     let mut disk = disk;
     disk.stop_at(u64::from(at.call));
     match Journal::open(alloc, disk, digest) {
-        Ok(journal) => Ok(Opened::Whole(open_again(alloc, digest, journal)?)),
-        Err((disk, JournalError::Device)) => Ok(Opened::Cut(settled(alloc, disk, at.byte)?)),
+        Ok(journal) => Ok(OpenedJournal::Whole(open_again(alloc, digest, journal)?)),
+        Err((disk, JournalError::Device)) => Ok(OpenedJournal::Cut(settled(alloc, disk, at.byte)?)),
         Err((_, error)) => Err(told_of_journal(error)),
     }
 }
@@ -91,13 +91,13 @@ pub(crate) fn open_for(
     digest: &[u8; DIGEST_LEN],
     disk: MemoryDisk,
     stop: Option<StopAt>,
-) -> Result<Opened, ReplayFault>
+) -> Result<OpenedJournal, ReplayFault>
     requires { IfSome stop (λ at. 1 ≤ at.call) }
     ensures { (content : List ℕ) → IsStarted disk content
         → IfOk result (IsOpenedBy digest.now content stop) }
 {
     match stop {
         Some(at) => open_until(alloc, digest, disk, at),
-        None => Ok(Opened::Whole(open(alloc, digest, disk)?)),
+        None => Ok(OpenedJournal::Whole(open(alloc, digest, disk)?)),
     }
 }

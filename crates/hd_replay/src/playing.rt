@@ -11,16 +11,16 @@ ghost use Rattle.hd_replay.specs.Playing.{IsEndOf, IsEndedBy, EndsTo, PlaysTo};
 
 use crate::ending::{end, stop};
 use crate::fault::ReplayFault;
-use crate::opening::{Opened, open, open_for};
+use crate::opening::{OpenedJournal, open, open_for};
 use crate::report::Report;
 use crate::run::Run;
 use crate::saying::says_of;
 use crate::starting::run_of;
 use crate::stepping::{step, stop_in};
 use hd_journal::{DIGEST_LEN, Journal};
-use hd_world::{Move, StopAt};
 use hd_store::MemoryDisk;
 use hd_task::Task;
+use hd_world::{Move, StopAt};
 use std::alloc::Global;
 use std::sync::ledger::{Blank, Ledger};
 
@@ -169,10 +169,10 @@ pub(crate) fn play_from<L: Ledger>(
         moves.now result }
 {
     match open_for(alloc, digest, disk, until) {
-        Ok(Opened::Whole(journal)) => {
+        Ok(OpenedJournal::Whole(journal)) => {
             play_over::<L>(blank, alloc, task, digest, journal, workers as usize, moves)
         }
-        Ok(Opened::Cut(disk)) => Played::Stopped(disk, 0),
+        Ok(OpenedJournal::Cut(disk)) => Played::Stopped(disk, 0),
         Err(fault) => Played::Failed(fault),
     }
 }

@@ -42,9 +42,9 @@ impl fmt::Display for Says {
 
 /// What is said at an end, if anything is.
 #[derive(Clone, Copy)]
-struct Verdict(Option<Says>);
+struct SaidVerdict(Option<Says>);
 
-impl fmt::Display for Verdict {
+impl fmt::Display for SaidVerdict {
     ghost output = { λ verdict. Some (verdict_text verdict.0) };
 
     fn fmt<W: fmt::Write>(&self, f: &mut fmt::Formatter<W>) -> fmt::Result {
@@ -63,6 +63,6 @@ impl fmt::Display for Report {
         writeln!(f, "expansions {}", self.expansions)?;
         writeln!(f, "acknowledged {}", self.acknowledged)?;
         writeln!(f, "bytes {}", self.bytes)?;
-        writeln!(f, "verdict {}", Verdict(self.verdict))
+        writeln!(f, "verdict {}", SaidVerdict(self.verdict))
     }
 }

@@ -9,8 +9,8 @@ ghost use Rattle.hd_replay.specs.Journals.{Runs, Goes, stop_in};
 use crate::fault::ReplayFault;
 use crate::run::Run;
 use hd_journal::Journal;
-use hd_world::{Move, StopAt};
 use hd_store::MemoryDisk;
+use hd_world::{Move, StopAt};
 use std::sync::ledger::Ledger;
 
 /// Makes the move `next`, if it touches no disk and is possible; else changes nothing.

@@ -1,6 +1,6 @@
 -- The line that reports how a search stands. (Our own.)
 use Rattle.std.specs.Prelude.{ℕ, ◌*◌, ◌/◌, ◌-◌, ◌^◌, max, min, List, ◌++◌, Option, Some, None, codes, decimal}
-use Rattle.hd_search.specs.declared.line.Line.{Line}
+use Rattle.hd_search.specs.declared.line.ProgressLine.{ProgressLine}
 
 -- a cost, or that there is none
 abbrev pub cost_text : Option ℕ → List ℕ
@@ -9,7 +9,7 @@ cost_text None = codes "none"
 
 -- the line: how far the search has come, what is open, and what is least of that and in the
 -- journal
-abbrev pub line_text : Line → List ℕ
+abbrev pub line_text : ProgressLine → List ℕ
 line_text l =
     (codes "entries " ++ decimal l.entries ++ codes ", " ++ decimal l.rate ++ codes " a second, ")
     ++ (codes "open " ++ decimal l.open ++ codes ", bound " ++ cost_text l.bound ++ codes ", ")

@@ -6,7 +6,7 @@ use std::fmt;
 
 /// How a search stands.
 #[derive(Clone, Copy, Debug, PartialEq, Eq)]
-pub struct Line {
+pub struct ProgressLine {
     /// How many plans are expanded.
     pub entries: u64,
     /// How many of these a second, since the line before.
@@ -36,7 +36,7 @@ impl fmt::Display for Cost {
     }
 }
 
-impl fmt::Display for Line {
+impl fmt::Display for ProgressLine {
     ghost output = { λ line. Some (line_text line) };
 
     fn fmt<W: fmt::Write>(&self, f: &mut fmt::Formatter<W>) -> fmt::Result {

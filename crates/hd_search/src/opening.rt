@@ -48,7 +48,7 @@ pub(crate) struct Rest<'t, L: Ledger, A: Ledger> {
 /// A search that is opened: what its threads share, the committer's place, and the workers'
 /// places in the order of their numbers.
 #[derive(Drop)]
-pub(crate) struct Opened<'t, L: Ledger, A: Ledger> {
+pub(crate) struct OpenedSearch<'t, L: Ledger, A: Ledger> {
     pub(crate) desk: Desk<'t, L, A>,
     pub(crate) place: CommitterPlace<'t, L, A>,
     pub(crate) places: Vec<Workplace<'t, L, A>>,
@@ -198,7 +198,7 @@ pub(crate) fn open_search<'t, L: Ledger, A: Ledger, S: Store, G: Gate, R: Wait>(
     journal: &Journal<S>,
     workers: usize,
     gate: &G,
-) -> Result<Opened<'t, L, A>, RunFault>
+) -> Result<OpenedSearch<'t, L, A>, RunFault>
     requires name { commits.name ≡ L.name }
     requires parts { commits.parts ≡ L.parts }
     requires enough { workers < L.parts }
@@ -242,7 +242,7 @@ fn opened_from<'t, L: Ledger, A: Ledger, R: Wait>(
     task: &'t Task,
     recovered: Recovered<'t, L>,
     workers: usize,
-) -> Result<Opened<'t, L, A>, NoMemory>
+) -> Result<OpenedSearch<'t, L, A>, NoMemory>
     requires name { flushes.name ≡ A.name }
     requires parts { flushes.parts ≡ A.parts }
     requires some { 0 < A.parts }
@@ -271,7 +271,7 @@ fn opened_from<'t, L: Ledger, A: Ledger, R: Wait>(
         pass: rest.pass,
         share: all,
     };
-    Ok(Opened {
+    Ok(OpenedSearch {
         desk,
         place,
         places,

@@ -16,8 +16,8 @@ ghost use Rattle.hd_search.specs.Opening.{AreAt, CanCommit};
 use crate::ThreadsFault;
 use crate::committing::{Committer, Ended};
 use crate::fault::first_of;
-use crate::opening::{CommitterPlace, Opened, open_search};
-use crate::scoping::{Search, run_in_scope};
+use crate::opening::{CommitterPlace, OpenedSearch, open_search};
+use crate::scoping::{ScopedSearch, run_in_scope};
 use hd_journal::Journal;
 use hd_store::Store;
 use hd_task::Task;
@@ -82,7 +82,7 @@ fn run_threads<
         limit,
         gate,
     };
-    let search = Search {
+    let search = ScopedSearch {
         rt,
         alloc,
         desk,
@@ -120,7 +120,7 @@ fn run_opened<
     rt: &R,
     alloc: Global,
     task: &'t Task,
-    search: Opened<'t, L, A>,
+    search: OpenedSearch<'t, L, A>,
     journal: &mut Journal<S>,
     together: usize,
     limit: Option<u64>,
@@ -140,7 +140,7 @@ fn run_opened<
         → OnOk result (IsSettled (device_of journal.new)) }
 {
     let _ = task;
-    let Opened {
+    let OpenedSearch {
         desk,
         place,
         places,

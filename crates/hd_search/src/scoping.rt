@@ -16,7 +16,7 @@ use std::thread::{Scope, Threads};
 
 /// What is run in a scope: a thread for each place, and what is done beside them.
 #[derive(Drop)]
-pub(crate) struct Search<'d, 't, L: Ledger, A: Ledger, G: Gate, R: Wait, W: Drop> {
+pub(crate) struct ScopedSearch<'d, 't, L: Ledger, A: Ledger, G: Gate, R: Wait, W: Drop> {
     pub(crate) rt: &'d R,
     pub(crate) alloc: Global,
     pub(crate) desk: &'d Desk<'t, L, A>,
@@ -41,14 +41,14 @@ fn run_inside<
     T,
 >(
     scope: &'s Scope<'s, &'e ()>,
-    search: Search<'d, 't, L, A, G, R, W>,
+    search: ScopedSearch<'d, 't, L, A, G, R, W>,
 ) -> (T, Result<(), ThreadsFault>)
     requires can { W.can_run search.beside }
     requires at { AreAt search.desk.now search.places.items }
     ensures gives { W.run_gives search.entry.beside result.0 }
     ensures told { IfErr result.1 IsOfThreads }
 {
-    let Search {
+    let ScopedSearch {
         rt,
         alloc,
         desk,
@@ -80,7 +80,7 @@ pub(crate) fn run_in_scope<
     R: Threads + Wait + Sync,
     W: Beside<Output = T> + Drop,
     T,
->(rt: &R, search: Search<'d, 't, L, A, G, R, W>) -> (T, Result<(), ThreadsFault>)
+>(rt: &R, search: ScopedSearch<'d, 't, L, A, G, R, W>) -> (T, Result<(), ThreadsFault>)
     requires can { W.can_run search.beside }
     requires at { AreAt search.desk.now search.places.items }
     ensures gives { W.run_gives search.entry.beside result.0 }

@@ -1,5 +1,5 @@
 //! Who asks the threads of a search how it stands, and reports it.
-use crate::line::{Line, rate_of};
+use crate::line::{ProgressLine, rate_of};
 use hd_threads::{Gate, Standing};
 use std::alloc::{AllocError, Global};
 use std::io::Eprint;
@@ -18,7 +18,7 @@ const NOTHING: u64 = u64::MAX;
 
 /// What a worker has told.
 #[derive(Debug, Drop)]
-struct Word {
+struct WorkerWord {
     /// Whether it is asked.
     asked: AtomicBool,
     /// The least cost plus estimate of its open nodes when it was asked last, or `NOTHING`.
@@ -42,7 +42,7 @@ struct Last {
 pub struct Watch<'r, R: Eprint + Clock> {
     rt: &'r R,
     began: Option<Instant>,
-    words: Vec<Word>,
+    words: Vec<WorkerWord>,
     last: Last,
     /// When the last line was told, in milliseconds since the search began, and how many entries
     /// there were.
@@ -65,7 +65,7 @@ impl<'r, R: Eprint + Clock> Watch<'r, R> {
     ) -> Result<Watch<'r, R>, AllocError> {
         let mut words = Vec::with_capacity(alloc, workers)?;
         for _worker in 0..workers {
-            words.push(Word {
+            words.push(WorkerWord {
                 asked: AtomicBool::new(false),
                 least: AtomicU64::new(NOTHING),
             })?;
@@ -130,12 +130,12 @@ impl<'r, R: Eprint + Clock> Watch<'r, R> {
     }
 
     /// Returns the line of how the search stood last, so many milliseconds after the line before.
-    fn line(&self, since: u64) -> Line {
+    fn line(&self, since: u64) -> ProgressLine {
         let entries = self.last.entries.load(Ordering::Relaxed);
         let open = self.last.open.load(Ordering::Relaxed);
         let bound = self.last.bound.load(Ordering::Relaxed);
         let more = entries.saturating_sub(self.told_entries.load(Ordering::Relaxed));
-        Line {
+        ProgressLine {
             entries,
             rate: rate_of(more, since),
             open,

@@ -1,7 +1,7 @@
 -- Changes that failed.
 use Rattle.std.proofs.Common.{◌≡◌, ℕ, ◌≤◌, ◌==◌, true, false, List, ◌∷◌, inr, length, refl, sym, arith}
 use Rattle.std.proofs.lemmas.List.{take_all}
-use Rattle.hd_store.specs.declared.change.Change.TheVariants.{Cut}
+use Rattle.hd_store.specs.declared.change.DiskChange.TheVariants.{Cut}
 use Rattle.hd_store.specs.declared.error.TheConstants.{MOST_FAILURES}
 use Rattle.hd_store.specs.declared.file.FileStore.{FileStore}
 use Rattle.hd_store.specs.Bytes.{IsPartOfCut}

@@ -4,8 +4,8 @@ use Rattle.std.specs.Prelude.{◌&&◌, ◌||◌, nat_lt, ◌↔◌}
 use Rattle.std.proofs.lemmas.Grind.{same_number_lists}
 use Rattle.std.proofs.lemmas.Bool.{ltb-true}
 use Rattle.std.proofs.lemmas.List.{length-take, get_or-take}
-use Rattle.hd_store.specs.declared.change.Change.{Change}
-use Rattle.hd_store.specs.declared.change.Change.TheVariants.{Write, Cut, Sync, FailedSync}
+use Rattle.hd_store.specs.declared.change.DiskChange.{DiskChange}
+use Rattle.hd_store.specs.declared.change.DiskChange.TheVariants.{Write, Cut, Sync, FailedSync}
 use Rattle.hd_store.specs.Bytes.{is_in_range, IsPartOfWrite, IsPartOfCut}
 use Rattle.hd_store.specs.Past.{Step, step, content_after, synced_after, is_written, least_after, greatest_after}
 use Rattle.hd_store.specs.Stop.{MayLeave, IsAtRest, IsSynced, IsFilled, is_sure}
@@ -17,7 +17,7 @@ record IsKnown (start : List ℕ) (steps : List Step) : Type 0 where
   least : least_after start steps ≡ length (content_after start steps)
   greatest : greatest_after start steps ≡ length (content_after start steps)
 
-known_by : (start : List ℕ) (before : List Step) (change : Change) (now : List ℕ) → change ≡ Sync → IsKnown start (step change now ∷ before)
+known_by : (start : List ℕ) (before : List Step) (change : DiskChange) (now : List ℕ) → change ≡ Sync → IsKnown start (step change now ∷ before)
 known_by start before (Write at count) now e = cc
 known_by start before (Cut len) now e = cc
 known_by start before Sync now e = record { synced = refl; clean = λ place. refl; least = refl; greatest = refl }

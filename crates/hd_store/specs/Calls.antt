@@ -1,6 +1,6 @@
 -- What the calls on a device answer and leave. (Our own.)
 use Rattle.std.specs.Prelude.{◌≡◌, ◌⊎◌, true, false, List, ℕ, Result, Ok, Err}
-use Rattle.hd_store.specs.declared.change.Change.{Change}
+use Rattle.hd_store.specs.declared.change.DiskChange.{DiskChange}
 use Rattle.hd_store.specs.declared.error.StoreError.{StoreError}
 use Rattle.hd_store.specs.declared.error.StoreError.TheVariants.{NoMemory, Failed}
 use Rattle.hd_store.specs.Device.{Device, is_closed, broken, refused}
@@ -19,6 +19,6 @@ OnNoMemory (Err Failed) P = Unit {0}
 
 -- A change failed. On a device that is closed nothing was begun; on any other it was begun and any
 -- part of it was done, by what a read gives now.
-abbrev pub BreaksOff : Device → Change → (List ℕ → Type 0) → Device → Type 0
+abbrev pub BreaksOff : Device → DiskChange → (List ℕ → Type 0) → Device → Type 0
 BreaksOff old change IsPart new =
     ((is_closed old ≡ true) × (new ≡ refused old)) ⊎ ((is_closed old ≡ false) × ((now : List ℕ) × IsPart now × (new ≡ broken old change now)))

@@ -1,7 +1,7 @@
 -- A device as contracts see it, and what calls make of it. (Our own.)
 use Rattle.std.specs.Prelude.{ℕ, ◌+◌, Bool, List, ◌∷◌, min}
 use Rattle.hd_store.specs.declared.ahead.Ahead.{Ahead}
-use Rattle.hd_store.specs.declared.change.Change.{Change}
+use Rattle.hd_store.specs.declared.change.DiskChange.{DiskChange}
 use Rattle.hd_store.specs.declared.error.TheConstants.{MOST_FAILURES}
 use Rattle.hd_store.specs.Ahead.{later, behind_failure, is_refused, reads_behind}
 use Rattle.hd_store.specs.Past.{Step, step, content_after}
@@ -29,14 +29,14 @@ abbrev pub is_closed : Device → Bool
 is_closed device = is_refused device.failures device.changes
 
 -- after a change that was done
-abbrev pub done : Device → Change → List ℕ → Device
+abbrev pub done : Device → DiskChange → List ℕ → Device
 done device change now = record device {
   steps = step change now ∷ device.steps;
   changes = later device.changes;
 }
 
 -- after a change that was begun and failed
-abbrev pub broken : Device → Change → List ℕ → Device
+abbrev pub broken : Device → DiskChange → List ℕ → Device
 broken device change now = record device {
   steps = step change now ∷ device.steps;
   failures = one_more device.failures;

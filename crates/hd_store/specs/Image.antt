@@ -1,6 +1,6 @@
 -- What a disk holds, by its past. (Our own.)
 use Rattle.std.specs.Prelude.{◌≡◌, ℕ, List, [], ◌∷◌}
-use Rattle.hd_store.specs.declared.change.Change.{Change}
+use Rattle.hd_store.specs.declared.change.DiskChange.{DiskChange}
 use Rattle.hd_store.specs.declared.image.Image.{Image}
 use Rattle.hd_store.specs.Past.{step, content_after}
 use Rattle.hd_store.specs.Platter.{HasRoom}
@@ -19,7 +19,7 @@ abbrev pub IsLike : Image → Image → Type 0
 IsLike old new = (new.history.start ≡ old.history.start) × (new.history.steps ≡ old.history.steps)
 
 -- one step more, after which a read gives this
-abbrev pub Steps : Image → Change → List ℕ → Image → Type 0
+abbrev pub Steps : Image → DiskChange → List ℕ → Image → Type 0
 Steps old change now new =
     (new.history.start ≡ old.history.start) × (new.history.steps ≡ step change now ∷ old.history.steps)
 

@@ -1,18 +1,18 @@
 -- What was done to a device since it was started, and what follows for its bytes. (Our own.)
 use Rattle.std.specs.Prelude.{ℕ, ◌+◌, Bool, false, ◌||◌, List, [], ◌∷◌, length, max, min}
-use Rattle.hd_store.specs.declared.change.Change.{Change}
-use Rattle.hd_store.specs.declared.change.Change.TheVariants.{Write, Cut, Sync, FailedSync}
+use Rattle.hd_store.specs.declared.change.DiskChange.{DiskChange}
+use Rattle.hd_store.specs.declared.change.DiskChange.TheVariants.{Write, Cut, Sync, FailedSync}
 use Rattle.hd_store.specs.Bytes.{is_in_range}
 
 -- A step: a change that was begun, and what a read gives since then. A write or a cut that failed
 -- is a step like one that succeeded: by what a read gives it may have been done in part. The last
 -- step stands first in a list.
 pub record Step : Type 0 where
-  pub change : Change
+  pub change : DiskChange
   pub now : List ℕ
 
 -- this change, after which a read gives this
-abbrev pub step : Change → List ℕ → Step
+abbrev pub step : DiskChange → List ℕ → Step
 step change now = record { change = change; now = now }
 
 -- what a read gives, of a device that held these bytes at its start
@@ -23,28 +23,28 @@ content_after start (s ∷ before) = s.now
 -- ---- by a change, after which a read gives `now`, from what was so before it
 
 -- what the last sync that succeeded made sure of
-abbrev pub synced_by : Change → List ℕ → List ℕ → List ℕ
+abbrev pub synced_by : DiskChange → List ℕ → List ℕ → List ℕ
 synced_by (Write at count) now before = before
 synced_by (Cut len) now before = before
 synced_by Sync now before = now
 synced_by FailedSync now before = before
 
 -- whether a place was written since that sync
-abbrev pub written_by : Change → ℕ → Bool → Bool
+abbrev pub written_by : DiskChange → ℕ → Bool → Bool
 written_by (Write at count) place before = is_in_range at count place || before
 written_by (Cut len) place before = before
 written_by Sync place before = false
 written_by FailedSync place before = before
 
 -- the least length since that sync
-abbrev pub least_by : Change → List ℕ → ℕ → ℕ
+abbrev pub least_by : DiskChange → List ℕ → ℕ → ℕ
 least_by (Write at count) now before = before
 least_by (Cut len) now before = min before len
 least_by Sync now before = length now
 least_by FailedSync now before = before
 
 -- the greatest length since that sync
-abbrev pub greatest_by : Change → List ℕ → ℕ → ℕ
+abbrev pub greatest_by : DiskChange → List ℕ → ℕ → ℕ
 greatest_by (Write at count) now before = max before (at + count)
 greatest_by (Cut len) now before = before
 greatest_by Sync now before = length now

@@ -1,6 +1,6 @@
 -- What a stop of the machine may leave of a disk. (Our own.)
 use Rattle.std.specs.Prelude.{◌≡◌, ℕ, ◌<◌, ◌≤◌, Bool, false, not, ◌&&◌, nat_lt, List, [], ◌∷◌, length, slice_index}
-use Rattle.hd_store.specs.declared.change.Change.TheVariants.{Sync}
+use Rattle.hd_store.specs.declared.change.DiskChange.TheVariants.{Sync}
 use Rattle.hd_store.specs.Past.{Step, content_after, synced_after, is_written, least_after, greatest_after}
 
 -- A stop may leave these bytes. Their number lies between the least and the greatest length since

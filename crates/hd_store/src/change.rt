@@ -2,7 +2,7 @@
 
 /// A change of a disk that was begun.
 #[derive(Clone, Copy, Debug, PartialEq, Eq)]
-pub enum Change {
+pub enum DiskChange {
     /// A write: its first place, and how many bytes.
     Write(u64, u64),
     /// A cut to this length.

@@ -5,7 +5,7 @@ ghost use Rattle.std.specs.Borrow.{ftrue};
 ghost use Rattle.hd_store.specs.Past.{Step, step};
 ghost use Rattle.hd_store.specs.Platter.{content_of};
 
-use crate::change::Change;
+use crate::change::DiskChange;
 use crate::platter::Platter;
 use std::marker::Model;
 
@@ -29,7 +29,7 @@ impl History {
     }
 
     /// Returns one step more: this change was begun, and this is held after it.
-    pub(crate) fn and(_before: &History, _change: &Change, _held: &Platter) -> History
+    pub(crate) fn and(_before: &History, _change: &DiskChange, _held: &Platter) -> History
         ensures { (result.start ≡ _before.now.start)
             × (result.steps ≡ step _change.now (content_of _held.now) ∷ _before.now.steps) }
     {

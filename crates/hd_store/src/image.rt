@@ -1,11 +1,11 @@
 //! What a disk holds, with its past.
 ghost use Rattle.std.specs.Prelude.{◌≡◌, ◌+◌, ◌<◌, ◌≤◌, ◌^◌, [], length, take, slice_range, OnOk, OnErr, IfOk};
-ghost use Rattle.hd_store.specs.declared.change.Change.TheVariants.{Write, Cut, Sync, FailedSync};
+ghost use Rattle.hd_store.specs.declared.change.DiskChange.TheVariants.{Write, Cut, Sync, FailedSync};
 ghost use Rattle.hd_store.specs.Bytes.{written_over};
 ghost use Rattle.hd_store.specs.Past.{content_after};
 ghost use Rattle.hd_store.specs.Holding.{Holds};
 
-use crate::change::Change;
+use crate::change::DiskChange;
 use crate::history::History;
 use crate::platter::Platter;
 use hd_base::NoMemory;
@@ -73,7 +73,7 @@ impl Image {
             (written_over (content self.old) at bytes.now) self.new }
     {
         self.held.write(at, bytes);
-        let change = Change::Write(at as u64, bytes.len() as u64);
+        let change = DiskChange::Write(at as u64, bytes.len() as u64);
         self.history = History::and(&self.history, &change, &self.held);
     }
 
@@ -84,7 +84,7 @@ impl Image {
         ensures { Steps self.old (Write at count) (content self.old) self.new }
     {
         self.held.touch(at, at + count);
-        let change = Change::Write(at as u64, count as u64);
+        let change = DiskChange::Write(at as u64, count as u64);
         self.history = History::and(&self.history, &change, &self.held);
     }
 
@@ -94,7 +94,7 @@ impl Image {
         ensures { Steps self.old (Cut len) (take len (content self.old)) self.new }
     {
         self.held.cut(len);
-        self.history = History::and(&self.history, &Change::Cut(len as u64), &self.held);
+        self.history = History::and(&self.history, &DiskChange::Cut(len as u64), &self.held);
     }
 
     /// Records a cut to `len` bytes that was begun and failed; what is read stays.
@@ -102,7 +102,7 @@ impl Image {
         ensures { Steps self.old (Cut len) (content self.old) self.new }
     {
         self.held.shrink(len);
-        self.history = History::and(&self.history, &Change::Cut(len as u64), &self.held);
+        self.history = History::and(&self.history, &DiskChange::Cut(len as u64), &self.held);
     }
 
     /// Syncs the image: all that is read is sure from now on.
@@ -110,14 +110,14 @@ impl Image {
         ensures { Steps self.old Sync (content self.old) self.new }
     {
         self.held.make_sure();
-        self.history = History::and(&self.history, &Change::Sync, &self.held);
+        self.history = History::and(&self.history, &DiskChange::Sync, &self.held);
     }
 
     /// Records a sync that failed.
     pub(crate) fn break_sync(&mut self)
         ensures { Steps self.old FailedSync (content self.old) self.new }
     {
-        self.history = History::and(&self.history, &Change::FailedSync, &self.held);
+        self.history = History::and(&self.history, &DiskChange::FailedSync, &self.held);
     }
 }
 

@@ -1,6 +1,6 @@
 //! Laws of what a stop leaves. Each function does nothing: its contract is the law.
 ghost use Rattle.std.specs.Prelude.{◌≡◌, ℕ, ◌+◌, ◌<◌, ◌↔◌, List, [], ◌∷◌};
-ghost use Rattle.hd_store.specs.declared.change.Change.TheVariants.{Write, Cut, Sync, FailedSync};
+ghost use Rattle.hd_store.specs.declared.change.DiskChange.TheVariants.{Write, Cut, Sync, FailedSync};
 ghost use Rattle.hd_store.specs.Bytes.{IsPartOfWrite, IsPartOfCut};
 ghost use Rattle.hd_store.specs.Past.{Step, content_after, step};
 ghost use Rattle.hd_store.specs.Device.{one_more};

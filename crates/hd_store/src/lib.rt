@@ -23,7 +23,7 @@ mod platter;
 mod store;
 
 pub use ahead::Ahead;
-pub use change::Change;
+pub use change::DiskChange;
 pub use error::{MOST_FAILURES, StoreError};
 pub use file::FileStore;
 pub use memory::MemoryDisk;

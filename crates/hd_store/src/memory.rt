@@ -6,7 +6,7 @@ ghost use Rattle.hd_store.specs.Device.{content_of};
 use crate::ahead::Ahead;
 use crate::error::{MOST_FAILURES, StoreError};
 use crate::image::Image;
-use crate::plan::Plan;
+use crate::plan::FailurePlan;
 use crate::store::Store;
 use hd_base::NoMemory;
 use std::alloc::Global;
@@ -22,7 +22,7 @@ const MOST_BYTES: usize = 0x7fff_ffff_ffff_ffff;
 #[derive(Drop)]
 pub struct MemoryDisk {
     image: Image,
-    plan: Plan,
+    plan: FailurePlan,
 }
 
 /// Returns where `count` bytes from `at` on end, if that is at most `MOST_BYTES`.
@@ -44,7 +44,7 @@ impl MemoryDisk {
     {
         MemoryDisk {
             image: Image::new(alloc),
-            plan: Plan::well(0),
+            plan: FailurePlan::well(0),
         }
     }
 
@@ -57,7 +57,7 @@ impl MemoryDisk {
     {
         Ok(MemoryDisk {
             image: Image::of(alloc, bytes)?,
-            plan: Plan::well(0),
+            plan: FailurePlan::well(0),
         })
     }
 
@@ -98,7 +98,7 @@ impl MemoryDisk {
         ensures { device_of self.new
             ≡ record (device_of self.old) { changes = Well; reads = Well } }
     {
-        self.plan = Plan::well(self.plan.failures);
+        self.plan = FailurePlan::well(self.plan.failures);
     }
 
     /// Stops and starts again: bytes that are not sure read `fill`, and the length is the greatest.

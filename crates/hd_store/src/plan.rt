@@ -9,19 +9,19 @@ use crate::error::{MOST_FAILURES, StoreError};
 
 /// The count of failures, and what is planned for the changes and the reads to come.
 #[derive(Clone, Copy, Debug, PartialEq, Eq)]
-pub(crate) struct Plan {
+pub(crate) struct FailurePlan {
     pub(crate) failures: u64,
     pub(crate) changes: Ahead,
     pub(crate) reads: Ahead,
 }
 
-impl Plan {
+impl FailurePlan {
     /// Returns a plan by which each call goes well, with `failures` failures so far.
-    pub(crate) fn well(failures: u64) -> Plan
+    pub(crate) fn well(failures: u64) -> FailurePlan
         ensures { result
             ≡ record { failures = failures; changes = Ahead.Well; reads = Ahead.Well } }
     {
-        Plan {
+        FailurePlan {
             failures,
             changes: Ahead::Well,
             reads: Ahead::Well,

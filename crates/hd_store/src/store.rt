@@ -1,6 +1,6 @@
 //! What a journal is written by.
 ghost use Rattle.std.specs.Prelude.{◌≡◌, ◌<◌, ◌≤◌, ◌+◌, ◌^◌, length, take, OnOk, IfOk, slice_range};
-ghost use Rattle.hd_store.specs.declared.change.Change.TheVariants.{Write, Cut, Sync, FailedSync};
+ghost use Rattle.hd_store.specs.declared.change.DiskChange.TheVariants.{Write, Cut, Sync, FailedSync};
 ghost use Rattle.hd_store.specs.Ahead.{foretold_by, foretold_of_length, GoesAsForetold};
 ghost use Rattle.hd_store.specs.Bytes.{written_over, IsPartOfWrite, IsPartOfCut};
 ghost use Rattle.hd_store.specs.Device.{Device, content_of, done, looked_at, refused};

@@ -6,8 +6,8 @@ use Rattle.std.proofs.lemmas.Option.{slice_get_within, slice_get_past}
 use Rattle.std.proofs.lemmas.List.{get_or_append_left, length-set}
 use Rattle.std.proofs.Math.Seq.{get_or-append_seam}
 use Rattle.hd_base.proofs.Lists.{get_or-set, get_or-replicate_same}
-use Rattle.hd_successors.specs.declared.watching.Watch.{Watch}
-use Rattle.hd_successors.specs.declared.watching.Watch.TheVariants.{Always, Atoms}
+use Rattle.hd_successors.specs.declared.watching.WatchedAtoms.{WatchedAtoms}
+use Rattle.hd_successors.specs.declared.watching.WatchedAtoms.TheVariants.{Always, Atoms}
 use Rattle.hd_successors.specs.Seeing.{watches_one, is_always}
 use Rattle.hd_successors.proofs.Rows.{and_true}
 use Rattle.hd_successors.specs.Chains.{is_watcher, last_watcher, AreChains, last_with, last_in}
@@ -15,10 +15,10 @@ use Rattle.hd_successors.specs.Chains.{is_watcher, last_watcher, AreChains, last
 -- ---- the last watcher
 
 -- at the end of a chain step
-last_step : (ws : List Watch) (a n : ℕ) (b : Bool) → is_watcher ws a n ≡ b → last_watcher ws a (suc n) ≡ cond b (suc n) (last_watcher ws a n)
+last_step : (ws : List WatchedAtoms) (a n : ℕ) (b : Bool) → is_watcher ws a n ≡ b → last_watcher ws a (suc n) ≡ cond b (suc n) (last_watcher ws a n)
 last_step ws a n b e = ap (λ c. cond c (suc n) (last_watcher ws a n)) e
 
-pub last_below : (ws : List Watch) (a n : ℕ) → last_watcher ws a n ≤ n
+pub last_below : (ws : List WatchedAtoms) (a n : ℕ) → last_watcher ws a n ≤ n
 last_below ws a zero = omega arith
 last_below ws a (suc n) =
     elim (is_watcher ws a n) as (λ b. cond b (suc n) (last_watcher ws a n) ≤ suc n) [
@@ -27,7 +27,7 @@ last_below ws a (suc n) =
     ]
 
 -- a watcher below a number stands below the last one's end
-pub below_last : (ws : List Watch) (a n i : ℕ) → is_watcher ws a i ≡ true → i < n → i < last_watcher ws a n
+pub below_last : (ws : List WatchedAtoms) (a n i : ℕ) → is_watcher ws a i ≡ true → i < n → i < last_watcher ws a n
 below_last ws a zero i is lt = absurd (omega (arith, lt))
 below_last ws a (suc n) i is lt =
     elim (is_watcher ws a n) as (λ b. is_watcher ws a n ≡ b → i < cond b (suc n) (last_watcher ws a n)) [
@@ -40,7 +40,7 @@ below_last ws a (suc n) i is lt =
     ] refl
 
 -- the end of a chain, once more
-pub last_again : (ws : List Watch) (a n : ℕ) → last_watcher ws a (last_watcher ws a n) ≡ last_watcher ws a n
+pub last_again : (ws : List WatchedAtoms) (a n : ℕ) → last_watcher ws a (last_watcher ws a n) ≡ last_watcher ws a n
 last_again ws a zero = refl
 last_again ws a (suc n) =
     elim (is_watcher ws a n) as (λ b. is_watcher ws a n ≡ b → last_watcher ws a (cond b (suc n) (last_watcher ws a n)) ≡ cond b (suc n) (last_watcher ws a n)) [
@@ -49,7 +49,7 @@ last_again ws a (suc n) =
     ] refl
 
 -- where the end of a chain is not 0, a watcher stands below it
-pub watcher_at_last : (ws : List Watch) (a n : ℕ) → suc n ≡ last_watcher ws a (suc n) → is_watcher ws a n ≡ true
+pub watcher_at_last : (ws : List WatchedAtoms) (a n : ℕ) → suc n ≡ last_watcher ws a (suc n) → is_watcher ws a n ≡ true
 watcher_at_last ws a n e =
     elim (is_watcher ws a n) as (λ b. is_watcher ws a n ≡ b → b ≡ true) [
       | true ↦ λ _. refl
@@ -57,10 +57,10 @@ watcher_at_last ws a n e =
     ] refl
 
 -- what stands beyond the actions watches nothing
-past_none : (p : ℕ → Bool) (o : Option Watch) → watches_one p o ≡ true → (o ≡ None → ⊥)
+past_none : (p : ℕ → Bool) (o : Option WatchedAtoms) → watches_one p o ≡ true → (o ≡ None → ⊥)
 past_none p o is none = true≢false (sym is ∙ ap (watches_one p) none)
 
-pub watcher_within : (ws : List Watch) (a i : ℕ) → is_watcher ws a i ≡ true → i < length ws
+pub watcher_within : (ws : List WatchedAtoms) (a i : ℕ) → is_watcher ws a i ≡ true → i < length ws
 watcher_within ws a i is =
     elim (slice_get ws i) as (λ o. slice_get ws i ≡ o → i < length ws) [
       | None ↦ λ e. absurd (past_none (λ b. b == a) (slice_get ws i) is e)
@@ -70,18 +70,18 @@ watcher_within ws a i is =
 -- ---- one action more
 
 -- the chains of no action
-pub no_chains : (ws : List Watch) (last before : List ℕ) (n : ℕ) → last ≡ replicate n 0 → before ≡ [] → AreChains ws last before 0
+pub no_chains : (ws : List WatchedAtoms) (last before : List ℕ) (n : ℕ) → last ≡ replicate n 0 → before ≡ [] → AreChains ws last before 0
 no_chains ws last before n el eb = record {
   each_action = ap length eb;
   lasts = λ a lt. ap (λ xs. get_or xs a 0) el ∙ get_or-replicate_same n a 0;
   befores = λ a k lt none is. absurd (omega (arith, none));
 }
 
-length-last_with : (last : List ℕ) (w : Watch) (k : ℕ) → length (last_with last w k) ≡ length last
+length-last_with : (last : List ℕ) (w : WatchedAtoms) (k : ℕ) → length (last_with last w k) ≡ length last
 length-last_with last Always k = refl
 length-last_with last (Atoms i j) k = length-set last i (k + 1)
 
-lasts_more : (ws : List Watch) (last : List ℕ) (k a : ℕ) (w : Watch) → a < length last → slice_get ws k ≡ Some w → get_or last a 0 ≡ last_watcher ws a k
+lasts_more : (ws : List WatchedAtoms) (last : List ℕ) (k a : ℕ) (w : WatchedAtoms) → a < length last → slice_get ws k ≡ Some w → get_or last a 0 ≡ last_watcher ws a k
     → get_or (last_with last w k) a 0 ≡ last_watcher ws a (suc k)
 lasts_more ws last k a Always lt is e = e ∙ sym (last_step ws a k false (ap (watches_one (λ b. b == a)) is))
 lasts_more ws last k a (Atoms i j) lt is e =
@@ -89,11 +89,11 @@ lasts_more ws last k a (Atoms i j) lt is e =
     get_or-set last i (k + 1) a 0 lt
     ∙ (ap₂ (λ n m. cond (i == a) n m) next e ∙ sym (last_step ws a k (i == a) (ap (watches_one (λ b. b == a)) is)))
 
-last_in-is : (last : List ℕ) (w : Watch) (a : ℕ) → watches_one (λ b. b == a) (Some w) ≡ true → last_in last w ≡ get_or last a 0
+last_in-is : (last : List ℕ) (w : WatchedAtoms) (a : ℕ) → watches_one (λ b. b == a) (Some w) ≡ true → last_in last w ≡ get_or last a 0
 last_in-is last Always a is = absurd (true≢false (sym is))
 last_in-is last (Atoms i j) a is = ap (λ k. get_or last k 0) (eqb-true i a is)
 
-befores_more : (ws : List Watch) (last before : List ℕ) (k a n : ℕ) (w : Watch) → AreChains ws last before k → slice_get ws k ≡ Some w → a < length last → n < suc k → is_watcher ws a n ≡ true
+befores_more : (ws : List WatchedAtoms) (last before : List ℕ) (k a n : ℕ) (w : WatchedAtoms) → AreChains ws last before k → slice_get ws k ≡ Some w → a < length last → n < suc k → is_watcher ws a n ≡ true
     → get_or (before ++ last_in last w ∷ []) n 0 ≡ last_watcher ws a n
 befores_more ws last before k a n w chains is lt low watches =
     elim (cases_lt n k) [
@@ -113,7 +113,7 @@ length-push : (xs : List ℕ) (x n : ℕ) → length xs ≡ n → length (xs ++ 
 length-push [] x n e = ap suc e
 length-push (y ∷ xs) x n e = let k = length-push xs x (length xs) refl in omega (arith, k, e)
 
-pub more_chains : (ws : List Watch) (last before : List ℕ) (k n : ℕ) (w : Watch) → AreChains ws last before k → slice_get ws k ≡ Some w → n ≡ suc k
+pub more_chains : (ws : List WatchedAtoms) (last before : List ℕ) (k n : ℕ) (w : WatchedAtoms) → AreChains ws last before k → slice_get ws k ≡ Some w → n ≡ suc k
     → AreChains ws (last_with last w k) (before ++ last_in last w ∷ []) n
 more_chains ws last before k n w chains is next =
     let size = length-last_with last w k in
@@ -126,11 +126,11 @@ more_chains ws last before k n w chains is next =
 -- ---- marks along a chain
 
 -- the marks of those actions of a chain's part from `left` on that pass a test, and others
-abbrev pub marked_from : List Watch → ℕ → ℕ → (ℕ → Bool) → Bool → ℕ → Bool
+abbrev pub marked_from : List WatchedAtoms → ℕ → ℕ → (ℕ → Bool) → Bool → ℕ → Bool
 marked_from ws a left seen other i = ((is_watcher ws a i && nat_le left i) && seen i) || other
 
 -- at the beginning of a chain nothing is passed
-pub none_passed : (ws : List Watch) (a i : ℕ) (seen : ℕ → Bool) (other : Bool) → other ≡ marked_from ws a (last_watcher ws a (length ws)) seen other i
+pub none_passed : (ws : List WatchedAtoms) (a i : ℕ) (seen : ℕ → Bool) (other : Bool) → other ≡ marked_from ws a (last_watcher ws a (length ws)) seen other i
 none_passed ws a i seen other =
     elim (is_watcher ws a i) as (λ b. is_watcher ws a i ≡ b → other ≡ (((b && nat_le (last_watcher ws a (length ws)) i) && seen i) || other)) [
       | true ↦ λ e. sym (ap (λ b. (b && seen i) || other) (lt-leb (last_watcher ws a (length ws)) i (below_last ws a (length ws) i e (watcher_within ws a i e))))
@@ -138,7 +138,7 @@ none_passed ws a i seen other =
     ] refl
 
 -- one action more of a chain
-pub one_passed : (ws : List Watch) (a n i : ℕ) (seen : ℕ → Bool) (other : Bool) → suc n ≡ last_watcher ws a (suc n)
+pub one_passed : (ws : List WatchedAtoms) (a n i : ℕ) (seen : ℕ → Bool) (other : Bool) → suc n ≡ last_watcher ws a (suc n)
     → (((i == n) && seen n) || marked_from ws a (suc n) seen other i) ≡ marked_from ws a (last_watcher ws a n) seen other i
 one_passed ws a n i seen other end =
     let here = watcher_at_last ws a n end in
@@ -169,12 +169,12 @@ one_passed ws a n i seen other end =
     ]
 
 -- where a chain begins
-pub record Begins (ws : List Watch) (a e : ℕ) : Type 0 where
+pub record Begins (ws : List WatchedAtoms) (a e : ℕ) : Type 0 where
   pub end : e ≡ last_watcher ws a e
   pub within : e ≤ length ws
   pub none : (i : ℕ) (seen : ℕ → Bool) (other : Bool) → other ≡ marked_from ws a e seen other i
 
-pub chain_begins : (ws : List Watch) (last before xs : List ℕ) (a e : ℕ) → AreChains ws last before (length ws) → xs ≡ last → a < length xs → e ≡ get_or xs a 0 → Begins ws a e
+pub chain_begins : (ws : List WatchedAtoms) (last before xs : List ℕ) (a e : ℕ) → AreChains ws last before (length ws) → xs ≡ last → a < length xs → e ≡ get_or xs a 0 → Begins ws a e
 chain_begins ws last before xs a e chains same lt is =
     let begins : e ≡ last_watcher ws a (length ws) =
     is ∙ (ap (λ ys. get_or ys a 0) same ∙ chains.lasts a (let size = ap length same in omega (arith, lt, size))) in
@@ -186,12 +186,12 @@ chain_begins ws last before xs a e chains same lt is =
     }
 
 -- what a step along a chain leads to
-pub record Continues (ws : List Watch) (a left e : ℕ) : Type 0 where
+pub record Continues (ws : List WatchedAtoms) (a left e : ℕ) : Type 0 where
   pub end : e ≡ last_watcher ws a e
   pub smaller : e < left
   pub one : (i : ℕ) (seen : ℕ → Bool) (other : Bool) → (((i == (left - 1)) && seen (left - 1)) || marked_from ws a left seen other i) ≡ marked_from ws a e seen other i
 
-pub chain_continues : (ws : List Watch) (last before xs ys : List ℕ) (a left e : ℕ) → AreChains ws last before (length ws) → xs ≡ last → ys ≡ before → a < length xs → 0 < left → left ≡ last_watcher ws a left → left ≤ length ws
+pub chain_continues : (ws : List WatchedAtoms) (last before xs ys : List ℕ) (a left e : ℕ) → AreChains ws last before (length ws) → xs ≡ last → ys ≡ before → a < length xs → 0 < left → left ≡ last_watcher ws a left → left ≤ length ws
     → get_or ys (left - 1) 0 ≡ e → Continues ws a left e
 chain_continues ws last before xs ys a zero e chains ex ey lt some end within is = absurd (omega (arith, some))
 chain_continues ws last before xs ys a (suc n) e chains ex ey lt some end within is =
@@ -214,7 +214,7 @@ nothing_more true y = refl
 nothing_more false true = refl
 nothing_more false false = refl
 
-pub always_more : (ws : List Watch) (k n i : ℕ) (w : Watch) → slice_get ws k ≡ Some w → n ≡ suc k
+pub always_more : (ws : List WatchedAtoms) (k n i : ℕ) (w : WatchedAtoms) → slice_get ws k ≡ Some w → n ≡ suc k
     → (((i == k) && is_always (Some w)) || (is_always (slice_get ws i) && nat_lt i k)) ≡ (is_always (slice_get ws i) && nat_lt i n)
 always_more ws k n i w is next =
     elim (cases_order i k) [
@@ -231,7 +231,7 @@ always_more ws k n i w is next =
           ∙ ap (λ b. is_always (slice_get ws i) && b) (sym (le-ltb i n (omega (arith, after, next))))
     ]
 
-pub always_within : (ws : List Watch) (n i : ℕ) → length ws ≤ n → (is_always (slice_get ws i) && nat_lt i n) ≡ is_always (slice_get ws i)
+pub always_within : (ws : List WatchedAtoms) (n i : ℕ) → length ws ≤ n → (is_always (slice_get ws i) && nat_lt i n) ≡ is_always (slice_get ws i)
 always_within ws n i le =
     elim (cases_lt i (length ws)) [
       | inl lt ↦ ap (λ b. is_always (slice_get ws i) && b) (lt-ltb i n (omega (arith, lt, le))) ∙ and_true (is_always (slice_get ws i))

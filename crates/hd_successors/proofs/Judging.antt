@@ -13,8 +13,8 @@ use Rattle.hd_task.specs.Effects.{effects_stay, step_cost}
 use Rattle.hd_task.specs.Plans.{Node, after_step, step, step_of, step_by}
 use Rattle.hd_task.specs.Departures.{cost_stays, departs_by, action_departs}
 use Rattle.hd_task.specs.Expansions.{is_applicable}
-use Rattle.hd_successors.specs.declared.watching.Watch.{Watch}
-use Rattle.hd_successors.specs.declared.watching.Watch.TheVariants.{Always, Atoms}
+use Rattle.hd_successors.specs.declared.watching.WatchedAtoms.{WatchedAtoms}
+use Rattle.hd_successors.specs.declared.watching.WatchedAtoms.TheVariants.{Always, Atoms}
 use Rattle.hd_successors.specs.Watching.{is_for, asks_for, IsWatchedBy, is_seen, is_candidate, candidates}
 use Rattle.hd_successors.proofs.Tests.{found_within, none_before_found, none_where_none_found}
 
@@ -35,14 +35,14 @@ atom_holds s i (l ∷ ls) is h =
       | inr there ↦ atom_holds s i ls there parts.1
     ]
 
-seen_where_asked : (s : State) (ls : List Literal) (w : Watch) → asks_for ls w ≡ true → list_all (literal_holds s) ls ≡ true → is_seen s (Some w) ≡ true
+seen_where_asked : (s : State) (ls : List Literal) (w : WatchedAtoms) → asks_for ls w ≡ true → list_all (literal_holds s) ls ≡ true → is_seen s (Some w) ≡ true
 seen_where_asked s ls Always is h = refl
 seen_where_asked s ls (Atoms i j) is h =
     let parts = and_parts (list_any (is_for i) ls) (list_any (is_for j) ls) is in
     ap₂ (λ x y. x && y) (atom_holds s i ls parts.0 h) (atom_holds s j ls parts.1 h)
 
 pub candidate_where_held :
-    (t : Task) (ws : List Watch) (s : State) (n : ℕ) (a : Action) → IsWatchedBy t.actions ws → slice_get t.actions n ≡ Some a
+    (t : Task) (ws : List WatchedAtoms) (s : State) (n : ℕ) (a : Action) → IsWatchedBy t.actions ws → slice_get t.actions n ≡ Some a
     → literals_hold s a.condition ≡ true → is_candidate ws s n ≡ true
 candidate_where_held t ws s n a watched is h =
     let lits = (and_parts (not a.condition.never) (list_all (literal_holds s) a.condition.literals) h).1 in
@@ -53,7 +53,7 @@ candidate_where_held t ws s n a watched is h =
       | Some w ↦ λ some. seen_where_asked s a.condition.literals w (watched.asked_for n a w is some) lits
     ] refl
 
-failing : (t : Task) (ws : List Watch) (s : State) (n : ℕ) (a : Action) → IsWatchedBy t.actions ws → slice_get t.actions n ≡ Some a → is_candidate ws s n ≡ false → literals_hold s a.condition ≡ false
+failing : (t : Task) (ws : List WatchedAtoms) (s : State) (n : ℕ) (a : Action) → IsWatchedBy t.actions ws → slice_get t.actions n ≡ Some a → is_candidate ws s n ≡ false → literals_hold s a.condition ≡ false
 failing t ws s n a watched is none =
     false_from_ne_true (literals_hold s a.condition) (λ h. both_ways (is_candidate ws s n) none (candidate_where_held t ws s n a watched is h))
 
@@ -73,7 +73,7 @@ no_departure t r a e =
     (and_left (literals_hold r.state a.condition && comparisons_hold r.state a.condition) (not (effects_stay r.state a && cost_stays (step t r a)))
     (and_left (literals_hold r.state a.condition) (comparisons_hold r.state a.condition) e))
 
-pub none_applies : (t : Task) (ws : List Watch) (r : Node) (n : ℕ) → IsWatchedBy t.actions ws → is_candidate ws r.state n ≡ false → is_applicable t (Some r) n ≡ false
+pub none_applies : (t : Task) (ws : List WatchedAtoms) (r : Node) (n : ℕ) → IsWatchedBy t.actions ws → is_candidate ws r.state n ≡ false → is_applicable t (Some r) n ≡ false
 unfolding step_by
 none_applies t ws r n watched none =
     and_left (is_some (step_of t r (slice_get t.actions n))) (not (action_departs t r n))
@@ -82,7 +82,7 @@ none_applies t ws r n watched none =
       | Some a ↦ λ is. ap is_some (no_step t r a (failing t ws r.state n a watched is none))
     ] refl)
 
-pub none_departs : (t : Task) (ws : List Watch) (r : Node) (n : ℕ) → IsWatchedBy t.actions ws → is_candidate ws r.state n ≡ false → action_departs t r n ≡ false
+pub none_departs : (t : Task) (ws : List WatchedAtoms) (r : Node) (n : ℕ) → IsWatchedBy t.actions ws → is_candidate ws r.state n ≡ false → action_departs t r n ≡ false
 unfolding action_departs
 none_departs t ws r n watched none =
     elim (slice_get t.actions n) as (λ o. slice_get t.actions n ≡ o → departs_by t r o ≡ false) [
@@ -93,14 +93,14 @@ none_departs t ws r n watched none =
 -- ---- the first candidate
 
 pub first_candidate :
-    (ws : List Watch) (s : State) (from n : ℕ) → find (nat_le from) (candidates ws s) ≡ Some n
+    (ws : List WatchedAtoms) (s : State) (from n : ℕ) → find (nat_le from) (candidates ws s) ≡ Some n
     → (from ≤ n) × (n < length ws) × ((m : ℕ) → from ≤ m → m < n → is_candidate ws s m ≡ false)
 unfolding candidates
 first_candidate ws s from n e =
     let h = found_within (is_candidate ws s) (length ws) 0 from n e in
     (h.0, (let lt = h.1 in omega (arith, lt)), λ m far lt. none_before_found (is_candidate ws s) (length ws) 0 from n m e (omega arith) far lt)
 
-pub no_candidate : (ws : List Watch) (s : State) (from m : ℕ) → find (nat_le from) (candidates ws s) ≡ None → from ≤ m → is_candidate ws s m ≡ false
+pub no_candidate : (ws : List WatchedAtoms) (s : State) (from m : ℕ) → find (nat_le from) (candidates ws s) ≡ None → from ≤ m → is_candidate ws s m ≡ false
 unfolding candidates
 no_candidate ws s from m e far =
     elim (cases_lt m (length ws)) [

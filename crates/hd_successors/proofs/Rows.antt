@@ -11,8 +11,8 @@ use Rattle.hd_task.specs.declared.state.State.{State}
 use Rattle.hd_task.specs.Conditions.{has_atom}
 use Rattle.hd_pack.specs.Packing.{packed_bytes, atom_bytes, value_bytes, bytes_for}
 use Rattle.hd_pack.proofs.AtomBits.{atom_at, length-atom_bytes}
-use Rattle.hd_successors.specs.declared.watching.Watch.{Watch}
-use Rattle.hd_successors.specs.declared.watching.Watch.TheVariants.{Always, Atoms}
+use Rattle.hd_successors.specs.declared.watching.WatchedAtoms.{WatchedAtoms}
+use Rattle.hd_successors.specs.declared.watching.WatchedAtoms.TheVariants.{Always, Atoms}
 use Rattle.hd_successors.specs.Seeing.{watches_one, other_passes, is_always, is_in_byte}
 use Rattle.hd_successors.specs.Watching.{is_seen, is_candidate, candidates}
 use Rattle.hd_successors.specs.Marks.{is_marked, IsFirstMark}
@@ -40,18 +40,18 @@ turned false true false z = refl
 turned false false k z = refl
 
 -- a test that is the first one or the second, where another passes too
-pub watches_either : (p q r : ℕ → Bool) (o : Option Watch) (k b : Bool) → ((a : ℕ) → r a ≡ (p a || q a))
+pub watches_either : (p q r : ℕ → Bool) (o : Option WatchedAtoms) (k b : Bool) → ((a : ℕ) → r a ≡ (p a || q a))
     → ((watches_one q o && k) || ((watches_one p o && k) || b)) ≡ ((watches_one r o && k) || b)
 watches_either p q r None k b e = refl
 watches_either p q r (Some Always) k b e = refl
 watches_either p q r (Some (Atoms a i)) k b e = sym (ap (λ x. (x && k) || b) (e a) ∙ turned (p a) (q a) k b)
 
-pub watches_same : (p q : ℕ → Bool) (o : Option Watch) → ((a : ℕ) → p a ≡ q a) → watches_one p o ≡ watches_one q o
+pub watches_same : (p q : ℕ → Bool) (o : Option WatchedAtoms) → ((a : ℕ) → p a ≡ q a) → watches_one p o ≡ watches_one q o
 watches_same p q None e = refl
 watches_same p q (Some Always) e = refl
 watches_same p q (Some (Atoms a i)) e = e a
 
-pub watches_nothing : (p : ℕ → Bool) (o : Option Watch) → ((a : ℕ) → p a ≡ false) → watches_one p o ≡ false
+pub watches_nothing : (p : ℕ → Bool) (o : Option WatchedAtoms) → ((a : ℕ) → p a ≡ false) → watches_one p o ≡ false
 watches_nothing p None e = refl
 watches_nothing p (Some Always) e = refl
 watches_nothing p (Some (Atoms a i)) e = e a
@@ -260,7 +260,7 @@ all_bytes s count place size le a =
 -- ---- candidates
 
 -- a candidate watches two true atoms, or nothing
-pub seen_parts : (s : State) (o : Option Watch) → is_seen s o ≡ ((watches_one (has_atom s) o && other_passes (has_atom s) o) || is_always o)
+pub seen_parts : (s : State) (o : Option WatchedAtoms) → is_seen s o ≡ ((watches_one (has_atom s) o && other_passes (has_atom s) o) || is_always o)
 seen_parts s None = refl
 seen_parts s (Some Always) = refl
 seen_parts s (Some (Atoms a i)) = sym (or-false (has_atom s a && has_atom s i))
@@ -275,7 +275,7 @@ pub written_over : (n : ℕ) (xs ys : List ℕ) → length xs ≡ n → take n (
 written_over n xs ys size = ap (λ k. take k (xs ++ drop (length xs) ys)) (sym size) ∙ take-append_seam xs (drop (length xs) ys)
 
 -- the marks are those of the candidates
-pub marked_candidates : (ws : List Watch) (s : State) (words over : List ℕ) → over ≡ words → ((i : ℕ) → is_marked words i ≡ is_candidate ws s i) → filter (is_marked over) (numbers_below (length ws)) ≡ candidates ws s
+pub marked_candidates : (ws : List WatchedAtoms) (s : State) (words over : List ℕ) → over ≡ words → ((i : ℕ) → is_marked words i ≡ is_candidate ws s i) → filter (is_marked over) (numbers_below (length ws)) ≡ candidates ws s
 unfolding candidates
 marked_candidates ws s words over same is =
     ap (λ xs. filter (is_marked xs) (numbers_below (length ws))) same ∙ filter_agree (is_marked words) (is_candidate ws s) is (numbers_below (length ws))

@@ -18,4 +18,4 @@ mod watches;
 mod watching;
 
 pub use successors::Successors;
-pub use watching::Watch;
+pub use watching::WatchedAtoms;

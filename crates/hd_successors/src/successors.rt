@@ -5,7 +5,7 @@ ghost use Rattle.hd_successors.specs.Watching.{IsWatchedBy, candidates};
 ghost use Rattle.hd_successors.specs.Seeing.{is_always};
 ghost use Rattle.hd_successors.specs.Marks.{is_marked, words_for};
 
-use crate::Watch;
+use crate::WatchedAtoms;
 use crate::marks::{first_mark_below, marks_below, no_marks};
 use crate::watches::Watches;
 use hd_base::NoMemory;
@@ -108,7 +108,7 @@ impl<'t> Successors<'t> {
     }
 
     /// Returns what each action watches.
-    pub fn watched(&self) -> &[Watch]
+    pub fn watched(&self) -> &[WatchedAtoms]
         ensures watched { result.now ≡ self.now.watched }
         ensures asked_for { IsWatchedBy self.now.task.actions result.now }
     {

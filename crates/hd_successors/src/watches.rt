@@ -7,7 +7,7 @@ ghost use Rattle.hd_successors.specs.Seeing.{is_always, watches_one, other_passe
 ghost use Rattle.hd_successors.specs.Chains.{AreChains, last_with, last_in};
 ghost use Rattle.hd_successors.specs.Marks.{is_marked, words_for};
 
-use crate::Watch;
+use crate::WatchedAtoms;
 use crate::marks::{first_bit, no_marks, set_mark};
 use crate::watching::watched_of;
 use hd_base::{NoMemory, Sequence};
@@ -19,7 +19,7 @@ use std::alloc::Global;
 #[derive(Debug, Drop)]
 pub(crate) struct Watches {
     /// By action.
-    pub(crate) watched: Sequence<Watch>,
+    pub(crate) watched: Sequence<WatchedAtoms>,
     /// By atom: one more than the last action that watches it first, or 0.
     last: Sequence<u32>,
     /// By action: one more than the last one before it that watches the same atom first, or 0.
@@ -33,12 +33,12 @@ pub(crate) struct Watches {
 
 /// Puts an action at the end of the chain of what it watches first, and gives what stands before
 /// it.
-fn link(last: &mut [u32], watch: Watch, action: u32) -> u32
+fn link(last: &mut [u32], watch: WatchedAtoms, action: u32) -> u32
     requires { action < MAX_ACTIONS }
     ensures last { last.new ≡ last_with last.old watch action }
     ensures before { result ≡ last_in last.old watch }
 {
-    let Watch::Atoms(atom, _) = watch else {
+    let WatchedAtoms::Atoms(atom, _) = watch else {
         return 0;
     };
     let atom = atom as usize;
@@ -54,7 +54,7 @@ fn link(last: &mut [u32], watch: Watch, action: u32) -> u32
 /// it.
 fn chains_of(
     alloc: Global,
-    watched: &[Watch],
+    watched: &[WatchedAtoms],
     atoms: usize,
 ) -> Result<(Vec<u32>, Vec<u32>), NoMemory>
     requires { length watched.now ≤ MAX_ACTIONS }
@@ -71,18 +71,18 @@ fn chains_of(
 }
 
 /// Marks an action if it watches nothing.
-fn mark_if_always(watch: Watch, action: usize, marks: &mut [u64])
+fn mark_if_always(watch: WatchedAtoms, action: usize, marks: &mut [u64])
     requires { action / 64 < length marks.old }
     ensures { (i : ℕ) → is_marked marks.new i
         ≡ (((i == action) && is_always (Some watch)) || is_marked marks.old i) }
 {
-    if let Watch::Always = watch {
+    if let WatchedAtoms::Always = watch {
         set_mark(marks, action);
     }
 }
 
 /// Marks the actions that watch nothing, if there are no marks yet.
-fn mark_always(watched: &[Watch], marks: &mut [u64])
+fn mark_always(watched: &[WatchedAtoms], marks: &mut [u64])
     requires room { length watched.now ≤ 64 * length marks.old }
     requires none { (i : ℕ) → is_marked marks.old i ≡ false }
     ensures { (i : ℕ) → is_marked marks.new i ≡ is_always (slice_get watched.now i) }
@@ -93,17 +93,17 @@ fn mark_always(watched: &[Watch], marks: &mut [u64])
 }
 
 /// Reports whether the other atom that is watched is true in a state.
-fn sees_other(state: &Packed, watch: Watch) -> bool
+fn sees_other(state: &Packed, watch: WatchedAtoms) -> bool
     ensures { result ≡ other_passes (has_atom state.now) (Some watch) }
 {
     match watch {
-        Watch::Always => true,
-        Watch::Atoms(_, other) => state.has_atom(other),
+        WatchedAtoms::Always => true,
+        WatchedAtoms::Atoms(_, other) => state.has_atom(other),
     }
 }
 
 /// Marks an action if the other atom that it watches is true in a state.
-fn mark_if_seen(state: &Packed, watch: Watch, action: usize, marks: &mut [u64])
+fn mark_if_seen(state: &Packed, watch: WatchedAtoms, action: usize, marks: &mut [u64])
     requires { action / 64 < length marks.old }
     ensures { (i : ℕ) → is_marked marks.new i
         ≡ (((i == action) && other_passes (has_atom state.now) (Some watch))

@@ -2,7 +2,7 @@
 ghost use Rattle.std.specs.Prelude.{◌≡◌, ℕ, ◌≤◌, ◌++◌, [], ◌∷◌, List, true, IfOk, length};
 ghost use Rattle.hd_task.specs.declared.condition.Literal.{Literal};
 ghost use Rattle.hd_task.specs.declared.task.TheConstants.{MAX_ATOMS};
-ghost use Rattle.hd_successors.specs.declared.watching.Watch.TheVariants as Watch;
+ghost use Rattle.hd_successors.specs.declared.watching.WatchedAtoms.TheVariants as WatchedAtoms;
 ghost use Rattle.std.specs.List.{list_any};
 ghost use Rattle.hd_successors.specs.Watching.{is_for, asks_for, IsWatchedBy};
 
@@ -12,7 +12,7 @@ use std::alloc::Global;
 
 /// What an action watches.
 #[derive(Clone, Copy, Debug, PartialEq, Eq)]
-pub enum Watch {
+pub enum WatchedAtoms {
     /// Nothing: it may always apply.
     Always,
     /// Two atoms that its condition asks to be true, the same one twice where it asks for no other.
@@ -74,21 +74,21 @@ fn all_uses(alloc: Global, actions: &[Action], initial: &[bool]) -> Result<Vec<u
 
 /// Returns what to watch with one atom more that is asked to be true: of the three the two that
 /// fewest ask for, the rarest first, the earlier of equal ones.
-fn rarer_with(uses: &[u32], rare: u32, other: u32, atom: u32) -> Watch
-    ensures { (literals : List Literal) → asks_for literals (Watch.Atoms rare other) ≡ true
+fn rarer_with(uses: &[u32], rare: u32, other: u32, atom: u32) -> WatchedAtoms
+    ensures { (literals : List Literal) → asks_for literals (WatchedAtoms.Atoms rare other) ≡ true
         → list_any (is_for atom) literals ≡ true → asks_for literals result ≡ true }
 {
     if uses_of(uses, atom) < uses_of(uses, rare) {
-        Watch::Atoms(atom, rare)
+        WatchedAtoms::Atoms(atom, rare)
     } else if other == rare || uses_of(uses, atom) < uses_of(uses, other) {
-        Watch::Atoms(rare, atom)
+        WatchedAtoms::Atoms(rare, atom)
     } else {
-        Watch::Atoms(rare, other)
+        WatchedAtoms::Atoms(rare, other)
     }
 }
 
 /// Returns what to watch with one literal more.
-fn rarer(uses: &[u32], watch: Watch, literal: Literal) -> Watch
+fn rarer(uses: &[u32], watch: WatchedAtoms, literal: Literal) -> WatchedAtoms
     ensures { (literals : List Literal) → asks_for literals watch ≡ true
         → asks_for (literals ++ literal ∷ []) result ≡ true }
 {
@@ -96,17 +96,17 @@ fn rarer(uses: &[u32], watch: Watch, literal: Literal) -> Watch
         return watch;
     }
     match watch {
-        Watch::Always => Watch::Atoms(literal.atom, literal.atom),
-        Watch::Atoms(rare, other) => rarer_with(uses, rare, other, literal.atom),
+        WatchedAtoms::Always => WatchedAtoms::Atoms(literal.atom, literal.atom),
+        WatchedAtoms::Atoms(rare, other) => rarer_with(uses, rare, other, literal.atom),
     }
 }
 
 /// Returns what an action of these literals watches: the two atoms that fewest ask for, of those
 /// that it asks to be true; one that is true in each state comes last.
-fn rarest(uses: &[u32], literals: &[Literal]) -> Watch
+fn rarest(uses: &[u32], literals: &[Literal]) -> WatchedAtoms
     ensures { asks_for literals.now result ≡ true }
 {
-    let mut watch = Watch::Always;
+    let mut watch = WatchedAtoms::Always;
     for literal in literals {
         watch = rarer(uses, watch, *literal);
     }
@@ -114,7 +114,11 @@ fn rarest(uses: &[u32], literals: &[Literal]) -> Watch
 }
 
 /// Returns what each action watches.
-fn each_rarest(alloc: Global, uses: &[u32], actions: &[Action]) -> Result<Vec<Watch>, NoMemory>
+fn each_rarest(
+    alloc: Global,
+    uses: &[u32],
+    actions: &[Action],
+) -> Result<Vec<WatchedAtoms>, NoMemory>
     ensures { IfOk result (λ v. IsWatchedBy actions.now v.items) }
 {
     let mut watched = Vec::with_capacity(alloc, actions.len())?;
@@ -132,7 +136,7 @@ pub(crate) fn watched_of(
     alloc: Global,
     actions: &[Action],
     initial: &[bool],
-) -> Result<Sequence<Watch>, NoMemory>
+) -> Result<Sequence<WatchedAtoms>, NoMemory>
     ensures { IfOk result (IsWatchedBy actions.now) }
 {
     let uses = all_uses(alloc, actions, initial)?;

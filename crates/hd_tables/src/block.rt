@@ -3,10 +3,10 @@ ghost use Rattle.std.specs.Prelude.{◌≡◌, ◌+◌, ◌<◌, ◌≤◌, ◌+
 ghost use Rattle.hd_tables.specs.declared.chunks.TheConstants.{CHUNK};
 ghost use Rattle.hd_tables.specs.Blocks.{states_of, widths_of, IsBlock};
 
+use crate::CHUNK;
 use crate::row::Row;
 use crate::rows::row_at;
 use hd_base::NoMemory;
-use crate::CHUNK;
 use hd_pack::Layout;
 use std::alloc::Global;
 

@@ -7,8 +7,8 @@ ghost use Rattle.hd_tables.specs.Blocks.{states_of, widths_of, IsBlock};
 
 use crate::block::Block;
 use crate::row::Row;
-use hd_base::NoMemory;
 use crate::{CHUNK, MOST_ITEMS};
+use hd_base::NoMemory;
 use hd_pack::{Layout, Packed};
 use std::alloc::{AllocError, Global};
 use std::marker::Model;

@@ -1,7 +1,7 @@
 //! The table of successors.
 use crate::search::{end_of, place_in};
-use hd_base::NoMemory;
 use crate::{Bits, Chunks};
+use hd_base::NoMemory;
 use hd_task::{Kid, ROOT_ACTION, ROOT_PARENT};
 use std::alloc::Global;
 use std::marker::Model;

@@ -2,10 +2,10 @@
 use Rattle.std.specs.Prelude.{ℕ, Bool, not, ◌&&◌, ◌||◌, ◌==◌, if◌then◌else◌, List, map, length, Option, Some, None, ℤ, pos, negsuc, ◌+ℤ◌, ◌-ℤ◌, ◌*ℤ◌, find}
 use Rattle.std.specs.List.{list_any, list_all, range_with_len, fold}
 use Rattle.hd_task.specs.declared.state.State.{State}
-use Rattle.hd_task.specs.declared.effect.Term.{Term}
-use Rattle.hd_task.specs.declared.effect.Term.TheVariants.{Increase, Decrease}
-use Rattle.hd_task.specs.declared.effect.Change.{Change}
-use Rattle.hd_task.specs.declared.effect.Change.TheVariants.{Assign, ScaleUp, Sum}
+use Rattle.hd_task.specs.declared.effect.SumPart.{SumPart}
+use Rattle.hd_task.specs.declared.effect.SumPart.TheVariants.{Increase, Decrease}
+use Rattle.hd_task.specs.declared.effect.ValueChange.{ValueChange}
+use Rattle.hd_task.specs.declared.effect.ValueChange.TheVariants.{Assign, ScaleUp, Sum}
 use Rattle.hd_task.specs.declared.effect.Effect.{Effect}
 use Rattle.hd_task.specs.declared.action.Action.{Action}
 use Rattle.hd_task.specs.declared.task.Task.{Task}
@@ -34,13 +34,13 @@ atoms_after t s a = map (atom_after s a) (numbers_below (length t.atoms))
 -- ---- fluents
 
 -- one more increase or decrease, its amount by the values f
-abbrev pub with_term : List ℤ → ℤ → Term → ℤ
+abbrev pub with_term : List ℤ → ℤ → SumPart → ℤ
 with_term f v (Increase e) = v +ℤ value_of f e
 with_term f v (Decrease e) = v -ℤ value_of f e
 
 -- what a change makes of the value v, its amounts by the values f from before the action: increases
 -- and decreases add up
-abbrev pub value_by_change : List ℤ → Change → ℤ → ℤ
+abbrev pub value_by_change : List ℤ → ValueChange → ℤ → ℤ
 value_by_change f (Assign e) v = value_of f e
 value_by_change f (ScaleUp e) v = v *ℤ value_of f e
 value_by_change f (Sum terms) v = fold (with_term f) v terms
@@ -88,12 +88,12 @@ step_cost t s a = natural (exact_cost t s a)
 -- ---- the range
 
 -- each subexpression of a term is in the range
-abbrev pub term_stays : List ℤ → Term → Bool
+abbrev pub term_stays : List ℤ → SumPart → Bool
 term_stays f (Increase e) = stays_in_range f e
 term_stays f (Decrease e) = stays_in_range f e
 
 -- each subexpression of a change is in the range
-abbrev pub change_stays : List ℤ → Change → Bool
+abbrev pub change_stays : List ℤ → ValueChange → Bool
 change_stays f (Assign e) = stays_in_range f e
 change_stays f (ScaleUp e) = stays_in_range f e
 change_stays f (Sum terms) = list_all (term_stays f) terms

@@ -5,7 +5,7 @@ use Rattle.std.specs.List.{list_all, fold}
 use Rattle.hd_base.specs.Answers.{Judges}
 use Rattle.hd_task.specs.declared.state.State.{State}
 use Rattle.hd_task.specs.declared.condition.Comparison.{Comparison}
-use Rattle.hd_task.specs.declared.effect.Term.{Term}
+use Rattle.hd_task.specs.declared.effect.SumPart.{SumPart}
 use Rattle.hd_task.specs.declared.effect.Effect.{Effect}
 use Rattle.hd_task.specs.declared.action.Action.{Action}
 use Rattle.hd_task.specs.declared.task.Task.{Task}
@@ -34,11 +34,11 @@ abbrev pub JudgesSum : List ℤ → ℤ → Expr → Option ℤ → Type 0
 JudgesSum f sum amount answer = Judges answer (stays_in_range f amount) (sum +ℤ value_of f amount)
 
 -- a sum with one more term
-abbrev pub JudgesTerm : List ℤ → ℤ → Term → Option ℤ → Type 0
+abbrev pub JudgesTerm : List ℤ → ℤ → SumPart → Option ℤ → Type 0
 JudgesTerm f sum term answer = Judges answer (term_stays f term) (with_term f sum term)
 
 -- the sum of terms, onto a first value
-abbrev pub JudgesTerms : List ℤ → ℤ → List Term → Option ℤ → Type 0
+abbrev pub JudgesTerms : List ℤ → ℤ → List SumPart → Option ℤ → Type 0
 JudgesTerms f first terms answer = Judges answer (list_all (term_stays f) terms) (fold (with_term f) first terms)
 
 -- the sum of an action's amounts

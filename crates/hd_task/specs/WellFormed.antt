@@ -12,10 +12,10 @@ use Rattle.hd_task.specs.declared.form.Names.{Names}
 use Rattle.hd_task.specs.declared.condition.Literal.{Literal}
 use Rattle.hd_task.specs.declared.condition.Comparison.{Comparison}
 use Rattle.hd_task.specs.declared.condition.Condition.{Condition}
-use Rattle.hd_task.specs.declared.effect.Term.{Term}
-use Rattle.hd_task.specs.declared.effect.Term.TheVariants.{Increase, Decrease}
-use Rattle.hd_task.specs.declared.effect.Change.{Change}
-use Rattle.hd_task.specs.declared.effect.Change.TheVariants.{Assign, ScaleUp, Sum}
+use Rattle.hd_task.specs.declared.effect.SumPart.{SumPart}
+use Rattle.hd_task.specs.declared.effect.SumPart.TheVariants.{Increase, Decrease}
+use Rattle.hd_task.specs.declared.effect.ValueChange.{ValueChange}
+use Rattle.hd_task.specs.declared.effect.ValueChange.TheVariants.{Assign, ScaleUp, Sum}
 use Rattle.hd_task.specs.declared.effect.Effect.{Effect}
 use Rattle.hd_task.specs.declared.action.Action.{Action}
 use Rattle.hd_task.specs.declared.task.TheConstants.{MAX_ACTIONS, MAX_ATOMS, MAX_FLUENTS, MAX_AMOUNTS}
@@ -58,12 +58,12 @@ abbrev pub comparison_reads_below : ℕ → Comparison → Bool
 comparison_reads_below n c = reads_below n c.left && reads_below n c.right
 
 -- the same of a term
-abbrev pub term_reads_below : ℕ → Term → Bool
+abbrev pub term_reads_below : ℕ → SumPart → Bool
 term_reads_below n (Increase e) = reads_below n e
 term_reads_below n (Decrease e) = reads_below n e
 
 -- the same of a change
-abbrev pub change_reads_below : ℕ → Change → Bool
+abbrev pub change_reads_below : ℕ → ValueChange → Bool
 change_reads_below n (Assign e) = reads_below n e
 change_reads_below n (ScaleUp e) = reads_below n e
 change_reads_below n (Sum terms) = list_all (term_reads_below n) terms

@@ -12,7 +12,7 @@ use hd_base::{RANGE_END, Sequence, if_in_range};
 
 /// One part of a sum onto a fluent.
 #[derive(Debug, Drop)]
-pub enum Term {
+pub enum SumPart {
     Increase(Expr),
     Decrease(Expr),
 }
@@ -21,10 +21,10 @@ pub enum Term {
 ///
 /// An assignment and a scaling stand alone; increases and decreases add up.
 #[derive(Debug, Drop)]
-pub enum Change {
+pub enum ValueChange {
     Assign(Expr),
     ScaleUp(Expr),
-    Sum(Sequence<Term>),
+    Sum(Sequence<SumPart>),
 }
 
 /// The change of one fluent.
@@ -32,7 +32,7 @@ pub enum Change {
 pub struct Effect {
     /// The fluent's number.
     pub fluent: u32,
-    pub change: Change,
+    pub change: ValueChange,
 }
 
 /// Returns a sum with one more amount, unless a subexpression leaves the range. The sum itself is
@@ -48,20 +48,20 @@ fn plus_value<R: Reads>(state: &R, sum: i128, amount: &Expr) -> Option<i128>
 
 /// Returns a sum with one more term, unless a subexpression leaves the range. The sum itself is not
 /// judged.
-fn with_term<R: Reads>(state: &R, sum: i128, term: &Term) -> Option<i128>
+fn with_term<R: Reads>(state: &R, sum: i128, term: &SumPart) -> Option<i128>
     requires low { neg_ℤ (pos (2 ^ 126)) ≤ℤ sum }
     requires high { sum ≤ℤ pos (2 ^ 126) }
     ensures value { JudgesTerm (R.seen state.now).fluents sum term.now result }
     ensures near { IfSome result (IsNear RANGE_END sum) }
 {
     match term {
-        Term::Increase(amount) => plus_value(state, sum, amount),
-        Term::Decrease(amount) => Some(sum - i128::from(value_of(state, amount)?)),
+        SumPart::Increase(amount) => plus_value(state, sum, amount),
+        SumPart::Decrease(amount) => Some(sum - i128::from(value_of(state, amount)?)),
     }
 }
 
 /// Returns the sum of the terms, onto a first value.
-fn sum_of<R: Reads>(state: &R, terms: &[Term], first: i64) -> Option<i128>
+fn sum_of<R: Reads>(state: &R, terms: &[SumPart], first: i64) -> Option<i128>
     ensures { JudgesTerms (R.seen state.now).fluents first terms.now result }
 {
     let mut sum = i128::from(first);
@@ -89,9 +89,9 @@ pub fn new_value<R: Reads>(state: &R, effect: &Effect) -> Option<i64>
 {
     let old = state.fluent_of(effect.fluent);
     match &effect.change {
-        Change::Assign(amount) => value_of(state, amount),
-        Change::ScaleUp(amount) => if_in_range(old.checked_mul(value_of(state, amount)?)),
-        Change::Sum(terms) => narrow(sum_of(state, terms.as_slice(), old)?),
+        ValueChange::Assign(amount) => value_of(state, amount),
+        ValueChange::ScaleUp(amount) => if_in_range(old.checked_mul(value_of(state, amount)?)),
+        ValueChange::Sum(terms) => narrow(sum_of(state, terms.as_slice(), old)?),
     }
 }
 

@@ -35,7 +35,7 @@ pub use action::{Action, ActionId};
 pub use applying::{Applied, GoalTest, apply, goal, step_cost};
 pub use condition::{Comparison, Condition, Literal, test_of};
 pub use departure::{DepartsBy, Departure};
-pub use effect::{Change, Effect, Term, new_value};
+pub use effect::{Effect, SumPart, ValueChange, new_value};
 pub use expression::Expr;
 pub use form::{GroundForm, Names};
 pub use hd_base::{ExprParts, Name, NoMemory, Operand, Operation, RANGE_END, Relation, Sequence};

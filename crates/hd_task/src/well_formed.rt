@@ -8,8 +8,8 @@ ghost use Rattle.hd_task.specs.Sums.{IsNear};
 ghost use Rattle.hd_task.specs.WellFormed.{within_limits, is_named, are_named, leaf_reads_below, reads_below, comparison_reads_below, term_reads_below, change_reads_below, effect_fits, is_rising, action_fits, goal_fits, is_number, constant_sum, costs_fit, constant_cost_fits};
 
 use crate::{
-    Action, Change, Comparison, Condition, Effect, Expr, GroundForm, MAX_ACTIONS, MAX_AMOUNTS,
-    MAX_ATOMS, MAX_FLUENTS, Names, Term,
+    Action, Comparison, Condition, Effect, Expr, GroundForm, MAX_ACTIONS, MAX_AMOUNTS, MAX_ATOMS,
+    MAX_FLUENTS, Names, SumPart, ValueChange,
 };
 use hd_base::{ExprParts, Operand, in_range};
 
@@ -111,26 +111,26 @@ fn comparisons_read_below(comparisons: &[Comparison], fluents: usize) -> bool
         .all(|comparison| comparison_reads_below(comparison, fluents))
 }
 
-fn term_reads_below(term: &Term, fluents: usize) -> bool
+fn term_reads_below(term: &SumPart, fluents: usize) -> bool
     ensures { result ≡ term_reads_below fluents term.now }
 {
     match term {
-        Term::Increase(amount) | Term::Decrease(amount) => reads_below(amount, fluents),
+        SumPart::Increase(amount) | SumPart::Decrease(amount) => reads_below(amount, fluents),
     }
 }
 
-fn terms_read_below(terms: &[Term], fluents: usize) -> bool
+fn terms_read_below(terms: &[SumPart], fluents: usize) -> bool
     ensures { result ≡ list_all (term_reads_below fluents) terms.now }
 {
     terms.iter().all(|term| term_reads_below(term, fluents))
 }
 
-fn change_reads_below(change: &Change, fluents: usize) -> bool
+fn change_reads_below(change: &ValueChange, fluents: usize) -> bool
     ensures { result ≡ change_reads_below fluents change.now }
 {
     match change {
-        Change::Assign(amount) | Change::ScaleUp(amount) => reads_below(amount, fluents),
-        Change::Sum(terms) => terms_read_below(terms.as_slice(), fluents),
+        ValueChange::Assign(amount) | ValueChange::ScaleUp(amount) => reads_below(amount, fluents),
+        ValueChange::Sum(terms) => terms_read_below(terms.as_slice(), fluents),
     }
 }
 

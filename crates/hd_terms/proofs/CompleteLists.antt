@@ -1,7 +1,7 @@
 -- The conditions and effects of the grammar are read.
 use Rattle.std.proofs.Common.{◌≡◌, ℕ, false, List, [], ◌∷◌, ◌++◌, Some, refl, sym, ap, ◌∙◌, append_assoc}
 use Rattle.std.proofs.lemmas.List.{append-nil}
-use Rattle.hd_forms.specs.declared.word.Word.{Word}
+use Rattle.hd_forms.specs.declared.word.FormWord.{FormWord}
 use Rattle.hd_forms.specs.Forms.{Forms, none, word, list}
 use Rattle.hd_base.specs.Options.{◌>>=◌}
 use Rattle.hd_terms.specs.declared.tree.Condition.{Condition}
@@ -28,7 +28,7 @@ pub negated_atom_of-IsAtom : (c d : ℕ) {inside : Forms} {t : Atom} → IsAtom 
 unfolding negated_atom_of
 negated_atom_of-IsAtom c d p = rw (atom_of-IsAtom p) refl
 
-terms_of-IsTerm : {b c : ℕ} {v w : Word} {t u : Term} → IsTerm b v t → IsTerm c w u
+terms_of-IsTerm : {b c : ℕ} {v w : FormWord} {t u : Term} → IsTerm b v t → IsTerm c w u
     → terms_of (word b v (word c w none)) ≡ Some (t, u)
 unfolding terms_of
 terms_of-IsTerm p q = rw (term_in-IsTerm p, term_in-IsTerm q) refl

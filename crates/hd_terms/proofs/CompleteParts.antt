@@ -1,7 +1,7 @@
 -- The atoms and expressions of the grammar are read.
 use Rattle.std.proofs.Common.{◌≡◌, ℕ, ◌+◌, ◌≤◌, ◌==◌, suc, false, length, List, [], ◌∷◌, ◌++◌, Some, refl, sym, ap, ◌∙◌, append_assoc, arith, length-append}
 use Rattle.std.proofs.lemmas.List.{append-nil}
-use Rattle.hd_forms.specs.declared.word.Word.{Word}
+use Rattle.hd_forms.specs.declared.word.FormWord.{FormWord}
 use Rattle.hd_forms.specs.Forms.{Forms}
 use Rattle.hd_terms.specs.declared.tree.Atom.{Atom}
 use Rattle.hd_terms.specs.declared.tree.Term.{Term}
@@ -16,7 +16,7 @@ use Rattle.hd_terms.specs.Reading.{term_in, terms_after, atom_of, exprs_after, e
 
 -- ---- atoms
 
-pub term_in-IsTerm : {at : ℕ} {w : Word} {t : Term} → IsTerm at w t → term_in at w ≡ Some t
+pub term_in-IsTerm : {at : ℕ} {w : FormWord} {t : Term} → IsTerm at w t → term_in at w ≡ Some t
 term_in-IsTerm a.name = refl
 term_in-IsTerm a.variable = refl
 

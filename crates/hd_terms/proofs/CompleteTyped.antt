@@ -3,8 +3,8 @@ use Rattle.std.proofs.Common.{◌≡◌, ℕ, suc, ◌==◌, false, arith, List,
 use Rattle.std.proofs.lemmas.List.{append-nil}
 use Rattle.hd_lex.specs.declared.token.Operator as signs
 use Rattle.hd_forms.specs.declared.names.NameAt.{NameAt}
-use Rattle.hd_forms.specs.declared.word.Word.{Word}
-use Rattle.hd_forms.specs.declared.word.Word.TheVariants as words
+use Rattle.hd_forms.specs.declared.word.FormWord.{FormWord}
+use Rattle.hd_forms.specs.declared.word.FormWord.TheVariants as words
 use Rattle.hd_forms.specs.Forms.{Forms}
 use Rattle.hd_forms.specs.Reading.{placed_name}
 use Rattle.hd_terms.specs.declared.tree.Typed.{Typed}
@@ -14,7 +14,7 @@ use Rattle.hd_terms.specs.Typed as g
 use Rattle.hd_terms.specs.Typed.{IsItem, AreItems, AreTyped, with_type}
 use Rattle.hd_terms.specs.Reading.{item_in, typed_after}
 
-item_in-IsItem : {k : ItemKind} {w : Word} {n : List ℕ} → IsItem k w n → item_in k w ≡ Some n
+item_in-IsItem : {k : ItemKind} {w : FormWord} {n : List ℕ} → IsItem k w n → item_in k w ≡ Some n
 item_in-IsItem g.name = refl
 item_in-IsItem g.variable = refl
 

@@ -6,7 +6,7 @@ use Rattle.hd_base.specs.Options.{◌>>=◌}
 use Rattle.hd_forms.specs.declared.error.ReadError.{ReadError}
 use Rattle.hd_forms.specs.declared.error.ReadError.TheVariants as errors
 use Rattle.hd_forms.specs.declared.names.NameAt.{NameAt}
-use Rattle.hd_forms.specs.declared.word.Word.{Word}
+use Rattle.hd_forms.specs.declared.word.FormWord.{FormWord}
 use Rattle.hd_forms.specs.Forms.{Forms, none, word, list}
 use Rattle.hd_forms.specs.Reading.{Refuses, placed_name, name_in, name_at}
 use Rattle.hd_terms.specs.declared.tree.Typed.{Typed}
@@ -45,7 +45,7 @@ cond-bind true x f = refl
 cond-bind false x f = refl
 
 -- the same, where the first word is an item or not
-group-word : (k : ItemKind) (at : ℕ) (w : Word) (rest : Forms) (found : List Typed) (pending : List NameAt) (item : Option (List ℕ))
+group-word : (k : ItemKind) (at : ℕ) (w : FormWord) (rest : Forms) (found : List Typed) (pending : List NameAt) (item : Option (List ℕ))
     → ((ps : List NameAt) → typed_after k rest found ps
     ≡ (type_behind (not (length (ps ++ items_in k rest) == 0)) (behind_items k rest) >>= typed_by_group k found (ps ++ items_in k rest)))
     → some_or item (λ n. typed_after k rest found (pending ++ placed_name n at ∷ []))

@@ -6,9 +6,9 @@ use Rattle.std.proofs.lemmas.Bool.{and_parts}
 use Rattle.hd_base.proofs.Options.{cond_then_some}
 use Rattle.hd_lex.specs.declared.token.Operator as signs
 use Rattle.hd_lex.specs.declared.token.Operator.TheVariants as operators
-use Rattle.hd_forms.specs.declared.word.Change as changing
-use Rattle.hd_forms.specs.declared.word.Word.{Word}
-use Rattle.hd_forms.specs.declared.word.Word.TheVariants as words
+use Rattle.hd_forms.specs.declared.word.ChangeWord as changing
+use Rattle.hd_forms.specs.declared.word.FormWord.{FormWord}
+use Rattle.hd_forms.specs.declared.word.FormWord.TheVariants as words
 use Rattle.hd_forms.specs.Forms.{Forms, none, word, list}
 use Rattle.hd_base.specs.Options.{◌>>=◌}
 use Rattle.hd_forms.specs.Reading.{group_at, end_at}
@@ -64,7 +64,7 @@ IsNegated-negated_atom_of f t e =
 -- a term stands first in these forms
 record IsTermAt (f : Forms) (t : Term) (more : Forms) : Type 0 where
   at : ℕ
-  w : Word
+  w : FormWord
   whole : word at w more ≡ f
   term : IsTerm at w t
 
@@ -259,7 +259,7 @@ IsEffect-negated_atom_of at f c e =
     subst (IsEffect (word at words.Not f)) (same_Some (effects.Delete s.0) c s.2)
     (subst (λ (y : Forms). IsEffect (word at words.Not y) (effects.Delete s.0)) p.alone.whole made)
 
-IsEffect-change_of : (at : ℕ) (k : changing.Change) (f : Forms) (c : Effect) → change_of k f ≡ Some c
+IsEffect-change_of : (at : ℕ) (k : changing.ChangeWord) (f : Forms) (c : Effect) → change_of k f ≡ Some c
     → IsEffect (word at (words.Change k) f) c
 unfolding change_of
 IsEffect-change_of at k f c e =

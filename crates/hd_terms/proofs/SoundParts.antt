@@ -5,8 +5,8 @@ use Rattle.std.proofs.lemmas.Option.{same_Some}
 use Rattle.hd_base.proofs.Options.{cond_then_some, cond_else_some}
 use Rattle.hd_lex.specs.declared.token.Operator as signs
 use Rattle.hd_lex.specs.declared.token.Operator.TheVariants as operators
-use Rattle.hd_forms.specs.declared.word.Word.{Word}
-use Rattle.hd_forms.specs.declared.word.Word.TheVariants as words
+use Rattle.hd_forms.specs.declared.word.FormWord.{FormWord}
+use Rattle.hd_forms.specs.declared.word.FormWord.TheVariants as words
 use Rattle.hd_forms.specs.Forms.{Forms, none, word, list}
 use Rattle.hd_base.specs.Options.{◌>>=◌}
 use Rattle.hd_forms.specs.Reading.{number_in, name_at}
@@ -24,7 +24,7 @@ use Rattle.hd_terms.specs.Reading.{term_in, terms_after, atom_of, is_arithmetic,
 
 -- ---- atoms
 
-pub IsTerm-term_in : (at : ℕ) (w : Word) (t : Term) → term_in at w ≡ Some t → IsTerm at w t
+pub IsTerm-term_in : (at : ℕ) (w : FormWord) (t : Term) → term_in at w ≡ Some t → IsTerm at w t
 IsTerm-term_in at (words.Name n) t e = subst (IsTerm at (words.Name n)) (same_Some _ t e) a.name
 IsTerm-term_in at (words.Variable n) t e = subst (IsTerm at (words.Variable n)) (same_Some _ t e) a.variable
 IsTerm-term_in at w t e = absurd cc
@@ -117,7 +117,7 @@ mutual
       record {
         own = leaf (leaves.Number at s.0) ∷ q.own;
         are =
-            subst (λ (v : Word). AreExprs (word at v rest) (leaf (leaves.Number at s.0) ∷ q.own)) (sym (number_in-some w s.0 s.1))
+            subst (λ (v : FormWord). AreExprs (word at v rest) (leaf (leaves.Number at s.0) ∷ q.own)) (sym (number_in-some w s.0 s.1))
             (x.numeral q.are);
         all = q.all ∙ append_assoc found (leaf (leaves.Number at s.0) ∷ []) q.own;
       }

@@ -5,8 +5,8 @@ use Rattle.std.proofs.lemmas.Bool.{and_parts}
 use Rattle.hd_base.proofs.Options.{cond_then_some}
 use Rattle.hd_lex.specs.declared.token.Operator.TheVariants as operators
 use Rattle.hd_forms.specs.declared.names.NameAt.{NameAt}
-use Rattle.hd_forms.specs.declared.word.Word.{Word}
-use Rattle.hd_forms.specs.declared.word.Word.TheVariants as words
+use Rattle.hd_forms.specs.declared.word.FormWord.{FormWord}
+use Rattle.hd_forms.specs.declared.word.FormWord.TheVariants as words
 use Rattle.hd_forms.specs.Forms.{Forms, none, word, list}
 use Rattle.hd_forms.specs.Reading.{placed_name, name_in}
 use Rattle.hd_forms.proofs.Inverting.{bind_some, name_in-some, variable_in-some}
@@ -17,16 +17,16 @@ use Rattle.hd_terms.specs.Typed as gr
 use Rattle.hd_terms.specs.Typed.{IsItem, AreItems, AreTyped, with_type}
 use Rattle.hd_terms.specs.Reading.{item_in, is_minus, some_or, typed_after, typed_behind}
 
-IsItem-item_in : (k : ItemKind) (w : Word) (n : List ℕ) → item_in k w ≡ Some n → IsItem k w n
-IsItem-item_in kinds.Name w n e = subst (λ (v : Word). IsItem kinds.Name v n) (sym (name_in-some w n e)) gr.name
-IsItem-item_in kinds.Variable w n e = subst (λ (v : Word). IsItem kinds.Variable v n) (sym (variable_in-some w n e)) gr.variable
+IsItem-item_in : (k : ItemKind) (w : FormWord) (n : List ℕ) → item_in k w ≡ Some n → IsItem k w n
+IsItem-item_in kinds.Name w n e = subst (λ (v : FormWord). IsItem kinds.Name v n) (sym (name_in-some w n e)) gr.name
+IsItem-item_in kinds.Variable w n e = subst (λ (v : FormWord). IsItem kinds.Variable v n) (sym (variable_in-some w n e)) gr.variable
 
-pub is_minus-true : (w : Word) → is_minus w ≡ true → w ≡ words.Operator operators.Minus
+pub is_minus-true : (w : FormWord) → is_minus w ≡ true → w ≡ words.Operator operators.Minus
 is_minus-true (words.Operator operators.Minus) e = refl
 is_minus-true w e = absurd cc
 
 -- one item more after others
-AreItems-push : {k : ItemKind} {g rest : Forms} {ns : List NameAt} {at : ℕ} {w : Word} {n : List ℕ}
+AreItems-push : {k : ItemKind} {g rest : Forms} {ns : List NameAt} {at : ℕ} {w : FormWord} {n : List ℕ}
     → AreItems k g ns (word at w rest) → IsItem k w n → AreItems k g (ns ++ placed_name n at ∷ []) rest
 AreItems-push gr.end i = gr.one i gr.end
 AreItems-push (gr.one j r) i = gr.one j (AreItems-push r i)
@@ -46,14 +46,14 @@ record ReadsBehind (k : ItemKind) (rest : Forms) (found : List Typed) (pending :
   reads : ReadsTyped k more (found ++ with_type (Some (placed_name t at)) pending) [] ts
 
 -- from what is read after a `-`
-ReadsTyped-behind : (k : ItemKind) (at : ℕ) (w : Word) (rest : Forms) (found : List Typed) (pending : List NameAt) (ts : List Typed)
+ReadsTyped-behind : (k : ItemKind) (at : ℕ) (w : FormWord) (rest : Forms) (found : List Typed) (pending : List NameAt) (ts : List Typed)
     → w ≡ words.Operator operators.Minus → not (length pending == 0) ≡ true
     → ReadsBehind k rest found pending ts → ReadsTyped k (word at w rest) found pending ts
 ReadsTyped-behind k at w rest found [] ts minus some r = absurd cc
 ReadsTyped-behind k at w rest found (n ∷ ns) ts minus some r =
     let group = with_type (Some (placed_name r.t r.at)) (n ∷ ns) in
     let whole : word at w rest ≡ word at (words.Operator operators.Minus) (word r.at (words.Name r.t) r.more) =
-    ap (λ (x : Word). word at x rest) minus ∙ ap (word at (words.Operator operators.Minus)) r.whole in
+    ap (λ (x : FormWord). word at x rest) minus ∙ ap (word at (words.Operator operators.Minus)) r.whole in
     record {
       own = group ++ r.reads.own;
       are = λ g h. gr.group (subst (AreItems k g (n ∷ ns)) whole h) (r.reads.are r.more gr.end);
@@ -61,7 +61,7 @@ ReadsTyped-behind k at w rest found (n ∷ ns) ts minus some r =
     }
 
 -- from what is read after a word
-ReadsTyped-word : (k : ItemKind) (at : ℕ) (w : Word) (rest : Forms) (found : List Typed) (pending : List NameAt) (ts : List Typed)
+ReadsTyped-word : (k : ItemKind) (at : ℕ) (w : FormWord) (rest : Forms) (found : List Typed) (pending : List NameAt) (ts : List Typed)
     (item : Option (List ℕ)) → item_in k w ≡ item
     → ((ps : List NameAt) → typed_after k rest found ps ≡ Some ts → ReadsTyped k rest found ps ts)
     → (typed_behind k rest found pending ≡ Some ts → ReadsBehind k rest found pending ts)
@@ -101,7 +101,7 @@ ReadsTyped-typed_after k (word at w (word b v rest)) found pending ts e =
       t = s.0;
       at = b;
       more = rest;
-      whole = ap (λ (x : Word). word b x rest) (name_in-some v s.0 s.1);
+      whole = ap (λ (x : FormWord). word b x rest) (name_in-some v s.0 s.1);
       reads = ReadsTyped-typed_after k rest (found ++ with_type (Some (placed_name s.0 b)) pending) [] ts s.2;
     }) e
 

@@ -2,8 +2,8 @@
 -- "BNF" is the BNF of PDDL 2.1 (Fox and Long 2003, its appendix); "own" is a rule of this project.
 use Rattle.std.specs.Prelude.{ℕ, List, [], ◌∷◌}
 use Rattle.hd_forms.specs.declared.names.NameAt.{NameAt}
-use Rattle.hd_forms.specs.declared.word.Word.{Word}
-use Rattle.hd_forms.specs.declared.word.Word.TheVariants as words
+use Rattle.hd_forms.specs.declared.word.FormWord.{FormWord}
+use Rattle.hd_forms.specs.declared.word.FormWord.TheVariants as words
 use Rattle.hd_forms.specs.Forms.{Forms, none, word}
 use Rattle.hd_forms.specs.Reading.{placed_name}
 use Rattle.hd_terms.specs.declared.tree.Atom.{Atom}
@@ -11,14 +11,14 @@ use Rattle.hd_terms.specs.declared.tree.Term.{Term}
 use Rattle.hd_terms.specs.declared.tree.Term.TheVariants as terms
 
 -- the word at this place is a term: a name or a variable (BNF)
-pub data IsTerm : ℕ → Word → Term → Type 0 where
+pub data IsTerm : ℕ → FormWord → Term → Type 0 where
   name : {at : ℕ} {n : List ℕ} → IsTerm at (words.Name n) (terms.Name (placed_name n at))
   variable : {at : ℕ} {n : List ℕ} → IsTerm at (words.Variable n) (terms.Variable (placed_name n at))
 
 -- term* (BNF)
 pub data AreTerms : Forms → List Term → Type 0 where
   end : AreTerms none []
-  one : {at : ℕ} {w : Word} {rest : Forms} {t : Term} {ts : List Term}
+  one : {at : ℕ} {w : FormWord} {rest : Forms} {t : Term} {ts : List Term}
       → IsTerm at w t → AreTerms rest ts
       → AreTerms (word at w rest) (t ∷ ts)
 

@@ -3,8 +3,8 @@
 use Rattle.std.specs.Prelude.{ℕ, List, [], ◌∷◌, ◌++◌}
 use Rattle.hd_lex.specs.declared.token.Operator as signs
 use Rattle.hd_lex.specs.declared.token.Operator.TheVariants as operators
-use Rattle.hd_forms.specs.declared.word.Word.{Word}
-use Rattle.hd_forms.specs.declared.word.Word.TheVariants.{And, Not, Operator}
+use Rattle.hd_forms.specs.declared.word.FormWord.{FormWord}
+use Rattle.hd_forms.specs.declared.word.FormWord.TheVariants.{And, Not, Operator}
 use Rattle.hd_forms.specs.Forms.{Forms, none, word, list}
 use Rattle.hd_terms.specs.declared.tree.Atom.{Atom}
 use Rattle.hd_terms.specs.declared.tree.Condition.{Condition}
@@ -27,7 +27,7 @@ pub data IsRelation : signs.Operator → Relation → Type 0 where
 
 -- what stands in an equality of objects: = term term (BNF)
 pub data IsEquality : Forms → Term → Term → Type 0 where
-  equality : {a b c : ℕ} {v w : Word} {t u : Term}
+  equality : {a b c : ℕ} {v w : FormWord} {t u : Term}
       → IsTerm b v t → IsTerm c w u
       → IsEquality (word a (Operator operators.Equal) (word b v (word c w none))) t u
 

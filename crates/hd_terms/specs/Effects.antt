@@ -1,8 +1,8 @@
 -- How effects are written.
 -- "BNF" is the BNF of PDDL 2.1 (Fox and Long 2003, its appendix); "own" is a rule of this project.
 use Rattle.std.specs.Prelude.{ℕ, List, [], ◌∷◌, ◌++◌}
-use Rattle.hd_forms.specs.declared.word.Change as changing
-use Rattle.hd_forms.specs.declared.word.Word.TheVariants.{And, Not, Change}
+use Rattle.hd_forms.specs.declared.word.ChangeWord as changing
+use Rattle.hd_forms.specs.declared.word.FormWord.TheVariants.{And, Not, Change}
 use Rattle.hd_forms.specs.Forms.{Forms, none, word, list}
 use Rattle.hd_terms.specs.declared.tree.Atom.{Atom}
 use Rattle.hd_terms.specs.declared.tree.Effect.{Effect}
@@ -19,7 +19,7 @@ place_of (word at w rest) = at
 place_of (list from inside to rest) = from
 
 -- a fluent changed by an amount, whose first token stands at this place
-abbrev pub change_by : changing.Change → Atom → Expression Leaf → ℕ → Effect
+abbrev pub change_by : changing.ChangeWord → Atom → Expression Leaf → ℕ → Effect
 change_by k f e at = effects.Change (record { change = k; fluent = f; amount = e; at = at })
 
 -- what stands in a part of an effect (BNF)
@@ -31,7 +31,7 @@ pub data IsEffect : Forms → Effect → Type 0 where
       → IsAtom inside t
       → IsEffect (word a Not (list c inside d none)) (effects.Delete t)
   -- assign, increase, decrease or scale-up, a fluent, and an expression
-  change : {a c d : ℕ} {k : changing.Change} {inside amount : Forms} {f : Atom} {e : Expression Leaf}
+  change : {a c d : ℕ} {k : changing.ChangeWord} {inside amount : Forms} {f : Atom} {e : Expression Leaf}
       → IsAtom inside f → AreExprs amount (e ∷ [])
       → IsEffect (word a (Change k) (list c inside d amount)) (change_by k f e (place_of amount))
 

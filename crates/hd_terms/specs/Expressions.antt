@@ -2,7 +2,7 @@
 -- "BNF" is the BNF of PDDL 2.1 (Fox and Long 2003, its appendix); "own" is a rule of this project.
 use Rattle.std.specs.Prelude.{ℕ, ℤ, List, [], ◌∷◌}
 use Rattle.hd_lex.specs.declared.token.Operator.TheVariants.{Plus, Minus, Times}
-use Rattle.hd_forms.specs.declared.word.Word.TheVariants.{Number, Operator}
+use Rattle.hd_forms.specs.declared.word.FormWord.TheVariants.{Number, Operator}
 use Rattle.hd_forms.specs.Forms.{Forms, none, word, list}
 use Rattle.hd_terms.specs.declared.tree.Atom.{Atom}
 use Rattle.hd_base.specs.declared.operation.Operation.TheVariants.{Add, Subtract, Multiply}

@@ -4,10 +4,10 @@ use Rattle.std.specs.Prelude.{ℕ, List, [], ◌∷◌, ◌++◌, length, Option
 use Rattle.hd_lex.specs.declared.token.Operator as signs
 use Rattle.hd_lex.specs.declared.token.Operator.TheVariants as operators
 use Rattle.hd_forms.specs.declared.names.NameAt.{NameAt}
-use Rattle.hd_forms.specs.declared.word.Change as changing
-use Rattle.hd_forms.specs.declared.word.Word.{Word}
-use Rattle.hd_forms.specs.declared.word.Word.TheVariants as words
-use Rattle.hd_forms.specs.declared.word.Word.TheVariants.{And, Not, Change, Operator}
+use Rattle.hd_forms.specs.declared.word.ChangeWord as changing
+use Rattle.hd_forms.specs.declared.word.FormWord.{FormWord}
+use Rattle.hd_forms.specs.declared.word.FormWord.TheVariants as words
+use Rattle.hd_forms.specs.declared.word.FormWord.TheVariants.{And, Not, Change, Operator}
 use Rattle.hd_forms.specs.Forms.{Forms, none, word, list}
 use Rattle.hd_base.specs.Options.{◌>>=◌}
 use Rattle.hd_forms.specs.Reading.{placed_name, name_in, variable_in, number_in, name_at, group_at, end_at}
@@ -35,12 +35,12 @@ use Rattle.hd_terms.specs.Typed.{with_type}
 -- ---- typed lists
 
 -- the item that a word is
-abbrev pub item_in : ItemKind → Word → Option (List ℕ)
+abbrev pub item_in : ItemKind → FormWord → Option (List ℕ)
 item_in kinds.Name w = name_in w
 item_in kinds.Variable w = variable_in w
 
 -- the sign that a word is
-abbrev pub sign_in : Word → Option signs.Operator
+abbrev pub sign_in : FormWord → Option signs.Operator
 sign_in words.And = None
 sign_in words.Not = None
 sign_in (words.Change k) = None
@@ -65,7 +65,7 @@ is_minus_sign (Some operators.GreaterOrEqual) = false
 is_minus_sign (Some operators.Greater) = false
 
 -- the word `-`
-abbrev pub is_minus : Word → Bool
+abbrev pub is_minus : FormWord → Bool
 is_minus w = is_minus_sign (sign_in w)
 
 -- an item at a place before others, or none of them where it is no item
@@ -122,7 +122,7 @@ unfoldable mutual
 -- ---- atoms
 
 -- the term that a word at this place is
-abbrev pub term_in : ℕ → Word → Option Term
+abbrev pub term_in : ℕ → FormWord → Option Term
 term_in at words.And = None
 term_in at words.Not = None
 term_in at (words.Change k) = None
@@ -325,7 +325,7 @@ condition_at (list a inside b rest) = conditions_after (list a inside b none) []
 -- ---- effects
 
 -- a fluent, and an amount
-unfoldable pub change_of : changing.Change → Forms → Option Effect
+unfoldable pub change_of : changing.ChangeWord → Forms → Option Effect
 change_of k rest = do
   g ← group_at rest
   f ← atom_of g.0

@@ -3,10 +3,10 @@ use Rattle.std.specs.Prelude.{ℕ, List, [], ◌∷◌, ◌++◌, Option, Some}
 use Rattle.hd_forms.specs.Forms.{Forms, size}
 use Rattle.hd_forms.specs.View.{forms_view}
 use Rattle.hd_base.specs.Options.{◌>>=◌}
-use Rattle.hd_terms.specs.declared.conditions.Part as condition
-use Rattle.hd_terms.specs.declared.conditions.Part.TheVariants as conditions
-use Rattle.hd_terms.specs.declared.effects.Part as effect
-use Rattle.hd_terms.specs.declared.effects.Part.TheVariants as effects
+use Rattle.hd_terms.specs.declared.conditions.ConditionPart as condition
+use Rattle.hd_terms.specs.declared.conditions.ConditionPart.TheVariants as conditions
+use Rattle.hd_terms.specs.declared.effects.EffectPart as effect
+use Rattle.hd_terms.specs.declared.effects.EffectPart.TheVariants as effects
 use Rattle.hd_terms.specs.declared.expressions.Shape.{Shape}
 use Rattle.hd_terms.specs.declared.expressions.Shape.TheVariants as shapes
 use Rattle.hd_terms.specs.declared.tree.Condition.{Condition}
@@ -34,13 +34,13 @@ goes_on_with read most rest found = read >>= λ e. exprs_after most rest (found 
 -- ---- conditions
 
 -- the parts found so far, and those of this one
-abbrev pub conditions_by : condition.Part → List Condition → Option (List Condition)
+abbrev pub conditions_by : condition.ConditionPart → List Condition → Option (List Condition)
 conditions_by conditions.Nothing found = Some found
 conditions_by (conditions.All inside) found = conditions_after (forms_view inside.now) found
 conditions_by (conditions.One c) found = Some (found ++ c ∷ [])
 
 -- how many words and forms are still to be read
-abbrev pub size_in_condition : condition.Part → ℕ
+abbrev pub size_in_condition : condition.ConditionPart → ℕ
 size_in_condition conditions.Nothing = 0
 size_in_condition (conditions.All inside) = size (forms_view inside.now)
 size_in_condition (conditions.One c) = 0
@@ -52,13 +52,13 @@ conditions_go_on read rest = read >>= λ found. conditions_after rest found
 -- ---- effects
 
 -- the parts found so far, and those of this one
-abbrev pub effects_by : effect.Part → List Effect → Option (List Effect)
+abbrev pub effects_by : effect.EffectPart → List Effect → Option (List Effect)
 effects_by effects.Nothing found = Some found
 effects_by (effects.All inside) found = effects_after (forms_view inside.now) found
 effects_by (effects.One e) found = Some (found ++ e ∷ [])
 
 -- how many words and forms are still to be read
-abbrev pub size_in_effect : effect.Part → ℕ
+abbrev pub size_in_effect : effect.EffectPart → ℕ
 size_in_effect effects.Nothing = 0
 size_in_effect (effects.All inside) = size (forms_view inside.now)
 size_in_effect (effects.One e) = 0

@@ -4,8 +4,8 @@
 use Rattle.std.specs.Prelude.{ℕ, List, [], ◌∷◌, ◌++◌, map, Option, Some, None}
 use Rattle.hd_lex.specs.declared.token.Operator.TheVariants.{Minus}
 use Rattle.hd_forms.specs.declared.names.NameAt.{NameAt}
-use Rattle.hd_forms.specs.declared.word.Word.{Word}
-use Rattle.hd_forms.specs.declared.word.Word.TheVariants as words
+use Rattle.hd_forms.specs.declared.word.FormWord.{FormWord}
+use Rattle.hd_forms.specs.declared.word.FormWord.TheVariants as words
 use Rattle.hd_forms.specs.Forms.{Forms, none, word}
 use Rattle.hd_forms.specs.Reading.{placed_name}
 use Rattle.hd_terms.specs.declared.tree.Typed.{Typed}
@@ -13,14 +13,14 @@ use Rattle.hd_terms.specs.declared.typed.ItemKind.{ItemKind}
 use Rattle.hd_terms.specs.declared.typed.ItemKind.TheVariants as kinds
 
 -- the word is an item of such a list: a name, or a variable, as the list wants
-pub data IsItem : ItemKind → Word → List ℕ → Type 0 where
+pub data IsItem : ItemKind → FormWord → List ℕ → Type 0 where
   name : {n : List ℕ} → IsItem kinds.Name (words.Name n) n
   variable : {n : List ℕ} → IsItem kinds.Variable (words.Variable n) n
 
 -- items one after the other, and more (BNF)
 pub data AreItems (k : ItemKind) : Forms → List NameAt → Forms → Type 0 where
   end : {more : Forms} → AreItems k more [] more
-  one : {at : ℕ} {w : Word} {n : List ℕ} {rest more : Forms} {ns : List NameAt}
+  one : {at : ℕ} {w : FormWord} {n : List ℕ} {rest more : Forms} {ns : List NameAt}
       → IsItem k w n → AreItems k rest ns more
       → AreItems k (word at w rest) (placed_name n at ∷ ns) more
 

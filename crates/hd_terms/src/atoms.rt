@@ -8,7 +8,7 @@ ghost use Rattle.hd_terms.specs.Reading.{term_at, terms_after, atom_of};
 
 use crate::terms::Terms;
 use crate::tree::{Atom, Term};
-use hd_forms::{Form, ReadError, Word, first_refusal, form_refusal, name_at, placed_name};
+use hd_forms::{Form, FormWord, ReadError, first_refusal, form_refusal, name_at, placed_name};
 use std::alloc::Global;
 
 /// Returns the first term, and what follows it. The place `end` is that after the forms.
@@ -18,8 +18,8 @@ pub fn term_at(alloc: Global, forms: &[Form], end: usize) -> Result<(Term, &[For
 {
     match forms {
         [Form::Word { at, word }, rest @ ..] => match word {
-            Word::Name(name) => Ok((Term::Name(placed_name(alloc, name, *at)?), rest)),
-            Word::Variable(name) => Ok((Term::Variable(placed_name(alloc, name, *at)?), rest)),
+            FormWord::Name(name) => Ok((Term::Name(placed_name(alloc, name, *at)?), rest)),
+            FormWord::Variable(name) => Ok((Term::Variable(placed_name(alloc, name, *at)?), rest)),
             _ => Err(first_refusal(alloc, forms, end)),
         },
         _ => Err(first_refusal(alloc, forms, end)),
@@ -38,8 +38,8 @@ fn terms_of(alloc: Global, forms: &[Form]) -> Result<Terms, ReadError>
             return Err(form_refusal(alloc, first));
         };
         match word {
-            Word::Name(name) => terms.push(Term::Name(placed_name(alloc, name, *at)?))?,
-            Word::Variable(name) => terms.push(Term::Variable(placed_name(alloc, name, *at)?))?,
+            FormWord::Name(name) => terms.push(Term::Name(placed_name(alloc, name, *at)?))?,
+            FormWord::Variable(name) => terms.push(Term::Variable(placed_name(alloc, name, *at)?))?,
             _ => return Err(form_refusal(alloc, first)),
         }
         rest = after;

@@ -14,7 +14,7 @@ use crate::expressions::pair_of;
 use crate::negations::{begins_with_term, negation_refusal};
 use crate::tree::{Comparison, Condition, Expr, Term};
 use hd_base::{Boxed, Relation, Sequence};
-use hd_forms::{Form, ReadError, Word, end_at, first_refusal, form_refusal, group_at};
+use hd_forms::{Form, FormWord, ReadError, end_at, first_refusal, form_refusal, group_at};
 use hd_lex::Operator;
 use std::alloc::{AllocError, Global};
 use std::slice;
@@ -127,7 +127,7 @@ fn denial_of(alloc: Global, not: usize, inside: &[Form], to: usize) -> Result<Co
 {
     match inside {
         [Form::Word { word, .. }, rest @ ..] => match word {
-            Word::Operator(operator) => {
+            FormWord::Operator(operator) => {
                 if is_equal(*operator) && begins_with_term(rest) {
                     let (left, right) = boxed_terms_of(alloc, rest, to)?;
                     Ok(Condition::NotEqual(left, right))
@@ -135,7 +135,7 @@ fn denial_of(alloc: Global, not: usize, inside: &[Form], to: usize) -> Result<Co
                     Err(negation_refusal(alloc, not))
                 }
             }
-            Word::Name(_) => {
+            FormWord::Name(_) => {
                 let atom = atom_of(alloc, inside, to)?;
                 Ok(Condition::NotAtom(atom))
             }
@@ -170,13 +170,13 @@ fn part_of_condition(alloc: Global, inside: &[Form], to: usize) -> Result<Condit
         [
             Form::Word {
                 at,
-                word: Word::Not,
+                word: FormWord::Not,
             },
             rest @ ..,
         ] => negated_condition(alloc, *at, rest, to),
         [
             Form::Word {
-                word: Word::Operator(operator),
+                word: FormWord::Operator(operator),
                 ..
             },
             rest @ ..,
@@ -187,7 +187,7 @@ fn part_of_condition(alloc: Global, inside: &[Form], to: usize) -> Result<Condit
 
 /// What one condition says: nothing, all of the conditions in it, or a part.
 #[derive(Drop)]
-enum Part<'a> {
+enum ConditionPart<'a> {
     Nothing,
     All(&'a [Form]),
     One(Condition),
@@ -195,7 +195,7 @@ enum Part<'a> {
 
 /// Returns what one condition says.
 #[tactic(auto, unfolding(crate::specs::Reading::conditions_after))]
-fn part_of(alloc: Global, form: &Form) -> Result<Part<'_>, ReadError>
+fn part_of(alloc: Global, form: &Form) -> Result<ConditionPart<'_>, ReadError>
     ensures part { IfOk result (λ p. (rest : Forms) (found : List Condition)
         → conditions_after (append (form_view form.now) rest) found
         ≡ conditions_go_on (conditions_by p found) rest) }
@@ -207,15 +207,15 @@ fn part_of(alloc: Global, form: &Form) -> Result<Part<'_>, ReadError>
         return Err(form_refusal(alloc, form));
     };
     match inside.as_slice() {
-        [] => Ok(Part::Nothing),
+        [] => Ok(ConditionPart::Nothing),
         [
             Form::Word {
-                word: Word::And,
+                word: FormWord::And,
                 ..
             },
             rest @ ..,
-        ] => Ok(Part::All(rest)),
-        _ => Ok(Part::One(part_of_condition(alloc, inside, to.get())?)),
+        ] => Ok(ConditionPart::All(rest)),
+        _ => Ok(ConditionPart::One(part_of_condition(alloc, inside, to.get())?)),
     }
 }
 
@@ -232,9 +232,9 @@ fn add_conditions(
     let mut rest = forms;
     while let Some((first, after)) = rest.split_first() {
         match part_of(alloc, first)? {
-            Part::Nothing => {}
-            Part::All(inside) => add_conditions(alloc, inside, found)?,
-            Part::One(condition) => found.push(condition)?,
+            ConditionPart::Nothing => {}
+            ConditionPart::All(inside) => add_conditions(alloc, inside, found)?,
+            ConditionPart::One(condition) => found.push(condition)?,
         }
         rest = after;
     }

@@ -15,7 +15,7 @@ use crate::expressions::expression_of;
 use crate::negations::negated_atom_of;
 use crate::tree::{Effect, FluentChange};
 use hd_base::{Boxed, Sequence};
-use hd_forms::{Change, Form, ReadError, Word, first_refusal, form_refusal, group_at};
+use hd_forms::{ChangeWord, Form, FormWord, ReadError, first_refusal, form_refusal, group_at};
 use std::alloc::Global;
 use std::slice;
 
@@ -32,7 +32,12 @@ fn place_of(forms: &[Form]) -> usize
 
 /// Returns the change of a fluent by an amount, in a form that ends at the place `to`.
 #[tactic(auto, unfolding(crate::specs::Reading::change_of))]
-fn change_of(alloc: Global, change: Change, rest: &[Form], to: usize) -> Result<Effect, ReadError>
+fn change_of(
+    alloc: Global,
+    change: ChangeWord,
+    rest: &[Form],
+    to: usize,
+) -> Result<Effect, ReadError>
     ensures { Gives Refuses (λ x. x) result (change_of change (forms_view rest.now)) }
 {
     let (inside, inside_to, rest) = group_at(alloc, rest, to)?;
@@ -59,13 +64,13 @@ fn part_of_effect(alloc: Global, inside: &[Form], to: usize) -> Result<Effect, R
         [
             Form::Word {
                 at,
-                word: Word::Not,
+                word: FormWord::Not,
             },
             rest @ ..,
         ] => Ok(Effect::Delete(negated_atom_of(alloc, *at, rest, to)?)),
         [
             Form::Word {
-                word: Word::Change(change),
+                word: FormWord::Change(change),
                 ..
             },
             rest @ ..,
@@ -76,7 +81,7 @@ fn part_of_effect(alloc: Global, inside: &[Form], to: usize) -> Result<Effect, R
 
 /// What one effect says: nothing, all of the effects in it, or a part.
 #[derive(Drop)]
-enum Part<'a> {
+enum EffectPart<'a> {
     Nothing,
     All(&'a [Form]),
     One(Effect),
@@ -84,7 +89,7 @@ enum Part<'a> {
 
 /// Returns what one effect says.
 #[tactic(auto, unfolding(crate::specs::Reading::effects_after))]
-fn part_of(alloc: Global, form: &Form) -> Result<Part<'_>, ReadError>
+fn part_of(alloc: Global, form: &Form) -> Result<EffectPart<'_>, ReadError>
     ensures part { IfOk result (λ p. (rest : Forms) (found : List Effect)
         → effects_after (append (form_view form.now) rest) found
         ≡ effects_go_on (effects_by p found) rest) }
@@ -96,15 +101,15 @@ fn part_of(alloc: Global, form: &Form) -> Result<Part<'_>, ReadError>
         return Err(form_refusal(alloc, form));
     };
     match inside.as_slice() {
-        [] => Ok(Part::Nothing),
+        [] => Ok(EffectPart::Nothing),
         [
             Form::Word {
-                word: Word::And,
+                word: FormWord::And,
                 ..
             },
             rest @ ..,
-        ] => Ok(Part::All(rest)),
-        _ => Ok(Part::One(part_of_effect(alloc, inside, to.get())?)),
+        ] => Ok(EffectPart::All(rest)),
+        _ => Ok(EffectPart::One(part_of_effect(alloc, inside, to.get())?)),
     }
 }
 
@@ -117,9 +122,9 @@ fn add_effects(alloc: Global, forms: &[Form], found: &mut Vec<Effect>) -> Result
     let mut rest = forms;
     while let Some((first, after)) = rest.split_first() {
         match part_of(alloc, first)? {
-            Part::Nothing => {}
-            Part::All(inside) => add_effects(alloc, inside, found)?,
-            Part::One(effect) => found.push(effect)?,
+            EffectPart::Nothing => {}
+            EffectPart::All(inside) => add_effects(alloc, inside, found)?,
+            EffectPart::One(effect) => found.push(effect)?,
         }
         rest = after;
     }

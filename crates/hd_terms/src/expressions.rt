@@ -13,7 +13,7 @@ ghost use Rattle.hd_terms.specs.Steps.{expression_by, size_in_shape, goes_on_wit
 use crate::atoms::atom_of;
 use crate::tree::{Expr, Leaf};
 use hd_base::{Boxed, Operation};
-use hd_forms::{Form, Place, ReadError, Word, first_refusal, form_refusal};
+use hd_forms::{Form, FormWord, ReadError, TextPlace, first_refusal, form_refusal};
 use hd_lex::Operator;
 use std::alloc::Global;
 
@@ -47,7 +47,7 @@ fn inner_shape(alloc: Global, inside: &[Form], to: usize) -> Result<Shape<'_>, R
     match inside {
         [
             Form::Word {
-                word: Word::Operator(operator),
+                word: FormWord::Operator(operator),
                 ..
             },
             rest @ ..,
@@ -79,8 +79,8 @@ fn shape_of(alloc: Global, form: &Form) -> Result<Shape<'_>, ReadError>
 {
     match form {
         Form::Word { at, word } => match word {
-            Word::Number(value) => {
-                let at = Place::of(*at)?;
+            FormWord::Number(value) => {
+                let at = TextPlace::of(*at)?;
                 Ok(Shape::Known(Expr::leaf(Leaf::Number(at, *value))))
             }
             _ => Err(form_refusal(alloc, form)),

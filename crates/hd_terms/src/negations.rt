@@ -8,7 +8,7 @@ ghost use Rattle.hd_terms.specs.Reading.{begins_with_term, atom_of, negated_atom
 
 use crate::atoms::atom_of;
 use crate::tree::Atom;
-use hd_forms::{Form, ReadError, Word, end_at, first_refusal, group_at};
+use hd_forms::{Form, FormWord, ReadError, end_at, first_refusal, group_at};
 use hd_lex::Operator;
 use std::alloc::Global;
 
@@ -18,8 +18,8 @@ pub fn begins_with_term(forms: &[Form]) -> bool
 {
     match forms {
         [Form::Word { word, .. }, ..] => match word {
-            Word::Name(_) => true,
-            Word::Variable(_) => true,
+            FormWord::Name(_) => true,
+            FormWord::Variable(_) => true,
             _ => false,
         },
         _ => false,
@@ -31,7 +31,7 @@ fn begins_as_equality(inside: &[Form]) -> bool {
     match inside {
         [
             Form::Word {
-                word: Word::Operator(Operator::Equal),
+                word: FormWord::Operator(Operator::Equal),
                 ..
             },
             rest @ ..,
@@ -59,7 +59,7 @@ fn atom_behind(alloc: Global, not: usize, inside: &[Form], to: usize) -> Result<
     match inside {
         [
             Form::Word {
-                word: Word::Name(_),
+                word: FormWord::Name(_),
                 ..
             },
             ..

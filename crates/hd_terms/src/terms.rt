@@ -11,7 +11,7 @@ use std::slice;
 
 /// Where the terms lie. Up to two take no more memory than they are wide.
 #[derive(Debug, Drop)]
-enum Held {
+enum TermStore {
     None,
     One(Box<Term>),
     Two(Box<[Term; 2]>),
@@ -22,7 +22,7 @@ enum Held {
 /// Contracts see their list.
 #[derive(Debug, Drop)]
 pub struct Terms {
-    held: Held,
+    held: TermStore,
 }
 
 impl Model for Terms {
@@ -45,16 +45,18 @@ impl Terms {
     {
         if items.len() > 2 {
             let items = exact(alloc, items)?;
-            let held = Held::Many(Box::new(alloc, items)?);
+            let held = TermStore::Many(Box::new(alloc, items)?);
             return Ok(Terms { held });
         }
         let mut items = items;
         let Some(last) = items.pop() else {
-            return Ok(Terms { held: Held::None });
+            return Ok(Terms {
+                held: TermStore::None,
+            });
         };
         let held = match items.pop() {
-            Some(first) => Held::Two(Box::new(alloc, [first, last])?),
-            None => Held::One(Box::new(alloc, last)?),
+            Some(first) => TermStore::Two(Box::new(alloc, [first, last])?),
+            None => TermStore::One(Box::new(alloc, last)?),
         };
         Ok(Terms { held })
     }
@@ -64,10 +66,10 @@ impl Terms {
         ensures { result.now ≡ self.now }
     {
         match &self.held {
-            Held::None => &[],
-            Held::One(item) => slice::from_ref(item.as_ref()),
-            Held::Two(items) => items.as_ref().as_slice(),
-            Held::Many(items) => items.as_ref().as_slice(),
+            TermStore::None => &[],
+            TermStore::One(item) => slice::from_ref(item.as_ref()),
+            TermStore::Two(items) => items.as_ref().as_slice(),
+            TermStore::Many(items) => items.as_ref().as_slice(),
         }
     }
 

@@ -6,7 +6,7 @@
 
 use crate::{Terms, TypeName};
 use hd_base::{Boxed, Relation};
-use hd_forms::{Change, NameAt, Place};
+use hd_forms::{ChangeWord, NameAt, TextPlace};
 
 /// A declared name, and the name of its type if one is given: without one the type is `object`.
 #[derive(Debug, Drop)]
@@ -36,7 +36,7 @@ pub struct Atom {
 #[derive(Debug, Drop)]
 pub enum Leaf {
     /// The place of a number's first byte, and the number.
-    Number(Place, i64),
+    Number(TextPlace, i64),
     /// The value of a fluent.
     Fluent(Boxed<Atom>),
 }
@@ -69,7 +69,7 @@ pub enum Condition {
 /// A change of a fluent by an amount.
 #[derive(Debug, Drop)]
 pub struct FluentChange {
-    pub change: Change,
+    pub change: ChangeWord,
     pub fluent: Atom,
     pub amount: Expr,
     /// The place of the amount's first token.

@@ -10,7 +10,7 @@ ghost use Rattle.hd_terms.specs.Typed.{typed_by, with_type};
 use crate::tree::Typed;
 use crate::type_name::TypeName;
 use hd_base::{Name, Sequence, exact};
-use hd_forms::{Form, ReadError, Word, first_refusal, form_refusal, placed_name};
+use hd_forms::{Form, FormWord, ReadError, first_refusal, form_refusal, placed_name};
 use hd_lex::Operator;
 use std::alloc::Global;
 
@@ -22,29 +22,29 @@ pub enum ItemKind {
 }
 
 /// Returns the item that a word is, if it is one.
-fn item_in(kind: ItemKind, word: &Word) -> Option<&Name>
+fn item_in(kind: ItemKind, word: &FormWord) -> Option<&Name>
     ensures { MatchOption result
         (item_in kind word.now ≡ None)
         (λ name. item_in kind word.now ≡ Some name.now) }
 {
     match kind {
         ItemKind::Name => match word {
-            Word::Name(name) => Some(name),
+            FormWord::Name(name) => Some(name),
             _ => None,
         },
         ItemKind::Variable => match word {
-            Word::Variable(name) => Some(name),
+            FormWord::Variable(name) => Some(name),
             _ => None,
         },
     }
 }
 
 /// Reports whether the word is `-`.
-pub fn is_minus(word: &Word) -> bool
+pub fn is_minus(word: &FormWord) -> bool
     ensures { result ≡ is_minus word.now }
 {
     match word {
-        Word::Operator(Operator::Minus) => true,
+        FormWord::Operator(Operator::Minus) => true,
         _ => false,
     }
 }
@@ -92,7 +92,7 @@ fn type_behind(
     let [
         Form::Word {
             at,
-            word: Word::Name(name),
+            word: FormWord::Name(name),
         },
         behind @ ..,
     ] = after

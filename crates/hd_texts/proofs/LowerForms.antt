@@ -6,9 +6,9 @@ use Rattle.std.specs.List.{AllByRecursion}
 use Rattle.hd_lex.specs.declared.token.Token.{Token}
 use Rattle.hd_lex.specs.declared.token.Word as lexer
 use Rattle.hd_lex.specs.declared.token.Word.TheVariants as tokens
-use Rattle.hd_forms.specs.declared.word.Change.TheVariants as changes
-use Rattle.hd_forms.specs.declared.word.Word.{Word}
-use Rattle.hd_forms.specs.declared.word.Word.TheVariants as words
+use Rattle.hd_forms.specs.declared.word.ChangeWord.TheVariants as changes
+use Rattle.hd_forms.specs.declared.word.FormWord.{FormWord}
+use Rattle.hd_forms.specs.declared.word.FormWord.TheVariants as words
 use Rattle.hd_forms.specs.Forms.{Mark, opening, closing, symbol, Forms, none, word, list, mark_at, marks_of, marks_from}
 use Rattle.hd_forms.specs.Text.{HasMarks}
 use Rattle.hd_forms.specs.Word.{is_unsupported_name, name_word}
@@ -17,7 +17,7 @@ use Rattle.hd_plan.specs.Text.{IsLowerName}
 use Rattle.hd_plan.proofs.Lowered.{IsLowerWord, tokens-lower}
 
 -- a word that is a name is one in lower case
-abbrev pub IsLowerSymbol : Word → Type 0
+abbrev pub IsLowerSymbol : FormWord → Type 0
 IsLowerSymbol words.And = Unit {0}
 IsLowerSymbol words.Not = Unit {0}
 IsLowerSymbol (words.Change c) = Unit {0}

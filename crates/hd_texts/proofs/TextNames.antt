@@ -3,7 +3,7 @@ use Rattle.std.proofs.Common.{◌≡◌, ℕ, List, [], ◌∷◌, map, Some, No
 use Rattle.std.specs.List.{AllByRecursion}
 use Rattle.hd_base.proofs.Lists.{AllByRecursion-append, AllByRecursion-slice_get}
 use Rattle.hd_forms.specs.declared.names.NameAt.{NameAt}
-use Rattle.hd_forms.specs.declared.word.Word.{Word}
+use Rattle.hd_forms.specs.declared.word.FormWord.{FormWord}
 use Rattle.hd_forms.specs.Forms.{Forms}
 use Rattle.hd_forms.specs.Reading.{placed_name}
 use Rattle.hd_forms.specs.Text.{IsTextOf}
@@ -41,7 +41,7 @@ IsLowerPlaced n = IsLowerName n.name
 abbrev IsLowerTyped : Typed → Type 0
 IsLowerTyped t = IsLowerName t.name.name
 
-item-lower : {k : ItemKind} {w : Word} {n : List ℕ} → k ≡ kinds.Name → IsItem k w n → IsLowerSymbol w → IsLowerName n
+item-lower : {k : ItemKind} {w : FormWord} {n : List ℕ} → k ≡ kinds.Name → IsItem k w n → IsLowerSymbol w → IsLowerName n
 item-lower is typed.name lower = lower
 item-lower is typed.variable lower = absurd (cc)
 

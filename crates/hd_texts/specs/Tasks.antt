@@ -10,7 +10,7 @@ use Rattle.hd_pddl.specs.declared.tree.DomainAst.{DomainAst}
 use Rattle.hd_pddl.specs.declared.tree.ProblemAst.{ProblemAst}
 use Rattle.hd_check.specs.declared.fault.Source.{Source}
 use Rattle.hd_check.specs.declared.fault.Source.TheVariants.{Domain, Problem}
-use Rattle.hd_check.specs.declared.fault.Fault as checker
+use Rattle.hd_check.specs.declared.fault.CheckFault as checker
 use Rattle.hd_check.specs.declared.fault.CheckError.TheVariants.{In}
 use Rattle.hd_check.specs.Whole.{IsFaultless, lifted_task, Stands}
 use Rattle.hd_lifted.specs.declared.task.LiftedTask.{LiftedTask}
@@ -50,7 +50,7 @@ pub data ExplainsTexts (domain problem : List ℕ) : TaskFault → Type 0 where
   InProblem : (d : DomainAst) (error : ReadError)
       → IsDomainText domain d → reader.Explains IsProblem problem error → ExplainsTexts domain problem (read_in Problem error)
   -- both are read, and this fault of names, types or the metric stands in them
-  AtFault : (d : DomainAst) (p : ProblemAst) (source : Source) (fault : checker.Fault)
+  AtFault : (d : DomainAst) (p : ProblemAst) (source : Source) (fault : checker.CheckFault)
       → SayTrees domain problem d p → Stands d p (In source fault) → ExplainsTexts domain problem (Check source fault)
 
 -- what a fault reports of two texts that say no task

@@ -14,7 +14,7 @@ pub enum TaskFault {
     /// A text could not be read.
     Read(Source, ReadError),
     /// A text was read, and a name, a type or the metric is at fault in it.
-    Check(Source, hd_check::Fault),
+    Check(Source, hd_check::CheckFault),
     /// No fault stands in the texts, and what they say has no task to search.
     Ground(GroundError),
     /// Memory ran out; the texts are not to blame.

@@ -4,8 +4,8 @@ use Rattle.std.proofs.Common.{◌≡◌, inl, inr, ℕ, ◌+◌, ◌<◌, ◌≤
 use Rattle.std.specs.Prelude.{◌&&◌, nat_le, nat_lt}
 use Rattle.std.proofs.lemmas.Bool.{cases_lt, le-leb, lt-ltb}
 use Rattle.std.proofs.lemmas.List.{length-append, length-take, length-drop, get_or-take, get_or-drop, get_or_append_left, get_or-append_right}
-use Rattle.hd_store.specs.declared.change.Change.{Change}
-use Rattle.hd_store.specs.declared.change.Change.TheVariants.{Write, Cut, Sync, FailedSync}
+use Rattle.hd_store.specs.declared.change.DiskChange.{DiskChange}
+use Rattle.hd_store.specs.declared.change.DiskChange.TheVariants.{Write, Cut, Sync, FailedSync}
 use Rattle.hd_store.specs.declared.error.StoreError.{StoreError}
 use Rattle.hd_store.specs.declared.error.StoreError.TheVariants.{NoMemory, Failed}
 use Rattle.hd_store.specs.Bytes.{written_over, is_in_range, IsPartOfWrite, IsPartOfCut}
@@ -75,7 +75,7 @@ part_left device (Writing at bytes) now is settled part = (write_torn device.sta
 part_left device (Cutting len) now is settled part = (cut_torn device.start device.steps len now now settled).1 part
 part_left device Syncing now is settled part = absurd is
 
-broke : (old new : Device) (change : Change) (Part : List ℕ → Type 0) → IsLeftAsRead old
+broke : (old new : Device) (change : DiskChange) (Part : List ℕ → Type 0) → IsLeftAsRead old
     → ((now : List ℕ) → Part now → MayLeave old.start (step change now ∷ old.steps) now) → BreaksOff old change Part new → IsLeftAsRead new
 broke old new change Part before behind breaks =
     elim breaks [

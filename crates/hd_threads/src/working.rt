@@ -61,7 +61,7 @@ pub enum Redemption {
 }
 
 /// A batch that is in the book: its ticket, the number of its first entry, and the bound after it.
-struct Taken {
+struct TakenBatch {
     ticket: Ticket,
     first: u64,
     bound: Option<u64>,
@@ -150,7 +150,7 @@ fn commit_batch<'t, L: Ledger, A: Ledger, R: Wait>(
     share: &mut Share<L>,
     batch: Batch<'t>,
     limit: Option<u64>,
-) -> Result<Taken, CommitRefusal>
+) -> Result<TakenBatch, CommitRefusal>
     requires pass { IsOutside lock.now.place pass.old }
     requires part { 0 < share.old.parts }
     requires of_task { IfSome (view pass.old).seen.task
@@ -176,7 +176,7 @@ fn commit_batch<'t, L: Ledger, A: Ledger, R: Wait>(
         Ok(ticket) => {
             let bound = book.bound();
             lock.leave(rt, pass, book);
-            Ok(Taken {
+            Ok(TakenBatch {
                 ticket,
                 first,
                 bound,
@@ -234,7 +234,7 @@ pub fn commit_next<'t, L: Ledger, A: Ledger, R: Wait>(
     let kids = count_kids(batch.outcomes.as_slice());
     match commit_batch(rt, lock, pass, share, batch, limit) {
         Ok(taken) => {
-            let Taken {
+            let TakenBatch {
                 ticket,
                 first,
                 bound: cost,

@@ -8,7 +8,7 @@ use Rattle.hd_task.specs.declared.task.Task.{Task}
 use Rattle.hd_entries.specs.Holding.{Released}
 use Rattle.hd_open.specs.Totals.{IsNotAfter, IsBest}
 use Rattle.hd_turns.specs.Totals.{total_at}
-use Rattle.hd_worker.specs.declared.node.Node.{Node}
+use Rattle.hd_worker.specs.declared.node.WaitingNode.{WaitingNode}
 use Rattle.hd_worker.specs.Least.{IsLeast}
 use Rattle.hd_worker.specs.Nodes.{released_of, waiting_by, IsNodeOf}
 use Rattle.hd_worker.proofs.Settled.{best_there, pick_there}
@@ -37,9 +37,9 @@ least_of_none total nodes none = subst (λ xs. IsLeast total xs None) (sym none)
 
 -- where all parcels are open nodes
 pub least_there :
-    (t : Task) (states : List State) (nodes nodes' : List Node) (waiting : List Released) (place : ℕ) (n : Node) → waiting_by states nodes [] ≡ waiting
+    (t : Task) (states : List State) (nodes nodes' : List WaitingNode) (waiting : List Released) (place : ℕ) (n : WaitingNode) → waiting_by states nodes [] ≡ waiting
     → AllByRecursion (IsNodeOf t states) nodes → IsBest (λ x. x.total) nodes place → nodes' ≡ nodes → slice_get nodes' place ≡ Some n → IsLeast (total_at t) waiting n.total
 least_there t states nodes nodes' waiting place n are all best same at =
-    let there = ap (λ (ns : List Node). slice_get ns place) (sym same) ∙ at in
+    let there = ap (λ (ns : List WaitingNode). slice_get ns place) (sym same) ∙ at in
     least_at (total_at t) waiting place (released_of states n) n.total (best_there states nodes waiting are t place all best) (pick_there states nodes waiting are place n there)
     (sym (AllByRecursion-slice_get (IsNodeOf t states) nodes place n all there).total_is)

@@ -24,7 +24,7 @@ use Rattle.hd_entries.specs.Holding.{Released, parcel_of, IsParcelOf}
 use Rattle.hd_closed.specs.Closed.{Closed, closed_at, state_at, nothing, BeginsWith, IsNamedBy, IsDearer}
 use Rattle.hd_closed.proofs.Chains.{get_front}
 use Rattle.hd_open.specs.Totals.{IsNotAfter, IsBest}
-use Rattle.hd_worker.specs.declared.node.Node.{Node}
+use Rattle.hd_worker.specs.declared.node.WaitingNode.{WaitingNode}
 use Rattle.hd_worker.specs.Nodes.{kid_of, released_of, waiting_by, IsNodeOf}
 use Rattle.hd_turns.specs.Worker.{is_own, is_foreign}
 use Rattle.hd_worker.specs.Frontier.{FrontierView, with_room, received, opens}
@@ -46,11 +46,11 @@ reached_same (Some limit) s cost (Some v) small =
 
 -- the best of nodes is the best of what they release
 pub best_released :
-    (t : Task) (states : List State) (nodes : List Node) (k : ℕ) → AllByRecursion (IsNodeOf t states) nodes → IsBest (λ n. n.total) nodes k
+    (t : Task) (states : List State) (nodes : List WaitingNode) (k : ℕ) → AllByRecursion (IsNodeOf t states) nodes → IsBest (λ n. n.total) nodes k
     → IsBest (total_at t) (map (released_of states) nodes) k
 best_released t states nodes k all best = record {
   node = released_of states best.node;
-  there = slice_get-map (released_of states) nodes k ∙ ap (λ (o : Option Node). option_map (released_of states) o) best.there;
+  there = slice_get-map (released_of states) nodes k ∙ ap (λ (o : Option WaitingNode). option_map (released_of states) o) best.there;
   least = λ j other at.
       let from = node_of j other at in
       let mine = (AllByRecursion-slice_get (IsNodeOf t states) nodes k best.node all best.there).total_is in
@@ -59,10 +59,10 @@ best_released t states nodes k all best = record {
       (subst (λ (o : Option ℕ). IsNotAfter best.node.total k o j) (its ∙ ap (total_at t) from.2) (best.least j from.0 from.1));
 }
   where
-    node_of : (j : ℕ) (r : Released) → slice_get (map (released_of states) nodes) j ≡ Some r → (n : Node) × (slice_get nodes j ≡ Some n) × (released_of states n ≡ r)
+    node_of : (j : ℕ) (r : Released) → slice_get (map (released_of states) nodes) j ≡ Some r → (n : WaitingNode) × (slice_get nodes j ≡ Some n) × (released_of states n ≡ r)
     node_of j r at = by (slice_get nodes j) refl (sym (slice_get-map (released_of states) nodes j) ∙ at)
       where
-        by : (o : Option Node) → slice_get nodes j ≡ o → option_map (released_of states) o ≡ Some r → (n : Node) × (slice_get nodes j ≡ Some n) × (released_of states n ≡ r)
+        by : (o : Option WaitingNode) → slice_get nodes j ≡ o → option_map (released_of states) o ≡ Some r → (n : WaitingNode) × (slice_get nodes j ≡ Some n) × (released_of states n ≡ r)
         by None is e = absurd (none-some r e)
         by (Some n) is e = (n, is, same_Some (released_of states n) r e)
 
@@ -138,7 +138,7 @@ state_found states place place' s at same = ap (state_at states) same ∙ get_or
 
 -- a node of the state at a place, with this estimate
 pub node_made :
-    (t : Task) (states : List State) (n : Node) (place : ℕ) (s : State) (h : Option ℕ) → slice_get states place ≡ Some s → n.state ≡ place → IfSome (slice_get states place) (λ u. h ≡ hmax t u)
+    (t : Task) (states : List State) (n : WaitingNode) (place : ℕ) (s : State) (h : Option ℕ) → slice_get states place ≡ Some s → n.state ≡ place → IfSome (slice_get states place) (λ u. h ≡ hmax t u)
     → n.total ≡ total_of n.cost h → IsNodeOf t states n
 node_made t states n place s h at same estimated is =
     let found = state_found states place n.state s at same in
@@ -153,11 +153,11 @@ pub first_there : {X : Type 0} (xs : List X) (x : X) → x ≡ get_or xs 0 x →
 first_there {X} xs x is some = slice_get-get_or xs 0 x some ∙ ap (λ (y : X). Some y) (sym is)
 
 -- what a node has of more states is what it has of the first
-state_same : (t : Task) (states states' : List State) (n : Node) → BeginsWith states' states → IsNodeOf t states n → state_at states' n.state ≡ state_at states n.state
+state_same : (t : Task) (states states' : List State) (n : WaitingNode) → BeginsWith states' states → IsNodeOf t states n → state_at states' n.state ≡ state_at states n.state
 state_same t states states' n begins is =
     get_or_from_slice_get states' n.state (state_at states n.state) nothing (state_stays states states' n.state (state_at states n.state) begins is.there)
 
-node_stays : (t : Task) (states states' : List State) (n : Node) → BeginsWith states' states → IsNodeOf t states n → IsNodeOf t states' n
+node_stays : (t : Task) (states states' : List State) (n : WaitingNode) → BeginsWith states' states → IsNodeOf t states n → IsNodeOf t states' n
 node_stays t states states' n begins is =
     let same = state_same t states states' n begins is in
     record {
@@ -166,13 +166,13 @@ node_stays t states states' n begins is =
     }
 
 -- nodes are nodes of more states too
-pub nodes_stay : (t : Task) (states states' : List State) (nodes : List Node) → BeginsWith states' states → AllByRecursion (IsNodeOf t states) nodes → AllByRecursion (IsNodeOf t states') nodes
+pub nodes_stay : (t : Task) (states states' : List State) (nodes : List WaitingNode) → BeginsWith states' states → AllByRecursion (IsNodeOf t states) nodes → AllByRecursion (IsNodeOf t states') nodes
 nodes_stay t states states' [] begins all = tt
 nodes_stay t states states' (n ∷ nodes) begins all = (node_stays t states states' n begins all.0, nodes_stay t states states' nodes begins all.1)
 
 -- and release the same
 released_stay :
-    (t : Task) (states states' : List State) (nodes : List Node) → BeginsWith states' states → AllByRecursion (IsNodeOf t states) nodes
+    (t : Task) (states states' : List State) (nodes : List WaitingNode) → BeginsWith states' states → AllByRecursion (IsNodeOf t states) nodes
     → map (released_of states') nodes ≡ map (released_of states) nodes
 released_stay t states states' [] begins all = refl
 released_stay t states states' (n ∷ nodes) begins all =
@@ -180,13 +180,13 @@ released_stay t states states' (n ∷ nodes) begins all =
     (released_stay t states states' nodes begins all.1)
 
 pub waiting_stays :
-    (t : Task) (states states' : List State) (nodes : List Node) (fresh : List ParcelView) → BeginsWith states' states → AllByRecursion (IsNodeOf t states) nodes
+    (t : Task) (states states' : List State) (nodes : List WaitingNode) (fresh : List ParcelView) → BeginsWith states' states → AllByRecursion (IsNodeOf t states) nodes
     → waiting_by states' nodes fresh ≡ waiting_by states nodes fresh
 waiting_stays t states states' nodes fresh begins all = ap (λ (rs : List Released). rs ++ map parcel_of fresh) (released_stay t states states' nodes begins all)
 
 -- the first parcel that came is the last open node
 pub waiting_moved :
-    (t : Task) (states states' : List State) (nodes nodes' : List Node) (fresh fresh' : List ParcelView) (n : Node) (p : ParcelView) → BeginsWith states' states → AllByRecursion (IsNodeOf t states) nodes
+    (t : Task) (states states' : List State) (nodes nodes' : List WaitingNode) (fresh fresh' : List ParcelView) (n : WaitingNode) (p : ParcelView) → BeginsWith states' states → AllByRecursion (IsNodeOf t states) nodes
     → nodes' ≡ nodes ++ n ∷ [] → fresh' ≡ drop 1 fresh → slice_get fresh 0 ≡ Some p → released_of states' n ≡ parcel_of p → waiting_by states' nodes' fresh' ≡ waiting_by states nodes fresh
 waiting_moved t states states' nodes nodes' [] fresh' n p begins all more rest first is = absurd (none-some p first)
 waiting_moved t states states' nodes nodes' (q ∷ fresh) fresh' n p begins all more rest first is =
@@ -230,23 +230,23 @@ on_err (Err e) P Q f p = f p
 
 -- ---- a parcel comes
 
-pub waiting_push : (states : List State) (nodes : List Node) (fresh fresh' : List ParcelView) (p : ParcelView) → fresh' ≡ fresh ++ p ∷ [] → waiting_by states nodes fresh' ≡ waiting_by states nodes fresh ++ parcel_of p ∷ []
+pub waiting_push : (states : List State) (nodes : List WaitingNode) (fresh fresh' : List ParcelView) (p : ParcelView) → fresh' ≡ fresh ++ p ∷ [] → waiting_by states nodes fresh' ≡ waiting_by states nodes fresh ++ parcel_of p ∷ []
 waiting_push states nodes fresh fresh' p e =
     ap (waiting_by states nodes) e
     ∙ (ap (λ (rs : List Released). map (released_of states) nodes ++ rs) (map-append parcel_of fresh (p ∷ [])) ∙ sym (append_assoc (map (released_of states) nodes) (map parcel_of fresh) (parcel_of p ∷ [])))
 
 -- a node goes, where all parcels are open nodes
-pub waiting_remove : (states : List State) (nodes : List Node) (k : ℕ) → waiting_by states (remove nodes k) [] ≡ remove (waiting_by states nodes []) k
+pub waiting_remove : (states : List State) (nodes : List WaitingNode) (k : ℕ) → waiting_by states (remove nodes k) [] ≡ remove (waiting_by states nodes []) k
 waiting_remove states nodes k =
     append-nil (map (released_of states) (remove nodes k)) ∙ (map-remove nodes k ∙ ap (λ (rs : List Released). remove rs k) (sym (append-nil (map (released_of states) nodes))))
   where
-    map-remove : (ns : List Node) (k : ℕ) → map (released_of states) (remove ns k) ≡ remove (map (released_of states) ns) k
+    map-remove : (ns : List WaitingNode) (k : ℕ) → map (released_of states) (remove ns k) ≡ remove (map (released_of states) ns) k
     map-remove [] zero = refl
     map-remove [] (suc k) = refl
     map-remove (n ∷ ns) zero = refl
     map-remove (n ∷ ns) (suc k) = ap (λ (rs : List Released). released_of states n ∷ rs) (map-remove ns k)
 
-pub nodes_remove : (t : Task) (states : List State) (nodes : List Node) (k : ℕ) → AllByRecursion (IsNodeOf t states) nodes → AllByRecursion (IsNodeOf t states) (remove nodes k)
+pub nodes_remove : (t : Task) (states : List State) (nodes : List WaitingNode) (k : ℕ) → AllByRecursion (IsNodeOf t states) nodes → AllByRecursion (IsNodeOf t states) (remove nodes k)
 nodes_remove t states [] zero all = tt
 nodes_remove t states [] (suc k) all = tt
 nodes_remove t states (n ∷ nodes) zero all = all.1
@@ -282,11 +282,11 @@ opens_none own f =
 
 -- ---- where all parcels are open nodes, and their places
 
-module _ (states : List State) (nodes : List Node) (waiting : List Released) (are : waiting_by states nodes [] ≡ waiting) where
+module _ (states : List State) (nodes : List WaitingNode) (waiting : List Released) (are : waiting_by states nodes [] ≡ waiting) where
   plain : map (released_of states) nodes ≡ waiting
   plain = sym (append-nil (map (released_of states) nodes)) ∙ are
 
-  pub pick_there : (k : ℕ) (n : Node) → slice_get nodes k ≡ Some n → slice_get waiting k ≡ Some (released_of states n)
+  pub pick_there : (k : ℕ) (n : WaitingNode) → slice_get nodes k ≡ Some n → slice_get waiting k ≡ Some (released_of states n)
   pick_there k n at = ap (λ (rs : List Released). slice_get rs k) (sym plain) ∙ (slice_get-map (released_of states) nodes k ∙ ap (option_map (released_of states)) at)
 
   pub none_there : (k : ℕ) → slice_get nodes k ≡ None → slice_get waiting k ≡ None
@@ -295,12 +295,12 @@ module _ (states : List State) (nodes : List Node) (waiting : List Released) (ar
   pub nothing_there : nodes ≡ [] → waiting ≡ []
   nothing_there none = sym plain ∙ ap (map (released_of states)) none
 
-  pub pick_gone : (nodes' : List Node) (fresh : List ParcelView) (k : ℕ) → nodes' ≡ remove nodes k → fresh ≡ [] → waiting_by states nodes' fresh ≡ remove waiting k
+  pub pick_gone : (nodes' : List WaitingNode) (fresh : List ParcelView) (k : ℕ) → nodes' ≡ remove nodes k → fresh ≡ [] → waiting_by states nodes' fresh ≡ remove waiting k
   pick_gone nodes' fresh k gone none = ap₂ (waiting_by states) gone none ∙ (waiting_remove states nodes k ∙ ap (λ (rs : List Released). remove rs k) are)
 
-  pub pick_back : (nodes' nodes'' : List Node) (fresh : List ParcelView) (k : ℕ) (n : Node) → slice_get nodes k ≡ Some n → nodes' ≡ remove nodes k → nodes'' ≡ insert nodes' k n → fresh ≡ [] → waiting_by states nodes'' fresh ≡ waiting
+  pub pick_back : (nodes' nodes'' : List WaitingNode) (fresh : List ParcelView) (k : ℕ) (n : WaitingNode) → slice_get nodes k ≡ Some n → nodes' ≡ remove nodes k → nodes'' ≡ insert nodes' k n → fresh ≡ [] → waiting_by states nodes'' fresh ≡ waiting
   pick_back nodes' nodes'' fresh k n at gone back none =
-      ap₂ (waiting_by states) (back ∙ (ap (λ (ns : List Node). insert ns k n) gone ∙ insert-remove nodes k n at)) none ∙ are
+      ap₂ (waiting_by states) (back ∙ (ap (λ (ns : List WaitingNode). insert ns k n) gone ∙ insert-remove nodes k n at)) none ∙ are
 
   pub best_there : (t : Task) (k : ℕ) → AllByRecursion (IsNodeOf t states) nodes → IsBest (λ n. n.total) nodes k → IsBest (total_at t) waiting k
   best_there t k all best = subst (λ (rs : List Released). IsBest (total_at t) rs k) plain (best_released t states nodes k all best)

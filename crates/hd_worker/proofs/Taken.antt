@@ -8,7 +8,7 @@ use Rattle.hd_node.specs.declared.batch.Outcome.{Outcome}
 use Rattle.hd_node.specs.Parcel.{ParcelView}
 use Rattle.hd_entries.specs.Holding.{Released}
 use Rattle.hd_closed.specs.Closed.{Closed}
-use Rattle.hd_worker.specs.declared.node.Node.{Node}
+use Rattle.hd_worker.specs.declared.node.WaitingNode.{WaitingNode}
 use Rattle.hd_worker.specs.Nodes.{waiting_by, IsNodeOf}
 use Rattle.hd_worker.specs.Frontier.{FrontierView, settled_at}
 use Rattle.hd_turns.specs.Settling.{IsOutcomeOf, closed_by}
@@ -24,25 +24,25 @@ always_err (Err e) P p = p
 
 -- all are open nodes
 pub all_waiting :
-    (f : FrontierView) (states states' : List State) (nodes nodes' : List Node) (fresh fresh' : List ParcelView)
+    (f : FrontierView) (states states' : List State) (nodes nodes' : List WaitingNode) (fresh fresh' : List ParcelView)
     → waiting_by states nodes fresh ≡ f.waiting → waiting_by states' nodes' fresh' ≡ waiting_by states nodes fresh → fresh' ≡ [] → waiting_by states' nodes' [] ≡ f.waiting
 all_waiting f states states' nodes nodes' fresh fresh' is moved none = ap (waiting_by states' nodes') (sym none) ∙ (moved ∙ is)
 
 -- nodes of the same task and the same states
 pub nodes_again :
-    (u t : Task) (states states' : List State) (nodes nodes' : List Node) → u ≡ t → states' ≡ states → nodes' ≡ nodes
+    (u t : Task) (states states' : List State) (nodes nodes' : List WaitingNode) → u ≡ t → states' ≡ states → nodes' ≡ nodes
     → AllByRecursion (IsNodeOf u states) nodes → AllByRecursion (IsNodeOf t states') nodes'
 nodes_again u t states states' nodes nodes' own same are all =
-    subst (λ (ns : List Node). AllByRecursion (IsNodeOf t states') ns) (sym are)
+    subst (λ (ns : List WaitingNode). AllByRecursion (IsNodeOf t states') ns) (sym are)
     (subst (λ (ss : List State). AllByRecursion (IsNodeOf t ss) nodes) (sym same) (subst (λ (v : Task). AllByRecursion (IsNodeOf v states) nodes) own all))
 
 -- the node that was taken out is back
 pub nodes_back :
-    (nodes nodes' nodes'' : List Node) (k : ℕ) (n : Node) (total : Option ℕ) (gap : Option (ℕ × Option ℕ)) → slice_get nodes k ≡ Some n → nodes' ≡ remove nodes k → gap ≡ Some (k, total)
+    (nodes nodes' nodes'' : List WaitingNode) (k : ℕ) (n : WaitingNode) (total : Option ℕ) (gap : Option (ℕ × Option ℕ)) → slice_get nodes k ≡ Some n → nodes' ≡ remove nodes k → gap ≡ Some (k, total)
     → IfSome gap (λ g. nodes'' ≡ insert nodes' g.0 n) → nodes'' ≡ nodes
 nodes_back nodes nodes' nodes'' k n total gap at gone left back =
     let put : nodes'' ≡ insert nodes' k n = subst (λ (o : Option (ℕ × Option ℕ)). IfSome o (λ g. nodes'' ≡ insert nodes' g.0 n)) left back in
-    put ∙ (ap (λ (ns : List Node). insert ns k n) gone ∙ insert-remove nodes k n at)
+    put ∙ (ap (λ (ns : List WaitingNode). insert ns k n) gone ∙ insert-remove nodes k n at)
 
 -- a frontier with the same open nodes and expansions
 pub same_frontier :

@@ -7,7 +7,7 @@ ghost use Rattle.hd_closed.specs.Closed.{BeginsWith};
 ghost use Rattle.hd_worker.specs.Nodes.{IsNodeOf, released_of, waiting_by};
 
 use crate::deque::give_back;
-use crate::node::{Node, total_of};
+use crate::node::{WaitingNode, total_of};
 use crate::total::Total;
 use hd_base::NoMemory;
 use hd_closed::ClosedList;
@@ -39,7 +39,7 @@ fn node_for<'t>(
     known: &mut ClosedList<'t>,
     estimates: &mut Hmax<'t>,
     parcel: &Parcel<'t>,
-) -> Result<Node, NoMemory>
+) -> Result<WaitingNode, NoMemory>
     requires of_task { parcel.now.task ≡ known.old.task }
     requires estimates { estimates.old.task ≡ known.old.task }
     ensures task { known.new.task ≡ known.old.task }
@@ -54,7 +54,7 @@ fn node_for<'t>(
     let value = known.estimate(estimates, place);
     let state = short(place)?;
     let total = Total::of(alloc, total_of(cost, value))?;
-    Ok(Node {
+    Ok(WaitingNode {
         parent: kid.parent,
         cost,
         total,
@@ -68,9 +68,9 @@ fn node_for<'t>(
 /// # Errors
 /// - `NoMemory`: there is no room for it; nothing has changed.
 fn open_first<'t>(
-    nodes: &mut OpenList<Node>,
+    nodes: &mut OpenList<WaitingNode>,
     fresh: &mut VecDeque<Parcel<'t>>,
-    node: Node,
+    node: WaitingNode,
 ) -> Result<(), NoMemory>
     requires { 0 < deque_len fresh.old }
     ensures nodes { OnOk result (nodes.new.nodes ≡ nodes.old.nodes ++ node ∷ []) }
@@ -99,7 +99,7 @@ fn open_first<'t>(
 pub(crate) fn open_some<'t>(
     alloc: Global,
     known: &mut ClosedList<'t>,
-    nodes: &mut OpenList<Node>,
+    nodes: &mut OpenList<WaitingNode>,
     fresh: &mut VecDeque<Parcel<'t>>,
     room: usize,
     estimates: &mut Hmax<'t>,
@@ -142,7 +142,7 @@ pub(crate) fn open_some<'t>(
 pub(crate) fn open_all<'t>(
     alloc: Global,
     known: &mut ClosedList<'t>,
-    nodes: &mut OpenList<Node>,
+    nodes: &mut OpenList<WaitingNode>,
     fresh: &mut VecDeque<Parcel<'t>>,
     room: usize,
     estimates: &mut Hmax<'t>,

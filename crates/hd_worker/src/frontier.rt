@@ -12,7 +12,7 @@ use crate::arriving::{open_all, open_some};
 use crate::deque::{push_beside, push_reserved, reserve_more};
 use crate::judging::settle_taken;
 use crate::lookup::Lookup;
-use crate::node::Node;
+use crate::node::WaitingNode;
 use hd_base::NoMemory;
 use hd_closed::ClosedList;
 use hd_hmax::Hmax;
@@ -29,7 +29,7 @@ pub(crate) struct Frontier<'t> {
     alloc: Global,
     task: &'t Task,
     known: ClosedList<'t>,
-    nodes: OpenList<Node>,
+    nodes: OpenList<WaitingNode>,
     /// Parcels that came after the open nodes, and are not estimated yet.
     fresh: VecDeque<Parcel<'t>>,
     /// How many parcels may still come without memory.

@@ -10,7 +10,7 @@ ghost use Rattle.hd_turns.specs.Totals.{is_reached};
 ghost use Rattle.hd_turns.specs.Settling.{IsOutcomeOf, closed_by};
 
 use crate::lookup::Lookup;
-use crate::node::Node;
+use crate::node::WaitingNode;
 use hd_base::NoMemory;
 use hd_closed::ClosedList;
 use hd_hmax::Estimate;
@@ -39,7 +39,7 @@ fn parcel_at<'t>(
     alloc: Global,
     task: &'t Task,
     known: &ClosedList<'t>,
-    node: &Node,
+    node: &WaitingNode,
 ) -> Result<Parcel<'t>, NoMemory>
     requires of_task { known.now.task ≡ task.now }
     requires is_node { IsNodeOf task.now known.now.states node.now }
@@ -64,7 +64,7 @@ fn outcome_of<'t>(
     known: &mut ClosedList<'t>,
     lookup: &mut Lookup<'t>,
     seen: Option<u64>,
-    node: &Node,
+    node: &WaitingNode,
 ) -> Result<Outcome<'t>, NoMemory>
     requires of_task { known.old.task ≡ task.now }
     requires lookup { IsLookupOf task.now lookup.old }
@@ -103,7 +103,7 @@ fn settle<'t>(
     lookup: &mut Lookup<'t>,
     seen: Option<u64>,
     place: usize,
-    node: &Node,
+    node: &WaitingNode,
 ) -> Result<Outcome<'t>, NoMemory>
     requires of_task { known.old.task ≡ task.now }
     requires ready { known.old.ready ≡ true }
@@ -134,11 +134,11 @@ pub(crate) fn settle_taken<'t>(
     alloc: Global,
     task: &'t Task,
     known: &mut ClosedList<'t>,
-    nodes: &mut OpenList<Node>,
+    nodes: &mut OpenList<WaitingNode>,
     lookup: &mut Lookup<'t>,
     seen: Option<u64>,
     place: usize,
-    node: Node,
+    node: WaitingNode,
 ) -> Result<Outcome<'t>, NoMemory>
     requires of_task { known.old.task ≡ task.now }
     requires ready { known.old.ready ≡ true }

@@ -12,7 +12,7 @@ use hd_task::Kid;
 /// A parcel that waits to be expanded, with its estimate. Its state stands in the closed list, and
 /// is not kept here too.
 #[derive(Debug, Drop)]
-pub(crate) struct Node {
+pub(crate) struct WaitingNode {
     /// The successor, in two parts, so that it takes no more room than these.
     pub(crate) parent: u64,
     pub(crate) cost: u64,
@@ -23,7 +23,7 @@ pub(crate) struct Node {
     pub(crate) state: u32,
 }
 
-impl Node {
+impl WaitingNode {
     /// Returns the successor that names the plan.
     pub(crate) fn kid(&self) -> Kid
         ensures { result ≡ kid_of self.now }
@@ -35,7 +35,7 @@ impl Node {
     }
 }
 
-impl Waits for Node {
+impl Waits for WaitingNode {
     ghost total = { λ n. n.total };
 
     fn total(&self) -> Option<u128> {

@@ -4,9 +4,9 @@ ghost use Rattle.std.specs.Prelude.{◌≡◌, ◌⊎◌, ℕ, List, IfOk, IfErr
 ghost use Rattle.hd_world.specs.Schedule.{schedule_of, IsFault};
 ghost use Rattle.hd_world.specs.declared.moves.Move.{Move};
 
+use crate::moves::Move;
 use crate::schedule_error::ScheduleError;
 use crate::schedule_line::{Said, said_of};
-use crate::moves::Move;
 use hd_base::Sequence;
 use std::alloc::Global;
 

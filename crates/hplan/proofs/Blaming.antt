@@ -5,8 +5,8 @@ use Rattle.std.specs.declared.io.ErrorKind.{ErrorKind}
 use Rattle.hd_task.specs.declared.task.Task.{Task}
 use Rattle.hd_store.specs.declared.error.StoreError.{StoreError}
 use Rattle.hd_store.specs.declared.error.StoreError.TheVariants as store
-use Rattle.hd_plan.specs.declared.output.WriteError.{WriteError}
-use Rattle.hd_plan.specs.declared.output.WriteError.TheVariants as unwritten
+use Rattle.hd_plan.specs.declared.output.WriteFault.{WriteFault}
+use Rattle.hd_plan.specs.declared.output.WriteFault.TheVariants as unwritten
 use Rattle.hplan.specs.declared.fault.Fault.{Fault}
 use Rattle.hplan.specs.declared.fault.Fault.TheVariants.{Device, NoMemory}
 use Rattle.hplan.specs.declared.kept.Start.{Start}
@@ -30,7 +30,7 @@ fails : (start : Start) (old new : Option (List ℕ)) (t : Task) (digest : List 
 fails start old new t digest f (inl k) of = unlent k.0 (subst IsOfTexts k.1 of)
 fails start old new t digest f (inr k) of = unsolved start t digest k.before k.after f k.holds of
 
-unwritten_by : (error : WriteError) (f : Fault) → TellsUnwritten error f → ¬ IsOfTexts f
+unwritten_by : (error : WriteFault) (f : Fault) → TellsUnwritten error f → ¬ IsOfTexts f
 unwritten_by unwritten.NoMemory f told of = let no : IsOfTexts NoMemory = subst IsOfTexts told of in no
 unwritten_by (unwritten.Device kind) f (inl k) of = let no : IsOfTexts NoMemory = subst IsOfTexts k.1 of in no
 unwritten_by (unwritten.Device kind) f (inr k) of = let no : IsOfTexts Device = subst IsOfTexts k.1 of in no

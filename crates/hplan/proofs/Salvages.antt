@@ -17,7 +17,7 @@ use Rattle.hd_texts.specs.Digest.{digest_of}
 use Rattle.hd_texts.specs.declared.fault.TaskFault.{TaskFault}
 use Rattle.hd_texts.specs.Tasks.{IsTaskOf, Explains}
 use Rattle.hplan.specs.declared.fault.Fault.{Fault}
-use Rattle.hplan.specs.declared.salvaging.Front.{Front}
+use Rattle.hplan.specs.declared.salvaging.SavedFront.{SavedFront}
 use Rattle.hplan.specs.Fault.{task_in, certify_in, AnswersFault}
 use Rattle.hplan.specs.Certifying.{OnContent}
 use Rattle.hplan.specs.Kept.{OnFile}
@@ -49,7 +49,7 @@ kept_refused t digest content dropped found entries lent most error is same thos
     (subst (λ (m : ℕ). IsRefusal t m lent error) limit refused))
 
 pub salvaged_of : (domain problem : List ℕ) (t : Task) → IsTaskOf domain problem t → (digest : List ℕ) (file : Option (List ℕ))
-    (r : Result Front Fault) → digest ≡ digest_of domain problem
+    (r : Result SavedFront Fault) → digest ≡ digest_of domain problem
     → IfOk r (λ f. OnContent file (λ content. IsSalvagedIn t digest content f.dropped f.kids.items))
     → IfOk r (λ f. AreSalvaged domain problem file f.dropped f.kids.items)
 salvaged_of domain problem t task digest file (Ok f) is read = record {

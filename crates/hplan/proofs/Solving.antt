@@ -13,8 +13,8 @@ use Rattle.hplan.specs.declared.told.Ending.{Ending}
 use Rattle.hd_task.specs.declared.plan.Kid.{Kid}
 use Rattle.hd_threads.specs.Ending.{IsOutcomeOf, IsTrueOutcome}
 use Rattle.std.specs.declared.io.ErrorKind.{ErrorKind}
-use Rattle.hd_plan.specs.declared.output.WriteError.{WriteError}
-use Rattle.hd_plan.specs.declared.output.WriteError.TheVariants as unwritten
+use Rattle.hd_plan.specs.declared.output.WriteFault.{WriteFault}
+use Rattle.hd_plan.specs.declared.output.WriteFault.TheVariants as unwritten
 use Rattle.hd_plan.specs.Output.{AppendsShort, KeepsFor, IsNoted}
 use Rattle.hd_texts.specs.declared.fault.TaskFault.{TaskFault}
 use Rattle.hd_texts.specs.Tasks.{IsTaskOf, Explains}
@@ -87,7 +87,7 @@ unsolved k limit domain problem t task f fails bytes noted = OfSearch (untouched
 
 -- why an answer is not written: memory ran out, or the writer has answered an error
 unwritten_by : (k : Keeping) (limit : Option ℕ) (domain problem : List ℕ) (ending : Ending) (text : List ℕ) (old new : Option (List ℕ)) (before noted : Option ErrorKind)
-    (error : WriteError) (f : Fault)
+    (error : WriteFault) (f : Fault)
     → IsKeptAnswer k limit domain problem ending text → AppendsShort old new text → KeepsFor old new error → IsNoted before noted error
     → TellsUnwritten error f → HasNoAnswer k limit domain problem old new before noted f
 unwritten_by k limit domain problem ending text old new before noted unwritten.NoMemory f s short kept same told =

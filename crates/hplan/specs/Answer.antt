@@ -15,7 +15,7 @@ use Rattle.hd_threads.specs.Ending.{IsOutcomeOf, IsTrueOutcome}
 use Rattle.hd_texts.specs.Digest.{digest_of}
 use Rattle.hd_texts.specs.declared.fault.TaskFault.{TaskFault}
 use Rattle.hd_texts.specs.Tasks.{IsTaskOf, Explains}
-use Rattle.hd_plan.specs.declared.output.WriteError.{WriteError}
+use Rattle.hd_plan.specs.declared.output.WriteFault.{WriteFault}
 use Rattle.hd_plan.specs.Output.{AppendsShort, KeepsFor, IsNoted}
 use Rattle.hplan.specs.declared.fault.Fault.TheVariants.{NoMemory}
 use Rattle.hplan.specs.Fault.{task_in, TellsUnwritten}
@@ -124,7 +124,7 @@ HasNoAnswerYet k limit domain problem f =
 -- a text is not written, or not all of it: memory ran out, and nothing is written; or a beginning
 -- is, which is not all of it, and the writer has answered an error. This is reported of it
 pub record IsUnwritten (text : List ℕ) (old new : Option (List ℕ)) (before noted : Option ErrorKind) (fault : Fault) : Type 0 where
-  pub error : WriteError
+  pub error : WriteFault
   pub short : AppendsShort old new text
   pub memory : KeepsFor old new error
   pub answered : IsNoted before noted error

@@ -24,8 +24,8 @@ use Rattle.hd_plan.specs.TextError as plan_reader
 use Rattle.hd_world.specs.declared.schedule_error.ScheduleError.{ScheduleError}
 use Rattle.hd_world.specs.declared.schedule_error.ScheduleError.TheVariants as schedule
 use Rattle.hd_world.specs.ScheduleError as schedule_reader
-use Rattle.hd_plan.specs.declared.output.WriteError.{WriteError}
-use Rattle.hd_plan.specs.declared.output.WriteError.TheVariants as unwritten
+use Rattle.hd_plan.specs.declared.output.WriteFault.{WriteFault}
+use Rattle.hd_plan.specs.declared.output.WriteFault.TheVariants as unwritten
 use Rattle.hd_plan.specs.declared.error.PlanError.{PlanError}
 use Rattle.hd_plan.specs.declared.error.PlanError.TheVariants as judging
 use Rattle.hd_texts.specs.declared.fault.TaskFault.{TaskFault}
@@ -138,7 +138,7 @@ abbrev pub TellsKind : ErrorKind → Fault → Type 0
 TellsKind kind fault = ((kind ≡ OutOfMemory) × (fault ≡ NoMemory)) ⊎ ((kind ≢ OutOfMemory) × (fault ≡ Device))
 
 -- what is reported where a plan's text was not written
-abbrev pub TellsUnwritten : WriteError → Fault → Type 0
+abbrev pub TellsUnwritten : WriteFault → Fault → Type 0
 TellsUnwritten unwritten.NoMemory fault = fault ≡ NoMemory
 TellsUnwritten (unwritten.Device kind) fault = TellsKind kind fault
 

@@ -8,7 +8,7 @@ use Rattle.hd_plan.specs.PlanText.{line_end}
 use Rattle.hd_image.specs.declared.contents.Found.{Found}
 use Rattle.hd_image.specs.Reading.{IsFound}
 use Rattle.hd_journal.specs.Journal.{found_in}
-use Rattle.hd_certify.specs.declared.surveyed.Row.{Row}
+use Rattle.hd_certify.specs.declared.surveyed.ValueCount.{ValueCount}
 use Rattle.hd_certify.specs.declared.surveyed.Survey.{Survey}
 use Rattle.hd_certify.specs.Survey.{IsSurveyOf}
 use Rattle.hd_image.specs.declared.inspected.Inspected.{Inspected}
@@ -26,11 +26,11 @@ use Rattle.hplan.specs.Written.{IsUntouched, FailsToWrite}
 -- ---- how it is told
 
 -- the line of a row
-abbrev pub row_line : List ℕ → Row → List ℕ
+abbrev pub row_line : List ℕ → ValueCount → List ℕ
 row_line what r = what ++ codes " " ++ decimal r.value ++ codes ": " ++ decimal r.count ++ line_end
 
 -- the lines of rows
-abbrev pub row_lines : List ℕ → List Row → List ℕ
+abbrev pub row_lines : List ℕ → List ValueCount → List ℕ
 row_lines what rows = flat_map (row_line what) rows
 
 -- the actions of a plan, a line each

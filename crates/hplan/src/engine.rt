@@ -14,7 +14,7 @@ use crate::kept::{Start, solution_in_file, solution_in_memory};
 use crate::naming::NamedPlan;
 use crate::places::Places;
 use crate::told::{Ending, Told};
-use hd_plan::{Watched, WriteError, write_plan};
+use hd_plan::{Watched, WriteFault, write_plan};
 use hd_texts::{digest_of, task_of};
 use hd_words::Search;
 use std::alloc::Global;
@@ -87,7 +87,7 @@ fn write_found<W: Write>(
     alloc: Global,
     plan: &Option<NamedPlan>,
     out: &mut Watched<'_, W>,
-) -> Result<(), WriteError>
+) -> Result<(), WriteFault>
     ensures whole { OnOk result (Appends (W.contents out.old.writer.now)
         (W.contents out.new.writer.now) (printed plan.now)) }
     ensures short { OnErr result (AppendsShort (W.contents out.old.writer.now)

@@ -6,13 +6,13 @@ ghost use Rattle.hplan.specs.declared.fault.Fault.TheVariants as faults;
 
 use hd_certify::RecoverError;
 use hd_journal::JournalError;
-use hd_search::ThreadsFault;
-use hd_plan::{PlanError, PlanTextError, WriteError};
+use hd_plan::{PlanError, PlanTextError, WriteFault};
 use hd_replay::ReplayFault;
-use hd_world::ScheduleError;
+use hd_search::ThreadsFault;
 use hd_store::StoreError;
 use hd_texts::TaskFault;
 use hd_threads::RunFault;
+use hd_world::ScheduleError;
 use std::alloc::{AllocError, AllocFailed};
 use std::{fmt, io};
 use thiserror::Error;
@@ -211,12 +211,12 @@ pub fn kind_fault(kind: io::ErrorKind) -> Fault
 }
 
 /// Returns why a plan's text was not written.
-pub fn unwritten(error: WriteError) -> Fault
+pub fn unwritten(error: WriteFault) -> Fault
     ensures { TellsUnwritten error result }
 {
     match error {
-        WriteError::NoMemory => Fault::NoMemory,
-        WriteError::Device(kind) => kind_fault(kind),
+        WriteFault::NoMemory => Fault::NoMemory,
+        WriteFault::Device(kind) => kind_fault(kind),
     }
 }
 

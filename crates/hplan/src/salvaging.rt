@@ -24,7 +24,7 @@ use std::io::Write;
 
 /// What is kept of a journal.
 #[derive(Drop)]
-struct Front {
+struct SavedFront {
     /// The pairs of its entries, up to its damage.
     kids: Vec<Kid>,
     /// The place from which on the rest is dropped, if it is.
@@ -38,7 +38,7 @@ fn front_in(
     task: &Task,
     digest: &[u8; DIGEST_LEN],
     content: Vec<u8>,
-) -> Result<Front, Fault>
+) -> Result<SavedFront, Fault>
     ensures kept { IfOk result (λ f.
         IsSalvagedIn task.now digest.now content.items f.dropped f.kids.items) }
     ensures fit { IfOk result (λ f.
@@ -54,7 +54,7 @@ fn front_in(
     let kids = legal_kids(alloc, task, most, entries.as_slice());
     drop(entries);
     match kids {
-        Ok(kids) => Ok(Front { kids, dropped }),
+        Ok(kids) => Ok(SavedFront { kids, dropped }),
         Err(error) => Err(certify_in(error)),
     }
 }
@@ -67,7 +67,7 @@ fn front_in_file<P: Places>(
     name: &str,
     task: &Task,
     digest: &[u8; DIGEST_LEN],
-) -> Result<Front, Fault>
+) -> Result<SavedFront, Fault>
     ensures kept { IfOk result (λ f. OnContent (P.file_of places.old name.now)
         (λ content. IsSalvagedIn task.now digest.now content f.dropped f.kids.items)) }
     ensures fit { IfOk result (λ f.
@@ -90,7 +90,7 @@ fn front_of<P: Places>(
     name: &str,
     domain: &[u8],
     problem: &[u8],
-) -> Result<Front, Fault>
+) -> Result<SavedFront, Fault>
     ensures kept { IfOk result (λ f. AreSalvaged domain.now problem.now
         (P.file_of places.old name.now) f.dropped f.kids.items) }
     ensures fit { IfOk result (λ f.
@@ -119,7 +119,7 @@ fn saved<P: Places>(
     to: &str,
     domain: &[u8],
     problem: &[u8],
-    front: &Front,
+    front: &SavedFront,
 ) -> Result<Vec<u8>, Fault>
     requires fit { list_all (λ kid. fits_parent Two kid.parent) front.now.kids.items ≡ true }
     requires kept { AreSalvaged domain.now problem.now (P.file_of places.old from.now)

@@ -5,13 +5,13 @@ ghost use Rattle.hplan.specs.Surveying.{bound_line, bound_plan, departure_line, 
 
 use crate::text::{inspected_text, push_action, push_count, push_departed};
 use hd_base::NoMemory;
-use hd_certify::{Row, Survey};
+use hd_certify::{Survey, ValueCount};
 use hd_image::Inspected;
 use hd_task::{Departure, Plan, Task};
 use std::alloc::Global;
 
 /// Appends the line of a row to a text.
-fn push_row(alloc: Global, text: &mut String, what: &str, row: Row) -> Result<(), NoMemory>
+fn push_row(alloc: Global, text: &mut String, what: &str, row: ValueCount) -> Result<(), NoMemory>
     ensures { OnOk result (string_bytes text.new
         ≡ string_bytes text.old ++ row_line what.now row) }
 {
@@ -23,7 +23,12 @@ fn push_row(alloc: Global, text: &mut String, what: &str, row: Row) -> Result<()
 }
 
 /// Appends the lines of rows to a text.
-fn push_rows(alloc: Global, text: &mut String, what: &str, rows: &[Row]) -> Result<(), NoMemory>
+fn push_rows(
+    alloc: Global,
+    text: &mut String,
+    what: &str,
+    rows: &[ValueCount],
+) -> Result<(), NoMemory>
     ensures { OnOk result (string_bytes text.new
         ≡ string_bytes text.old ++ row_lines what.now rows.now) }
 {

@@ -9,7 +9,7 @@ use Rattle.std.proofs.alloc.Global.TheSendSync as global
 use Rattle.hd_base.proofs.sequence.Sequence.TheSendSync as sequence
 use Rattle.hd_book.proofs.tickets.Tickets.TheSendSync as tickets
 use Rattle.hd_book.specs.contracts.book.Book as book
-use Rattle.hd_book.specs.contracts.content.Content as content
+use Rattle.hd_book.specs.contracts.content.BookContent as content
 use Rattle.hd_book.specs.contracts.parcels.Parcels as parcels
 use Rattle.hd_search.proofs.Crossing.Lists.{entries_send}
 use Rattle.hd_search.proofs.Crossing.Nodes.{outcome_send, parcel_send}

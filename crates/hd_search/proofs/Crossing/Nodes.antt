@@ -8,7 +8,7 @@ use Rattle.hd_task.proofs.departure.DepartsBy.TheSendSync as departs_by
 use Rattle.hd_task.proofs.applying.GoalTest.TheSendSync as goal_test
 use Rattle.hd_pack.proofs.packed.Packed.TheSendSync as packed
 use Rattle.hd_hmax.proofs.estimate.EstimateValue.TheSendSync as value
-use Rattle.hd_hmax.proofs.rows.Rows.TheSendSync as rows
+use Rattle.hd_hmax.proofs.rows.NumberRows.TheSendSync as rows
 use Rattle.hd_hmax.proofs.settling.Work.TheSendSync as work
 use Rattle.hd_hmax.specs.contracts.estimate.Estimate as estimate
 use Rattle.hd_hmax.specs.contracts.hmax.Hmax as hmax

@@ -20,8 +20,8 @@ use Rattle.hd_task.specs.contracts.condition.Condition as condition
 use Rattle.hd_task.specs.contracts.condition.Comparison as comparison
 use Rattle.hd_task.specs.contracts.condition.Literal as literal
 use Rattle.hd_task.specs.contracts.effect.Effect as effect
-use Rattle.hd_task.specs.contracts.effect.Change as change
-use Rattle.hd_task.specs.contracts.effect.Term as term
+use Rattle.hd_task.specs.contracts.effect.ValueChange as change
+use Rattle.hd_task.specs.contracts.effect.SumPart as term
 use Rattle.hd_task.specs.contracts.action.Action as action
 use Rattle.hd_task.specs.contracts.form.Names as names
 use Rattle.hd_task.specs.contracts.form.GroundForm as form

@@ -5,7 +5,7 @@ use Rattle.std.proofs.Crossing.{crosses}
 use Rattle.std.proofs.alloc.Global.TheSendSync as global
 use Rattle.hd_zobrist.proofs.words.Words.TheSendSync as words
 use Rattle.hd_open.proofs.open.OpenList.TheSendSync as open_list
-use Rattle.hd_worker.proofs.node.Node.TheSendSync as node
+use Rattle.hd_worker.proofs.node.WaitingNode.TheSendSync as node
 use Rattle.hd_worker.specs.contracts.frontier.Frontier as frontier
 use Rattle.hd_worker.specs.contracts.lookup.Lookup as lookup
 use Rattle.hd_worker.specs.contracts.worker.Worker as worker

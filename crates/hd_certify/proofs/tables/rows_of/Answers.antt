@@ -1,5 +1,5 @@
 use Rattle.std.proofs.Common.{List, get_or, refl, sym, subst, arith}
-use Rattle.hd_certify.specs.declared.surveyed.Row.{Row}
+use Rattle.hd_certify.specs.declared.surveyed.ValueCount.{ValueCount}
 use Rattle.hd_certify.specs.Survey.{IsTableOf}
 use Rattle.hd_certify.proofs.Rows.{counted_on, whole_table}
 use Rattle.hd_certify.proofs.tables.rows_of.Goals as goal
@@ -17,5 +17,5 @@ loop-place-preserved c =
 pub returns : goal.returns
 returns c =
     let values = c.args.values.now in
-    subst (λ (rows : List Row). IsTableOf values rows) (sym c.in_ok-push.ensures.items)
+    subst (λ (rows : List ValueCount). IsTableOf values rows) (sym c.in_ok-push.ensures.items)
     (whole_table values c.loop-place.place c.loop-place.rows.items c.loop-place.last (omega (arith, c.loop-place-test.false)) c.loop-place.invariant.rows)

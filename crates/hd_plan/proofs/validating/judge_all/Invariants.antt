@@ -1,6 +1,6 @@
 use Rattle.std.proofs.Common.{◌≡◌, ◌+◌, length}
 use Rattle.hd_lifted.specs.Steps.{Reached}
-use Rattle.hd_judge.specs.declared.fault.Fault.{Fault}
+use Rattle.hd_judge.specs.declared.fault.PlanFault.{PlanFault}
 use Rattle.hd_judge.specs.Tables.{reached_in}
 use Rattle.hd_judge.specs.Way.{IsOnWay}
 use Rattle.hd_plan.specs.Plans.{TellsFromBy, ClearsFromBy}
@@ -12,7 +12,7 @@ invariant-loop-rest l = record {
   numbered : l.number + length l.rest ≡ 1 + length l.steps;
   way : IsOnWay l.lookups (reached_in l.place);
   clears : (end : Reached) → ClearsFromBy l.lookups (reached_in l.place) l.number l.rest end → ClearsFromBy l.lookups (reached_in l.fn.place) 1 l.steps end;
-  tells : (fault : Fault) → TellsFromBy l.lookups (reached_in l.place) l.number l.rest fault → TellsFromBy l.lookups (reached_in l.fn.place) 1 l.steps fault;
+  tells : (fault : PlanFault) → TellsFromBy l.lookups (reached_in l.place) l.number l.rest fault → TellsFromBy l.lookups (reached_in l.fn.place) 1 l.steps fault;
 }
 
 abbrev pub decreases-loop-rest : goal.decreases-loop-rest

@@ -1,5 +1,5 @@
 use Rattle.std.proofs.Common.{[], ◌∷◌, refl}
-use Rattle.hd_store.specs.declared.change.Change.TheVariants.{Sync}
+use Rattle.hd_store.specs.declared.change.DiskChange.TheVariants.{Sync}
 use Rattle.hd_store.specs.Past.{step}
 use Rattle.hd_store.proofs.Leaving.{at_rest, rests}
 use Rattle.hd_store.proofs.laws.a_sync_leaves_one_content.Goals as goal

@@ -1,5 +1,5 @@
 use Rattle.std.proofs.Common.{◌||◌, ◌&&◌, ◌==◌, ◌∙◌, Some, ap, sym, arith, get_or, slice_get, ◌+◌}
-use Rattle.hd_successors.specs.declared.watching.Watch.TheVariants.{Always}
+use Rattle.hd_successors.specs.declared.watching.WatchedAtoms.TheVariants.{Always}
 use Rattle.std.proofs.lemmas.Bool.{and_right, le-ltb}
 use Rattle.std.proofs.lemmas.Option.{slice_get-get_or}
 use Rattle.hd_successors.specs.Seeing.{is_always}

@@ -3,7 +3,7 @@ use Rattle.std.specs.List.{AllByRecursion}
 use Rattle.hd_task.specs.declared.task.Task.{Task}
 use Rattle.hd_base.proofs.Lists.{AllByRecursion-push}
 use Rattle.hd_worker.specs.Nodes.{IsNodeOf, waiting_by}
-use Rattle.hd_worker.specs.declared.node.Node.{Node}
+use Rattle.hd_worker.specs.declared.node.WaitingNode.{WaitingNode}
 use Rattle.hd_worker.proofs.Settled.{first_there, waiting_moved, waiting_stays, parcels_moved, nodes_stay, begins_twice}
 use Rattle.hd_worker.proofs.arriving.open_some.Goals as goal
 
@@ -25,7 +25,7 @@ loop-left-preserved c =
       begins = begins_twice c.args.known.now.states before.known.states states inv.begins begins;
       estimates = c.node_for.ensures.estimates ∙ inv.estimates;
       nodes =
-          subst (λ (ns : List Node). AllByRecursion (IsNodeOf t states) ns) (sym more)
+          subst (λ (ns : List WaitingNode). AllByRecursion (IsNodeOf t states) ns) (sym more)
           (AllByRecursion-push (IsNodeOf t states) before.nodes.nodes n (nodes_stay t before.known.states states before.nodes.nodes begins inv.nodes)
           (subst (λ (u : Task). IsNodeOf u states n) inv.same_task c.in_ok-node.ensures.is_node));
       parcels = parcels_moved t before.fresh.items fresh rest inv.parcels;
@@ -54,7 +54,7 @@ returns-in_err-open_first-clause-nodes c =
     let t = c.args.known.now.task in
     let before = c.loop-left in
     let states = c.node_for.new.known.states in
-    subst (λ (ns : List Node). AllByRecursion (IsNodeOf t states) ns) (sym c.in_err-open_first.ensures.err)
+    subst (λ (ns : List WaitingNode). AllByRecursion (IsNodeOf t states) ns) (sym c.in_err-open_first.ensures.err)
     (nodes_stay t before.known.states states before.nodes.nodes c.node_for.ensures.begins before.invariant.nodes)
 
 pub returns-in_err-open_first-clause-waiting : goal.returns-in_err-open_first-clause-waiting

@@ -2,7 +2,7 @@ use Rattle.std.proofs.Common.{◌≡◌, ◌++◌, ◌∙◌, [], ◌∷◌, map
 use Rattle.std.proofs.lemmas.List.{get_or_default, map-append, reverse-append}
 use Rattle.hd_base.proofs.Lists.{map-reverse}
 use Rattle.hd_task.specs.declared.action.ActionId.{ActionId}
-use Rattle.hd_entries.specs.declared.entry.Entry.{Entry}
+use Rattle.hd_entries.specs.declared.entry.ExpandedPlan.{ExpandedPlan}
 use Rattle.hd_entries.specs.Settling.{expansions}
 use Rattle.hd_entries.specs.Holding.{unmarked}
 use Rattle.hd_entries.proofs.Walking.{root_plan, entry_plan}
@@ -14,7 +14,7 @@ loop-kid-smaller c =
     let l = c.loop-kid in
     let e = c.at-in-loop-kid.result in
     let same : c.at.result ≡ e = c.at.ensures ∙ (get_or_default s.entries.items l.number c.at.result e l.invariant.among ∙ sym c.at-in-loop-kid.ensures) in
-    (entry_plan s c.requires.held l.number e l.invariant.among c.at-in-loop-kid.ensures (λ is. c.loop-kid-test.true (ap (λ (x : Entry). x.kid.parent) same ∙ is))).before
+    (entry_plan s c.requires.held l.number e l.invariant.among c.at-in-loop-kid.ensures (λ is. c.loop-kid-test.true (ap (λ (x : ExpandedPlan). x.kid.parent) same ∙ is))).before
 
 pub loop-kid-preserved : goal.loop-kid-preserved
 loop-kid-preserved c =
@@ -23,7 +23,7 @@ loop-kid-preserved c =
     let l = c.loop-kid in
     let e = c.at-in-loop-kid.result in
     let same : c.at.result ≡ e = c.at.ensures ∙ (get_or_default s.entries.items l.number c.at.result e l.invariant.among ∙ sym c.at-in-loop-kid.ensures) in
-    let step = entry_plan s c.requires.held l.number e l.invariant.among c.at-in-loop-kid.ensures (λ is. c.loop-kid-test.true (ap (λ (x : Entry). x.kid.parent) same ∙ is)) in
+    let step = entry_plan s c.requires.held l.number e l.invariant.among c.at-in-loop-kid.ensures (λ is. c.loop-kid-test.true (ap (λ (x : ExpandedPlan). x.kid.parent) same ∙ is)) in
     let passed = map (λ (a : ActionId). a.0) l.actions.items in
     let pushed : reverse (map (λ (a : ActionId). a.0) c.push.new.self.items) ≡ e.kid.action ∷ reverse passed =
     ap (λ xs. reverse (map (λ (a : ActionId). a.0) xs)) c.in_ok-push.ensures.items

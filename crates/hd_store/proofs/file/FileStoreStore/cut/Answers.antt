@@ -1,5 +1,5 @@
 use Rattle.std.proofs.Common.{◌≡◌, ◌≤◌, ◌==◌, length, sym, ap, ◌∙◌, subst}
-use Rattle.hd_store.specs.declared.change.Change.TheVariants.{Cut}
+use Rattle.hd_store.specs.declared.change.DiskChange.TheVariants.{Cut}
 use Rattle.hd_store.specs.declared.error.TheConstants.{MOST_FAILURES}
 use Rattle.hd_store.specs.declared.file.FileStore.{FileStore}
 use Rattle.hd_store.specs.Bytes.{IsPartOfCut}

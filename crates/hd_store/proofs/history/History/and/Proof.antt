@@ -19,7 +19,7 @@ use denote.Triple.Walked.{says, stay_none_ref, Stays, walk_of, ends_at, Goes-non
 use Rattle.hd_store.specs.declared.history.History.{History}
 use Rattle.hd_store.specs.contracts.history.History.and as f
 use Rattle.hd_store.specs.contracts.history.History as history
-use Rattle.hd_store.specs.contracts.change.Change as change
+use Rattle.hd_store.specs.contracts.change.DiskChange as change
 use Rattle.hd_store.specs.contracts.platter.Platter as platter
 use Rattle.hd_store.proofs.history.History.and.Statement.{statement}
 use Rattle.hd_store.proofs.history.History.and.Code as code

@@ -1,7 +1,7 @@
 use Rattle.std.proofs.Common.{◌||◌, ◌&&◌, ◌==◌, ◌-◌, ◌∙◌, ℕ, Some, ap, sym, refl, get_or, slice_get, arith}
 use Rattle.std.proofs.lemmas.Option.{slice_get-get_or}
 use Rattle.hd_task.specs.Conditions.{has_atom}
-use Rattle.hd_successors.specs.declared.watching.Watch.TheVariants.{Always}
+use Rattle.hd_successors.specs.declared.watching.WatchedAtoms.TheVariants.{Always}
 use Rattle.hd_successors.specs.Seeing.{other_passes}
 use Rattle.hd_successors.specs.Marks.{is_marked}
 use Rattle.hd_successors.proofs.Chaining.{marked_from, chain_begins, chain_continues}

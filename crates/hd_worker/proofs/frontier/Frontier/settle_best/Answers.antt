@@ -6,7 +6,7 @@ use Rattle.hd_hmax.specs.Rounds.{hmax}
 use Rattle.hd_entries.specs.Holding.{IsParcelOf}
 use Rattle.hd_closed.specs.Closed.{Closed, ClosedView}
 use Rattle.hd_turns.specs.Settling.{IsOutcomeOf, closed_by}
-use Rattle.hd_worker.specs.declared.node.Node.{Node}
+use Rattle.hd_worker.specs.declared.node.WaitingNode.{WaitingNode}
 use Rattle.hd_worker.specs.Nodes.{released_of, waiting_by, IsNodeOf}
 use Rattle.hd_worker.specs.Frontier.{FrontierView}
 use Rattle.hd_worker.proofs.Settled.{nodes_remove, pick_there, pick_gone, best_there}
@@ -38,7 +38,7 @@ returns-in_err-outcome-clause-err c =
     let after = c.settle_taken.new in
     always_err c.from_residual-in_err-outcome.result _
     (same_frontier c.args.self.now i.task.now (waiting_by i.known.states i.nodes.nodes i.fresh.items) (waiting_by after.known.states after.nodes.nodes fresh) i.known.closed after.known.closed i.room c.self.view_is
-    (ap₂ (λ (ss : List State) (ns : List Node). waiting_by ss ns fresh) (c.settle_taken.ensures.states ∙ c.reserve.ensures.states)
+    (ap₂ (λ (ss : List State) (ns : List WaitingNode). waiting_by ss ns fresh) (c.settle_taken.ensures.states ∙ c.reserve.ensures.states)
     (nodes_back nodes c.take_best.new.self.nodes after.nodes.nodes c.in-Some.ensures.taken.place c.in-Some.node c.in-Some.node.total c.take_best.new.self.gap taken.node_is taken.rest taken.gap c.in_err-outcome.ensures.back)
     ∙ c.open_all.ensures.waiting)
     (ap (λ (x : ClosedView). x.closed) c.in_err-outcome.ensures.err ∙ (c.reserve.ensures.closed ∙ c.open_all.ensures.closed)))
