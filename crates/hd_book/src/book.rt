@@ -75,8 +75,8 @@ impl<'t, L: Ledger> Book<'t, L> {
     /// # Errors
     /// - `NoMemory`: there is no room for it.
     pub fn new(
-        blank: Blank,
         alloc: Global,
+        blank: Blank,
         task: &'t Task,
         most: u64,
     ) -> Result<(Book<'t, L>, Share<L>), NoMemory>
@@ -101,12 +101,12 @@ impl<'t, L: Ledger> Book<'t, L> {
     ///   first entry that can't be the next one after those before it, with `UnknownParent`,
     ///   `NotAKid` or `SettledBefore`; or `NoMemory`, never in place of `Full`.
     pub fn resume<H: Listener>(
-        blank: Blank,
         alloc: Global,
+        blank: Blank,
         task: &'t Task,
-        most: u64,
         entries: &[Kid],
         heard: &H,
+        most: u64,
     ) -> Result<(Book<'t, L>, Share<L>, Vec<Parcel<'t>>), (u64, Refusal)>
         requires name { blank.name ≡ L.name }
         requires parts { blank.parts ≡ L.parts }
@@ -119,7 +119,7 @@ impl<'t, L: Ledger> Book<'t, L> {
         ensures lead { IfOk result (λ r. AllByRecursion (LeadsThere r.0.state) r.2.items) }
         ensures refused { IfErr result (λ e. IsFaultOf task.now most entries.now e.0 e.1) }
     {
-        let (entries, parcels) = Entries::resume(alloc, task, most, entries, heard)?;
+        let (entries, parcels) = Entries::resume(alloc, task, entries, heard, most)?;
         match Box::new(alloc, BookContent::of(alloc, entries)) {
             Ok(content) => {
                 let (book, share) = Book::open(blank, content);

@@ -34,6 +34,7 @@ pub use book::Book;
 pub use counts::Counts;
 pub use hd_entries::{Refusal, Verdict};
 pub use hd_journal::{Flushed, Group};
+pub use hd_task::{DepartsBy, Departure};
 pub use not_out::NotOut;
 pub use parcels::Parcels;
 pub use redeemed::Redeemed;

@@ -38,8 +38,8 @@ fn shown_by(entries: &Entries<'_>) -> Result<Certified, NoMemory>
 pub fn certify(
     alloc: Global,
     task: &Task,
-    most: u64,
     entries: &[Entry],
+    most: u64,
 ) -> Result<Option<Certified>, RecoverError>
     requires { most < ROOT_PARENT }
     ensures within { OnOk result (length entries.now ≤ most) }
@@ -47,7 +47,7 @@ pub fn certify(
     ensures is_true { IfOk result (λ c. IfSome c (IsTrueOf task.now)) }
     ensures refused { IfErr result (IsRefusal task.now most entries.now) }
 {
-    let (held, parcels) = resume(alloc, task, most, entries)?;
+    let (held, parcels) = resume(alloc, task, entries, most)?;
     if held.departure().is_some() {
         return Ok(None);
     }

@@ -19,7 +19,7 @@ use std::alloc::Global;
 /// - `Full`: there are more entries than `most`.
 /// - `Damaged` with the place of the first that makes no legal list with those before it.
 /// - `NoMemory`.
-fn check(alloc: Global, task: &Task, most: u64, entries: &[Entry]) -> Result<(), RecoverError>
+fn check(alloc: Global, task: &Task, entries: &[Entry], most: u64) -> Result<(), RecoverError>
     requires { most < ROOT_PARENT }
     ensures within { OnOk result (length entries.now ≤ most) }
     ensures legal { OnOk result (AreLegal task.now (map kid_of entries.now)) }
@@ -28,7 +28,7 @@ fn check(alloc: Global, task: &Task, most: u64, entries: &[Entry]) -> Result<(),
         (map kid_of entries.now) ≡ true) }
     ensures refused { IfErr result (IsRefusal task.now most entries.now) }
 {
-    match resume(alloc, task, most, entries) {
+    match resume(alloc, task, entries, most) {
         Ok(held) => {
             drop(held);
             Ok(())
@@ -47,8 +47,8 @@ fn check(alloc: Global, task: &Task, most: u64, entries: &[Entry]) -> Result<(),
 pub fn legal_kids(
     alloc: Global,
     task: &Task,
-    most: u64,
     entries: &[Entry],
+    most: u64,
 ) -> Result<Vec<Kid>, RecoverError>
     requires { most < ROOT_PARENT }
     ensures within { OnOk result (length entries.now ≤ most) }
@@ -58,7 +58,7 @@ pub fn legal_kids(
         (λ kid. (kid.parent == ROOT_PARENT) || nat_lt kid.parent limit) kids.items ≡ true) }
     ensures refused { IfErr result (IsRefusal task.now most entries.now) }
 {
-    check(alloc, task, most, entries)?;
+    check(alloc, task, entries, most)?;
     match kids_of(alloc, entries) {
         Ok(kids) => Ok(kids),
         Err(_) => Err(RecoverError::NoMemory),

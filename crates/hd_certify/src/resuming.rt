@@ -80,8 +80,8 @@ pub fn fault_at(entries: &[Entry], number: u64, refusal: Refusal) -> RecoverErro
 pub(crate) fn resume<'t>(
     alloc: Global,
     task: &'t Task,
-    most: u64,
     entries: &[Entry],
+    most: u64,
 ) -> Result<(Entries<'t>, Vec<Parcel<'t>>), RecoverError>
     requires { most < ROOT_PARENT }
     ensures within { OnOk result (length entries.now ≤ most) }
@@ -96,7 +96,7 @@ pub(crate) fn resume<'t>(
         return Err(RecoverError::Full);
     }
     let kids = kids_of(alloc, entries)?;
-    match Entries::resume(alloc, task, most, kids.as_slice(), &Unheard) {
+    match Entries::resume(alloc, task, kids.as_slice(), &Unheard, most) {
         Ok(held) => Ok(held),
         Err((number, refusal)) => Err(fault_at(entries, number, refusal)),
     }

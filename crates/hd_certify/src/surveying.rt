@@ -113,15 +113,15 @@ fn costs_of(alloc: Global, entries: &Entries<'_>) -> Result<Vec<u64>, NoMemory>
 pub fn survey(
     alloc: Global,
     task: &Task,
-    most: u64,
     entries: &[Entry],
+    most: u64,
 ) -> Result<Survey, RecoverError>
     requires { most < ROOT_PARENT }
     ensures within { OnOk result (length entries.now ≤ most) }
     ensures tells { IfOk result (IsSurveyOf task.now entries.now) }
     ensures refused { IfErr result (IsRefusal task.now most entries.now) }
 {
-    let (held, parcels) = resume(alloc, task, most, entries)?;
+    let (held, parcels) = resume(alloc, task, entries, most)?;
     let settled = settled_of(alloc, &held, parcels.as_slice())?;
     drop(parcels);
     Ok(Survey {

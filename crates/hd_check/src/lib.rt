@@ -27,3 +27,5 @@ mod terms;
 pub use checking::check;
 pub use fault::{CheckError, CheckFault, Source};
 pub use hd_lifted::Checked;
+pub use hd_metric::BadMetric;
+pub use hd_names::NameFault;

@@ -66,9 +66,9 @@ impl<'t> Entries<'t> {
     pub fn resume<H: Listener>(
         alloc: Global,
         task: &'t Task,
-        most: u64,
         entries: &[Kid],
         heard: &H,
+        most: u64,
     ) -> Result<(Entries<'t>, Vec<Parcel<'t>>), (u64, Refusal)>
         requires { most < ROOT_PARENT }
         ensures entries { IfOk result (λ r. r.0 ≡ resumed task.now most entries.now) }
@@ -79,7 +79,7 @@ impl<'t> Entries<'t> {
         ensures lead { IfOk result (λ r. AllByRecursion (LeadsThere r.0.state) r.1.items) }
         ensures refused { IfErr result (λ e. IsFaultOf task.now most entries.now e.0 e.1) }
     {
-        let (content, parcels) = EntriesContent::resume(alloc, task, most, entries, heard)?;
+        let (content, parcels) = EntriesContent::resume(alloc, task, entries, heard, most)?;
         Ok((Entries { content }, parcels))
     }
 

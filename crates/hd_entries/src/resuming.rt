@@ -288,9 +288,9 @@ impl<'t> EntriesContent<'t> {
     fn resumed<H: Listener>(
         alloc: Global,
         task: &'t Task,
-        most: u64,
         entries: &[Kid],
         heard: &H,
+        most: u64,
     ) -> Result<(EntriesContent<'t>, Vec<Option<Parcel<'t>>>), (u64, Refusal)>
         requires numbered { most < ROOT_PARENT }
         requires room { length entries.now ≤ most }
@@ -317,9 +317,9 @@ impl<'t> EntriesContent<'t> {
     pub(crate) fn resume<H: Listener>(
         alloc: Global,
         task: &'t Task,
-        most: u64,
         entries: &[Kid],
         heard: &H,
+        most: u64,
     ) -> Result<(EntriesContent<'t>, Vec<Parcel<'t>>), (u64, Refusal)>
         requires { most < ROOT_PARENT }
         ensures held { IfOk result (λ r. IsHeld r.0) }
@@ -334,7 +334,7 @@ impl<'t> EntriesContent<'t> {
         if entries.len() as u64 > most {
             return Err((0, Refusal::Full));
         }
-        let (content, waiting) = EntriesContent::resumed(alloc, task, most, entries, heard)?;
+        let (content, waiting) = EntriesContent::resumed(alloc, task, entries, heard, most)?;
         match left_of(alloc, waiting) {
             Ok(parcels) => Ok((content, parcels)),
             Err(_error) => Err((0, Refusal::NoMemory)),

@@ -9,7 +9,7 @@ use crate::rules::Rules;
 use crate::settling::Work;
 use crate::{Estimate, EstimateValue};
 use hd_base::NoMemory;
-use hd_pack::{Layout, Packed, pack};
+use hd_pack::{Layout, pack};
 use hd_task::{Reads, State, Task};
 use std::alloc::Global;
 use std::marker::Model;
@@ -73,33 +73,15 @@ impl<'t> Hmax<'t> {
     ///
     /// # Errors
     /// - `NoMemory`: there is no room for the packed state.
-    pub fn estimate(&mut self, alloc: Global, state: &State) -> Result<Estimate<'t>, NoMemory>
+    pub fn estimate(&mut self, state: &State) -> Result<Estimate<'t>, NoMemory>
         requires of_task { IsStateOf self.old.task state.now }
         ensures of_task { IfOk result (λ e. e.task ≡ self.old.task) }
         ensures of_state { IfOk result (λ e. e.state ≡ state.now) }
         ensures task { self.new.task ≡ self.old.task }
     {
         let value = self.value(state);
+        let alloc = self.work.allocator();
         let state = pack(alloc, &Layout::new(self.rules.task), state)?;
-        Ok(Estimate::of(self.rules.task, state, value))
-    }
-
-    /// Returns the estimate of a packed state, with a copy of it.
-    ///
-    /// # Errors
-    /// - `NoMemory`: there is no room for the copy.
-    pub fn estimate_packed(
-        &mut self,
-        alloc: Global,
-        state: &Packed,
-    ) -> Result<Estimate<'t>, NoMemory>
-        requires of_task { IsStateOf self.old.task state.now }
-        ensures of_task { IfOk result (λ e. e.task ≡ self.old.task) }
-        ensures of_state { IfOk result (λ e. e.state ≡ state.now) }
-        ensures task { self.new.task ≡ self.old.task }
-    {
-        let value = self.value(state);
-        let state = state.copied(alloc)?;
         Ok(Estimate::of(self.rules.task, state, value))
     }
 }

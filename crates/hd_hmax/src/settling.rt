@@ -38,6 +38,11 @@ fn copy_all(left: &mut Vec<usize>, counts: &[usize])
 }
 
 impl Work {
+    /// Returns the allocator that this was made with.
+    pub(crate) fn allocator(&self) -> Global {
+        *self.pending.allocator()
+    }
+
     /// Reports a rule that a place which it needs costs as much as the level. Where that was the
     /// last, it can be taken.
     #[inline(always)]

@@ -5,10 +5,10 @@
 //! exactly its value. [`action_of`] and [`effects_of`] meet `IsActionOf` and `HasEffectsOf`.
 //! [`first_undefined`] and [`first_negative`] find what the errors name.
 //!
-//! [`Forms`] gathers ground forms, each once; [`NumberedForms`] numbers them by symbol, then by objects.
-//! Both are hash sets, and a form of up to four objects needs no memory of its own. hd_judge's
-//! `Lookups` has the first values and the functions that change. Start reading at [`action_of`],
-//! then at [`NumberedForms`].
+//! [`Forms`] gathers ground forms, each once; [`NumberedForms`] numbers them by symbol, then by
+//! objects. Both are hash sets, and a form of up to four objects needs no memory of its own.
+//! hd_judge's `Lookups` has the first values and the functions that change. Start reading at
+//! [`action_of`], then at [`NumberedForms`].
 #![tactic(auto)]
 
 mod actions;

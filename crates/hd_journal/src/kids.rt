@@ -6,7 +6,6 @@ use crate::Journal;
 use hd_base::NoMemory;
 use hd_image::{Entry, Kid};
 use hd_store::Store;
-use std::alloc::Global;
 
 /// Returns the pair of an entry.
 fn kid_of(entry: &Entry) -> Kid
@@ -23,9 +22,10 @@ impl<S: Store> Journal<S> {
     ///
     /// # Errors
     /// - `NoMemory`: there is no room for it.
-    pub fn kids(&self, alloc: Global) -> Result<Vec<Kid>, NoMemory>
+    pub fn kids(&self) -> Result<Vec<Kid>, NoMemory>
         ensures { IfOk result (λ kids. kids.items ≡ kids_of self.now) }
     {
+        let alloc = *self.entries.allocator();
         let mut kids = Vec::with_capacity(alloc, self.entries.len())?;
         for entry in &self.entries {
             kids.push(kid_of(entry))?;

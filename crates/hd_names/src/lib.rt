@@ -5,9 +5,9 @@
 //! hierarchy of the types, or reports a type on a cycle. [`known`] returns the number of a used
 //! name, or reports it as unknown. Contracts see [`NumberedNames`] as the list of its names.
 //!
-//! [`NumberedNames`] is a hash table that keeps the order of insertion, and the number of a name is its
-//! place. A [`Table`] adds what is declared of each name. All tables of a scope hash by the same
-//! seed. Start reading at [`scope_of`], then `specs/Scope`.
+//! [`NumberedNames`] is a hash table that keeps the order of insertion, and the number of a name is
+//! its place. A [`Table`] adds what is declared of each name. All tables of a scope hash by the
+//! same seed. Start reading at [`scope_of`], then `specs/Scope`.
 #![tactic(auto)]
 
 mod declared;

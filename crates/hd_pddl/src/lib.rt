@@ -21,6 +21,7 @@ mod tree;
 
 pub use domain::read_domain;
 pub use hd_forms::{ChangeWord, NameAt, ReadError};
+pub use hd_lex::LexError;
 pub use hd_terms::{
     Atom, Comparison, Condition, Effect, Expr, ExprParts, FluentChange, Leaf, Operation, Relation,
     Term, Typed,

@@ -70,13 +70,13 @@ fn workers_of<'t, L: Ledger>(
 /// - `Damaged` with the place of the first that makes no legal list with those before it.
 /// - `NoMemory`.
 pub fn recover<'t, L: Ledger, H: Listener>(
-    blank: Blank,
     alloc: Global,
+    blank: Blank,
     task: &'t Task,
-    most: u64,
     entries: &[Entry],
     workers: usize,
     heard: &H,
+    most: u64,
 ) -> Result<Recovered<'t, L>, RecoverError>
     requires name { blank.name ≡ L.name }
     requires parts { blank.parts ≡ L.parts }
@@ -91,7 +91,7 @@ pub fn recover<'t, L: Ledger, H: Listener>(
         ≡ recovered_workers task.now (map kid_of entries.now) workers) }
     ensures refused { IfErr result (IsRefusal task.now most entries.now) }
 {
-    let (book, share, parcels) = resume(blank, alloc, task, most, entries, heard)?;
+    let (book, share, parcels) = resume(alloc, blank, task, entries, heard, most)?;
     let workers = workers_of(alloc, task, workers, &book, parcels)?;
     Ok(Recovered {
         book,

@@ -25,12 +25,12 @@ use std::sync::ledger::{Blank, Ledger, Share};
 /// - `Damaged` of the first that makes no legal list with those before it.
 /// - `NoMemory`.
 pub(crate) fn resume<'t, L: Ledger, H: Listener>(
-    blank: Blank,
     alloc: Global,
+    blank: Blank,
     task: &'t Task,
-    most: u64,
     entries: &[Entry],
     heard: &H,
+    most: u64,
 ) -> Result<(Book<'t, L>, Share<L>, Vec<Parcel<'t>>), RecoverError>
     requires name { blank.name ≡ L.name }
     requires parts { blank.parts ≡ L.parts }
@@ -48,7 +48,7 @@ pub(crate) fn resume<'t, L: Ledger, H: Listener>(
         return Err(RecoverError::Full);
     }
     let kids = kids_of(alloc, entries)?;
-    match Book::resume(blank, alloc, task, most, kids.as_slice(), heard) {
+    match Book::resume(alloc, blank, task, kids.as_slice(), heard, most) {
         Ok(resumed) => Ok(resumed),
         Err((number, refusal)) => Err(fault_at(entries, number, refusal)),
     }

@@ -27,5 +27,6 @@ mod stepping;
 mod writing;
 
 pub use fault::ReplayFault;
+pub use hd_world::{Move, ScheduleError, StopAt, headline, read_schedule};
 pub use replaying::replay;
 pub use report::{Report, Says};

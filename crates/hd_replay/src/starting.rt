@@ -117,13 +117,13 @@ pub(crate) fn run_of<'t, L: Ledger>(
         → IfOk result (IsRunOf task.now f workers) }
 {
     match recover::<L, Unheard>(
-        blank,
         alloc,
+        blank,
         task,
-        journal.most(),
         journal.entries(),
         workers,
         &Unheard,
+        journal.most(),
     ) {
         Ok(recovered) => Ok(begun(alloc, task, recovered, workers)?),
         Err(fault) => Err(told_of_recovery(fault)),

@@ -12,9 +12,9 @@
 //!
 //! [`Watch`] prints a line a second on standard error, and one at the end. It is a [`Gate`], so the
 //! threads call it outside of every lock, and keeps what they report in atomic numbers. A printed
-//! [`ProgressLine`] is exactly the text that `specs/Line` defines for its fields. When lines are printed,
-//! and from which counts, is tested only. Start reading at [`run`], then at `src/opening.rt` and
-//! `specs/Opening`.
+//! [`ProgressLine`] is exactly the text that `specs/Line` defines for its fields. When lines are
+//! printed, and from which counts, is tested only. Start reading at [`run`], then at
+//! `src/opening.rt` and `specs/Opening`.
 #![tactic(auto)]
 
 mod committing;
@@ -27,9 +27,9 @@ mod starting;
 mod watch;
 
 pub use fault::ThreadsFault;
-pub use hd_certify::certify;
-pub use hd_recovery::recover;
-pub use hd_threads::{Concluded, Gate, OpenGate, Outcome};
+pub use hd_certify::{Certified, RecoverError, certify};
+pub use hd_recovery::{Recovered, recover};
+pub use hd_threads::{Concluded, Gate, OpenGate, Outcome, RunFault};
 pub use line::ProgressLine;
 pub use running::run;
 pub use watch::Watch;

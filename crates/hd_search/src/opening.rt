@@ -216,13 +216,13 @@ pub(crate) fn open_search<'t, L: Ledger, A: Ledger, S: Store, G: Gate, R: Wait>(
         (IsFaulty task.now (most_of journal.now.version) journal.now.entries.items) }
 {
     let recovered = recover::<L, ByGate<'_, G>>(
-        commits,
         alloc,
+        commits,
         task,
-        journal.most(),
         journal.entries(),
         workers,
         &ByGate(gate),
+        journal.most(),
     );
     match recovered {
         Ok(recovered) => Ok(opened_from(rt, alloc, flushes, task, recovered, workers)?),

@@ -90,9 +90,9 @@ fn open_first<'t>(
     }
 }
 
-/// Opens the nodes of the first `most` parcels of `fresh`, in their order, after the others; returns
-/// whether all that came are open nodes now. Each is estimated, unless its state was before. Room
-/// for `room` parcels to come is kept.
+/// Opens the nodes of the first `most` parcels of `fresh`, in their order, after the others;
+/// returns whether all that came are open nodes now. Each is estimated, unless its state was
+/// before. Room for `room` parcels to come is kept.
 ///
 /// # Errors
 /// - `NoMemory`: there is no room for a node; those before it are open nodes.

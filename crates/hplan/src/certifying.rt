@@ -60,7 +60,7 @@ fn shown_in(
         Err(error) => return Err(journal_in(JournalError::from(error))),
     };
     let (entries, most) = entries_of(alloc, found);
-    let shown = hd_certify::certify(alloc, task, most, entries.as_slice());
+    let shown = hd_certify::certify(alloc, task, entries.as_slice(), most);
     drop(entries);
     match shown {
         Ok(shown) => Ok(shown),

@@ -38,7 +38,7 @@ fn named_in(
         Err(error) => return Err(journal_in(JournalError::from(error))),
     };
     let (entries, most) = entries_of(alloc, found);
-    let kids = legal_kids(alloc, task, most, entries.as_slice());
+    let kids = legal_kids(alloc, task, entries.as_slice(), most);
     drop(entries);
     match kids {
         Ok(kids) => Ok(kids),

@@ -9,11 +9,10 @@ use crate::output::write_out;
 use hd_base::NoMemory;
 use hd_journal::DIGEST_LEN;
 use hd_plan::Watched;
-use hd_replay::Report;
+use hd_replay::{Report, read_schedule};
 use hd_store::MemoryDisk;
 use hd_task::Task;
 use hd_texts::{digest_of, task_of};
-use hd_world::read_schedule;
 use std::alloc::Global;
 use std::io::Write;
 

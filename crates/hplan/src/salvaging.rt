@@ -51,7 +51,7 @@ fn front_in(
     };
     let dropped = salvaged.dropped;
     let (entries, most) = entries_of(alloc, salvaged.found);
-    let kids = legal_kids(alloc, task, most, entries.as_slice());
+    let kids = legal_kids(alloc, task, entries.as_slice(), most);
     drop(entries);
     match kids {
         Ok(kids) => Ok(SavedFront { kids, dropped }),

@@ -38,7 +38,7 @@ fn survey_in(
         Err(error) => return Err(journal_in(JournalError::from(error))),
     };
     let (entries, most) = entries_of(alloc, found);
-    let survey = hd_certify::survey(alloc, task, most, entries.as_slice());
+    let survey = hd_certify::survey(alloc, task, entries.as_slice(), most);
     drop(entries);
     match survey {
         Ok(survey) => Ok(survey),

@@ -46,7 +46,7 @@ fn resumed<L: Ledger>(
     requires parts { blank.parts ≡ L.parts }
     requires most { most < ROOT_PARENT }
 {
-    match Book::<L>::resume(blank, alloc, task, most, kids, &Unheard) {
+    match Book::<L>::resume(alloc, blank, task, kids, &Unheard, most) {
         Ok((book, share, parcels)) => {
             let text = left_text(alloc, book.counts().posted, &parcels);
             drop(share);
@@ -159,7 +159,7 @@ fn play<L: Ledger>(
     requires some { 0 < L.parts }
     requires most { setting.now.most < ROOT_PARENT }
 {
-    let (mut book, mut share) = Book::<L>::new(blank, alloc, setting.task, setting.most)?;
+    let (mut book, mut share) = Book::<L>::new(alloc, blank, setting.task, setting.most)?;
     let desk = desk_of(alloc, setting)?;
     play_with(&mut book, &mut share, desk, lines, tally)
 }

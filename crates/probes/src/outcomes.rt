@@ -39,7 +39,7 @@ fn estimate_of<'t>(alloc: Global, task: &'t Task, state: &State) -> Result<Estim
     ensures { IfOk result (λ h. h.task ≡ task.now) }
 {
     let mut hmax = Hmax::new(alloc, task)?;
-    hmax.estimate(alloc, state)
+    hmax.estimate(state)
 }
 
 /// Splits `KID to STATE cost N`, or `root`, into its parts.

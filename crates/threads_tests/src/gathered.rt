@@ -28,7 +28,7 @@ fn gathered<L: Ledger, A: Ledger, R: Wait>(
     requires flushes_parts { flushes.parts ≡ A.parts }
     requires flushes_some { 0 < A.parts }
 {
-    let (book, share) = Book::<L>::new(commits, alloc, task, 100)?;
+    let (book, share) = Book::<L>::new(alloc, commits, task, 100)?;
     let (book, _all) = SharedBook::<L, A>::of(flushes, book);
     let (lock, pass) = Lock::open(rt, alloc, book)?;
     let (mut share, mut pass) = (share, pass);
