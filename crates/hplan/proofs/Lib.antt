@@ -11,7 +11,6 @@ pub mod Moving
 pub mod Shelves
 pub mod Solving
 pub mod Replays
-pub mod Salvages
 pub mod Standing
 pub mod StepTexts
 pub mod Surveys

@@ -12,21 +12,25 @@ use Rattle.hd_image.specs.declared.contents.Found.{Found}
 use Rattle.hd_image.specs.declared.version.Version.{Version}
 use Rattle.hd_image.specs.declared.version.Version.TheVariants.{One, Two}
 use Rattle.hd_image.specs.Image.{fits_parent, most_of}
-use Rattle.hd_image.specs.Reading.{IsFound}
 use Rattle.hd_journal.specs.declared.error.JournalError.{JournalError}
 use Rattle.hd_journal.specs.declared.error.JournalError.TheVariants as journal
-use Rattle.hd_journal.specs.Journal.{found_in, kid_of}
+use Rattle.hd_journal.specs.Journal.{found_in, kid_of, version_in}
 use Rattle.hd_entries.specs.Resuming.{AreLegal}
+use Rattle.hd_certify.specs.declared.error.RecoverError.{RecoverError}
+use Rattle.hd_certify.specs.Error.{IsRefusal}
 use Rattle.hd_journal.specs.Copy.{IsCopyOf, IsNotCopied as NotCopied, IsUnderWay}
 use Rattle.hd_texts.specs.Digest.{digest_of}
 use Rattle.hd_texts.specs.declared.fault.TaskFault.{TaskFault}
 use Rattle.hd_texts.specs.Tasks.{IsTaskOf, Explains}
 use Rattle.hplan.specs.declared.fault.Fault.{Fault}
 use Rattle.hplan.specs.declared.fault.Fault.TheVariants.{Journal}
-use Rattle.hplan.specs.Fault.{task_in, journal_in, AnswersFault}
-use Rattle.hplan.specs.Certifying.{OnContent, FailsOnFile}
+use Rattle.hplan.specs.declared.migrating.Extent.{Extent}
+use Rattle.hplan.specs.declared.migrating.NamedKids.{NamedKids}
+use Rattle.hplan.specs.Fault.{task_in, journal_in, certify_in, AnswersFault}
+use Rattle.hplan.specs.Certifying.{OnContent}
 use Rattle.hplan.specs.Kept.{OnFile}
-use Rattle.hplan.specs.Migrating.{IsNamedIn, AreRead, HasNoKids, OfTexts, OfFile, IsCopied, IsLeft, TellsOfCopy, IsNotCopied, FailsToCopy, Moving, moving, AreMoved, IsMigration, AreNotMoved, Unread, Unwritten, HasNoMigration, HasNoMigrationYet, NotMoved, OfOutput, migrated_text}
+use Rattle.hplan.specs.Migrating.{IsFoundBy, IsNamedIn, AreRead, NamesNothing, OfEntries, FailsToName, HasNoKids, OfTexts, OfFile, IsCopied, IsLeft, TellsOfCopy, IsNotCopied, FailsToCopy, Moving, moving, AreMoved, IsMigration, AreNotMoved, Unread, Unwritten, HasNoMigration, HasNoMigrationYet, NotMoved, OfOutput, migrated_text}
+use Rattle.hplan.proofs.Certificates.{on_content}
 use Rattle.hplan.proofs.Writing.{untouched, failed}
 
 -- ---- what is read
@@ -36,41 +40,49 @@ most_fits One = omega arith
 most_fits Two = omega arith
 
 -- the pairs of what was found
-pub named_by : (t : Task) (digest content : List ℕ) (found : Found) (entries lent : List Entry) (kids : List Kid)
-    → IsFound digest content found → lent ≡ entries → entries ≡ found_in found → kids ≡ map kid_of lent → AreLegal t (map kid_of lent)
-    → IsNamedIn t digest content kids
-named_by t digest content found entries lent kids is same those are legal = record {
+pub named_by : (t : Task) (digest : List ℕ) (extent : Extent) (content : List ℕ) (dropped : Option ℕ) (found : Found) (entries lent : List Entry)
+    (kids : List Kid) → IsFoundBy extent digest content dropped found → lent ≡ entries → entries ≡ found_in found → kids ≡ map kid_of lent
+    → AreLegal t (map kid_of lent) → IsNamedIn t digest extent content dropped kids
+named_by t digest extent content dropped found entries lent kids is same those are legal = record {
   found = found;
   is_found = is;
   are = are ∙ ap (map kid_of) (same ∙ those);
   legal = subst (AreLegal t) (sym are) legal;
 }
 
-on_digest : (t : Task) (file : Option (List ℕ)) (kids : List Kid) (digest other : List ℕ) → digest ≡ other
-    → OnContent file (λ content. IsNamedIn t digest content kids) → OnContent file (λ content. IsNamedIn t other content kids)
-on_digest t file kids digest other is read = record {
-  content = read.content;
-  known = read.known;
-  holds = subst (λ (d : List ℕ). IsNamedIn t d read.content kids) is read.holds;
+-- the entries of what was found are refused
+pub names_refused : (t : Task) (digest : List ℕ) (extent : Extent) (content : List ℕ) (dropped : Option ℕ) (found : Found)
+    (entries lent : List Entry) (most : ℕ) (error : RecoverError) → IsFoundBy extent digest content dropped found → lent ≡ entries
+    → entries ≡ found_in found → most ≡ most_of (version_in found) → IsRefusal t most lent error
+    → NamesNothing t digest extent content (certify_in error)
+names_refused t digest extent content dropped found entries lent most error is same those limit refused =
+    OfEntries dropped found error is
+    (subst (λ (es : List Entry). IsRefusal t (most_of (version_in found)) es error) (same ∙ those)
+    (subst (λ (m : ℕ). IsRefusal t m lent error) limit refused))
+
+pub read_by : (domain problem : List ℕ) (t : Task) → IsTaskOf domain problem t → (digest : List ℕ) (extent : Extent) (file : Option (List ℕ))
+    (r : Result NamedKids Fault) → digest ≡ digest_of domain problem
+    → IfOk r (λ n. OnContent file (λ content. IsNamedIn t digest extent content n.dropped n.kids.items))
+    → IfOk r (λ n. AreRead domain problem extent file n.dropped n.kids.items)
+read_by domain problem t task digest extent file (Ok n) is read = record {
+  task = t;
+  is_task = task;
+  named = on_content file (λ content. IsNamedIn t digest extent content n.dropped n.kids.items)
+      (λ content. IsNamedIn t (digest_of domain problem) extent content n.dropped n.kids.items)
+      (λ content. subst (λ (d : List ℕ). IsNamedIn t d extent content n.dropped n.kids.items) is) read;
 }
+read_by domain problem t task digest extent file (Err f) is read = tt
 
-pub read_by : {A : Type 0} (items : A → List Kid) (domain problem : List ℕ) (t : Task) → IsTaskOf domain problem t → (digest : List ℕ)
-    (file : Option (List ℕ)) (r : Result A Fault) → digest ≡ digest_of domain problem
-    → IfOk r (λ v. OnContent file (λ content. IsNamedIn t digest content (items v)))
-    → IfOk r (λ v. AreRead domain problem file (items v))
-read_by items domain problem t task digest file (Ok v) is read =
-    record { task = t; is_task = task; named = on_digest t file (items v) digest (digest_of domain problem) is read }
-read_by items domain problem t task digest file (Err f) is read = tt
+pub unread_by : {A : Type 0} (domain problem : List ℕ) (t : Task) → IsTaskOf domain problem t → (digest : List ℕ) (extent : Extent)
+    (file : Option (List ℕ)) (r : Result A Fault) → digest ≡ digest_of domain problem → IfErr r (FailsToName t digest extent file)
+    → IfErr r (HasNoKids domain problem extent file)
+unread_by domain problem t task digest extent file (Ok v) is fails = tt
+unread_by domain problem t task digest extent file (Err f) is fails =
+    OfFile t f task (subst (λ (d : List ℕ). FailsToName t d extent file f) is fails)
 
-pub unread_by : {A : Type 0} (domain problem : List ℕ) (t : Task) → IsTaskOf domain problem t → (digest : List ℕ) (file : Option (List ℕ))
-    (r : Result A Fault) → digest ≡ digest_of domain problem → IfErr r (FailsOnFile t digest file) → IfErr r (HasNoKids domain problem file)
-unread_by domain problem t task digest file (Ok v) is fails = tt
-unread_by domain problem t task digest file (Err f) is fails =
-    OfFile t f task (subst (λ (d : List ℕ). FailsOnFile t d file f) is fails)
-
-pub no_texts : (domain problem : List ℕ) (file : Option (List ℕ)) (f : TaskFault) (fault : Fault) → fault ≡ task_in f
-    → Explains domain problem f → HasNoKids domain problem file fault
-no_texts domain problem file f fault is told = subst (HasNoKids domain problem file) (sym is) (OfTexts f told)
+pub no_texts : (domain problem : List ℕ) (extent : Extent) (file : Option (List ℕ)) (f : TaskFault) (fault : Fault) → fault ≡ task_in f
+    → Explains domain problem f → HasNoKids domain problem extent file fault
+no_texts domain problem extent file f fault is told = subst (HasNoKids domain problem extent file) (sym is) (OfTexts f told)
 
 -- ---- what is written
 
@@ -118,25 +130,31 @@ not_copied_in digest kids old new before after error fault was is told not kept 
 
 -- ---- both
 
-pub migration_by : (domain problem from to : List ℕ) (held before after : Option (List ℕ)) (kids : List Kid) (count : ℕ) (text digest : List ℕ)
-    → AreRead domain problem held kids → digest ≡ digest_of domain problem → OnFile before after (IsCopied digest kids)
-    → count ≡ length kids → text ≡ migrated_text count → IsMigration domain problem (moving from to held before after) text
-migration_by domain problem from to held before after kids count text digest read is copied counted told = record {
+pub migration_by : (domain problem : List ℕ) (extent : Extent) (from to : List ℕ) (held before after : Option (List ℕ)) (dropped : Option ℕ)
+    (kids : List Kid) (count : ℕ) (text digest : List ℕ) (written : List Kid) → AreRead domain problem extent held dropped kids
+    → digest ≡ digest_of domain problem → written ≡ kids → OnFile before after (IsCopied digest written) → count ≡ length kids
+    → text ≡ migrated_text count dropped → IsMigration domain problem (moving extent from to held before after) text
+migration_by domain problem extent from to held before after dropped kids count text digest written read is all copied counted told = record {
   count = count;
+  dropped = dropped;
   moved = record {
     kids = kids;
     read = read;
-    copied = subst (λ (d : List ℕ). OnFile before after (IsCopied d kids)) is copied;
+    copied = subst (λ (ks : List Kid). OnFile before after (IsCopied (digest_of domain problem) ks)) all
+        (subst (λ (d : List ℕ). OnFile before after (IsCopied d written)) is copied);
     counted = counted;
   };
   told = told;
 }
 
-pub unwritten_by : (domain problem from to : List ℕ) (held before after : Option (List ℕ)) (kids : List Kid) (digest : List ℕ) (f : Fault)
-    → AreRead domain problem held kids → digest ≡ digest_of domain problem → FailsToCopy digest kids before after f
-    → AreNotMoved domain problem (moving from to held before after) f
-unwritten_by domain problem from to held before after kids digest f read is fails =
-    Unwritten kids f read (subst (λ (d : List ℕ). FailsToCopy d kids before after f) is fails)
+pub unwritten_by : (domain problem : List ℕ) (extent : Extent) (from to : List ℕ) (held before after : Option (List ℕ)) (dropped : Option ℕ)
+    (kids : List Kid) (digest : List ℕ) (written : List Kid) (f : Fault) → AreRead domain problem extent held dropped kids
+    → digest ≡ digest_of domain problem → written ≡ kids → FailsToCopy digest written before after f
+    → AreNotMoved domain problem (moving extent from to held before after) f
+unwritten_by domain problem extent from to held before after dropped kids digest written f read is all fails =
+    Unwritten dropped kids f read
+    (subst (λ (ks : List Kid). FailsToCopy (digest_of domain problem) ks before after f) all
+    (subst (λ (d : List ℕ). FailsToCopy d written before after f) is fails))
 
 not_yet : (domain problem : List ℕ) (m : Moving) (f : Fault) → AreNotMoved domain problem m f → HasNoMigrationYet domain problem m f
 not_yet domain problem m f not = λ bytes noted. NotMoved (untouched bytes noted) f not
@@ -146,10 +164,11 @@ pub not_moved : {A : Type 0} (domain problem : List ℕ) (m : Moving) (r : Resul
 not_moved domain problem m (Ok text) not = tt
 not_moved domain problem m (Err f) not = not_yet domain problem m f not
 
-pub not_read : (domain problem from to : List ℕ) (held before after : Option (List ℕ)) (f : Fault) → HasNoKids domain problem held f
-    → after ≡ before → HasNoMigrationYet domain problem (moving from to held before after) f
-not_read domain problem from to held before after f not same =
-    not_yet domain problem (moving from to held before after) f (Unread f not same)
+pub not_read : (domain problem : List ℕ) (extent : Extent) (from to : List ℕ) (held before after : Option (List ℕ)) (f : Fault)
+    → HasNoKids domain problem extent held f → after ≡ before
+    → HasNoMigrationYet domain problem (moving extent from to held before after) f
+not_read domain problem extent from to held before after f not same =
+    not_yet domain problem (moving extent from to held before after) f (Unread f not same)
 
 -- a fault of the output
 pub migration_fails : (domain problem : List ℕ) (m : Moving) (text : List ℕ) (old new : Option (List ℕ)) (before noted : Option ErrorKind)

@@ -10,7 +10,6 @@ pub mod PlanText
 pub mod Printing
 pub mod Reasons
 pub mod Replaying
-pub mod Salvaging
 pub mod Requests
 pub mod Surveying
 pub mod TaskText

@@ -3,9 +3,9 @@ ghost use Rattle.std.specs.Prelude.{◌≡◌, ◌≢◌, ◌⊎◌, ℕ, List, 
 ghost use Rattle.std.specs.List.{list_all};
 ghost use Rattle.hd_image.specs.declared.version.Version.TheVariants.{Two};
 ghost use Rattle.hd_image.specs.Image.{fits_parent};
-ghost use Rattle.hplan.specs.Certifying.{FailsOnFile, OnContent, ShowsNothing};
+ghost use Rattle.hplan.specs.Certifying.{OnContent};
 ghost use Rattle.hplan.specs.Kept.{OnFile};
-ghost use Rattle.hplan.specs.Migrating.{AreNotMoved, AreRead, FailsToCopy, HasNoKids, HasNoMigration, HasNoMigrationYet, IsCopied, IsMigration, IsNamedIn, migrated_text, moving};
+ghost use Rattle.hplan.specs.Migrating.{AreNotMoved, AreRead, FailsToCopy, FailsToName, HasNoKids, HasNoMigration, HasNoMigrationYet, IsCopied, IsFoundBy, IsLostBy, IsMigration, IsNamedIn, NamesNothing, migrated_text, moving};
 ghost use Rattle.hplan.specs.Written.{WritesA, WritesFrontOfA};
 
 use crate::certifying::entries_of;
@@ -15,33 +15,83 @@ use crate::places::Places;
 use crate::text::migrated_text;
 use hd_certify::legal_kids;
 use hd_image::read;
-use hd_journal::{DIGEST_LEN, JournalError, Kid, copy};
+use hd_journal::{DIGEST_LEN, ImageError, JournalError, Kid, Salvaged, copy, salvage};
 use hd_plan::Watched;
 use hd_task::Task;
 use hd_texts::{digest_of, task_of};
 use std::alloc::Global;
 use std::io::Write;
 
+/// How much of a journal is taken over.
+#[derive(Clone, Copy, Debug, PartialEq, Eq)]
+pub enum Extent {
+    /// All of it, and nothing if it is damaged.
+    Whole,
+    /// The entries before its damage, from an open gate on that has no whole group after it; or all
+    /// of them.
+    UpToDamage,
+}
+
+/// What is taken over of a journal.
+#[derive(Drop)]
+struct NamedKids {
+    /// The pairs of its entries.
+    kids: Vec<Kid>,
+    /// The place from which on the rest is dropped, if it is.
+    dropped: Option<u64>,
+}
+
+/// Returns what a content is as a journal of this digest, and from where on it is dropped.
+fn found_in(
+    alloc: Global,
+    digest: &[u8; DIGEST_LEN],
+    extent: Extent,
+    content: Vec<u8>,
+) -> Result<Salvaged, ImageError>
+    ensures found { IfOk result (λ s.
+        IsFoundBy extent digest.now content.items s.dropped s.found) }
+    ensures lost { IfErr result (IsLostBy extent digest.now content.items) }
+{
+    match extent {
+        Extent::UpToDamage => salvage(alloc, content, digest),
+        Extent::Whole => {
+            let found = read(alloc, &content, digest);
+            drop(content);
+            match found {
+                Ok(found) => Ok(Salvaged {
+                    found,
+                    dropped: None,
+                }),
+                Err(error) => Err(error),
+            }
+        }
+    }
+}
+
 /// Returns the pairs of the entries of a content, which name a legal list of a task.
 fn named_in(
     alloc: Global,
     task: &Task,
     digest: &[u8; DIGEST_LEN],
-    content: &[u8],
-) -> Result<Vec<Kid>, Fault>
-    ensures named { IfOk result (λ v. IsNamedIn task.now digest.now content.now v.items) }
-    ensures fit { IfOk result (λ v. list_all (λ kid. fits_parent Two kid.parent) v.items ≡ true) }
-    ensures refusal { IfErr result (ShowsNothing task.now digest.now content.now) }
+    extent: Extent,
+    content: Vec<u8>,
+) -> Result<NamedKids, Fault>
+    ensures named { IfOk result (λ n.
+        IsNamedIn task.now digest.now extent content.items n.dropped n.kids.items) }
+    ensures fit { IfOk result (λ n.
+        list_all (λ kid. fits_parent Two kid.parent) n.kids.items ≡ true) }
+    ensures refusal { IfErr result (NamesNothing task.now digest.now extent content.items) }
 {
-    let found = match read(alloc, content, digest) {
-        Ok(found) => found,
+    let salvaged = match found_in(alloc, digest, extent, content) {
+        Ok(salvaged) => salvaged,
         Err(error) => return Err(journal_in(JournalError::from(error))),
     };
-    let (entries, most) = entries_of(alloc, found);
+    let dropped = salvaged.dropped;
+    let (entries, most) = entries_of(alloc, salvaged.found);
     let kids = legal_kids(alloc, task, entries.as_slice(), most);
     drop(entries);
     match kids {
-        Ok(kids) => Ok(kids),
+        Ok(kids) => Ok(NamedKids { kids, dropped }),
         Err(error) => Err(certify_in(error)),
     }
 }
@@ -54,21 +104,21 @@ fn named_in_file<P: Places>(
     name: &str,
     task: &Task,
     digest: &[u8; DIGEST_LEN],
-) -> Result<Vec<Kid>, Fault>
-    ensures named { IfOk result (λ v. OnContent (P.file_of places.old name.now)
-        (λ content. IsNamedIn task.now digest.now content v.items)) }
-    ensures fit { IfOk result (λ v. list_all (λ kid. fits_parent Two kid.parent) v.items ≡ true) }
+    extent: Extent,
+) -> Result<NamedKids, Fault>
+    ensures named { IfOk result (λ n. OnContent (P.file_of places.old name.now)
+        (λ content. IsNamedIn task.now digest.now extent content n.dropped n.kids.items)) }
+    ensures fit { IfOk result (λ n.
+        list_all (λ kid. fits_parent Two kid.parent) n.kids.items ≡ true) }
     ensures refusal { IfErr result
-        (FailsOnFile task.now digest.now (P.file_of places.old name.now)) }
+        (FailsToName task.now digest.now extent (P.file_of places.old name.now)) }
     ensures alone { places.new ≡ places.old }
 {
     let content = match places.read(alloc, name) {
         Ok(content) => content,
         Err(error) => return Err(device_fault(error)),
     };
-    let named = named_in(alloc, task, digest, &content);
-    drop(content);
-    named
+    named_in(alloc, task, digest, extent, content)
 }
 
 /// Returns the pairs of the entries of the journal of two texts, in a file.
@@ -78,18 +128,20 @@ fn kids_of<P: Places>(
     name: &str,
     domain: &[u8],
     problem: &[u8],
-) -> Result<Vec<Kid>, Fault>
-    ensures read { IfOk result (λ v.
-        AreRead domain.now problem.now (P.file_of places.old name.now) v.items) }
-    ensures fit { IfOk result (λ v. list_all (λ kid. fits_parent Two kid.parent) v.items ≡ true) }
+    extent: Extent,
+) -> Result<NamedKids, Fault>
+    ensures read { IfOk result (λ n. AreRead domain.now problem.now extent
+        (P.file_of places.old name.now) n.dropped n.kids.items) }
+    ensures fit { IfOk result (λ n.
+        list_all (λ kid. fits_parent Two kid.parent) n.kids.items ≡ true) }
     ensures refusal { IfErr result
-        (HasNoKids domain.now problem.now (P.file_of places.old name.now)) }
+        (HasNoKids domain.now problem.now extent (P.file_of places.old name.now)) }
     ensures alone { places.new ≡ places.old }
 {
     match task_of(alloc, domain, problem) {
         Ok(task) => {
             let digest = digest_of(domain, problem);
-            let named = named_in_file(alloc, places, name, &task, &digest);
+            let named = named_in_file(alloc, places, name, &task, &digest, extent);
             drop(task);
             named
         }
@@ -98,7 +150,7 @@ fn kids_of<P: Places>(
 }
 
 /// Writes entries to a file that is not there or empty, as a journal of version two.
-pub fn copy_to<P: Places>(
+fn copy_to<P: Places>(
     alloc: Global,
     places: &mut P,
     name: &str,
@@ -136,17 +188,18 @@ fn write_entries<P: Places>(
     to: &str,
     domain: &[u8],
     problem: &[u8],
-    kids: &[Kid],
+    extent: Extent,
+    named: &NamedKids,
 ) -> Result<Vec<u8>, Fault>
-    requires fit { list_all (λ kid. fits_parent Two kid.parent) kids.now ≡ true }
-    requires read { AreRead domain.now problem.now (P.file_of places.old from.now)
-        kids.now }
+    requires fit { list_all (λ kid. fits_parent Two kid.parent) named.now.kids.items ≡ true }
+    requires read { AreRead domain.now problem.now extent (P.file_of places.old from.now)
+        named.now.dropped named.now.kids.items }
     ensures told { IfOk result (λ text. IsMigration domain.now problem.now
-        (moving from.now to.now (P.file_of places.old from.now)
+        (moving extent from.now to.now (P.file_of places.old from.now)
         (P.file_of places.old to.now) (P.file_of places.new to.now))
         text.items) }
     ensures refusal { IfErr result (AreNotMoved domain.now problem.now
-        (moving from.now to.now (P.file_of places.old from.now)
+        (moving extent from.now to.now (P.file_of places.old from.now)
         (P.file_of places.old to.now) (P.file_of places.new to.now))) }
     ensures alone { P.file_of places.new from.now ≡ P.file_of places.old from.now }
     ensures known { is_some (P.file_of places.old to.now) ≡ true
@@ -157,10 +210,10 @@ fn write_entries<P: Places>(
     if from == to {
         return Err(Fault::Journal(JournalError::JournalExists));
     }
-    let Ok(text) = migrated_text(alloc, kids.len() as u64) else {
+    let Ok(text) = migrated_text(alloc, named.kids.len() as u64, named.dropped) else {
         return Err(Fault::NoMemory);
     };
-    match copy_to(alloc, places, to, &digest_of(domain, problem), kids) {
+    match copy_to(alloc, places, to, &digest_of(domain, problem), &named.kids) {
         Ok(()) => Ok(text),
         Err(fault) => {
             drop(text);
@@ -178,13 +231,14 @@ fn migration<P: Places>(
     to: &str,
     domain: &[u8],
     problem: &[u8],
+    extent: Extent,
 ) -> Result<Vec<u8>, Fault>
     ensures told { IfOk result (λ text. IsMigration domain.now problem.now
-        (moving from.now to.now (P.file_of places.old from.now)
+        (moving extent from.now to.now (P.file_of places.old from.now)
         (P.file_of places.old to.now) (P.file_of places.new to.now))
         text.items) }
     ensures refusal { IfErr result (HasNoMigrationYet domain.now problem.now
-        (moving from.now to.now (P.file_of places.old from.now)
+        (moving extent from.now to.now (P.file_of places.old from.now)
         (P.file_of places.old to.now) (P.file_of places.new to.now))) }
     ensures alone { P.file_of places.new from.now ≡ P.file_of places.old from.now }
     ensures known { is_some (P.file_of places.old to.now) ≡ true
@@ -192,27 +246,29 @@ fn migration<P: Places>(
     ensures others { (other : List ℕ) → other ≢ to.now
         → P.file_of places.new other ≡ P.file_of places.old other }
 {
-    match kids_of(alloc, places, from, domain, problem) {
-        Ok(kids) => {
-            let told = write_entries(alloc, places, from, to, domain, problem, &kids);
-            drop(kids);
+    match kids_of(alloc, places, from, domain, problem, extent) {
+        Ok(named) => {
+            let told = write_entries(alloc, places, from, to, domain, problem, extent, &named);
+            drop(named);
             told
         }
         Err(fault) => Err(fault),
     }
 }
 
-/// Writes all entries of the journal in one file, which is one of the task that two texts say, to
+/// Writes the entries of the journal in one file, which is one of the task that two texts say, to
 /// another file, as a journal of version two in groups as large as may be; and reports how many
-/// they are. The first file is read, and left alone; the other has to be empty, or is made.
+/// they are. The first file is read, and left alone; the other has to be empty, or is made. Up to
+/// the damage, the place from which on the first file is dropped is reported on a second line.
 ///
 /// # Errors
 /// - The first fault of the texts; that the first file can't be read; why its bytes are no journal
-///   of theirs; the first entry that is no step of a search of the task; that the other file is not
-///   empty, or is the same by its name, and then it is as it was; that it can't be had or written,
-///   and then it has a header that is still to be made, or a journal of the first of the entries;
-///   or what is reported of the error that the writer has answered. A beginning of the text has
-///   then been written, and not all of it, and else nothing.
+///   of theirs, or, if all of it is wanted, that they are damaged; the first entry that is no step
+///   of a search of the task; that the other file is not empty, or is the same by its name, and
+///   then it is as it was; that it can't be had or written, and then it has a header that is still
+///   to be made, or a journal of the first of the entries; or what is reported of the error that
+///   the writer has answered. A beginning of the text has then been written, and not all of it, and
+///   else nothing.
 pub fn migrate<P: Places, W: Write>(
     alloc: Global,
     places: &mut P,
@@ -220,20 +276,21 @@ pub fn migrate<P: Places, W: Write>(
     to: &str,
     domain: &[u8],
     problem: &[u8],
+    extent: Extent,
     out: &mut Watched<'_, W>,
 ) -> Result<(), Fault>
     ensures whole { OnOk result (WritesA (IsMigration domain.now problem.now
-        (moving from.now to.now (P.file_of places.old from.now)
+        (moving extent from.now to.now (P.file_of places.old from.now)
         (P.file_of places.old to.now) (P.file_of places.new to.now)))
         (W.contents out.old.writer.now) (W.contents out.new.writer.now)) }
     ensures front { OnErr result
         ((W.contents out.new.writer.now ≡ W.contents out.old.writer.now)
         ⊎ WritesFrontOfA (IsMigration domain.now problem.now
-        (moving from.now to.now (P.file_of places.old from.now)
+        (moving extent from.now to.now (P.file_of places.old from.now)
         (P.file_of places.old to.now) (P.file_of places.new to.now)))
         (W.contents out.old.writer.now) (W.contents out.new.writer.now)) }
     ensures refusal { IfErr result (HasNoMigration domain.now problem.now
-        (moving from.now to.now (P.file_of places.old from.now)
+        (moving extent from.now to.now (P.file_of places.old from.now)
         (P.file_of places.old to.now) (P.file_of places.new to.now))
         (W.contents out.old.writer.now) (W.contents out.new.writer.now)
         out.old.fault out.new.fault) }
@@ -246,7 +303,7 @@ pub fn migrate<P: Places, W: Write>(
     ensures others { (other : List ℕ) → other ≢ to.now
         → P.file_of places.new other ≡ P.file_of places.old other }
 {
-    let text = migration(alloc, places, from, to, domain, problem)?;
+    let text = migration(alloc, places, from, to, domain, problem, extent)?;
     let written = write_out(out, &text);
     drop(text);
     match written {

@@ -11,12 +11,11 @@ use crate::fault::{Fault, device_fault};
 use crate::grounding::ground;
 use crate::inspecting::inspect;
 use crate::kept::Start;
-use crate::migrating::migrate;
+use crate::migrating::{Extent, migrate};
 use crate::output::write_out;
 use crate::places::{Places, SystemFiles};
 use crate::reasons::explain;
 use crate::replaying::replay;
-use crate::salvaging::salvage;
 use crate::streams::HeldStreams;
 use crate::surveying::survey;
 use crate::told::Ending;
@@ -200,6 +199,7 @@ fn migrate_files<P: Places, O: Write>(
     texts: (&str, &str),
     from: &str,
     to: &str,
+    extent: Extent,
     out: &mut O,
 ) -> Result<(), Fault> {
     if is_read_too(places, texts, from, to) {
@@ -208,26 +208,7 @@ fn migrate_files<P: Places, O: Write>(
     let domain = read(alloc, places, texts.0)?;
     let problem = read(alloc, places, texts.1)?;
     let watched = &mut Watched::of(&mut *out);
-    migrate(alloc, places, from, to, &domain, &problem, watched)?;
-    flush(out)
-}
-
-/// Writes the entries up to the damage of the journal `from` to `to`, as [`migrate_files`] does.
-fn salvage_files<P: Places, O: Write>(
-    alloc: Global,
-    places: &mut P,
-    texts: (&str, &str),
-    from: &str,
-    to: &str,
-    out: &mut O,
-) -> Result<(), Fault> {
-    if is_read_too(places, texts, from, to) {
-        return Err(Fault::Device);
-    }
-    let domain = read(alloc, places, texts.0)?;
-    let problem = read(alloc, places, texts.1)?;
-    let watched = &mut Watched::of(&mut *out);
-    salvage(alloc, places, from, to, &domain, &problem, watched)?;
+    migrate(alloc, places, from, to, &domain, &problem, extent, watched)?;
     flush(out)
 }
 
@@ -403,11 +384,12 @@ fn answer_of_journal<P: Places, O: Write, E: Write>(
         } => {
             let texts = (domain.as_str(), problem.as_str());
             let (from, to) = (journal.as_str(), to.as_str());
-            let done = if *salvage {
-                salvage_files(alloc, places, texts, from, to, out)
+            let extent = if *salvage {
+                Extent::UpToDamage
             } else {
-                migrate_files(alloc, places, texts, from, to, out)
+                Extent::Whole
             };
+            let done = migrate_files(alloc, places, texts, from, to, extent, out);
             status_of(err, done)
         }
         Request::Inspect { journal } => {

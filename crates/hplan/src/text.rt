@@ -4,8 +4,7 @@ ghost use Rattle.hd_plan.specs.PlanText.{line_end};
 ghost use Rattle.hd_task.specs.Plans.{Node};
 ghost use Rattle.hplan.specs.Inspection.{digest_line, inspected_text, summary_text, version_number};
 ghost use Rattle.hplan.specs.Certifying.{certified_text, verdict_text, optimal_text, CanBeTold};
-ghost use Rattle.hplan.specs.Migrating.{migrated_text};
-ghost use Rattle.hplan.specs.Salvaging.{dropped_line, salvaged_text};
+ghost use Rattle.hplan.specs.Migrating.{dropped_line, migrated_text};
 ghost use Rattle.hplan.specs.TaskText.{action_text, departing_text, departure_text, count_line, numbered_line, numbered_lines, task_text};
 ghost use Rattle.hplan.specs.Verdict.{valid_text};
 
@@ -120,15 +119,6 @@ pub fn task_text(alloc: Global, task: &Task) -> Result<Vec<u8>, NoMemory>
     Ok(text.into_bytes())
 }
 
-/// Returns how it is told how many entries were written to another file.
-pub fn migrated_text(alloc: Global, entries: u64) -> Result<Vec<u8>, NoMemory>
-    ensures { IfOk result (λ v. v.items ≡ migrated_text entries) }
-{
-    let mut text = String::new(alloc);
-    push_count(alloc, &mut text, "migrated", entries)?;
-    Ok(text.into_bytes())
-}
-
 /// Appends the line that tells from which byte on a file is dropped, if it is to a text.
 fn push_dropped(alloc: Global, text: &mut String, dropped: Option<u64>) -> Result<(), NoMemory>
     ensures { OnOk result (string_bytes text.new
@@ -142,8 +132,8 @@ fn push_dropped(alloc: Global, text: &mut String, dropped: Option<u64>) -> Resul
 
 /// Returns how it is told how many entries were written to another file, and from which byte on the
 /// rest is dropped, if it is.
-pub fn salvaged_text(alloc: Global, entries: u64, dropped: Option<u64>) -> Result<Vec<u8>, NoMemory>
-    ensures { IfOk result (λ v. v.items ≡ salvaged_text entries dropped) }
+pub fn migrated_text(alloc: Global, entries: u64, dropped: Option<u64>) -> Result<Vec<u8>, NoMemory>
+    ensures { IfOk result (λ v. v.items ≡ migrated_text entries dropped) }
 {
     let mut text = String::new(alloc);
     push_count(alloc, &mut text, "migrated", entries)?;

@@ -12,5 +12,5 @@ returns-in_default-clause-refusal g c = OfMemory refl
 
 pub returns-in-Err-clause-refusal : goal.returns-in-Err-clause-refusal
 returns-in-Err-clause-refusal g c =
-    unwritten_by c.args.domain.now c.args.problem.now c.args.from.now c.args.to.now _ _ _ c.args.kids.now _ c.in-Err.fault c.requires.read
-    c.digest_of.ensures c.in-Err.ensures.refusal
+    unwritten_by c.args.domain.now c.args.problem.now c.args.extent c.args.from.now c.args.to.now _ _ _ c.args.named.now.dropped
+    c.args.named.now.kids.items _ _ c.in-Err.fault c.requires.read c.digest_of.ensures c.deref.ensures.value c.in-Err.ensures.refusal
