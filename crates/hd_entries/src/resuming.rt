@@ -237,8 +237,8 @@ impl<'t> EntriesContent<'t> {
         Ok(vec![in alloc; Some(parcel)]?)
     }
 
-    /// Makes these successors the entries again, as [`EntriesContent::enter_all`], by an index of the
-    /// task.
+    /// Makes these successors the entries again, as [`EntriesContent::enter_all`], by an index of
+    /// the task.
     fn enter_list<H: Listener>(
         &mut self,
         alloc: Global,
