@@ -1,16 +1,15 @@
 -- What a book keeps, after each step.
-use Rattle.std.proofs.Common.{◌≡◌, ℕ, zero, suc, ◌+◌, ◌≤◌, ◌==◌, ◌||◌, Bool, true, false, cond, Some, None, Option, List, [], ◌∷◌, ◌++◌, length, set, slice_get, refl, sym, ◌∙◌, subst, arith}
+use Rattle.std.proofs.Common.{◌≡◌, ℕ, zero, suc, ◌+◌, ◌≤◌, ◌==◌, ◌||◌, Bool, true, false, cond, Some, None, Option, List, [], ◌∷◌, ◌++◌, length, set, slice_get, refl, sym, ap, ap₂, ◌∙◌, subst, arith}
 use Rattle.std.specs.Prelude.{Result, Ok, Err, IfOk, OnOk, OnErr, flat_map}
 use Rattle.std.specs.Option.{option_flatten}
 use Rattle.std.specs.List.{AllByRecursion}
-use Rattle.std.proofs.lemmas.Bool.{eqb-true}
+use Rattle.std.proofs.lemmas.Bool.{and_parts, eqb-true}
 use Rattle.std.proofs.lemmas.List.{length-set, length-append}
 use Rattle.hd_base.proofs.Lists.{AllByRecursion-push}
-use Rattle.hd_task.specs.declared.task.Task.{Task}
 use Rattle.hd_node.specs.declared.batch.Outcome.{Outcome}
 use Rattle.hd_node.specs.declared.batch.Outcome.TheVariants.{Expanded, Duplicate, Bounded}
-use Rattle.hd_entries.specs.Settling.{entry_of}
-use Rattle.hd_entries.specs.Holding.{EntriesView, settled_count}
+use Rattle.hd_entries.specs.Settling.{BookState, entry_of}
+use Rattle.hd_entries.specs.Holding.{EntriesView, released_by, settled_count}
 use Rattle.hd_book.specs.declared.not_out.NotOut.{NotOut}
 use Rattle.hd_book.specs.declared.outgoing.Outgoing.{Outgoing}
 use Rattle.hd_book.specs.declared.redeemed.Redeemed.{Redeemed}
@@ -21,8 +20,10 @@ use Rattle.hd_book.specs.TicketSteps.{entered, flushed, without, redeemed}
 use Rattle.hd_book.specs.TicketRedeeming.{given_for, answer_for, redeemed_for}
 use Rattle.hd_book.proofs.Ends.{end_of-append, end_of_parts}
 use Rattle.hd_book.specs.View.{ParcelsView, book_of}
-use Rattle.hd_book.specs.Keeping.{IsOutgoingOf, IsHeld}
-use Rattle.hd_book.specs.Redeeming.{IsReleasedOf}
+use Rattle.hd_book.specs.Keeping.{IsOutgoingIn, IsHeld}
+use Rattle.hd_book.specs.Redeeming.{IsReleasedOf, IsReleasedIn}
+use Rattle.hd_book.specs.Releasing.{released_in}
+use Rattle.hd_book.proofs.Releasing.{Goes, all_still_out, batch_out}
 
 -- ---- a batch more
 
@@ -44,23 +45,25 @@ held_again e d b a h same batches = subst (λ x. IsHeld (book_of x a)) (sym same
 
 -- a batch is accepted
 pub held_entered :
-    (e d : EntriesView) (b a : Batches ParcelsView) (count more : ℕ) (released : ParcelsView)
+    (e d : EntriesView) (b a : Batches ParcelsView) (outcomes : List Outcome) (count : ℕ) (released : ParcelsView)
     → IsHeld (book_of e b)
+    → Goes e.state d.state outcomes
     → d.state.task ≡ e.state.task
     → length d.state.entries ≡ length e.state.entries + count
-    → settled_count d.state ≡ settled_count e.state + more
-    → 1 ≤ more
-    → released.task ≡ d.state.task
+    → settled_count d.state ≡ settled_count e.state + length outcomes
+    → 1 ≤ length outcomes
+    → released ≡ record { task = e.state.task; kids = released_by (length e.state.entries) outcomes }
     → a ≡ entered count released b
     → IsHeld (book_of d a)
-held_entered e d b a count more released h task entries settled some own is =
+held_entered e d b a outcomes count released h goes task entries settled some own is =
     let out : Outgoing ParcelsView = record { first = entries_of b.queue; end = entries_of b.queue + count; released = released } in
-    let before : AllByRecursion (IsOutgoingOf d.state.task) b.tickets = subst (λ t. AllByRecursion (IsOutgoingOf t) b.tickets) (sym task) h.of_task in
     let counted : entries_of b.queue ≡ length e.state.entries = h.counted in
     let commits : length b.tickets ≤ settled_count e.state = h.commits in
     subst (λ x. IsHeld (book_of d x)) (sym is) (record {
       counted = omega (arith, entries_more b.queue count, counted, entries);
-      of_task = AllByRecursion-push (IsOutgoingOf d.state.task) b.tickets (Some out) before own;
+      released =
+          AllByRecursion-push (IsOutgoingIn d.state) b.tickets (Some out) (all_still_out e.state d.state outcomes goes task b.tickets h.released)
+          (batch_out e.state d.state outcomes goes task out counted (omega (arith, counted, entries)) own);
       commits = omega (arith, length-append b.tickets (Some out ∷ []), commits, settled, some);
     })
 
@@ -71,7 +74,7 @@ entries_flushed b = end_of_parts b.queue.acknowledged b.queue.ends b.queue.out
 
 -- the group that was out is acknowledged
 pub held_flushed : (e : EntriesView) (b : Batches ParcelsView) → IsHeld (book_of e b) → IsHeld (book_of e (flushed b))
-held_flushed e b h = record { counted = entries_flushed b ∙ h.counted; of_task = h.of_task; commits = h.commits }
+held_flushed e b h = record { counted = entries_flushed b ∙ h.counted; released = h.released; commits = h.commits }
 
 -- ---- a ticket less
 
@@ -85,7 +88,7 @@ held_without e b n h =
     let commits : length b.tickets ≤ settled_count e.state = h.commits in
     record {
       counted = h.counted;
-      of_task = AllByRecursion-set (IsOutgoingOf e.state.task) b.tickets n None h.of_task tt;
+      released = AllByRecursion-set (IsOutgoingIn e.state) b.tickets n None h.released tt;
       commits = omega (arith, length-set b.tickets n None, commits);
     }
 
@@ -108,29 +111,45 @@ pub held_if :
 held_if (Ok x) e b m a old new ok err = subst (λ z. IsHeld (book_of e z)) (sym ok) new
 held_if (Err x) e b m a old new ok err = subst (λ z. IsHeld (book_of e z)) (sym err) old
 
--- ---- what is redeemed is of the task
+-- ---- what is redeemed is what the entries of the ticket release
 
-out_of_task : (t : Task) (tickets : List (Option (Outgoing ParcelsView))) (n : ℕ) → AllByRecursion (IsOutgoingOf t) tickets → IsOutgoingOf t (option_flatten (slice_get tickets n))
-out_of_task t [] n h = tt
-out_of_task t (x ∷ tickets) zero h = h.0
-out_of_task t (x ∷ tickets) (suc n) h = out_of_task t tickets n h.1
+out_at : (b : BookState) (tickets : List (Option (Outgoing ParcelsView))) (n : ℕ) → AllByRecursion (IsOutgoingIn b) tickets → IsOutgoingIn b (option_flatten (slice_get tickets n))
+out_at b [] n h = tt
+out_at b (x ∷ tickets) zero h = h.0
+out_at b (x ∷ tickets) (suc n) h = out_at b tickets n h.1
 
-given_by : (t : Task) (b : Batches ParcelsView) (k : TicketView) (released : ParcelsView) (v w : Bool) → released.task ≡ t → IsReleasedOf t (cond v (Released (record { first = k.first; end = k.end }) released) (cond w Void (NotYet k)))
-given_by t b k released true w is = is
-given_by t b k released false true is = tt
-given_by t b k released false false is = tt
+given_by : (s : BookState) (b : Batches ParcelsView) (k : TicketView) (released : ParcelsView) (v w : Bool) → released ≡ released_in s.task s.entries k.first k.end
+    → IsReleasedIn s k (cond v (Released (record { first = k.first; end = k.end }) released) (cond w Void (NotYet k)))
+given_by s b k released true w is = is
+given_by s b k released false true is = tt
+given_by s b k released false false is = tt
 
-answer_by : (t : Task) (b : Batches ParcelsView) (k : TicketView) (o : Outgoing ParcelsView) (v : Bool) → o.released.task ≡ t → IfOk {E = NotOut} (cond v (Ok (given_for b k o.released)) (Err (record {}))) (IsReleasedOf t)
-answer_by t b k o true is = given_by t b k o.released (are_acknowledged b.queue k.first k.end) b.halted is
-answer_by t b k o false is = tt
+answer_by : (s : BookState) (b : Batches ParcelsView) (k : TicketView) (o : Outgoing ParcelsView) (v : Bool) → is_its k (Some o) ≡ v
+    → o.released ≡ released_in s.task s.entries o.first o.end → IfOk {E = NotOut} (cond v (Ok (given_for b k o.released)) (Err (record {}))) (IsReleasedIn s k)
+answer_by s b k o true its is =
+    let parts = and_parts (o.first == k.first) (o.end == k.end) its in
+    let first : o.first ≡ k.first = eqb-true o.first k.first parts.0 in
+    let end : o.end ≡ k.end = eqb-true o.end k.end parts.1 in
+    given_by s b k o.released (are_acknowledged b.queue k.first k.end) b.halted (is ∙ ap₂ (released_in s.task s.entries) first end)
+answer_by s b k o false its is = tt
 
-answer_of_task : (t : Task) (b : Batches ParcelsView) (k : TicketView) (o : Option (Outgoing ParcelsView)) → IsOutgoingOf t o → IfOk (answer_for b k o) (IsReleasedOf t)
-answer_of_task t b k None is = tt
-answer_of_task t b k (Some o) is = answer_by t b k o (is_its k (Some o)) is
+answer_in : (s : BookState) (b : Batches ParcelsView) (k : TicketView) (o : Option (Outgoing ParcelsView)) → IsOutgoingIn s o → IfOk (answer_for b k o) (IsReleasedIn s k)
+answer_in s b k None out = tt
+answer_in s b k (Some o) out = answer_by s b k o (is_its k (Some o)) refl out.2
 
-pub redeemed_of_task :
+pub redeemed_in :
     (e : EntriesView) (b : Batches ParcelsView) (k : TicketView) (r : Result (Redeemed ParcelsView) NotOut)
     → IsHeld (book_of e b)
     → r ≡ redeemed_for b k
-    → IfOk r (IsReleasedOf e.state.task)
-redeemed_of_task e b k r h is = subst (λ x. IfOk x (IsReleasedOf e.state.task)) (sym is) (answer_of_task e.state.task b k _ (out_of_task e.state.task b.tickets k.number h.of_task))
+    → IfOk r (IsReleasedIn e.state k)
+redeemed_in e b k r h is = subst (λ x. IfOk x (IsReleasedIn e.state k)) (sym is) (answer_in e.state b k _ (out_at e.state b.tickets k.number h.released))
+
+-- so it is of the task
+released_of : (s : BookState) (k : TicketView) (r : Redeemed ParcelsView) → IsReleasedIn s k r → IsReleasedOf s.task r
+released_of s k (Released receipt parcels) is = ap (λ (p : ParcelsView). p.task) is
+released_of s k (NotYet ticket) is = tt
+released_of s k Void is = tt
+
+pub redeemed_of : (s : BookState) (k : TicketView) (r : Result (Redeemed ParcelsView) NotOut) → IfOk r (IsReleasedIn s k) → IfOk r (IsReleasedOf s.task)
+redeemed_of s k (Ok r) is = released_of s k r is
+redeemed_of s k (Err error) is = tt

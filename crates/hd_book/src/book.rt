@@ -54,7 +54,7 @@ impl<'t, L: Ledger> Book<'t, L> {
     ghost use Rattle.hd_book.specs.Steps.{new_book, resumed_book, after_commit, ticket_after, after_take, after_flush, after_hand_back, after_redeem, after_halt};
     ghost use Rattle.hd_book.specs.Groups.{next_group, is_group_out};
     ghost use Rattle.hd_book.specs.Refusing.{refusal_to, IsRefusalTo};
-    ghost use Rattle.hd_book.specs.Redeeming.{IsReleasedOf};
+    ghost use Rattle.hd_book.specs.Redeeming.{IsReleasedOf, IsReleasedIn};
 
     /// Returns a book of these parts, whose ledger is new, with the share that is the whole of it.
     fn open(blank: Blank, content: Box<BookContent<'t>>) -> (Book<'t, L>, Share<L>)
@@ -149,6 +149,8 @@ impl<'t, L: Ledger> Book<'t, L> {
         ensures begins { BeginsWith self.new.state.entries self.old.state.entries }
         ensures accepted { OnOk result (refusal_to self.old batch.entry.outcomes ≡ None) }
         ensures ticket { IfOk result (λ k. k ≡ ticket_after batch.entry.outcomes self.old) }
+        ensures from { IfOk result (λ k. k.first ≡ length self.old.state.entries) }
+        ensures to { IfOk result (λ k. k.end ≡ length self.new.state.entries) }
         ensures committed { OnOk result
             (self.new ≡ after_commit batch.entry.outcomes self.old) }
         ensures counted { OnOk result ((share.new.amount ≡ share.old.amount + 1)
@@ -227,6 +229,7 @@ impl<'t, L: Ledger> Book<'t, L> {
         ensures begins { BeginsWith self.new.state.entries self.old.state.entries }
         ensures given { result ≡ redeemed_for self.old.batches ticket }
         ensures of_task { IfOk result (IsReleasedOf self.old.state.task) }
+        ensures released { IfOk result (IsReleasedIn self.old.state ticket) }
         ensures redeemed { OnOk result (self.new ≡ after_redeem ticket self.old) }
         ensures err { OnErr result (self.new ≡ self.old) }
     {

@@ -12,7 +12,7 @@ ghost use Rattle.hd_book.specs.View.{book_of, counts_of};
 ghost use Rattle.hd_book.specs.Steps.{with_no_batches, after_commit, ticket_after, after_take, after_flush, after_hand_back, after_redeem, after_halt};
 ghost use Rattle.hd_book.specs.Groups.{entries_between, is_kid, begins_with, next_group, is_group_out};
 ghost use Rattle.hd_book.specs.Refusing.{refusal_to, IsRefusalTo};
-ghost use Rattle.hd_book.specs.Redeeming.{IsReleasedOf};
+ghost use Rattle.hd_book.specs.Redeeming.{IsReleasedOf, IsReleasedIn};
 
 use crate::tickets::Tickets;
 use crate::{
@@ -145,6 +145,8 @@ impl<'t> BookContent<'t> {
         ensures begins { BeginsWith self.new.state.entries self.old.state.entries }
         ensures accepted { OnOk result (refusal_to self.old batch.entry.outcomes ≡ None) }
         ensures ticket { IfOk result (λ k. k ≡ ticket_after batch.entry.outcomes self.old) }
+        ensures from { IfOk result (λ k. k.first ≡ length self.old.state.entries) }
+        ensures to { IfOk result (λ k. k.end ≡ length self.new.state.entries) }
         ensures committed { OnOk result
             (self.new ≡ after_commit batch.entry.outcomes self.old) }
         ensures refused { IfErr result (λ e. (e.0 ≡ batch.entry)
@@ -218,6 +220,7 @@ impl<'t> BookContent<'t> {
     pub(crate) fn redeem(&mut self, ticket: Ticket) -> Result<Redeemed<Parcels<'t>>, NotOut>
         ensures given { result ≡ redeemed_for self.old.batches ticket }
         ensures of_task { IfOk result (IsReleasedOf self.old.state.task) }
+        ensures released { IfOk result (IsReleasedIn self.old.state ticket) }
         ensures redeemed { OnOk result (self.new ≡ after_redeem ticket self.old) }
         ensures err { OnErr result (self.new ≡ self.old) }
     {

@@ -1,14 +1,12 @@
 -- Moves of a run that go on.
-use Rattle.std.proofs.Common.{◌≡◌, inl, inr, ℕ, ◌<◌, ◌≤◌, Bool, true, false, ◌||◌, nat_le, cond, Option, Some, None, is_some, List, [], ◌∷◌, ◌++◌, length, refl, sym, ap, ap₂, ◌∙◌, subst, arith, true≢false, if◌then◌else◌}
-use Rattle.std.specs.Prelude.{option_map, ◌&&◌, ◌==◌, Result, Ok, Err, is_ok, IfOk, OnOk, OnErr}
-use Rattle.std.specs.List.{list_all, AllByRecursion}
+use Rattle.std.proofs.Common.{◌≡◌, inl, ℕ, ◌<◌, ◌≤◌, Bool, true, false, ◌||◌, nat_le, cond, Option, Some, None, is_some, List, [], ◌∷◌, ◌++◌, length, refl, sym, ap, ap₂, ◌∙◌, subst, arith, true≢false, if◌then◌else◌}
+use Rattle.std.specs.Prelude.{option_map, ◌==◌, Result, Ok, Err, is_ok, IfOk, OnOk, OnErr}
 use Rattle.std.proofs.lemmas.Bool.{leb-true, leb-false, eqb-true, ne_eqb}
 use Rattle.std.proofs.lemmas.Option.{same_Some, none-some}
 use Rattle.hd_task.specs.declared.task.Task.{Task}
 use Rattle.hd_task.specs.declared.plan.Kid.{Kid}
 use Rattle.hd_store.specs.declared.store.Store.{Ghosts}
-use Rattle.hd_image.specs.declared.version.Version.{Version}
-use Rattle.hd_image.specs.Image.{fits_parent, front}
+use Rattle.hd_image.specs.Image.{front}
 use Rattle.hd_journal.specs.declared.journal.Journal.{Journal}
 use Rattle.hd_journal.specs.Answers as journals
 use Rattle.hd_journal.specs.Group.{GroupView}
@@ -25,20 +23,19 @@ use Rattle.hd_world.specs.declared.moves.Move.TheVariants as moves
 use Rattle.hd_world.specs.declared.moves.StopAt.{StopAt}
 use Rattle.hd_world.specs.Seats.{Run}
 use Rattle.hd_world.specs.Moves.{TurnsTo, pulled_to, pulled, acked_of, acked}
-use Rattle.hd_world.specs.Stops.{File, entries_of, with_group, is_next, appending}
-use Rattle.hd_world.specs.World.{World, Running, flushed_to, StopsIn, IsNone, StepsTo}
+use Rattle.hd_world.specs.Stops.{File, with_group, is_next, appending}
+use Rattle.hd_world.specs.World.{Running, flushed_to, IsNone, StepsTo}
 use Rattle.hd_world.specs.Order.{Stands, NoneIsOut, IsPulled, IsAppended}
 use Rattle.hd_world.specs.Sound.{IsSound}
 use Rattle.hd_world.proofs.Sounding.{group_ready}
+use Rattle.hd_world.proofs.Journals.{next_same}
 use Rattle.hd_world.specs.Filling.{Filled}
-use Rattle.hd_world.specs.Lasting.{IsSoundWorld}
 use Rattle.hd_world.proofs.Fillings.{steps_so}
 use Rattle.hd_world.proofs.Playing.{step_sound}
 use Rattle.hd_replay.specs.declared.run.Out.{Out}
 use Rattle.hd_replay.specs.declared.run.Out.TheVariants.{Nothing, Pulled, Flushed}
 use Rattle.hd_replay.specs.Held.{IsSoundRun, pulled_in, flushed_in}
 use Rattle.hd_replay.specs.Journals.{StandsAs, Runs, Flushes, Goes, calls_in, stop_in}
-use Rattle.hd_replay.proofs.Kids.{journal_count}
 
 -- ---- a group that was pulled
 
@@ -63,8 +60,7 @@ calls_are f digest g e = sym (calls_of f digest g e)
 -- where the journal says that it is the next one, it is
 pub next_by : {S : Type 0} {G : Ghosts S} (digest : List ℕ) (f : File) (journal : Journal S G) (g : GroupView) → StandsAs digest f journal
     → journals.is_next journal g ≡ true → is_next f g ≡ true
-next_by digest f journal g s e =
-    ap₂ (λ (n : ℕ) (v : Version). (g.first == n) && list_all (λ (k : Kid). fits_parent v k.parent) g.kids) (sym (journal_count digest f journal s)) (sym s.version) ∙ e
+next_by digest f journal g s e = sym (next_same digest f journal s.is_of s.version g) ∙ e
 
 -- ---- `flush`
 

@@ -123,13 +123,15 @@ fn play_all(
 
 /// Plays a schedule on a disk, if nothing runs at first: what stands at its end. One that ends
 /// while nothing runs is followed by a resumption with one worker. What was on the disk and not
-/// sure reads 0 at first.
+/// sure reads 0 at first. What was planned of the disk, and its count of failures, are dropped.
 ///
 /// # Errors
 /// - `NoMemory`.
-/// - `Full`: the entries would be more than a journal may have; or what the journal answers of what
-///   was on the disk, or why no search goes on from its entries: from an empty disk neither comes.
-///   The disk is empty then.
+/// - `Full`: the entries would be more than a journal may have.
+/// - `Journal`, `Recovery`: what the journal answers of what was on the disk, or why no search
+///   resumes from its entries. From an empty disk neither comes.
+///
+/// After an error the disk is a new one, which holds nothing. No clause says so.
 pub fn replay(
     alloc: Global,
     task: &Task,

@@ -75,7 +75,7 @@ impl<'t, L: Ledger> Model for Run<'t, L> {
 }
 
 impl<'t, L: Ledger> Run<'t, L> {
-    /// Returns the group that is out leaves the run.
+    /// Takes the group that is out from the run.
     pub(crate) fn take_out(&mut self) -> Out
         ensures group { pulled_in result ≡ self.old.group }
         ensures flushed { flushed_in result ≡ self.old.flushed }

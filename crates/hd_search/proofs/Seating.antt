@@ -15,7 +15,7 @@ use Rattle.hd_threads.specs.declared.placing.Desk.{Desk}
 use Rattle.hd_threads.specs.declared.placing.Workplace.{Workplace}
 use Rattle.hd_threads.specs.Placing.{IsAt}
 use Rattle.hd_search.specs.declared.opening.Rest.{Rest}
-use Rattle.hd_search.specs.Opening.{IsFresh, HasRoom}
+use Rattle.hd_search.specs.Opening.{IsFresh, HasRoom, HasSeenStart}
 use Rattle.hd_search.proofs.Parts.{all_less}
 
 module _ {L A : Type 0} (t : Task) (log : List Kid) (d : Desk L A) (left : ℕ) (r : Rest L A) (room : HasRoom t log d (left + 1) r) where
@@ -34,6 +34,10 @@ module _ {L A : Type 0} (t : Task) (log : List Kid) (d : Desk L A) (left : ℕ) 
     numbered = fresh.numbered;
   }
 
+  -- it has seen the bound with which the workers' shared one starts
+  pub seen_start : (p : Workplace L A) → p.seat ≡ one_part r.seat → HasSeenStart d p
+  seen_start p seat = ap (λ (s : SeatView). s.seen) seat ∙ room.least
+
   -- what is left
   pub room_after : (s : Rest L A) → IsOutside d.lock.place s.pass → view s.pass ≡ less_one (view r.pass) → s.share.parts + 1 ≡ r.share.parts → s.seat ≡ less_part r.seat → IsFor d.boxes s.hands → s.hands ≡ less_parts r.hands → parts_of s.hands ≡ map (λ n. n - 1) (parts_of r.hands) → HasRoom t log d left s
   room_after s outside pass share seat for hands parts = record {
@@ -45,6 +49,7 @@ module _ {L A : Type 0} (t : Task) (log : List Kid) (d : Desk L A) (left : ℕ) 
     passes = omega (arith, ap (λ (v : View Task Kid). v.parts) pass, room.passes);
     shares = omega (arith, share, room.shares);
     seat = ap (λ (v : SeatView). v.of) seat ∙ room.seat;
+    least = ap (λ (v : SeatView). v.seen) seat ∙ room.least;
     seats = omega (arith, ap (λ (v : SeatView). v.parts) seat, room.seats);
     hands = for;
     parcels = ap (λ (h : HandsView Task ParcelView). h.of) hands ∙ room.parcels;

@@ -1,12 +1,15 @@
 -- What is reported where a search by threads stops.
-use Rattle.std.proofs.Common.{◌≡◌, inl, inr, ℕ, Option, Some, List, [], Result, Ok, Err, refl, sym, subst, ◌∙◌, append-nil}
-use Rattle.std.specs.Prelude.{IfErr, IfSome, OnOk}
+use Rattle.std.proofs.Common.{◌≡◌, inl, inr, ℕ, suc, ◌-◌, ◌<◌, Option, Some, None, List, [], ◌∷◌, length, Result, Ok, Err, refl, sym, subst, ◌∙◌, append-nil, arith}
+use Rattle.std.specs.Prelude.{IfErr, IfSome, OnOk, slice_index_or}
+use Rattle.std.specs.List.{AllByRecursion}
+use Rattle.std.specs.Option.{option_or}
+use Rattle.std.proofs.lemmas.List.{length-map}
 use Rattle.hd_task.specs.declared.task.Task.{Task}
 use Rattle.hd_task.specs.declared.plan.Kid.{Kid}
 use Rattle.hd_store.specs.declared.store.Store.{Ghosts}
 use Rattle.hd_image.specs.Image.{most_of}
 use Rattle.hd_journal.specs.declared.journal.Journal.{Journal}
-use Rattle.hd_journal.specs.Journal.{device_of, kids_of}
+use Rattle.hd_journal.specs.Journal.{device_of, kid_of, kids_of}
 use Rattle.hd_journal.specs.Moments.{IsSettled}
 use Rattle.hd_threads.specs.declared.fault.RunFault.{RunFault}
 use Rattle.hd_threads.specs.declared.fault.RunFault.TheVariants.{Full, Damaged, Device, Failed, NotOut, NoMemory}
@@ -14,7 +17,8 @@ use Rattle.hd_threads.specs.Growing.{Grows}
 use Rattle.hd_desk.specs.Views.{BeginsWith}
 use Rattle.hd_threads.specs.declared.placing.Desk.{Desk}
 use Rattle.hd_threads.specs.Committing.{StopsLater}
-use Rattle.hd_threads.specs.Faults.{IsOfAnswer}
+use Rattle.hd_threads.specs.Ends.{EndView, first_fault}
+use Rattle.hd_threads.specs.Faults.{IsOfAnswer, IsOfWorker}
 use Rattle.hd_threads.specs.Surviving.{Survives}
 use Rattle.hd_threads.proofs.Begins.{begins_along}
 use Rattle.hd_threads.proofs.Surviving.{survives_itself}
@@ -22,7 +26,7 @@ use Rattle.hd_search.specs.declared.fault.ThreadsFault.{ThreadsFault}
 use Rattle.hd_search.specs.declared.fault.ThreadsFault.TheVariants.{Run, NoThread}
 use Rattle.hd_search.specs.declared.opening.CommitterPlace.{CommitterPlace}
 use Rattle.hd_search.specs.Committing.{CanRun}
-use Rattle.hd_search.specs.Fault.{first_of, IsFaulty, IsOfThreads, StopsRunning, Stops, Tells}
+use Rattle.hd_search.specs.Fault.{first_of, reported, EndsAsWorker, IsFaulty, IsOfThreads, IsConfirmed, IsFullRightly, StopsRunning, Stops, Tells}
 use Rattle.hd_search.specs.Opening.{CanCommit}
 
 module _ {S : Type 0} {G : Ghosts S} (old new : Journal S G) where
@@ -72,6 +76,21 @@ module _ {S : Type 0} {G : Ghosts S} (old new : Journal S G) where
   answer_stops NotOut grows told = grows
   answer_stops NoMemory grows told = grows
 
+  -- what is made of a fault reports the same, or no less
+  pub confirmed_stops : (fault told : ThreadsFault) → Stops old new fault → IsConfirmed new fault told → Stops old new told
+  confirmed_stops fault told stops (inl same) = subst (Stops old new) (sym same) stops
+  confirmed_stops fault told stops (inr full) =
+      let grows : Grows old new = subst (Stops old new) full.0 stops in subst (Stops old new) (sym full.1) grows
+
+  -- a book that has no answer is not full
+  pub answer_not_full : (fault : RunFault) → IsOfAnswer fault → IsFullRightly new (Run fault)
+  answer_not_full Full told = absurd told
+  answer_not_full (Damaged at) told = λ full. absurd (cc)
+  answer_not_full Device told = absurd told
+  answer_not_full Failed told = absurd told
+  answer_not_full NotOut told = λ full. absurd (cc)
+  answer_not_full NoMemory told = λ full. absurd (cc)
+
   -- a search stops later
   pub tells_later : (t : Task) (fault : ThreadsFault) → Stops old new fault → Tells t old new fault
   tells_later t NoThread told = told
@@ -90,6 +109,33 @@ survives_unchanged t journal = survives_itself (Some t) journal
 -- a search can't go on from entries, and nothing is written
 pub tells_faulty : {S : Type 0} {G : Ghosts S} (journal : Journal S G) (t : Task) (fault : RunFault) → IsFaulty t (most_of journal.version) journal.entries.items fault → Tells t journal journal (Run fault)
 tells_faulty journal t fault told = inl (refl, told)
+
+-- the first fault of workers that ended so is one of theirs
+told_or : (first later : Option RunFault) → IfSome first IsOfWorker → IfErr (reported later) IsOfThreads → IfErr (reported (option_or first later)) IsOfThreads
+told_or None later here behind = behind
+told_or (Some fault) later here behind = here
+
+pub reported_told : (ends : List EndView) → AllByRecursion EndsAsWorker ends → IfErr (reported (first_fault ends)) IsOfThreads
+reported_told [] told = tt
+reported_told (end ∷ ends) told = told_or end.fault (first_fault ends) told.0 (reported_told ends told.1)
+
+-- what holds at each place of a list holds of all of it
+pub all_by_places : (P : EndView → Type 0) (ends : List EndView) (n : ℕ) → length ends ≡ n → ((i : ℕ) (d : EndView) → i < n → P (slice_index_or ends i d))
+    → AllByRecursion P ends
+all_by_places P [] n same each = tt
+all_by_places P (end ∷ ends) n same each = (
+  each 0 end (omega (arith, same)),
+  all_by_places P ends (n - 1) (omega (arith, same)) (λ i d below. each (suc i) d (omega (arith, below))),
+)
+
+-- a journal that has too many entries is short of room
+pub faulty_full : {S : Type 0} {G : Ghosts S} (journal : Journal S G) (t : Task) (fault : RunFault) → IsFaulty t (most_of journal.version) journal.entries.items fault → IsFullRightly journal (Run fault)
+faulty_full journal t Full told = λ full. let same = length-map journal.entries.items kid_of in omega (arith, told, same)
+faulty_full journal t (Damaged at) told = λ full. absurd (cc)
+faulty_full journal t Device told = absurd told
+faulty_full journal t Failed told = absurd told
+faulty_full journal t NotOut told = absurd told
+faulty_full journal t NoMemory told = λ full. absurd (cc)
 
 -- the committer of a search that is opened from a journal's entries can run
 pub can_run : {L A S : Type 0} {G : Ghosts S} (t : Task) (parts : ℕ) (d : Desk L A) (c : CommitterPlace L A) (journal : Journal S G) → CanCommit t parts d c (kids_of journal) → CanRun parts d c journal

@@ -1,5 +1,5 @@
 -- What the faults of a search by threads tell, and how they are printed. (Our own.)
-use Rattle.std.specs.Prelude.{◌≡◌, ◌⊎◌, ℕ, ◌<◌, ◌≤◌, true, false, List, length, codes, Result, Ok, Err}
+use Rattle.std.specs.Prelude.{◌≡◌, ◌⊎◌, ℕ, ◌+◌, ◌<◌, ◌≤◌, true, false, List, length, codes, Option, Some, None, IfSome, Result, Ok, Err}
 use Rattle.hd_task.specs.declared.task.Task.{Task}
 use Rattle.hd_store.specs.declared.store.Store.{Ghosts}
 use Rattle.hd_image.specs.declared.entry.Entry.{Entry}
@@ -7,15 +7,17 @@ use Rattle.hd_image.specs.Image.{most_of}
 use Rattle.hd_journal.specs.declared.journal.Journal.{Journal}
 use Rattle.hd_journal.specs.Journal.{kids_of}
 use Rattle.hd_certify.specs.Error.{IsDamagedAt}
+use Rattle.hd_node.specs.declared.batch.TheConstants.{MAX_OUTCOMES}
 use Rattle.hd_threads.specs.declared.fault.RunFault.{RunFault}
 use Rattle.hd_threads.specs.declared.fault.RunFault.TheVariants.{Full, Damaged, Device, Failed, NotOut, NoMemory}
+use Rattle.hd_threads.specs.Ends.{EndView}
 use Rattle.hd_threads.specs.Faults as search
 use Rattle.hd_threads.specs.Growing.{Grows}
 use Rattle.hd_threads.specs.Faults.{IsOfWorker}
 use Rattle.hd_search.specs.declared.fault.ThreadsFault.{ThreadsFault}
 use Rattle.hd_search.specs.declared.fault.ThreadsFault.TheVariants.{Run, NoThread}
 
--- the printed form: as of a search on one thread; that no thread starts has no number
+-- the printed form: that of the fault of a thread; that no thread starts has no number
 abbrev pub text_of : ThreadsFault → List ℕ
 text_of (Run fault) = search.text_of fault
 text_of NoThread = codes "NoThread"
@@ -29,6 +31,15 @@ IsFaulty t most entries Device = ⊥
 IsFaulty t most entries Failed = ⊥
 IsFaulty t most entries NotOut = ⊥
 IsFaulty t most entries NoMemory = Unit {0}
+
+-- the thread of a worker has ended by no fault, or by one of a worker
+abbrev pub EndsAsWorker : EndView → Type 0
+EndsAsWorker end = IfSome end.fault IsOfWorker
+
+-- what is reported of the first fault of workers, if there is one
+abbrev pub reported : Option RunFault → Result (Unit {0}) ThreadsFault
+reported None = Ok tt
+reported (Some fault) = Err (Run fault)
 
 -- what the fault may be that the threads of workers give: that of a worker, or that one does not
 -- start
@@ -57,6 +68,20 @@ StopsRunning old new NoMemory = Grows old new
 abbrev pub Stops : {S : Type 0} {G : Ghosts S} → Journal S G → Journal S G → ThreadsFault → Type 0
 Stops old new (Run fault) = StopsRunning old new fault
 Stops old new NoThread = Grows old new
+
+-- the outcomes of one batch more might be too many: with as many as a batch may have, there would be
+-- more entries than the journal may have
+abbrev pub IsShortOfRoom : {S : Type 0} {G : Ghosts S} → Journal S G → Type 0
+IsShortOfRoom journal = most_of journal.version < length (kids_of journal) + MAX_OUTCOMES
+
+-- that the journal is full is reported only where it is short of room
+abbrev pub IsFullRightly : {S : Type 0} {G : Ghosts S} → Journal S G → ThreadsFault → Type 0
+IsFullRightly journal fault = fault ≡ Run Full → IsShortOfRoom journal
+
+-- what is made of a fault of the threads: it stands; or it was that the journal is full, which is
+-- not short of room, so that what the threads share did not fit together
+abbrev pub IsConfirmed : {S : Type 0} {G : Ghosts S} → Journal S G → ThreadsFault → ThreadsFault → Type 0
+IsConfirmed journal fault told = (told ≡ fault) ⊎ ((fault ≡ Run Full) × (told ≡ Run NotOut) × (IsShortOfRoom journal → ⊥))
 
 -- what a fault reports of a search by threads over a journal: it can't go on from the journal's
 -- entries, and nothing is written; or it stops later

@@ -1,12 +1,13 @@
 -- A search that is opened for its threads. (Our own; the search is HDA*, Kishimoto, Fukunaga and
 -- Botea 2013.)
-use Rattle.std.specs.Prelude.{◌≡◌, ℕ, ◌+◌, ◌<◌, ◌≤◌, List, [], ◌∷◌, length, Some}
+use Rattle.std.specs.Prelude.{◌≡◌, ℕ, ◌+◌, ◌<◌, ◌≤◌, List, [], ◌∷◌, length, Option, Some}
 use Rattle.std.specs.List.{AllByRecursion}
 use Rattle.crossbeam_queue.specs.Passes.{view}
 use Rattle.hd_task.specs.declared.task.Task.{Task}
 use Rattle.hd_task.specs.declared.plan.Kid.{Kid}
 use Rattle.hd_zobrist.specs.declared.owners.TheConstants.{MAX_WORKERS}
 use Rattle.hd_desk.specs.declared.view.Seen.{Seen}
+use Rattle.hd_desk.specs.Bound.{word_of}
 use Rattle.hd_desk.specs.Passes.{IsOutside}
 use Rattle.hd_desk.specs.Hands.{IsFor, parts_of}
 use Rattle.hd_turns.specs.Worker.{WorkerView}
@@ -34,10 +35,20 @@ pub record HasRoom {L A : Type 0} (t : Task) (log : List Kid) (d : Desk L A) (le
   pub passes : left < (view r.pass).parts
   pub shares : left < r.share.parts
   pub seat : r.seat.of ≡ d.bound.of
+  pub least : r.seat.seen ≡ d.bound.start
   pub seats : left < r.seat.parts
   pub hands : IsFor d.boxes r.hands
   pub parcels : r.hands.of ≡ t
   pub many : AllByRecursion (λ n. left < n) (parts_of r.hands)
+
+-- a place has seen the bound with which the workers' shared one starts
+abbrev pub HasSeenStart : {L A : Type 0} → Desk L A → Workplace L A → Type 0
+HasSeenStart d p = p.seat.seen ≡ d.bound.start
+
+-- the bound that workers share starts with this one, and each place has seen it
+pub record StartsWith {L A : Type 0} (bound : Option ℕ) (d : Desk L A) (places : List (Workplace L A)) : Type 0 where
+  pub start : d.bound.start ≡ word_of bound
+  pub seen : AllByRecursion (HasSeenStart d) places
 
 -- the workers at places are those of so many whose numbers begin with this one, in order
 abbrev pub AreNumbered : {L A : Type 0} → ℕ → ℕ → List (Workplace L A) → Type 0

@@ -16,7 +16,7 @@ use thiserror::Error;
 /// Why a search by threads ends without an answer.
 #[derive(Clone, Copy, Debug, PartialEq, Eq, Error)]
 pub enum ThreadsFault {
-    /// As a search on one thread.
+    /// A fault of the entries, of the committer or of a worker.
     Run(RunFault),
     /// The system starts no thread.
     NoThread,

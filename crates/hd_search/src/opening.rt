@@ -3,12 +3,16 @@ ghost use Rattle.std.specs.Prelude.{◌≡◌, ℕ, ◌+◌, ◌<◌, ◌≤◌,
 ghost use Rattle.std.specs.List.{AllByRecursion};
 ghost use Rattle.hd_task.specs.declared.plan.Kid.{Kid as KidRecord};
 ghost use Rattle.hd_zobrist.specs.declared.owners.TheConstants.{MAX_WORKERS};
+ghost use Rattle.hd_task.specs.Expansions.{bound_of};
+ghost use Rattle.hd_entries.specs.Settling.{expansions};
+ghost use Rattle.hd_desk.specs.Bound.{word_of};
 ghost use Rattle.hd_image.specs.Image.{most_of};
 ghost use Rattle.hd_journal.specs.Journal.{kids_of};
 ghost use Rattle.hd_recovery.specs.Recovered.{recovered_workers};
 ghost use Rattle.hd_threads.specs.Placing.{IsAt};
+ghost use Rattle.hd_threads.specs.Working.{bound_by};
 ghost use Rattle.hd_search.specs.Fault.{IsFaulty};
-ghost use Rattle.hd_search.specs.Opening.{IsFresh, HasRoom, AreAt, CanCommit};
+ghost use Rattle.hd_search.specs.Opening.{IsFresh, HasRoom, HasSeenStart, StartsWith, AreAt, CanCommit};
 
 use crate::fault::of_recovery;
 use hd_base::NoMemory;
@@ -95,6 +99,8 @@ fn desk_of<'t, L: Ledger, A: Ledger, R: Wait>(
     ensures room { IfOk result (λ r. HasRoom task.now book.entry.state.entries r.0 workers r.1) }
     ensures parts { IfOk result (λ r. r.2.parts ≡ A.parts) }
     ensures amount { IfOk result (λ r. r.2.amount ≡ book.entry.batches.queue.acknowledged) }
+    ensures bound { IfOk result (λ r.
+        r.0.bound.start ≡ word_of (bound_of task.now (expansions book.entry.state))) }
 {
     let start = book.bound();
     let (book, all) = SharedBook::<L, A>::of(flushes, book);
@@ -116,7 +122,7 @@ fn desk_of<'t, L: Ledger, A: Ledger, R: Wait>(
 ///
 /// # Errors
 /// - `NoMemory`: there is no room for it.
-#[tactic(auto, using(crate::proofs::Parts::all_shareable, crate::proofs::Seating::at_place, crate::proofs::Seating::room_after))]
+#[tactic(auto, using(crate::proofs::Parts::all_shareable, crate::proofs::Seating::at_place, crate::proofs::Seating::seen_start, crate::proofs::Seating::room_after))]
 fn place_of<'t, L: Ledger, A: Ledger>(
     alloc: Global,
     task: &'t Task,
@@ -129,6 +135,7 @@ fn place_of<'t, L: Ledger, A: Ledger>(
         × HasRoom task.now log desk.now (left + 1) rest.old }
     ensures at { IfOk result (IsAt desk.now) }
     ensures worker { IfOk result (λ p. p.worker ≡ worker.entry) }
+    ensures bound { IfOk result (HasSeenStart desk.now) }
     ensures room { (log : List KidRecord) (left : ℕ)
         → HasRoom task.now log desk.now (left + 1) rest.old
         → OnOk result (HasRoom task.now log desk.now left rest.new) }
@@ -160,6 +167,7 @@ fn places_of<'t, L: Ledger, A: Ledger>(
     requires room { (log : List KidRecord)
         × HasRoom task.now log desk.now (length workers.items) rest.old }
     ensures at { IfOk result (λ ps. AllByRecursion (IsAt desk.now) ps.items) }
+    ensures bound { IfOk result (λ ps. AllByRecursion (HasSeenStart desk.now) ps.items) }
     ensures workers { IfOk result (λ ps. map (λ p. p.worker) ps.items ≡ workers.entry.items) }
     ensures room { (log : List KidRecord)
         → HasRoom task.now log desk.now (length workers.entry.items) rest.old
@@ -212,6 +220,8 @@ pub(crate) fn open_search<'t, L: Ledger, A: Ledger, S: Store, G: Gate, R: Wait>(
         CanCommit task.now A.parts o.desk o.place (kids_of journal.now)) }
     ensures workers { IfOk result (λ o. map (λ p. p.worker) o.places.items
         ≡ recovered_workers task.now (kids_of journal.now) workers) }
+    ensures bound { IfOk result (λ o.
+        StartsWith (bound_by task.now (kids_of journal.now)) o.desk o.places.items) }
     ensures told { IfErr result
         (IsFaulty task.now (most_of journal.now.version) journal.now.entries.items) }
 {
@@ -258,6 +268,9 @@ fn opened_from<'t, L: Ledger, A: Ledger, R: Wait>(
         CanCommit task.now A.parts o.desk o.place recovered.entry.book.state.entries) }
     ensures workers { IfOk result (λ o. map (λ p. p.worker) o.places.items
         ≡ recovered_workers task.now recovered.entry.book.state.entries workers) }
+    ensures bound { IfOk result (λ o.
+        StartsWith (bound_of task.now (expansions recovered.entry.book.state))
+        o.desk o.places.items) }
 {
     let Recovered {
         book,

@@ -7,11 +7,12 @@ ghost use Rattle.hd_journal.specs.Journal.{device_of, kids_of};
 ghost use Rattle.hd_journal.specs.Moments.{IsSettled};
 ghost use Rattle.hd_desk.specs.Views.{BeginsWith};
 ghost use Rattle.hd_threads.specs.Growing.{Grows};
-ghost use Rattle.hd_threads.specs.Ending.{IsOutcomeOf, IsTrueOutcome, IsCountedBy};
+ghost use Rattle.hd_threads.specs.Ending.{IsOutcomeOf, IsTrueOutcome, IsCountedBy, cost_by, plan_in};
 ghost use Rattle.hd_threads.specs.Surviving.{Survives};
+ghost use Rattle.hd_threads.specs.Working.{bound_by};
 ghost use Rattle.hd_search.specs.Committing.{CanRun};
-ghost use Rattle.hd_search.specs.Fault.{Stops, Tells};
-ghost use Rattle.hd_search.specs.Opening.{AreAt, CanCommit};
+ghost use Rattle.hd_search.specs.Fault.{IsConfirmed, IsFullRightly, Stops, Tells};
+ghost use Rattle.hd_search.specs.Opening.{AreAt, CanCommit, StartsWith};
 
 use crate::ThreadsFault;
 use crate::committing::{Committer, Ended};
@@ -19,9 +20,10 @@ use crate::fault::first_of;
 use crate::opening::{CommitterPlace, OpenedSearch, open_search};
 use crate::scoping::{ScopedSearch, run_in_scope};
 use hd_journal::Journal;
+use hd_node::MAX_OUTCOMES;
 use hd_store::Store;
 use hd_task::Task;
-use hd_threads::{Concluded, Desk, Gate, Workplace, answer};
+use hd_threads::{Concluded, Desk, Gate, RunFault, Workplace, answer};
 use std::alloc::Global;
 use std::marker::Brand;
 use std::sync::Wait;
@@ -102,13 +104,28 @@ fn run_threads<
     (place, first_of(done, joined))
 }
 
+/// Returns what is reported of a fault of the threads: that the journal is full only where it is
+/// short of room, else that what they share did not fit together.
+fn confirmed<S: Store>(fault: ThreadsFault, journal: &Journal<S>) -> ThreadsFault
+    ensures confirmed { IsConfirmed journal.now fault result }
+    ensures full { IsFullRightly journal.now result }
+{
+    let left = journal
+        .most()
+        .saturating_sub(journal.entries().len() as u64);
+    if fault == ThreadsFault::Run(RunFault::Full) && left >= MAX_OUTCOMES as u64 {
+        return ThreadsFault::Run(RunFault::NotOut);
+    }
+    fault
+}
+
 /// Runs an opened search to its end; then says what the book says.
 ///
 /// # Errors
-/// - Those of the threads.
+/// - Those of the threads; `Full` only where the journal is short of room.
 /// - `NotOut`: the book and the journal do not fit together.
 /// - `NoMemory`: there is no room for a plan.
-#[tactic(auto, using(crate::proofs::Stopping::can_run, crate::proofs::Stopping::answer_stops, crate::proofs::Stopping::survives_of))]
+#[tactic(auto, using(crate::proofs::Stopping::can_run, crate::proofs::Stopping::answer_stops, crate::proofs::Stopping::answer_not_full, crate::proofs::Stopping::confirmed_stops, crate::proofs::Stopping::survives_of))]
 fn run_opened<
     't,
     L: Ledger + Send + Sync,
@@ -128,13 +145,17 @@ fn run_opened<
 ) -> Result<Concluded, ThreadsFault>
     requires at { AreAt search.desk search.places.items }
     requires committer { CanCommit task.now A.parts search.desk search.place (kids_of journal.old) }
+    requires bound { StartsWith (bound_by task.now (kids_of journal.old))
+        search.desk search.places.items }
     ensures answer { IfOk result (λ e.
         IsOutcomeOf task.now limit (kids_of journal.new) e.outcome) }
     ensures truth { IfOk result (λ e. IsTrueOutcome task.now e.outcome) }
+    ensures cost { IfOk result (λ e. e.cost ≡ cost_by task.now (plan_in e.outcome)) }
     ensures counts { IfOk result (λ e. IsCountedBy (kids_of journal.new) e.outcome e.counts) }
     ensures grows { OnOk result (Grows journal.old journal.new) }
     ensures begins { BeginsWith (kids_of journal.new) (kids_of journal.old) }
     ensures told { IfErr result (Stops journal.old journal.new) }
+    ensures full { IfErr result (IsFullRightly journal.new) }
     ensures survives { Survives task.now journal.old journal.new }
     ensures settled { IsSettled (device_of journal.old)
         → OnOk result (IsSettled (device_of journal.new)) }
@@ -148,7 +169,9 @@ fn run_opened<
     let (place, done) = run_threads(
         rt, alloc, &desk, place, places, journal, together, limit, gate,
     );
-    done?;
+    if let Err(fault) = done {
+        return Err(confirmed(fault, journal));
+    }
     let mut place = place;
     match answer(rt, &desk.lock, &mut place.pass, journal, limit) {
         Ok(concluded) => Ok(concluded),
@@ -158,7 +181,7 @@ fn run_opened<
 
 /// Searches as [`run`] does, with one ledger for the commits and another for the acknowledged
 /// entries.
-#[tactic(auto, using(crate::proofs::Stopping::tells_later, crate::proofs::Stopping::tells_faulty))]
+#[tactic(auto, using(crate::proofs::Stopping::tells_later, crate::proofs::Stopping::tells_faulty, crate::proofs::Stopping::faulty_full))]
 fn run_as<
     L: Ledger + Send + Sync,
     A: Ledger + Send + Sync,
@@ -188,10 +211,12 @@ fn run_as<
     ensures answer { IfOk result (λ e.
         IsOutcomeOf task.now limit (kids_of journal.new) e.outcome) }
     ensures truth { IfOk result (λ e. IsTrueOutcome task.now e.outcome) }
+    ensures cost { IfOk result (λ e. e.cost ≡ cost_by task.now (plan_in e.outcome)) }
     ensures counts { IfOk result (λ e. IsCountedBy (kids_of journal.new) e.outcome e.counts) }
     ensures grows { OnOk result (Grows journal.old journal.new) }
     ensures begins { BeginsWith (kids_of journal.new) (kids_of journal.old) }
     ensures told { IfErr result (Tells task.now journal.old journal.new) }
+    ensures full { IfErr result (IsFullRightly journal.new) }
     ensures survives { Survives task.now journal.old journal.new }
     ensures settled { IsSettled (device_of journal.old)
         → OnOk result (IsSettled (device_of journal.new)) }
@@ -217,11 +242,16 @@ fn run_as<
 /// # Errors
 /// - `Damaged` of the first entry of the journal that makes no legal list with those before it, and
 ///   nothing is written then.
-/// - `Full`: there are more entries than the journal may have, or would be.
-/// - `NoThread`: the system starts no thread; the journal's own faults.
-/// - `NoMemory`. The committer's fault is reported before those of workers, and that of the least
-///   worker first. The journal has the entries that it had, and maybe more after them: a later
-///   search goes on from there.
+/// - `Full`: there are more entries than the journal may have, or would be with all the outcomes
+///   that a batch may have.
+/// - `Device`, `Failed`: the journal's device failed now, or before.
+/// - `NotOut`: a batch is refused for what it says, or the book and the journal do not agree.
+/// - `NoThread`: the system starts no thread.
+/// - `NoMemory`.
+///
+/// The committer's fault is reported before those of workers, and that of the least worker first.
+/// The journal has the entries that it had, and maybe more after them, from which a later search
+/// resumes.
 pub fn run<S: Store, G: Gate + Sync, R: Threads + Wait + Sync>(
     rt: &R,
     alloc: Global,
@@ -237,10 +267,12 @@ pub fn run<S: Store, G: Gate + Sync, R: Threads + Wait + Sync>(
     ensures answer { IfOk result (λ e.
         IsOutcomeOf task.now limit (kids_of journal.new) e.outcome) }
     ensures truth { IfOk result (λ e. IsTrueOutcome task.now e.outcome) }
+    ensures cost { IfOk result (λ e. e.cost ≡ cost_by task.now (plan_in e.outcome)) }
     ensures counts { IfOk result (λ e. IsCountedBy (kids_of journal.new) e.outcome e.counts) }
     ensures grows { OnOk result (Grows journal.old journal.new) }
     ensures begins { BeginsWith (kids_of journal.new) (kids_of journal.old) }
     ensures told { IfErr result (Tells task.now journal.old journal.new) }
+    ensures full { IfErr result (IsFullRightly journal.new) }
     // Where the journal has not failed, and nothing is pending on its device: whatever a stop
     // leaves there, at any moment from the call to its end, has all the entries that the journal
     // had, and maybe more, in whole groups, which with them name a legal list. What a read gives

@@ -6,8 +6,8 @@ ghost use Rattle.hd_search.specs.Opening.{AreAt};
 
 use crate::ThreadsFault;
 use crate::committing::Beside;
-use crate::starting::{join_all, start_all};
-use hd_threads::{Desk, Gate, Workplace};
+use crate::starting::{join_all, reported, start_all};
+use hd_threads::{Desk, Gate, RunFault, Workplace};
 use std::alloc::Global;
 use std::sync::Wait;
 use std::sync::ledger::Ledger;
@@ -28,6 +28,7 @@ pub(crate) struct ScopedSearch<'d, 't, L: Ledger, A: Ledger, G: Gate, R: Wait, W
 }
 
 /// Starts the threads, does what is done beside them, and joins them.
+#[tactic(auto, using(crate::proofs::Stopping::reported_told))]
 fn run_inside<
     's,
     'e: 's,
@@ -62,8 +63,8 @@ fn run_inside<
         Ok(threads) => {
             let given = beside.run(true);
             match join_all(rt, threads) {
-                Some(fault) => (given, Err(ThreadsFault::Run(fault))),
-                None => (given, Ok(())),
+                Ok(ends) => (given, reported(&ends)),
+                Err(_) => (given, Err(ThreadsFault::Run(RunFault::NoMemory))),
             }
         }
         Err(fault) => (beside.run(false), Err(fault)),

@@ -1,26 +1,28 @@
 //! The threads of the workers.
-ghost use Rattle.std.specs.Prelude.{IfErr, IfSome};
+ghost use Rattle.std.specs.Prelude.{◌≡◌, IfErr, IfOk, length};
+ghost use Rattle.std.specs.List.{AllByRecursion};
 ghost use Rattle.std.specs.Thread.{IsSync};
-ghost use Rattle.hd_threads.specs.Faults.{IsOfWorker};
-ghost use Rattle.hd_search.specs.Fault.{IsOfThreads};
+ghost use Rattle.hd_threads.specs.Ends.{first_fault};
+ghost use Rattle.hd_search.specs.Fault.{EndsAsWorker, IsOfThreads, reported};
 ghost use Rattle.hd_search.specs.Opening.{IsJob, AreAt};
 
 use crate::ThreadsFault;
-use hd_threads::{Desk, Gate, Role, RunFault, Workplace, work};
-use std::alloc::Global;
+use hd_base::NoMemory;
+use hd_threads::{Desk, Gate, Role, RunFault, WorkerEnd, Workplace, first_fault, work};
+use std::alloc::{AllocError, Global};
 use std::sync::Wait;
 use std::sync::ledger::Ledger;
-use std::thread::{Promise, PromisedHandle, Scope, Threads};
+use std::thread::{Promise, PromisedHandle, Scope, Threads, join_promised};
 
-/// The thread of a worker, which gives the fault that it ended by, if it ended by one.
-pub(crate) type Working = PromisedHandle<Option<RunFault>, OfWorker>;
+/// The thread of a worker, which gives how it ended.
+pub(crate) type Working = PromisedHandle<WorkerEnd, OfWorker>;
 
-/// That a fault is one of a worker.
+/// That a thread ended by no fault, or by one of a worker.
 #[derive(Clone, Copy)]
 pub(crate) struct OfWorker;
 
-impl Promise<Option<RunFault>> for OfWorker {
-    ghost kept_by = { λ _ result. IfSome result IsOfWorker };
+impl Promise<WorkerEnd> for OfWorker {
+    ghost kept_by = { λ _ end. EndsAsWorker end };
 }
 
 /// What the thread of a worker has.
@@ -40,9 +42,9 @@ struct Job<'s, 't, L: Ledger, A: Ledger, G: Gate, R: Wait> {
 /// Runs the thread of a worker.
 fn work_by<'s, 't, L: Ledger, A: Ledger, G: Gate, R: Wait>(
     job: Job<'s, 't, L, A, G, R>,
-) -> Option<RunFault>
+) -> WorkerEnd
     requires { IsJob job.desk.now job.place job.id job.workers }
-    ensures { IfSome result IsOfWorker }
+    ensures { EndsAsWorker result }
 {
     let Job {
         rt,
@@ -80,10 +82,10 @@ fn start<
 {
     let started = scope.spawn_with(
         OfWorker,
-        move || -> Option<RunFault>
+        move || -> WorkerEnd
             requires { IsSync R.row × IsSync G.row
                 × IsJob job.desk.now job.place job.id job.workers }
-            ensures { IfSome result IsOfWorker }
+            ensures { EndsAsWorker result }
         { work_by(job) },
     );
     started.ok()
@@ -141,16 +143,34 @@ pub(crate) fn start_all<
     Ok(threads)
 }
 
-/// Joins the threads of all workers. The fault of the least worker that ended by one.
-pub(crate) fn join_all<R: Threads>(rt: &R, threads: Vec<Working>) -> Option<RunFault>
-    ensures { IfSome result IsOfWorker }
+/// Joins the threads of all workers: how each has ended, in the order of their numbers.
+///
+/// # Errors
+/// - `NoMemory`: there is no room for that; all have ended then too.
+pub(crate) fn join_all<R: Threads>(
+    rt: &R,
+    threads: Vec<Working>,
+) -> Result<Vec<WorkerEnd>, NoMemory>
+    ensures count { IfOk result (λ ends. length ends.items ≡ length threads.items) }
+    ensures told { IfOk result (λ ends. AllByRecursion EndsAsWorker ends.items) }
 {
-    let mut first = None;
-    for thread in threads {
-        let fault = thread.join(rt);
-        if first.is_none() {
-            first = fault;
+    match join_promised(rt, threads) {
+        Ok(ends) => Ok(ends),
+        Err(failed) => {
+            for thread in failed.value {
+                let _ = thread.join(rt);
+            }
+            Err(AllocError)
         }
     }
-    first
+}
+
+/// Returns what is reported of how workers have ended: the fault of the first that ended by one.
+pub(crate) fn reported(ends: &[WorkerEnd]) -> Result<(), ThreadsFault>
+    ensures { result ≡ reported (first_fault ends.now) }
+{
+    match first_fault(ends) {
+        Some(fault) => Err(ThreadsFault::Run(fault)),
+        None => Ok(()),
+    }
 }

@@ -9,6 +9,7 @@ use Rattle.hd_node.specs.declared.batch.Outcome.{Outcome}
 use Rattle.hd_desk.specs.Views.{BeginsWith}
 use Rattle.hd_entries.specs.Settling.{expansions}
 use Rattle.hd_entries.proofs.Accepting.{all_entries}
+use Rattle.hd_book.specs.Batches.{TicketView}
 use Rattle.hd_book.specs.View.{BookView}
 use Rattle.hd_book.specs.Steps.{after_commit}
 use Rattle.hd_turns.specs.Worker.{WorkerView}
@@ -33,14 +34,16 @@ is_in task before outcomes b b' first bound of begins after same number least = 
 -- the same of a worker's batch, whose bound is offered
 pub batch_in :
     (before : List Kid) (count : ℕ) (seat : SeatView) (w : WorkerView) (after : List Kid) (count' : ℕ) (seat' : SeatView) (w' : WorkerView)
-    (task : Option Task) (outcomes : List Outcome) (first : ℕ) (bound : Option ℕ)
+    (ticket : TicketView) (task : Option Task) (outcomes : List Outcome) (first : ℕ) (bound : Option ℕ)
     → task ≡ Some w.task → outcomes ≡ batch_of w → IsIn task before outcomes after first bound
-    → w' ≡ after_numbering first (after_batch w) → count' ≡ count + 1 → seat'.offers ≡ with_offer bound seat.offers
-    → IsBatchIn before count seat w after count' seat' w'
-batch_in before count seat w after count' seat' w' task outcomes first bound of these is numbered counted offered = record {
+    → ticket.first ≡ first → ticket.end ≡ length after → w' ≡ after_numbering first (after_batch w) → count' ≡ count + 1
+    → seat'.offers ≡ with_offer bound seat.offers → IsBatchIn before count seat w after count' seat' w' ticket
+batch_in before count seat w after count' seat' w' ticket task outcomes first bound of these is from to numbered counted offered = record {
   first = first;
   bound = bound;
   is = subst (λ os. IsIn (Some w.task) before os after first bound) these (subst (λ t. IsIn t before outcomes after first bound) of is);
+  from = from;
+  to = to;
   numbered = numbered;
   counted = counted;
   offered = offered;

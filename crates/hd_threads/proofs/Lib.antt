@@ -1,13 +1,10 @@
 pub mod Batches
 pub mod Begins
-pub mod Endings
 pub mod Growing
 pub mod Later
 pub mod Parcels
 pub mod Places
-pub mod Reading
 pub mod Redeeming
-pub mod Room
 pub mod Rounds
 pub mod Stays
 pub mod Steps

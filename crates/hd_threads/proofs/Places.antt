@@ -107,8 +107,8 @@ module _ {L A : Type 0} where
       {E : Type 0} (d : Desk L A) (p q : Workplace L A) (before after : List Kid) (count count' : ℕ) (seat seat' : SeatView) (r : Result Committed E)
       → IsSeated d q → p.worker.given ≡ [] → IfOk r (HasCommitted before count seat p.worker after count' seat' q.worker) → IfOk r (IsBehind d p q)
   committed_behind d p q before after count count' seat seat' (Ok (Taken held)) at none x = (
-    record { seated = at; numbered = batch_numbered before count seat p.worker after count' seat' q.worker x.0 },
-    batch_room before count seat p.worker after count' seat' q.worker x.0 ∙ ap (λ n. p.worker.room + n) (sym x.1),
+    record { seated = at; numbered = batch_numbered before count seat p.worker after count' seat' q.worker held.ticket x.0 },
+    batch_room before count seat p.worker after count' seat' q.worker held.ticket x.0 ∙ ap (λ n. p.worker.room + n) (sym x.1),
   )
   committed_behind d p q before after count count' seat seat' (Ok Halted) at none x = tt
   committed_behind d p q before after count count' seat seat' (Ok Idle) at none x =

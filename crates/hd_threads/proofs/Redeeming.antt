@@ -1,6 +1,7 @@
 -- What a ticket was redeemed for.
-use Rattle.std.proofs.Common.{◌≡◌, Bool, true, false, cond, ◌||◌, Option, Some, None, List, refl, sym, ap, ◌∙◌}
+use Rattle.std.proofs.Common.{◌≡◌, Bool, true, false, cond, ◌||◌, Option, Some, None, List, refl, sym, ap, subst, ◌∙◌}
 use Rattle.std.specs.Prelude.{Result, Ok, Err, IfOk, OnOk, OnErr}
+use Rattle.std.proofs.lemmas.Option.{same_Some}
 use Rattle.hd_task.specs.declared.task.Task.{Task}
 use Rattle.hd_task.specs.declared.plan.Kid.{Kid}
 use Rattle.hd_book.specs.declared.not_out.NotOut.{NotOut}
@@ -9,6 +10,7 @@ use Rattle.hd_book.specs.declared.redeemed.Redeemed.{Redeemed}
 use Rattle.hd_book.specs.declared.redeemed.Redeemed.TheVariants as redeemed
 use Rattle.hd_book.specs.Batches.{TicketView, ReceiptView, Batches, is_its}
 use Rattle.hd_book.specs.Queue.{are_acknowledged}
+use Rattle.hd_book.specs.Releasing.{released_in}
 use Rattle.hd_book.specs.TicketRedeeming.{given_for, answer_for, redeemed_for}
 use Rattle.hd_book.specs.Slots.{ticket_at}
 use Rattle.hd_book.specs.TicketSteps as tickets
@@ -17,7 +19,7 @@ use Rattle.hd_book.specs.View.{ParcelsView, BookView}
 use Rattle.hd_book.specs.Steps.{after_redeem, after_halt}
 use Rattle.hd_threads.specs.declared.shared.Given.{Given}
 use Rattle.hd_threads.specs.declared.shared.Given.TheVariants.{Parcels, NotYet, Void}
-use Rattle.hd_threads.specs.Shared.{given_by, IsGivenBy, IsGivenIn}
+use Rattle.hd_threads.specs.Shared.{given_by, IsGivenBy, IsGivenFrom, IsGivenIn}
 
 -- ---- a receipt is of entries that are acknowledged
 
@@ -70,25 +72,33 @@ redeemed_entries k b b' (Ok given) ok err = ap (λ (x : BookView). x.state.entri
 redeemed_entries k b b' (Err error) ok err = ap (λ (x : BookView). x.state.entries) err
 
 given_before : (task : Option Task) (log : List Kid) (k : TicketView) (b : BookView) (r : Result Given NotOut)
-    → task ≡ Some b.state.task → log ≡ b.state.entries → r ≡ given_by (redeemed_for b.batches k) → IfOk r (IsGivenIn task log k)
-given_before task log k b (Ok (Parcels parcels)) of_task has is = record { book = b; of_task = of_task; has = has; is = is }
-given_before task log k b (Ok (NotYet again)) of_task has is = by_again k again b.batches (redeemed_for b.batches k) refl is
-given_before task log k b (Ok Void) of_task has is = record { book = b; of_task = of_task; has = has; is = is }
-given_before task log k b (Err error) of_task has is = tt
+    → task ≡ Some b.state.task → log ≡ b.state.entries → r ≡ given_by (redeemed_for b.batches k) → IfOk r (IsGivenFrom b.state.task log k) → IfOk r (IsGivenIn task log k)
+given_before task log k b (Ok (Parcels parcels)) of_task has is from = record { book = b; of_task = of_task; has = has; is = is; released = from }
+given_before task log k b (Ok (NotYet again)) of_task has is from = by_again k again b.batches (redeemed_for b.batches k) refl is
+given_before task log k b (Ok Void) of_task has is from = record { book = b; of_task = of_task; has = has; is = is; released = from }
+given_before task log k b (Err error) of_task has is from = tt
 
 -- what a book of this task gives, with the log that it has afterwards
 pub given_in : (task : Option Task) (log : List Kid) (k : TicketView) (b b' : BookView) (r : Result Given NotOut)
-    → task ≡ Some b.state.task → log ≡ b'.state.entries → r ≡ given_by (redeemed_for b.batches k) → OnOk r (b' ≡ after_redeem k b) → OnErr r (b' ≡ after_halt b)
-    → IfOk r (IsGivenIn task log k)
-given_in task log k b b' r of_task has is ok err = given_before task log k b r of_task (has ∙ redeemed_entries k b b' r ok err) is
+    → task ≡ Some b.state.task → log ≡ b'.state.entries → r ≡ given_by (redeemed_for b.batches k) → IfOk r (IsGivenFrom b.state.task b.state.entries k)
+    → OnOk r (b' ≡ after_redeem k b) → OnErr r (b' ≡ after_halt b) → IfOk r (IsGivenIn task log k)
+given_in task log k b b' r of_task has is from ok err =
+    let same = has ∙ redeemed_entries k b b' r ok err in
+    given_before task log k b r of_task same is (subst (λ (l : List Kid). IfOk r (IsGivenFrom b.state.task l k)) (sym same) from)
 
 asked_before : (task : Option Task) (log : List Kid) (k : TicketView) (b : BookView) (r : Result Given NotOut)
-    → task ≡ Some b.state.task → log ≡ b.state.entries → r ≡ given_by (redeemed_for b.batches k) → IfOk r (IsGivenBy task log k)
-asked_before task log k b (Ok given) of_task has is = record { book = b; of_task = of_task; has = has; is = is }
-asked_before task log k b (Err error) of_task has is = tt
+    → task ≡ Some b.state.task → log ≡ b.state.entries → r ≡ given_by (redeemed_for b.batches k) → IfOk r (IsGivenFrom b.state.task log k) → IfOk r (IsGivenBy task log k)
+asked_before task log k b (Ok given) of_task has is from = record { book = b; of_task = of_task; has = has; is = is; released = from }
+asked_before task log k b (Err error) of_task has is from = tt
 
 -- the same of a ticket that the book was asked for
 pub asked_in : (task : Option Task) (log : List Kid) (k : TicketView) (b b' : BookView) (r : Result Given NotOut)
-    → task ≡ Some b.state.task → log ≡ b'.state.entries → r ≡ given_by (redeemed_for b.batches k) → OnOk r (b' ≡ after_redeem k b) → OnErr r (b' ≡ after_halt b)
-    → IfOk r (IsGivenBy task log k)
-asked_in task log k b b' r of_task has is ok err = asked_before task log k b r of_task (has ∙ redeemed_entries k b b' r ok err) is
+    → task ≡ Some b.state.task → log ≡ b'.state.entries → r ≡ given_by (redeemed_for b.batches k) → IfOk r (IsGivenFrom b.state.task b.state.entries k)
+    → OnOk r (b' ≡ after_redeem k b) → OnErr r (b' ≡ after_halt b) → IfOk r (IsGivenBy task log k)
+asked_in task log k b b' r of_task has is from ok err =
+    let same = has ∙ redeemed_entries k b b' r ok err in
+    asked_before task log k b r of_task same is (subst (λ (l : List Kid). IfOk r (IsGivenFrom b.state.task l k)) (sym same) from)
+
+-- what a task's book gave is what the entries of the ticket release
+pub given_released : (t : Task) (log : List Kid) (k : TicketView) (parcels : ParcelsView) → IsGivenBy (Some t) log k (Parcels parcels) → parcels ≡ released_in t log k.first k.end
+given_released t log k parcels x = x.released ∙ ap (λ (u : Task). released_in u log k.first k.end) (sym (same_Some t x.book.state.task x.of_task))

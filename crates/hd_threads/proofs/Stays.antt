@@ -9,6 +9,7 @@ use Rattle.hd_node.specs.Parcel.{ParcelView}
 use Rattle.hd_desk.specs.Hands.{HandsView}
 use Rattle.hd_entries.specs.Growing.{kids_in}
 use Rattle.hd_entries.specs.Holding.{Released}
+use Rattle.hd_book.specs.Batches.{TicketView}
 use Rattle.hd_desk.specs.Bound.{SeatView}
 use Rattle.hd_turns.specs.Worker.{WorkerView}
 use Rattle.hd_turns.specs.Calls.{batch_of, ExpandsTo, ExpandsBest, AtBest, AtNone}
@@ -79,11 +80,11 @@ redeem_given log h w w' (Err e) ok err = ap (λ (v : WorkerView). v.given) err
 
 -- a worker that has the batch that it gave last numbered
 pub batch_numbered :
-    (before : List Kid) (count : ℕ) (seat : SeatView) (w : WorkerView) (after : List Kid) (count' : ℕ) (seat' : SeatView) (w' : WorkerView)
-    → IsBatchIn before count seat w after count' seat' w' → w'.given ≡ []
-batch_numbered before count seat w after count' seat' w' x = ap (λ (v : WorkerView). v.given) x.numbered
+    (before : List Kid) (count : ℕ) (seat : SeatView) (w : WorkerView) (after : List Kid) (count' : ℕ) (seat' : SeatView) (w' : WorkerView) (k : TicketView)
+    → IsBatchIn before count seat w after count' seat' w' k → w'.given ≡ []
+batch_numbered before count seat w after count' seat' w' k x = ap (λ (v : WorkerView). v.given) x.numbered
 
 pub batch_room :
-    (before : List Kid) (count : ℕ) (seat : SeatView) (w : WorkerView) (after : List Kid) (count' : ℕ) (seat' : SeatView) (w' : WorkerView)
-    → IsBatchIn before count seat w after count' seat' w' → w'.room ≡ w.room + kids_in (batch_of w)
-batch_room before count seat w after count' seat' w' x = ap (λ (v : WorkerView). v.room) x.numbered
+    (before : List Kid) (count : ℕ) (seat : SeatView) (w : WorkerView) (after : List Kid) (count' : ℕ) (seat' : SeatView) (w' : WorkerView) (k : TicketView)
+    → IsBatchIn before count seat w after count' seat' w' k → w'.room ≡ w.room + kids_in (batch_of w)
+batch_room before count seat w after count' seat' w' k x = ap (λ (v : WorkerView). v.room) x.numbered

@@ -24,10 +24,11 @@ use Rattle.hd_journal.specs.declared.error.JournalError.{JournalError}
 use Rattle.hd_journal.specs.declared.error.JournalError.TheVariants as errors
 use Rattle.hd_journal.specs.declared.journal.Journal.{Journal}
 use Rattle.hd_journal.specs.Answers.{IsAppended, IsNotAppended, BreaksAppending, StandsIn, is_next}
-use Rattle.hd_journal.specs.Calls.Call.{Writing}
 use Rattle.hd_journal.specs.Group.{GroupView}
 use Rattle.hd_journal.specs.Journal.{IsOf, IsSame, device_of, kid_of, kids_of}
 use Rattle.hd_journal.specs.Moments.{LeavesSince, IsSettled}
+use Rattle.hd_journal.proofs.Contents.{append_ends}
+use Rattle.hd_journal.proofs.Joining.{weaker_since}
 use Rattle.hd_journal.proofs.Passing.{then_since, unchanged}
 use Rattle.hd_journal.proofs.Standing.{stop_stands}
 use Rattle.hd_entries.specs.Holding.{BeginsWith}
@@ -38,7 +39,6 @@ use Rattle.hd_entries.proofs.Faultless.{kept_from, legal_from, no_faults}
 use Rattle.hd_threads.specs.Growing.{Grows}
 use Rattle.hd_threads.proofs.Growing.{begins_through}
 use Rattle.hd_threads.specs.Surviving.{IsLegalLog, kids_of_groups, StillStand, Survives}
-use Rattle.hd_threads.proofs.Reading.{leaves_last, read_is_left, weaker_since}
 
 -- ---- legal logs
 
@@ -159,7 +159,7 @@ module _ {S : Type 0} {G : Ghosts S} where
     moments = λ digest groups is settled.
         unchanged (StillStand t old.version digest groups (kids_of old)) (device_of old) (device_of new)
         (ap (λ (d : Device). d.start) device) (ap (λ (d : Device). d.steps) device) settled (still_whole t digest groups old is);
-    read = λ digest groups is settled.
+    read = λ digest groups is.
         subst (λ ks. StillStand t old.version digest groups ks (content_of (device_of new))) (sym kids)
         (subst (λ d. StillStand t old.version digest groups (kids_of old) (content_of d)) (sym device) (still_whole t digest groups old is));
   }
@@ -216,7 +216,7 @@ module _ {S : Type 0} {G : Ghosts S} where
       record {
         legal = inr (subst (AreLegal t) (sym kids) legal);
         moments = still_moments t old new next legal sound moments;
-        read = λ digest groups is settled.
+        read = λ digest groups is.
             subst (λ ks. StillStand t old.version digest groups ks (content_of (device_of new))) (sym kids)
             (with_next t old new next legal sound digest groups (content_of (device_of new)) is
             (subst (λ v. StandsIn v digest (groups ++ next ∷ []) (content_of (device_of new))) a.version
@@ -230,16 +230,14 @@ module _ {S : Type 0} {G : Ghosts S} where
       → IsGroup old.version group.kids → AreLegal t (kids_of old ++ group.kids) → Survives t old new
   broken_by t old new group b kids moments sound legal =
       let next = group.kids in
-      let all = still_moments t old new next legal (λ digest groups is. sound) moments in
+      let one = λ (digest : List ℕ) (groups : List (List Kid)) (is : IsOf digest groups old). sound in
       record {
         legal = inl kids;
-        moments = all;
-        read = λ digest groups is settled.
+        moments = still_moments t old new next legal one moments;
+        read = λ digest groups is.
             subst (λ ks. StillStand t old.version digest groups ks (content_of (device_of new))) (sym kids)
-            (leaves_last (StillStand t old.version digest groups (kids_of old)) (device_of old) (device_of new) (all digest groups is settled)
-            (content_of (device_of new))
-            (read_is_left (Writing (old.last_gate + 1) (counted old.version next ++ 0 ∷ []) ∷ Writing old.last_gate (1 ∷ []) ∷ [])
-            (device_of old) (device_of new) (Err store.Failed) (tt, (tt, tt)) settled b.ran));
+            (still_left t old new next legal one digest groups (content_of (device_of new)) is
+            (append_ends old.version digest groups next (device_of old) (device_of new) old.last_gate (Err store.Failed) is.gate is.content b.ran));
       }
 
   not_appended_by : (t : Task) (old new : Journal S G) (group : GroupView) (error : JournalError) → IsNotAppended old group error new
@@ -330,10 +328,10 @@ module _ {S : Type 0} {G : Ghosts S} where
           fewer t a.version digest groups (kids_of a) (kids_of b) content grows.begins
           (still_through digest groups first.0 (kids_of b) content is first.1 left))
           (device_of b) (device_of c) (y.moments digest (groups ++ first.0) first.1 (settles settled)));
-      read = λ digest groups is settled.
+      read = λ digest groups is.
           let first = grows.groups digest groups is in
           still_through digest groups first.0 (kids_of c) (content_of (device_of c)) is first.1
-          (y.read digest (groups ++ first.0) first.1 (settles settled));
+          (y.read digest (groups ++ first.0) first.1);
     }
 
   pub survives_through : (task later : Option Task) (a b c : Journal S G) → later ≡ task → Grows a b → (IsSettled (device_of a) → IsSettled (device_of b))

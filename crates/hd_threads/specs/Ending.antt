@@ -1,9 +1,10 @@
 -- What a search by threads ends with. (HDA*, Kishimoto, Fukunaga and Botea 2013, for the end of the
 -- search; the limit is our own.)
-use Rattle.std.specs.Prelude.{◌≡◌, ℕ, ◌≤◌, nat_le, Bool, false, List, length, Option, Some, None}
+use Rattle.std.specs.Prelude.{◌≡◌, ℕ, ◌≤◌, nat_le, Bool, false, List, length, Option, Some, None, option_map, option_and_then}
 use Rattle.hd_task.specs.declared.task.Task.{Task}
 use Rattle.hd_task.specs.declared.plan.Kid.{Kid}
 use Rattle.hd_task.specs.Entries.{plans_of}
+use Rattle.hd_task.specs.Plans.{Node, exec}
 use Rattle.hd_task.specs.Expansions.{IsLegal}
 use Rattle.hd_entries.specs.declared.verdict.Verdict.{Verdict}
 use Rattle.hd_entries.specs.declared.verdict.Verdict.TheVariants as verdicts
@@ -23,6 +24,17 @@ abbrev pub outcome_of : Verdict → Outcome
 outcome_of (verdicts.Optimal p) = Optimal p
 outcome_of verdicts.NoPlan = NoPlan
 outcome_of (verdicts.RangeLeft d p) = RangeLeft d p
+
+-- the plan of an answer, if it has one
+abbrev pub plan_in : Outcome → Option (List ℕ)
+plan_in (Optimal p) = Some p
+plan_in NoPlan = None
+plan_in (RangeLeft d p) = p
+plan_in (Stopped p) = p
+
+-- what a plan costs, if there is one and all its steps can be taken
+abbrev pub cost_by : Task → Option (List ℕ) → Option ℕ
+cost_by t p = option_map (λ (r : Node). r.cost) (option_and_then (exec t) p)
 
 -- a search stopped at its limit with a journal's entries: they are as many at least, they name a
 -- legal list, and this is the plan of its bound, if there is a bound

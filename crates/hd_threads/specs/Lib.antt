@@ -1,6 +1,7 @@
 pub mod Answer
 pub mod Committing
 pub mod Ending
+pub mod Ends
 pub mod Faults
 pub mod Growing
 pub mod Placing

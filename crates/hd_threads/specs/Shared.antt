@@ -8,6 +8,7 @@ use Rattle.hd_book.specs.declared.not_out.NotOut.{NotOut}
 use Rattle.hd_book.specs.declared.redeemed.Redeemed.{Redeemed}
 use Rattle.hd_book.specs.declared.redeemed.Redeemed.TheVariants as redeemed
 use Rattle.hd_book.specs.Batches.{TicketView}
+use Rattle.hd_book.specs.Releasing.{released_in}
 use Rattle.hd_book.specs.TicketRedeeming.{redeemed_for}
 use Rattle.hd_book.specs.View.{ParcelsView, BookView}
 use Rattle.hd_threads.specs.declared.shared.Given.{Given}
@@ -32,12 +33,21 @@ given_by (Ok (redeemed.NotYet ticket)) = Ok (NotYet ticket)
 given_by (Ok redeemed.Void) = Ok Void
 given_by (Err error) = Err error
 
--- the book of this task with this log, as it lay in the lock, has given this for a ticket
+-- what is given for a ticket is just what the entries of a log with its numbers release, where it
+-- is given
+abbrev pub IsGivenFrom : Task → List Kid → TicketView → Given → Type 0
+IsGivenFrom t log ticket (Parcels parcels) = parcels ≡ released_in t log ticket.first ticket.end
+IsGivenFrom t log ticket (NotYet again) = Unit {0}
+IsGivenFrom t log ticket Void = Unit {0}
+
+-- the book of this task with this log, as it lay in the lock, has given this for a ticket: nothing
+-- but what the ticket's entries release
 pub record IsGivenBy (task : Option Task) (log : List Kid) (ticket : TicketView) (given : Given) : Type 0 where
   pub book : BookView
   pub of_task : task ≡ Some book.state.task
   pub has : log ≡ book.state.entries
   pub is : Ok given ≡ given_by (redeemed_for book.batches ticket)
+  pub released : IsGivenFrom book.state.task log ticket given
 
 -- what is given for a ticket, with this log in the lock: a ticket that waits comes back, whether or
 -- not the book was asked

@@ -32,16 +32,16 @@ pub record StillStand (t : Task) (v : Version) (digest : List ℕ) (groups : Lis
   pub has : BeginsWith (kids_of_groups v (groups ++ more)) kids
   pub legal : (kids_of_groups v (groups ++ more) ≡ kids_of_groups v groups) ⊎ AreLegal t (kids_of_groups v (groups ++ more))
 
--- A journal becomes another one, and nothing that it had is lost at any moment, where it had not
--- failed and nothing was pending on its device: whatever a stop leaves, also one within a call on
--- the device, still has its groups. What a read gives in the end has them too, and all pairs that
--- the journal lists then, also after a call that failed. Those that it lists are the ones that it
--- had, or name a legal list.
+-- A journal becomes another one, and nothing that it had is lost, where it had not failed. Where
+-- nothing was pending on its device, whatever a stop leaves at any moment, also within a call on the
+-- device, still has its groups. What a read gives in the end has them in any case, and all pairs
+-- that the journal lists then, also after a call that failed. Those that it lists are the ones that
+-- it had, or name a legal list.
 pub record Survives {S : Type 0} {G : Ghosts S} (t : Task) (old new : Journal S G) : Type 0 where
   pub legal : (kids_of new ≡ kids_of old) ⊎ AreLegal t (kids_of new)
   pub moments :
       (digest : List ℕ) (groups : List (List Kid)) → IsOf digest groups old → IsSettled (device_of old)
       → LeavesSince (StillStand t old.version digest groups (kids_of old)) (device_of old) (device_of new)
   pub read :
-      (digest : List ℕ) (groups : List (List Kid)) → IsOf digest groups old → IsSettled (device_of old)
+      (digest : List ℕ) (groups : List (List Kid)) → IsOf digest groups old
       → StillStand t old.version digest groups (kids_of new) (content_of (device_of new))

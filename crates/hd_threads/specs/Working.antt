@@ -12,6 +12,8 @@ use Rattle.hd_entries.specs.declared.refusal.Refusal.{Refusal}
 use Rattle.hd_entries.specs.declared.refusal.Refusal.TheVariants as refusals
 use Rattle.hd_entries.specs.Settling.{entry_of}
 use Rattle.hd_entries.specs.Growing.{kids_in}
+use Rattle.hd_book.specs.Batches.{TicketView}
+use Rattle.hd_book.specs.Releasing.{released_in}
 use Rattle.hd_book.specs.View.{ParcelsView}
 use Rattle.hd_turns.specs.Worker.{WorkerView}
 use Rattle.hd_turns.specs.Calls.{batch_of, after_batch, after_numbering, after_releasing}
@@ -63,11 +65,13 @@ with_offer None offers = offers
 with_offer (Some cost) offers = offers ++ cost ∷ []
 
 -- a worker's next batch is in the book: its expansions have the numbers after those of earlier
--- entries, and the bound is offered
-pub record IsBatchIn (before : List Kid) (count : ℕ) (seat : SeatView) (w : WorkerView) (after : List Kid) (count' : ℕ) (seat' : SeatView) (w' : WorkerView) : Type 0 where
+-- entries, its ticket names just these, and the bound is offered
+pub record IsBatchIn (before : List Kid) (count : ℕ) (seat : SeatView) (w : WorkerView) (after : List Kid) (count' : ℕ) (seat' : SeatView) (w' : WorkerView) (ticket : TicketView) : Type 0 where
   pub first : ℕ
   pub bound : Option ℕ
   pub is : IsIn (Some w.task) before (batch_of w) after first bound
+  pub from : ticket.first ≡ first
+  pub to : ticket.end ≡ length after
   pub numbered : w' ≡ after_numbering first (after_batch w)
   pub counted : count' ≡ count + 1
   pub offered : seat'.offers ≡ with_offer bound seat.offers
@@ -75,16 +79,17 @@ pub record IsBatchIn (before : List Kid) (count : ℕ) (seat : SeatView) (w : Wo
 -- what became of it: it is in the book, and there is room for what it releases; the book refused
 -- it; or there was none
 abbrev pub HasCommitted : List Kid → ℕ → SeatView → WorkerView → List Kid → ℕ → SeatView → WorkerView → Committed → Type 0
-HasCommitted before count seat w after count' seat' w' (Taken held) = IsBatchIn before count seat w after count' seat' w' × (held.kids ≡ kids_in (batch_of w))
+HasCommitted before count seat w after count' seat' w' (Taken held) = IsBatchIn before count seat w after count' seat' w' held.ticket × (held.kids ≡ kids_in (batch_of w))
 HasCommitted before count seat w after count' seat' w' Halted = (count' ≡ count) × (seat' ≡ seat)
 HasCommitted before count seat w after count' seat' w' Idle = (w.outcomes ≡ []) × (w' ≡ w) × (after ≡ before) × (count' ≡ count) × (seat' ≡ seat)
 
--- what a ticket releases came to the worker: just the parcels that the book has given for it, with
--- this log, and no more than are held
+-- what a ticket releases came to the worker: the book has given it, with this log, it is no more
+-- than is held, and it is just what the entries of the ticket release
 pub record IsOpened (log : List Kid) (held : Held) (w w' : WorkerView) : Type 0 where
   pub parcels : ParcelsView
   pub given : IsGivenBy (Some w.task) log held.ticket (Parcels parcels)
   pub few : length parcels.kids ≤ held.kids
+  pub released : parcels ≡ released_in w.task log held.ticket.first held.ticket.end
   pub opens : w' ≡ after_releasing parcels.kids w
 
 -- what became of a ticket, with this log in the lock: what it releases came to the worker; it

@@ -9,7 +9,7 @@ ghost use Rattle.hd_threads.specs.Growing.{Grows};
 ghost use Rattle.hd_threads.specs.Committing.{StopsLater};
 ghost use Rattle.hd_threads.specs.Surviving.{Survives};
 ghost use Rattle.hd_threads.specs.Faults.{IsOfAnswer};
-ghost use Rattle.hd_threads.specs.Ending.{is_reached, outcome_of, IsOutcomeOf, IsTrueOutcome, IsCountedBy};
+ghost use Rattle.hd_threads.specs.Ending.{is_reached, outcome_of, plan_in, cost_by, IsOutcomeOf, IsTrueOutcome, IsCountedBy};
 
 use crate::SharedBook;
 use crate::committing::{Round, committer_round};
@@ -40,10 +40,12 @@ pub enum Outcome {
     Stopped(Option<Plan>),
 }
 
-/// What a search by threads ends with: its answer, and how far it came.
+/// What a search by threads ends with: its answer, what the answer's plan costs, if it has one, and
+/// how far the search came.
 #[derive(Debug, Drop)]
 pub struct Concluded {
     pub outcome: Outcome,
+    pub cost: Option<u64>,
     pub counts: Counts,
 }
 
@@ -185,6 +187,7 @@ fn said_by<L: Ledger, A: Ledger, S: Store>(
     ensures answer { IfOk result (λ e.
         IsOutcomeOf book.now.state.task limit (kids_of journal.now) e.outcome) }
     ensures truth { IfOk result (λ e. IsTrueOutcome book.now.state.task e.outcome) }
+    ensures cost { IfOk result (λ e. e.cost ≡ cost_by book.now.state.task (plan_in e.outcome)) }
     ensures counts { IfOk result (λ e. IsCountedBy (kids_of journal.now) e.outcome e.counts) }
     ensures told { IfErr result IsOfAnswer }
 {
@@ -193,15 +196,23 @@ fn said_by<L: Ledger, A: Ledger, S: Store>(
     if counts.entries != written || counts.acknowledged != written {
         return Err(RunFault::NotOut);
     }
+    let cost = book.bound();
     if let Some(verdict) = book.verdict()? {
-        let outcome = outcome_of(verdict);
-        return Ok(Concluded { outcome, counts });
+        return Ok(Concluded {
+            outcome: outcome_of(verdict),
+            cost,
+            counts,
+        });
     }
     if !is_reached(limit, counts.entries) {
         return Err(RunFault::NotOut);
     }
     let outcome = Outcome::Stopped(book.extract()?);
-    Ok(Concluded { outcome, counts })
+    Ok(Concluded {
+        outcome,
+        cost,
+        counts,
+    })
 }
 
 /// Returns what the book says under the lock, at the end of a search, where the journal has its
@@ -227,6 +238,8 @@ pub fn answer<'t, L: Ledger, A: Ledger, S: Store, R: Wait>(
         IsOutcomeOf t limit (kids_of journal.now) e.outcome)) }
     ensures truth { IfSome (view pass.old).seen.task (λ t. IfOk result (λ e.
         IsTrueOutcome t e.outcome)) }
+    ensures cost { IfSome (view pass.old).seen.task (λ t. IfOk result (λ e.
+        e.cost ≡ cost_by t (plan_in e.outcome))) }
     ensures counts { IfOk result (λ e. IsCountedBy (kids_of journal.now) e.outcome e.counts) }
     ensures told { IfErr result IsOfAnswer }
 {

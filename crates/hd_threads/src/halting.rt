@@ -4,18 +4,18 @@ ghost use Rattle.crossbeam_queue.specs.Passes.{view};
 ghost use Rattle.hd_desk.specs.Passes.{IsOutside};
 ghost use Rattle.hd_desk.specs.Views.{BeginsWith};
 
-use crate::SharedBook;
+use crate::shared::{Halted, SharedBook};
 use hd_book::Ticket;
 use hd_desk::{Lock, Pass};
 use std::sync::Wait;
 use std::sync::ledger::Ledger;
 
-/// Halts the book, after which it takes no batch.
+/// Halts the book, after which it takes no batch. The result tells that it did.
 pub fn halt<'t, L: Ledger, A: Ledger, R: Wait>(
     rt: &R,
     lock: &Lock<SharedBook<'t, L, A>>,
     pass: &mut Pass<SharedBook<'t, L, A>>,
-)
+) -> Halted
     requires { IsOutside lock.now.place pass.old }
     ensures pass { IsOutside lock.now.place pass.new }
     ensures parts { (view pass.new).parts ≡ (view pass.old).parts }
@@ -23,8 +23,9 @@ pub fn halt<'t, L: Ledger, A: Ledger, R: Wait>(
     ensures grows { BeginsWith (view pass.new).seen.log (view pass.old).seen.log }
 {
     let mut book = lock.enter(rt, pass);
-    book.halt();
+    let halted = book.halt();
     lock.leave(rt, pass, book);
+    halted
 }
 
 /// Halts the book, and spends a ticket: what it releases is dropped.

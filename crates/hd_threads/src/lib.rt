@@ -13,6 +13,7 @@
 
 mod committing;
 mod ending;
+mod ends;
 mod fault;
 mod gate;
 mod gathering;
@@ -28,6 +29,7 @@ mod working;
 
 pub use committing::{Round, committer_round};
 pub use ending::{Concluded, Outcome, answer, commit_all, is_over};
+pub use ends::{WorkerEnd, first_fault};
 pub use fault::RunFault;
 pub use gate::{Gate, OpenGate, Standing};
 pub use gathering::gather;
@@ -37,6 +39,6 @@ pub use pausing::Pause;
 pub use placing::{Desk, Workplace};
 pub use posting::{Sending, send_next, take_next};
 pub use progress::Progress;
-pub use shared::{Given, SharedBook};
+pub use shared::{Given, Halted, SharedBook};
 pub use turning::{Role, work};
 pub use working::{Committed, Held, Redemption, commit_next, redeem_next, settle_best};

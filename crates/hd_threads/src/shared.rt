@@ -11,7 +11,7 @@ ghost use Rattle.hd_book.specs.Groups.{is_group_out};
 ghost use Rattle.hd_book.specs.Refusing.{refusal_to, IsRefusalTo};
 ghost use Rattle.hd_book.specs.Steps.{after_commit, ticket_after, after_take, after_flush, after_hand_back, after_redeem, after_halt};
 ghost use Rattle.hd_book.specs.TicketRedeeming.{redeemed_for};
-ghost use Rattle.hd_threads.specs.Shared.{IsGroupAt, IsGivenOf, given_by};
+ghost use Rattle.hd_threads.specs.Shared.{IsGroupAt, IsGivenOf, IsGivenFrom, given_by};
 
 use hd_book::{
     Book, CommitRefusal, Counts, Flushed, Group, NotOut, Parcels, Redeemed, Room, Ticket, Verdict,
@@ -32,6 +32,12 @@ pub enum Given<'t> {
     NotYet(Ticket),
     /// The book is halted: nothing.
     Void,
+}
+
+/// That the book was halted. Only [`SharedBook::halt`] makes one.
+#[derive(Debug, Drop)]
+pub struct Halted {
+    _made: (),
 }
 
 /// The book of a search, as it lies in the lock. `A` counts the entries that are acknowledged: who
@@ -164,13 +170,15 @@ impl<'t, L: Ledger, A: Ledger> SharedBook<'t, L, A> {
         let _ = self.book.counts();
     }
 
-    /// Halts the book: each later commit is refused. It does not allocate.
-    pub fn halt(&mut self)
+    /// Halts the book, of which the result tells: each later commit is refused. It does not
+    /// allocate.
+    pub fn halt(&mut self) -> Halted
         ensures task { self.new.state.task ≡ self.old.state.task }
         ensures begins { BeginsWith self.new.state.entries self.old.state.entries }
         ensures halted { self.new ≡ after_halt self.old }
     {
         self.book.halt();
+        Halted { _made: () }
     }
 
     /// Takes a batch, as [`Book::commit`] does. A book that refuses one is halted.
@@ -189,6 +197,8 @@ impl<'t, L: Ledger, A: Ledger> SharedBook<'t, L, A> {
         ensures begins { BeginsWith self.new.state.entries self.old.state.entries }
         ensures accepted { OnOk result (refusal_to self.old batch.entry.outcomes ≡ None) }
         ensures ticket { IfOk result (λ k. k ≡ ticket_after batch.entry.outcomes self.old) }
+        ensures from { IfOk result (λ k. k.first ≡ length self.old.state.entries) }
+        ensures to { IfOk result (λ k. k.end ≡ length self.new.state.entries) }
         ensures committed { OnOk result
             (self.new ≡ after_commit batch.entry.outcomes self.old) }
         ensures counted { OnOk result (share.new.amount ≡ share.old.amount + 1) }
@@ -216,6 +226,8 @@ impl<'t, L: Ledger, A: Ledger> SharedBook<'t, L, A> {
         ensures begins { BeginsWith self.new.state.entries self.old.state.entries }
         ensures given { result ≡ given_by (redeemed_for self.old.batches ticket) }
         ensures of_task { IfOk result (IsGivenOf self.old.state.task) }
+        ensures released { IfOk result
+            (IsGivenFrom self.old.state.task self.old.state.entries ticket) }
         ensures redeemed { OnOk result (self.new ≡ after_redeem ticket self.old) }
         ensures err { OnErr result (self.new ≡ after_halt self.old) }
     {

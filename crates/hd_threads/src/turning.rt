@@ -8,6 +8,7 @@ ghost use Rattle.hd_threads.specs.Placing.{IsSeated, IsAt, Keeps, IsStill};
 ghost use Rattle.hd_threads.specs.Turning.{kids_held, IsEnd};
 
 use crate::ending::is_over;
+use crate::ends::WorkerEnd;
 use crate::fault::RunFault;
 use crate::gate::Gate;
 use crate::halting::halt;
@@ -46,17 +47,27 @@ pub struct Role<'g, G: Gate> {
     ghost most: { workers ≤ MAX_WORKERS },
 }
 
-/// Halts the book for a worker that has no memory.
-fn stop<'t, L: Ledger, A: Ledger, R: Wait>(
+/// Returns how a worker ends that stops by a fault, or by none. By a fault, it halts the book.
+fn end_by<'t, L: Ledger, A: Ledger, R: Wait>(
     rt: &R,
     desk: &Desk<'t, L, A>,
     place: &mut Workplace<'t, L, A>,
-)
+    id: usize,
+    fault: Option<RunFault>,
+) -> WorkerEnd
     requires seated { IsSeated desk.now place.old }
     ensures seated { IsSeated desk.now place.new }
     ensures keeps { Keeps place.old place.new }
+    ensures id { result.id ≡ id }
+    ensures fault { result.fault ≡ fault }
 {
-    halt(rt, &desk.lock, &mut place.pass);
+    match fault {
+        Some(fault) => {
+            let halted = halt(rt, &desk.lock, &mut place.pass);
+            WorkerEnd::by(id, fault, halted)
+        }
+        None => WorkerEnd::by_none(id),
+    }
 }
 
 /// Reports whether the search is over, by a worker.
@@ -395,11 +406,11 @@ fn go_on<'t, L: Ledger, A: Ledger, R: Wait, G: Gate>(
     Ok(worked.open)
 }
 
-/// Does what [`go_on`] does; if there is no memory for it, the book is halted.
+/// Does what [`go_on`] does.
 ///
 /// # Errors
 /// - How the search ends for the worker: by `NoMemory`.
-fn go_on_or_stop<'t, L: Ledger, A: Ledger, R: Wait, G: Gate>(
+fn go_on_or_end<'t, L: Ledger, A: Ledger, R: Wait, G: Gate>(
     rt: &R,
     desk: &Desk<'t, L, A>,
     place: &mut Workplace<'t, L, A>,
@@ -417,10 +428,7 @@ fn go_on_or_stop<'t, L: Ledger, A: Ledger, R: Wait, G: Gate>(
 {
     match go_on(rt, desk, place, progress, role) {
         Ok(open) => Ok(open),
-        Err(_) => {
-            stop(rt, desk, place);
-            Err(Some(RunFault::NoMemory))
-        }
+        Err(_) => Err(Some(RunFault::NoMemory)),
     }
 }
 
@@ -473,10 +481,7 @@ fn commit_some<'t, L: Ledger, A: Ledger, R: Wait>(
             Ok(false)
         }
         Ok(Committed::Halted) => Err(None),
-        Err(fault) => {
-            stop(rt, desk, place);
-            Err(Some(fault))
-        }
+        Err(fault) => Err(Some(fault)),
     }
 }
 
@@ -547,7 +552,7 @@ fn take_turn<'t, L: Ledger, A: Ledger, R: Wait, G: Gate>(
     ensures told { IfErr result IsEnd }
 {
     let released = redeem_all(rt, desk, place, progress)?;
-    let open = go_on_or_stop(rt, desk, place, progress, role)?;
+    let open = go_on_or_end(rt, desk, place, progress, role)?;
     let worked = is_either(released, progress.worked());
     let committed = commit_due(rt, desk, place, progress, role, open)?;
     Ok(is_either(worked, committed))
@@ -614,26 +619,27 @@ fn turns<'t, L: Ledger, A: Ledger, R: Wait, G: Gate>(
 
 /// Runs the thread of a worker: turn after turn, until the search is over; it waits
 /// longer and longer while there is nothing to do. In the end its tickets are given up. Its fault,
-/// if it ends by one: `NoMemory`, `Full` or `NotOut`.
+/// if it ends by one, is `NoMemory`, `Full` or `NotOut`, and then it has halted the book.
 pub fn work<'t, L: Ledger, A: Ledger, R: Wait, G: Gate>(
     rt: &R,
     alloc: Global,
     desk: &Desk<'t, L, A>,
     place: &mut Workplace<'t, L, A>,
     role: &Role<'_, G>,
-) -> Option<RunFault>
+) -> WorkerEnd
     requires at { IsAt desk.now place.old }
     requires boxes { role.now.workers ≤ length desk.now.boxes }
     ensures seated { IsSeated desk.now place.new }
     ensures keeps { Keeps place.old place.new }
-    ensures told { IfSome result IsOfWorker }
+    ensures id { result.id ≡ role.now.id }
+    ensures told { IfSome result.fault IsOfWorker }
 {
     let Ok(progress) = Progress::begin(alloc) else {
-        stop(rt, desk, place);
-        return Some(RunFault::NoMemory);
+        return end_by(rt, desk, place, role.id, Some(RunFault::NoMemory));
     };
     let mut progress = progress;
     let fault = turns(rt, desk, place, &mut progress, role);
+    let end = end_by(rt, desk, place, role.id, fault);
     finish(rt, desk, place, progress);
-    fault
+    end
 }

@@ -1,5 +1,5 @@
 //! What a worker does under the lock, and beside it.
-ghost use Rattle.std.specs.Prelude.{◌≡◌, ◌+◌, ◌<◌, ◌≤◌, ◌^◌, true, [], Some, is_some, IfOk, IfErr, IfNone, IfSome, OnOk, OnErr};
+ghost use Rattle.std.specs.Prelude.{◌≡◌, ◌+◌, ◌<◌, ◌≤◌, ◌^◌, true, [], Some, length, is_some, IfOk, IfErr, IfNone, IfSome, OnOk, OnErr};
 ghost use Rattle.std.specs.List.{AllByRecursion};
 ghost use Rattle.crossbeam_queue.specs.Passes.{view};
 ghost use Rattle.hd_desk.specs.Passes.{IsInside, IsOutside};
@@ -164,6 +164,8 @@ fn commit_batch<'t, L: Ledger, A: Ledger, R: Wait>(
     ensures uncounted { OnErr result (share.new.amount ≡ share.old.amount) }
     ensures committed { IfOk result (λ r. IsIn (view pass.old).seen.task
         (view pass.old).seen.log batch.entry.outcomes (view pass.new).seen.log r.first r.bound) }
+    ensures from { IfOk result (λ r. r.ticket.first ≡ r.first) }
+    ensures to { IfOk result (λ r. r.ticket.end ≡ length (view pass.new).seen.log) }
     ensures few { IfOk result (λ r. r.first < 2 ^ 40) }
 {
     let mut book = lock.enter(rt, pass);

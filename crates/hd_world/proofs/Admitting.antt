@@ -72,6 +72,6 @@ module _ (t : Task) (f : File) (r : Run) (x : IsSound t f r) where
     group = group_next r.group refl;
     pulled = pulled_is_out r.group refl;
     flushed = group_out r.flushed refl;
-    once = x.tickets.apart;
+    held = x.tickets.held;
     written = stands_written r.group r.flushed x.order.stands;
   }

@@ -267,7 +267,7 @@ module _ (t : Task) (entries : List Kid) (kept : IsKept (resumed_state t entries
   pub starts_out : (most workers : ℕ) → AreTicketsOut (run_after t most workers entries)
   starts_out most workers = record {
     out = each-map (AreOut (run_after t most workers entries).book) (seat_after t entries workers) (range_with_len 0 workers) (λ id. tt);
-    apart = λ n.
+    held = λ n.
         omega (
           arith,
           total-map (times_in n) (seat_after t entries workers) (range_with_len 0 workers),

@@ -1,5 +1,5 @@
 -- What a search goes on with after stops, and that what they left is always opened.
-use Rattle.std.proofs.Common.{◌≡◌, ℕ, ◌≤◌, true, Option, Some, None, List, [], take, length, sym, ap, ◌∙◌, arith}
+use Rattle.std.proofs.Common.{◌≡◌, ℕ, ◌≤◌, true, Option, Some, None, List, [], take, length, sym, ap, ◌∙◌, subst, arith}
 use Rattle.std.specs.Prelude.{unwrap_or}
 use Rattle.std.proofs.lemmas.List.{length-take}
 use Rattle.hd_task.specs.declared.task.Task.{Task}
@@ -17,7 +17,7 @@ use Rattle.hd_world.specs.declared.moves.Move.{Move}
 use Rattle.hd_world.specs.declared.moves.Move.TheVariants.{Resume}
 use Rattle.hd_world.specs.declared.moves.StopAt.{StopAt}
 use Rattle.hd_zobrist.specs.declared.owners.TheConstants.{MAX_WORKERS}
-use Rattle.hd_world.specs.Headline.{IsResumed, IsFirst, Rests}
+use Rattle.hd_world.specs.Headline.{IsResumed, IsFirst, IsRebuilt, Rests}
 use Rattle.hd_world.specs.Search.{IsCutTo, first_search, search_in, search_of}
 use Rattle.hd_world.specs.Seats.{Run}
 use Rattle.hd_world.specs.Sound.{IsSound}
@@ -29,6 +29,7 @@ use Rattle.hd_world.specs.Lasting.{doing_in, IsRunAfter, IsResting}
 use Rattle.hd_world.proofs.Beginnings.{named_take}
 use Rattle.hd_world.proofs.Halting.{IsCut, run_found, run_goes_on, run_groups}
 use Rattle.hd_world.proofs.Opened.{left_opened, left_found, left_not_refused}
+use Rattle.hd_world.proofs.Owning.{is_rebuilt}
 use Rattle.hd_world.proofs.Playing.{run_left, gone_on, reached_sound, recovered_is, resumed_with, IsBegun, begun, rested}
 
 -- ---- after a run
@@ -58,8 +59,8 @@ module _ (t : Task) (f : File) (r : Run) (x : IsSound t f r) (f' : File) (r' : R
         omega (arith, count, length-take c.left entries, c.among);
   }
 
-  pub is_resumed : IsResumed r t on.workers f' r'
-  is_resumed = record { left = c.left; some = on.some; most = on.most; cut = is_cut; may = c.may; is = goes_on }
+  pub is_resumed : IsResumed f r t on.workers f' r'
+  is_resumed = record { left = c.left; some = on.some; most = on.most; cut = is_cut; may = c.may; version = c.version; is = goes_on }
 
 -- ---- of all schedules
 
@@ -96,14 +97,14 @@ module _ (t : Task) (digest : List ℕ) (len : length digest ≡ DIGEST_LEN) (st
 
   -- where a sound run has ended
   pub goes_on_from : (f f' : File) (r r' : Run) (m : Move) (left : List ℕ) → IsSound t f r → IsLeft digest (doing_in f r.group) left
-      → StepsTo Anything t digest (Stopped left) m (Running f' r') → (workers : ℕ) × IsResumed r t workers f' r'
+      → StepsTo Anything t digest (Stopped left) m (Running f' r') → (workers : ℕ) × IsResumed f r t workers f' r'
   goes_on_from f f' r r' m left x is step =
       let on = gone_on t digest (doing_in f r.group) len (run_groups t f r x) (run_goes_on t f r x) left m (Running f' r') is step in
       (on.1.workers, is_resumed t f r x f' r' (run_found t f r x f' on.0) on.1)
 
   pub stops : (before between : List Move) (f f' : File) (r r' : Run) (m : Move) (workers : ℕ) (stop : Option StopAt) (content left : List ℕ)
       → Reaches Anything t digest start before (Running f r) → StepsTo Anything t digest (Running f r) m (Stopped content) → Rests t digest content between left
-      → StepsTo Anything t digest (Stopped left) (Resume workers stop) (Running f' r') → IsResumed r t workers f' r'
+      → StepsTo Anything t digest (Stopped left) (Resume workers stop) (Running f' r') → IsResumed f r t workers f' r'
   stops before between f f' r r' m workers stop content left reaches step rests goes =
       let x : IsSound t f r = reached_sound t digest len start earlier begins before (Running f r) reaches in
       let groups = run_groups t f r x in
@@ -121,6 +122,11 @@ module _ (t : Task) (digest : List ℕ) (len : length digest ≡ DIGEST_LEN) (st
 
     pub unrefused : (error : ImageError) → IsRefused digest content error → error ≡ NoMemory
     unrefused error refused = left_not_refused digest rests.doing content error len rests.groups rests.left refused
+
+    pub rebuilt : (workers : ℕ) (stop : Option StopAt) (f : File) (r : Run) → StepsTo Anything t digest (Stopped content) (Resume workers stop) (Running f r) → IsRebuilt workers f r
+    rebuilt workers stop f r step =
+        let on = resumed_with t digest rests.doing len rests.groups rests.on content workers stop f r rests.left step in
+        subst (IsRebuilt workers f) (sym on.3) (is_rebuilt t f workers on.1 (rests.on f on.0))
 
     pub recovers : (calls : List Call) (f : File) → Opens digest content calls f → is_recovered t f ≡ true
     recovers calls f o = rests.on f (left_found digest rests.doing content calls f len rests.groups rests.left o)

@@ -3,12 +3,15 @@ pub mod Answering
 pub mod Beginning
 pub mod Beginnings
 pub mod Clauses
+pub mod Closing
 pub mod Committing
 pub mod Counting
 pub mod Ending
 pub mod Fillings
 pub mod Going
 pub mod Halting
+pub mod Headers
+pub mod Journals
 pub mod Leading
 pub mod Leaving
 pub mod Lists
@@ -17,6 +20,7 @@ pub mod MoveTables
 pub mod Moving
 pub mod Opened
 pub mod Ordering
+pub mod Outcomes
 pub mod Owning
 pub mod Placing
 pub mod Playing

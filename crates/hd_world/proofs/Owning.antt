@@ -1,8 +1,8 @@
 -- Where a search goes on, each open successor and each closed entry is at its owner, and each open
 -- successor is in exactly one place.
-use Rattle.std.proofs.Common.{◌≡◌, ℕ, ◌%◌, ◌<◌, ◌≤◌, true, false, cond, not, Some, None, List, [], map, length, slice_get, Contains, refl, sym, ap, ◌∙◌, subst, arith, true≢false}
+use Rattle.std.proofs.Common.{◌≡◌, ℕ, ◌%◌, ◌<◌, ◌≤◌, true, false, cond, not, nat_le, is_some, Some, None, List, [], map, length, slice_get, Contains, refl, sym, ap, ◌∙◌, subst, arith, true≢false}
 use Rattle.std.specs.List.{range_with_len}
-use Rattle.std.proofs.lemmas.Bool.{eq-eqb, ltb-true, ltb-false}
+use Rattle.std.proofs.lemmas.Bool.{eq-eqb, ltb-true, ltb-false, and_parts, leb-true}
 use Rattle.std.proofs.lemmas.Option.{slice_get-get_or}
 use Rattle.std.proofs.lemmas.List.{length-map, get_or_past}
 use Rattle.std.proofs.lemmas.List.Elements.{Contains-get_or}
@@ -16,6 +16,7 @@ use Rattle.hd_task.specs.declared.plan.TheConstants.{ROOT_PARENT}
 use Rattle.hd_zobrist.specs.Hash.{state_hash}
 use Rattle.hd_tables.specs.Kids.{root, same_kid}
 use Rattle.hd_node.specs.declared.batch.By.TheVariants.{Entry}
+use Rattle.hd_image.specs.Image.{most_of}
 use Rattle.hd_entries.specs.Kids.{posted_by}
 use Rattle.hd_entries.specs.Settling.{BookState, IsKept, is_marked, is_posted, place_of}
 use Rattle.hd_entries.specs.Holding.{Released, plans_at}
@@ -30,7 +31,12 @@ use Rattle.hd_world.specs.Starting.{seat_after, run_after}
 use Rattle.hd_world.specs.Once.{in_seat, in_run, only, room_of}
 use Rattle.hd_world.proofs.Sums.{total_at, total_some}
 use Rattle.hd_world.proofs.Beginning.{starts_once}
-use Rattle.hd_world.specs.Owners.{IsOpenAtOwner, IsClosedAtOwner}
+use Rattle.hd_world.proofs.Sounding.{most_numbered}
+use Rattle.hd_world.proofs.Playing.{faultless}
+use Rattle.hd_world.specs.Owners.{IsOpenAtOwner, IsClosedAtOwner, IsOpenIn, IsClosedIn}
+use Rattle.hd_world.specs.Headline.{IsRebuilt}
+use Rattle.hd_world.specs.Stops.{File, entries_of}
+use Rattle.hd_world.specs.World.{is_recovered}
 use Rattle.hd_world.proofs.Leading.{posted_leads, entry_leads}
 
 -- what is made again from entries without a fault is kept
@@ -100,6 +106,40 @@ module _ (t : Task) (entries : List Kid) (kept : IsKept (resumed_state t entries
       slice_get-get_or seats id d (omega (arith, lt, length-map-range_with_len (seat_after t entries workers) 0 workers))
       ∙ ap (λ s. Some s) (get_or-map-range_with_len (seat_after t entries workers) 0 workers id id d lt (omega arith))
 
+  count_seats : (most : ℕ) → length (run_after t most workers entries).seats ≡ workers
+  count_seats most = length-map-range_with_len (seat_after t entries workers) 0 workers
+
+  -- the worker that owns a state
+  owner_there : (most hash : ℕ) → 1 ≤ workers
+      → slice_get (run_after t most workers entries).seats (hash % length (run_after t most workers entries).seats) ≡ Some (seat_after t entries workers (hash % workers))
+  owner_there most hash some =
+      ap (λ (n : ℕ). slice_get (run_after t most workers entries).seats (hash % n)) (count_seats most)
+      ∙ seat_there (hash % workers) (mod-lt hash (omega (arith, some)))
+
+  pub open_in_run : (most : ℕ) (k : Kid) → 1 ≤ workers → is_posted b k ≡ true → has entries k ≡ false → IsOpenIn (run_after t most workers entries) k
+  open_in_run most k some posted other =
+      let o = open_at_owner k posted other in
+      record {
+        parcel = o.parcel;
+        kid = o.kid;
+        leads = o.leads;
+        seat = seat_after t entries workers (state_hash o.parcel.state % workers);
+        owner = owner_there most (state_hash o.parcel.state) some;
+        among = o.among;
+      }
+
+  pub closed_in_run : (most n : ℕ) → 1 ≤ workers → n < length entries → IsClosedIn (run_after t most workers entries) n
+  closed_in_run most n some lt =
+      let c = closed_at_owner n lt in
+      record {
+        closed = c.closed;
+        by = c.by;
+        leads = c.leads;
+        seat = seat_after t entries workers (state_hash c.closed.state % workers);
+        owner = owner_there most (state_hash c.closed.state) some;
+        among = c.among;
+      }
+
   is_held : (most : ℕ) (k : Kid) → 1 ≤ workers → is_marked b k ≡ false → 1 ≤ in_run (only k) (run_after t most workers entries)
   is_held most k some free =
       let is_there = unmarked_posted k free in
@@ -119,3 +159,18 @@ module _ (t : Task) (entries : List Kid) (kept : IsKept (resumed_state t entries
         | true ↦ λ _ few. omega (arith, few)
         | false ↦ λ free few. omega (arith, few, is_held most k some free)
       ] refl few
+
+-- where a run begins
+pub is_rebuilt : (t : Task) (f : File) (workers : ℕ) → 1 ≤ workers → is_recovered t f ≡ true → IsRebuilt workers f (run_after t (most_of f.version) workers (entries_of f))
+is_rebuilt t f workers some recovered =
+    let entries = entries_of f in
+    let most = most_of f.version in
+    let parts = and_parts (nat_le (length entries) most) (not (is_some (first_fault t [] entries))) recovered in
+    let short : length entries < ROOT_PARENT = omega (arith, leb-true (length entries) most parts.0, most_numbered f.version) in
+    let kept = again_kept t entries short (faultless (first_fault t [] entries) parts.1) in
+    record {
+      seats = count_seats t entries kept workers most;
+      entries = refl;
+      closed = λ n lt. closed_in_run t entries kept workers most n some lt;
+      waiting = λ k posted other. open_in_run t entries kept workers most k some posted other;
+    }

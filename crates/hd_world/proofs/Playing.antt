@@ -39,12 +39,12 @@ abbrev run_in : Run → World → Run
 run_in other (Stopped content) = other
 run_in other (Running f r) = r
 
-not_running : (content : List ℕ) (f : File) (r : Run) → Stopped content ≡ Running f r → ⊥
+pub not_running : (content : List ℕ) (f : File) (r : Run) → Stopped content ≡ Running f r → ⊥
 not_running content f r e = cc
 
 -- ---- a run that stops
 
-flush_runs : (f : File) (r : Run) (group : Option GroupView) (content : List ℕ) → Stopped content ≡ flushed_to f r group → ⊥
+pub flush_runs : (f : File) (r : Run) (group : Option GroupView) (content : List ℕ) → Stopped content ≡ flushed_to f r group → ⊥
 flush_runs f r None content e = not_running content f r e
 flush_runs f r (Some g) content e =
     elim (is_next f g) as (λ b. Stopped content ≡ (if b then Running (with_group g.kids f) (record r { group = None; flushed = Some g }) else Running f r) → ⊥) [
@@ -102,7 +102,7 @@ recovered_is t digest workers f e =
     ap (λ (b : Bool). if b then Running f (run_after t (most_of f.version) workers (entries_of f)) else Stopped (bytes_of digest f)) e
 
 -- a search that goes on from a journal is sound
-faultless : (o : Option (ℕ × Refusal)) → not (is_some o) ≡ true → o ≡ None
+pub faultless : (o : Option (ℕ × Refusal)) → not (is_some o) ≡ true → o ≡ None
 faultless None e = refl
 faultless (Some fault) e = absurd (true≢false (sym e))
 

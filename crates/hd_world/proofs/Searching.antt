@@ -1,7 +1,8 @@
 -- What each move makes of the search of a run.
-use Rattle.std.proofs.Common.{◌≡◌, ◌⊎◌, inl, inr, ℕ, ◌||◌, Bool, true, false, cond, Option, Some, None, List, [], ◌∷◌, ◌++◌, map, slice_get, refl, sym, ap, ap₂, ◌∙◌, subst, arith, append_assoc, append-nil}
+use Rattle.std.proofs.Common.{◌≡◌, ℕ, ◌+◌, ◌==◌, nat_lt, ◌&&◌, ◌||◌, Bool, true, false, cond, Option, Some, None, List, [], ◌∷◌, ◌++◌, map, drop, length, slice_get, refl, sym, ap, ap₂, ◌∙◌, subst, arith, append_assoc, append-nil}
 use Rattle.std.specs.Prelude.{flat_map, option_and_then, Result, Ok, Err}
 use Rattle.std.specs.List.{fold}
+use Rattle.std.proofs.lemmas.Bool.{and_parts, eqb-true}
 use Rattle.std.proofs.lemmas.Option.{none-some, same_Some}
 use Rattle.std.proofs.lemmas.List.Sums.{fold-append}
 use Rattle.hd_task.specs.declared.task.Task.{Task}
@@ -16,13 +17,13 @@ use Rattle.hd_book.specs.declared.not_out.NotOut.{NotOut}
 use Rattle.hd_book.specs.declared.redeemed.Redeemed.{Redeemed}
 use Rattle.hd_book.specs.declared.redeemed.Redeemed.TheVariants as given
 use Rattle.hd_book.specs.Batches.{TicketView, Batches}
-use Rattle.hd_book.specs.Queue.{QueueView, are_acknowledged}
+use Rattle.hd_book.specs.Queue.{QueueView, are_acknowledged, group_end, is_out}
 use Rattle.hd_book.specs.TicketRedeeming.{redeemed_for}
 use Rattle.hd_book.specs.TicketSteps as steps
 use Rattle.hd_journal.specs.Group.{GroupView}
 use Rattle.hd_book.specs.declared.refusal.CommitRefusal.{CommitRefusal}
 use Rattle.hd_book.specs.View.{BookView, ParcelsView}
-use Rattle.hd_book.specs.Groups.{next_group, is_group_out}
+use Rattle.hd_book.specs.Groups.{next_group, begins_with, is_group_out}
 use Rattle.hd_book.specs.Refusing.{refusal_to}
 use Rattle.hd_book.specs.Steps.{after_flush}
 use Rattle.hd_turns.specs.Calls.{batch_of}
@@ -34,10 +35,10 @@ use Rattle.hd_world.specs.Stops.{File}
 use Rattle.hd_world.specs.Search.{Search, Acknowledges, search_of}
 use Rattle.hd_world.specs.Truth.{IsTrueRun}
 use Rattle.hd_world.specs.Sound.{IsSound}
-use Rattle.hd_world.specs.Headline.{IsAccepted, MovesSearch}
+use Rattle.hd_world.specs.Headline.{IsAccepted, IfCommits, IsAcked, IfAcked, MovesSearch}
 use Rattle.hd_world.proofs.Quiet.{pop_quiet, take_quiet, expand_quiet, push_quiet, offer_quiet, load_quiet}
 use Rattle.hd_world.proofs.Ordering.{end_above, end_within}
-use Rattle.hd_world.proofs.Sounding.{turns_sound}
+use Rattle.hd_world.proofs.Sounding.{turns_sound, flushed_out}
 
 -- ---- the plans of entries
 
@@ -92,25 +93,46 @@ module _ (t : Task) (f : File) (r : Run) (x : IsSound t f r) where
         extends = record { longer = n.longer; legal = subst (λ u. IsLegal u (expansions r'.book.state)) y.of_task y.kept.marked.legal; same = refl };
       }
 
-  commit_by : (k : ℕ) (s : Seat) (why : Option CommitRefusal) (r' : Run) → slice_get r.seats k ≡ Some s → IsTrueRun t r' → committed_by k r s why ≡ Some r'
-      → (search_of r' ≡ search_of r) ⊎ IsAccepted t r k r'
-  commit_by k s None r' e y m =
-      let same = same_Some (with_commit k (batch_of s.worker) s r) r' m in
-      inr (subst (IsAccepted t r k) same (accepted k s e (subst (IsTrueRun t) (sym same) y)))
-  commit_by k s (Some c) r' e y m =
-      elim (is_dropped c) as (λ v. cond {A = Option Run} v (Some (with_drop k s r)) None ≡ Some r' → (search_of r' ≡ search_of r) ⊎ IsAccepted t r k r') [
-        | true ↦ λ m. inl (search_same r r' (ap (λ (w : Run). w.book) (sym (same_Some (with_drop k s r) r' m))))
+  -- where the batch is not refused
+  commit_taken : (k : ℕ) (s : Seat) (r' : Run) → slice_get r.seats k ≡ Some s → IsTrueRun t r' → committed k r (Some s) ≡ Some r'
+      → may_commit s ≡ true → refusal_to r.book (batch_of s.worker) ≡ None → IsAccepted t r k r'
+  commit_taken k s r' e y m may free =
+      let is : committed k r (Some s) ≡ committed_by k r s None =
+      ap (λ v. cond {A = Option Run} v (committed_by k r s (refusal_to r.book (batch_of s.worker))) (Some r)) may ∙ ap (committed_by k r s) free
+      in
+      let same = same_Some (with_commit k (batch_of s.worker) s r) r' (sym is ∙ m) in
+      subst (IsAccepted t r k) same (accepted k s e (subst (IsTrueRun t) (sym same) y))
+
+  -- where none is committed
+  commit_none : (r' : Run) → Some r ≡ Some r' → search_of r' ≡ search_of r
+  commit_none r' m = search_same r r' (ap (λ (w : Run). w.book) (sym (same_Some r r' m)))
+
+  -- where it is
+  commit_by : (k : ℕ) (s : Seat) (c : CommitRefusal) (r' : Run) → committed_by k r s (Some c) ≡ Some r' → search_of r' ≡ search_of r
+  commit_by k s c r' m =
+      elim (is_dropped c) as (λ v. cond {A = Option Run} v (Some (with_drop k s r)) None ≡ Some r' → search_of r' ≡ search_of r) [
+        | true ↦ λ m. search_same r r' (ap (λ (w : Run). w.book) (sym (same_Some (with_drop k s r) r' m)))
         | false ↦ λ m. absurd (none-some r' m)
       ] m
 
-  commit_of : (k : ℕ) (os : Option Seat) (r' : Run) → slice_get r.seats k ≡ os → IsTrueRun t r' → committed k r os ≡ Some r'
-      → (search_of r' ≡ search_of r) ⊎ IsAccepted t r k r'
-  commit_of k None r' e y m = inl (search_same r r' (ap (λ (w : Run). w.book) (sym (same_Some r r' m))))
-  commit_of k (Some s) r' e y m =
-      elim (may_commit s) as (λ v. cond {A = Option Run} v (committed_by k r s (refusal_to r.book (batch_of s.worker))) (Some r) ≡ Some r' → (search_of r' ≡ search_of r) ⊎ IsAccepted t r k r') [
-        | true ↦ λ m. commit_by k s (refusal_to r.book (batch_of s.worker)) r' e y m
-        | false ↦ λ m. inl (search_same r r' (ap (λ (w : Run). w.book) (sym (same_Some r r' m))))
+  commit_refused : (k : ℕ) (s : Seat) (r' : Run) → committed k r (Some s) ≡ Some r' → (c : CommitRefusal) → refusal_to r.book (batch_of s.worker) ≡ Some c → search_of r' ≡ search_of r
+  commit_refused k s r' m c is =
+      elim (may_commit s) as (λ v. cond {A = Option Run} v (committed_by k r s (refusal_to r.book (batch_of s.worker))) (Some r) ≡ Some r' → search_of r' ≡ search_of r) [
+        | true ↦ λ m. commit_by k s c r' (sym (ap (committed_by k r s) is) ∙ m)
+        | false ↦ λ m. commit_none r' m
       ] m
+
+  commit_idle : (k : ℕ) (s : Seat) (r' : Run) → committed k r (Some s) ≡ Some r' → may_commit s ≡ false → search_of r' ≡ search_of r
+  commit_idle k s r' m may =
+      commit_none r' (sym (ap (λ v. cond {A = Option Run} v (committed_by k r s (refusal_to r.book (batch_of s.worker))) (Some r)) may) ∙ m)
+
+  commit_of : (k : ℕ) (os : Option Seat) (r' : Run) → slice_get r.seats k ≡ os → IsTrueRun t r' → committed k r os ≡ Some r' → IfCommits t r k os r'
+  commit_of k None r' e y m = commit_none r' m
+  commit_of k (Some s) r' e y m = record {
+    accepted = λ may free. commit_taken k s r' e y m may free;
+    refused = λ c is. commit_refused k s r' m c is;
+    idle = λ may. commit_idle k s r' m may;
+  }
 
   -- a redemption leaves the entries and what is acknowledged
   spent_same : (n : ℕ) (free : Bool) → (cond {A = Batches ParcelsView} free (steps.without n r.book.batches) r.book.batches).queue ≡ r.book.batches.queue
@@ -158,15 +180,20 @@ module _ (t : Task) (f : File) (r : Run) (x : IsSound t f r) where
             );
       }
 
-  ack_by : (out : Bool)
-      → (search_of (cond out (record r { book = after_flush r.book; flushed = None }) (record r { flushed = None })) ≡ search_of r)
-      ⊎ Acknowledges (search_of r) (search_of (cond out (record r { book = after_flush r.book; flushed = None }) (record r { flushed = None })))
-  ack_by true = inr flush_acknowledges
-  ack_by false = inl refl
+  -- it is the one that was appended
+  ends_there : (g : GroupView) → is_group_out r.book g ≡ true → group_end r.book.batches.queue ≡ g.first + length g.kids
+  ends_there g out =
+      let q = r.book.batches.queue in
+      let end = g.first + length g.kids in
+      let parts = and_parts (begins_with g.kids (drop g.first r.book.state.entries)) (is_out q g.first end) out in
+      sym (eqb-true end (group_end q) (and_parts (nat_lt 0 q.out && (g.first == q.acknowledged)) (end == group_end q) parts.1).1)
 
-  ack_search : (g : Option GroupView) → (search_of (acked_of r g) ≡ search_of r) ⊎ Acknowledges (search_of r) (search_of (acked_of r g))
-  ack_search None = inl refl
-  ack_search (Some g) = ack_by (is_group_out r.book g)
+  ack_search : (g : Option GroupView) → r.flushed ≡ g → IfAcked r g (acked_of r g)
+  ack_search None e = refl
+  ack_search (Some g) e =
+      let out = flushed_out t f r x g e in
+      subst (λ (y : Bool). IsAcked (search_of r) g (search_of (cond y (record r { book = after_flush r.book; flushed = None }) (record r { flushed = None })))) (sym out)
+      (record { more = flush_acknowledges; all = ends_there g out })
 
   pub turns_search : (m : Move) (r' : Run) → TurnsTo t r m r' → MovesSearch t r m r'
   turns_search (moves.Resume workers stop) r' m = ap search_of m
@@ -183,5 +210,5 @@ module _ (t : Task) (f : File) (r : Run) (x : IsSound t f r) where
   turns_search (moves.Load k) r' m = let os = slice_get r.seats k in ap search_of m ∙ search_same r (loaded k r os) (load_quiet r k os refl).book
   turns_search moves.Pull r' m = ap search_of m ∙ pull_search (next_group r.book)
   turns_search moves.Flush r' m = ap search_of m
-  turns_search moves.Ack r' m = subst (λ (w : Run). (search_of w ≡ search_of r) ⊎ Acknowledges (search_of r) (search_of w)) (sym m) (ack_search r.flushed)
+  turns_search moves.Ack r' m = subst (IfAcked r r.flushed) (sym m) (ack_search r.flushed refl)
   turns_search (moves.Stop stop) r' m = ap search_of m

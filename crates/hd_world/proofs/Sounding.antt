@@ -53,7 +53,7 @@ use Rattle.hd_world.proofs.Beginning.{starts_true, starts_once, starts_out, star
 
 -- ---- after a resumption
 
-most_numbered : (v : Version) → most_of v < ROOT_PARENT
+pub most_numbered : (v : Version) → most_of v < ROOT_PARENT
 most_numbered One = omega arith
 most_numbered Two = omega arith
 

@@ -1,5 +1,6 @@
--- Each ticket that a worker holds is out, and none is held twice, over each move.
-use Rattle.std.proofs.Common.{◌≡◌, ℕ, ◌+◌, ◌<◌, ◌≤◌, ◌==◌, ◌||◌, Bool, true, false, cond, Option, Some, None, List, [], ◌∷◌, ◌++◌, set, length, slice_get, true≢false, refl, sym, ap, ◌∙◌, subst, arith}
+-- Each ticket that a worker holds is out, and each one that is out is held exactly once, over each
+-- move.
+use Rattle.std.proofs.Common.{◌≡◌, ◌≢◌, ℕ, zero, suc, ◌+◌, ◌<◌, ◌≤◌, ◌==◌, ◌||◌, Bool, true, false, cond, Option, Some, None, is_some, List, [], ◌∷◌, ◌++◌, set, length, slice_get, true≢false, refl, sym, ap, ◌∙◌, subst, arith}
 use Rattle.std.specs.Prelude.{Result, Ok, Err}
 use Rattle.std.specs.List.{AllByRecursion}
 use Rattle.std.specs.Option.{option_flatten}
@@ -12,14 +13,14 @@ use Rattle.hd_book.specs.declared.redeemed.Redeemed.{Redeemed}
 use Rattle.hd_book.specs.declared.redeemed.Redeemed.TheVariants as given
 use Rattle.hd_book.specs.Batches.{TicketView, Batches, is_its, is_ticket_out}
 use Rattle.hd_book.specs.Queue.{are_acknowledged}
-use Rattle.hd_book.specs.TicketRedeeming.{redeemed_for}
+use Rattle.hd_book.specs.TicketRedeeming.{given_for, answer_for, redeemed_for}
 use Rattle.hd_book.specs.Slots.{ticket_at}
 use Rattle.hd_book.specs.TicketSteps as steps
 use Rattle.hd_book.specs.View.{BookView, ParcelsView}
 use Rattle.hd_turns.proofs.Lists.{AllByRecursion-map, AllByRecursion-weaker, slice_get-append_front}
 use Rattle.hd_world.specs.Seats.{Seat, Run}
 use Rattle.hd_world.specs.Moves.{with_seat, redeemed_by, redeemed_of, redeemed}
-use Rattle.hd_world.specs.Once.{total, times_in, times_held}
+use Rattle.hd_world.specs.Once.{total, times_in, times_held, times_out}
 use Rattle.hd_world.specs.Order.{AreOut, AreTicketsOut}
 use Rattle.hd_world.proofs.Lists.{AllByRecursion-set, AllByRecursion-from_map, slice_get-set_other}
 use Rattle.hd_world.proofs.Sums.{total-append, total-map, total-set}
@@ -35,6 +36,17 @@ AllOut q held = AllByRecursion (λ (k : TicketView). is_ticket_out q k ≡ true)
 abbrev pub times_among : ℕ → List TicketView → ℕ
 times_among n held = total (λ (k : TicketView). cond {A = ℕ} (k.number == n) 1 0) held
 
+few_out : (n : ℕ) (ts : List (Option (Outgoing ParcelsView))) → times_out n ts ≤ 1
+few_out n ts =
+    elim (is_some (ticket_at ts n)) as (λ y. cond {A = ℕ} y 1 0 ≤ 1) [
+      | true ↦ omega arith
+      | false ↦ omega arith
+    ]
+
+-- so each is held once at most
+held_once : (r : Run) → AreTicketsOut r → (n : ℕ) → times_held n r.seats ≤ 1
+held_once r x n = omega (arith, x.held n, few_out n r.book.batches.tickets)
+
 pub quiet_tickets : (r r' : Run) → IsQuiet r r' → AreTicketsOut r → AreTicketsOut r'
 quiet_tickets r r' quiet x = record {
   out =
@@ -42,13 +54,14 @@ quiet_tickets r r' quiet x = record {
       (AllByRecursion-from_map (AllOut r.book.batches) tickets_of r'.seats
       (subst (AllByRecursion (AllOut r.book.batches)) (sym quiet.tickets)
       (AllByRecursion-map (AreOut r.book) (AllOut r.book.batches) tickets_of (λ s y. y) r.seats x.out)));
-  apart = λ n.
+  held = λ n.
       omega (
         arith,
-        x.apart n,
+        x.held n,
         total-map (times_among n) tickets_of r.seats,
         total-map (times_among n) tickets_of r'.seats,
         ap (total (times_among n)) quiet.tickets,
+        ap (λ (b : BookView). times_out n b.batches.tickets) quiet.book,
       );
 }
 
@@ -61,7 +74,7 @@ tickets_by r r' same seats x = record {
       (λ s y. AllByRecursion-weaker (λ (k : TicketView). is_ticket_out r.book.batches k ≡ true) (λ (k : TicketView). is_ticket_out r'.book.batches k ≡ true)
       (λ k e. ap (λ (ts : List (Option (Outgoing ParcelsView))). is_its k (ticket_at ts k.number)) same ∙ e) s.tickets y)
       r.seats x.out);
-  apart = λ n. omega (arith, x.apart n, ap (times_held n) seats);
+  held = λ n. omega (arith, x.held n, ap (times_held n) seats, ap (times_out n) same);
 }
 
 -- one seat is replaced by one with the same tickets
@@ -70,7 +83,7 @@ seat_tickets r x k s s' e same = record {
   out =
       AllByRecursion-set (AreOut r.book) r.seats k s' x.out
       (subst (AllOut r.book.batches) (sym same) (AllByRecursion-slice_get (AreOut r.book) r.seats k s x.out e));
-  apart = λ n. omega (arith, x.apart n, total-set (times_in n) r.seats k s s' e, ap (times_among n) same);
+  held = λ n. omega (arith, x.held n, total-set (times_in n) r.seats k s s' e, ap (times_among n) same);
 }
 
 -- ---- a ticket more
@@ -78,6 +91,19 @@ seat_tickets r x k s s' e same = record {
 pub newest : (ts : List (Option (Outgoing ParcelsView))) (o : Outgoing ParcelsView) → ticket_at (ts ++ Some o ∷ []) (length ts) ≡ Some o
 newest [] o = refl
 newest (t ∷ ts) o = newest ts o
+
+-- the others are those that were there
+others_there : (ts : List (Option (Outgoing ParcelsView))) (o : Option (Outgoing ParcelsView)) (n : ℕ) → n ≢ length ts → ticket_at (ts ++ o ∷ []) n ≡ ticket_at ts n
+others_there [] o zero other = absurd (other refl)
+others_there [] o (suc n) other = refl
+others_there (t ∷ ts) o zero other = refl
+others_there (t ∷ ts) o (suc n) other = others_there ts o n (λ same. other (ap suc same))
+
+-- one that is spent is not there
+spent_none : (ts : List (Option (Outgoing ParcelsView))) (n : ℕ) → ticket_at (set ts n None) n ≡ None
+spent_none [] n = refl
+spent_none (t ∷ ts) zero = refl
+spent_none (t ∷ ts) (suc n) = spent_none ts n
 
 module _ (q : Batches ParcelsView) where
   -- a ticket that is out is so if there is one more
@@ -117,9 +143,57 @@ module _ (q : Batches ParcelsView) where
       let o : Outgoing ParcelsView = record { first = k.first; end = k.end; released = released } in
       ap (is_its k) (newest q.tickets o) ∙ and_from (o.first == k.first) (o.end == k.end) (eq-eqb o.first k.first refl) (eq-eqb o.end k.end refl)
 
+-- ---- what a ticket is redeemed for
+
+-- a ticket is given up for this
+abbrev gives_all : Redeemed ParcelsView → Bool
+gives_all (given.Released receipt parcels) = true
+gives_all (given.NotYet again) = false
+gives_all given.Void = true
+
+module _ (q : Batches ParcelsView) (k : TicketView) where
+  abbrev is_free : Bool
+  is_free = are_acknowledged q.queue k.first k.end || q.halted
+
+  -- it is given up only where it is spent
+  spends_by : (acknowledged halted : Bool) (released : ParcelsView)
+      → gives_all (cond acknowledged (given.Released (record { first = k.first; end = k.end }) released) (cond halted given.Void (given.NotYet k))) ≡ true
+      → (acknowledged || halted) ≡ true
+  spends_by true halted released all = refl
+  spends_by false true released all = refl
+  spends_by false false released all = absurd (true≢false (sym all))
+
+  spends_at : (a : Redeemed ParcelsView) (slot : Option (Outgoing ParcelsView)) → answer_for q k slot ≡ Ok a → gives_all a ≡ true → is_free ≡ true
+  spends_at a None e all = absurd (cc)
+  spends_at a (Some o) e all =
+      elim (is_its k (Some o)) as (λ y. cond {A = Result (Redeemed ParcelsView) NotOut} y (Ok (given_for q k o.released)) (Err (record {})) ≡ Ok a → is_free ≡ true) [
+        | true ↦ λ e.
+            let same : given_for q k o.released ≡ a = cc in
+            spends_by (are_acknowledged q.queue k.first k.end) q.halted o.released (ap gives_all same ∙ all)
+        | false ↦ λ e. absurd (cc)
+      ] e
+
+  spends : (a : Redeemed ParcelsView) → redeemed_for q k ≡ Ok a → gives_all a ≡ true → is_free ≡ true
+  spends a e all = spends_at a (ticket_at q.tickets k.number) e all
+
+  -- one that is out is not refused
+  refused_at : (error : NotOut) (slot : Option (Outgoing ParcelsView)) → is_its k slot ≡ true → answer_for q k slot ≡ Err error → ⊥
+  refused_at error None its e = true≢false (sym its)
+  refused_at error (Some o) its e =
+      let given : answer_for q k (Some o) ≡ Ok (given_for q k o.released) =
+      ap (λ y. cond {A = Result (Redeemed ParcelsView) NotOut} y (Ok (given_for q k o.released)) (Err (record {}))) its
+      in
+      cc
+
+  never_refused : (error : NotOut) → is_ticket_out q k ≡ true → redeemed_for q k ≡ Err error → ⊥
+  never_refused error its e = refused_at error (ticket_at q.tickets k.number) its e
+
 module _ (r : Run) (x : AreTicketsOut r) where
   abbrev q : Batches ParcelsView
   q = r.book.batches
+
+  new_once : (count : ℕ) (released : ParcelsView) → times_out (length q.tickets) (steps.entered count released q).tickets ≡ 1
+  new_once count released = ap (λ (o : Option (Outgoing ParcelsView)). cond {A = ℕ} (is_some o) 1 0) (newest q.tickets _)
 
   -- a seat has the ticket of a new batch
   pub with_ticket :
@@ -141,18 +215,26 @@ module _ (r : Run) (x : AreTicketsOut r) where
         out =
             subst (λ (v : Batches ParcelsView). AllByRecursion (λ (s : Seat). AllOut v s.tickets) r'.seats) (sym batches)
             (subst (AllByRecursion (λ (s : Seat). AllOut b' s.tickets)) (sym seats) (AllByRecursion-set (λ (s : Seat). AllOut b' s.tickets) r.seats k s' old all));
-        apart = λ n.
+        held = λ n.
             let more : times_among n s'.tickets ≡ times_among n s.tickets + cond {A = ℕ} (new.number == n) 1 0 =
             ap (times_among n) held ∙ omega (arith, total-append (λ (k : TicketView). cond {A = ℕ} (k.number == n) 1 0) s.tickets (new ∷ []))
             in
             let count_is : times_held n r'.seats ≡ times_held n r.seats + cond {A = ℕ} (new.number == n) 1 0 =
             omega (arith, ap (times_held n) seats, total-set (times_in n) r.seats k s s' e, more)
             in
-            elim (new.number == n) as (λ y. (new.number == n) ≡ y → times_held n r'.seats ≡ times_held n r.seats + cond {A = ℕ} y 1 0 → times_held n r'.seats ≤ 1) [
+            let out : times_out n r'.book.batches.tickets ≡ times_out n b'.tickets = ap (λ (v : Batches ParcelsView). times_out n v.tickets) batches in
+            elim (new.number == n) as (λ y. (new.number == n) ≡ y → times_held n r'.seats ≡ times_held n r.seats + cond {A = ℕ} y 1 0 → times_held n r'.seats ≡ times_out n r'.book.batches.tickets) [
               | true ↦ λ is c.
-                  let le : length q.tickets ≤ n = omega (arith, eqb-true new.number n is) in
-                  omega (arith, c, none_held q n r.seats le x.out)
-              | false ↦ λ _ c. omega (arith, c, x.apart n)
+                  let same : new.number ≡ n = eqb-true new.number n is in
+                  let le : length q.tickets ≤ n = omega (arith, same) in
+                  let one : times_out n b'.tickets ≡ 1 = subst (λ (m : ℕ). times_out m b'.tickets ≡ 1) same (new_once count released) in
+                  omega (arith, c, none_held q n r.seats le x.out, out, one)
+              | false ↦ λ is c.
+                  let other : n ≢ length q.tickets = λ same. eqb-false new.number n is (sym same) in
+                  let still : times_out n b'.tickets ≡ times_out n q.tickets =
+                  ap (λ (o : Option (Outgoing ParcelsView)). cond {A = ℕ} (is_some o) 1 0) (others_there q.tickets _ n other)
+                  in
+                  omega (arith, c, x.held n, out, still)
             ] refl count_is;
       }
 
@@ -173,7 +255,7 @@ module _ (r : Run) (x : AreTicketsOut r) where
     pub gone : times_held ticket.number seats' ≡ 0
     gone =
         let one : cond {A = ℕ} (ticket.number == ticket.number) 1 0 ≡ 1 = ap (λ (b : Bool). cond {A = ℕ} b 1 0) (eq-eqb ticket.number ticket.number refl) in
-        omega (arith, fewer ticket.number, one, x.apart ticket.number)
+        omega (arith, fewer ticket.number, one, held_once r x ticket.number)
 
     -- the others are still out where this one is spent
     other_out : (j : TicketView) → (j.number == ticket.number) ≡ false → is_ticket_out q j ≡ true → is_ticket_out (steps.without ticket.number q) j ≡ true
@@ -192,31 +274,55 @@ module _ (r : Run) (x : AreTicketsOut r) where
     all_others [] none all = tt
     all_others (s ∷ seats) none all = (others_out s.tickets (omega (arith, none)) all.0, all_others seats (omega (arith, none)) all.1)
 
-    pub without_ticket : (r' : Run) (free : Bool) → r'.seats ≡ seats' → r'.book.batches ≡ cond free (steps.without ticket.number q) q → AreTicketsOut r'
-    without_ticket r' free seats batches = record {
+    -- the ticket is out no more, and held no more
+    left_held : (n : ℕ) → times_held n seats' ≡ times_out n (set q.tickets ticket.number None)
+    left_held n =
+        elim (ticket.number == n) as (λ y. (ticket.number == n) ≡ y → times_held n seats' ≡ times_out n (set q.tickets ticket.number None)) [
+          | true ↦ λ is.
+              let same : ticket.number ≡ n = eqb-true ticket.number n is in
+              let none : times_out ticket.number (set q.tickets ticket.number None) ≡ 0 =
+              ap (λ (o : Option (Outgoing ParcelsView)). cond {A = ℕ} (is_some o) 1 0) (spent_none q.tickets ticket.number)
+              in
+              subst (λ (m : ℕ). times_held m seats' ≡ times_out m (set q.tickets ticket.number None)) same (omega (arith, gone, none))
+          | false ↦ λ is.
+              let still : times_out n (set q.tickets ticket.number None) ≡ times_out n q.tickets =
+              ap (λ (o : Option (Option (Outgoing ParcelsView))). cond {A = ℕ} (is_some (option_flatten o)) 1 0)
+              (slice_get-set_other q.tickets ticket.number None n (λ same. eqb-false ticket.number n is (sym same)))
+              in
+              omega (arith, fewer n, x.held n, still, ap (λ (b : Bool). cond {A = ℕ} b 1 0) is)
+        ] refl
+
+    pub without_ticket : (r' : Run) → r'.seats ≡ seats' → r'.book.batches ≡ steps.without ticket.number q → AreTicketsOut r'
+    without_ticket r' seats batches = record {
       out =
           subst (λ (v : Batches ParcelsView). AllByRecursion (λ (s : Seat). AllOut v s.tickets) r'.seats) (sym batches)
-          (subst (AllByRecursion (λ (s : Seat). AllOut (cond free (steps.without ticket.number q) q) s.tickets)) (sym seats)
-          (elim free as (λ y. AllByRecursion (λ (s : Seat). AllOut (cond y (steps.without ticket.number q) q) s.tickets) seats') [
-            | true ↦ all_others seats' gone left_out
-            | false ↦ left_out
-          ]));
-      apart = λ n. omega (arith, x.apart n, fewer n, ap (times_held n) seats);
+          (subst (AllByRecursion (λ (s : Seat). AllOut (steps.without ticket.number q) s.tickets)) (sym seats) (all_others seats' gone left_out));
+      held = λ n.
+          omega (arith, left_held n, ap (times_held n) seats, ap (λ (v : Batches ParcelsView). times_out n v.tickets) batches);
     }
 
+    ticket_out : is_ticket_out q ticket ≡ true
+    ticket_out = (subst (AllOut q) held (AllByRecursion-slice_get (AreOut r.book) r.seats k s x.out e)).0
+
+    spent_by : (r' : Run) (a : Redeemed ParcelsView) → redeemed_for q ticket ≡ Ok a → (gives_all a ≡ true) → r'.seats ≡ seats'
+        → r'.book.batches ≡ steps.redeemed ticket q → AreTicketsOut r'
+    spent_by r' a is all seats batches =
+        without_ticket r' seats
+        (batches ∙ ap (λ (y : Bool). cond y (steps.without ticket.number q) q) (spends q ticket a is all))
+
   redeem_by : (k : ℕ) (s : Seat) (ticket : TicketView) (rest : List TicketView) (a : Result (Redeemed ParcelsView) NotOut)
-      → slice_get r.seats k ≡ Some s → s.tickets ≡ ticket ∷ rest → AreTicketsOut (redeemed_by k r s ticket rest a)
-  redeem_by k s ticket rest (Ok (given.Released receipt parcels)) e held =
-      without_ticket k s ticket rest e held _ refl (redeemed_by k r s ticket rest (Ok (given.Released receipt parcels))) (are_acknowledged q.queue ticket.first ticket.end || q.halted) refl refl
-  redeem_by k s ticket rest (Ok (given.NotYet again)) e held = x
-  redeem_by k s ticket rest (Ok given.Void) e held =
-      without_ticket k s ticket rest e held _ refl (redeemed_by k r s ticket rest (Ok given.Void)) (are_acknowledged q.queue ticket.first ticket.end || q.halted) refl refl
-  redeem_by k s ticket rest (Err error) e held =
-      without_ticket k s ticket rest e held _ refl (redeemed_by k r s ticket rest (Err error)) false refl refl
+      → slice_get r.seats k ≡ Some s → s.tickets ≡ ticket ∷ rest → redeemed_for q ticket ≡ a → AreTicketsOut (redeemed_by k r s ticket rest a)
+  redeem_by k s ticket rest (Ok (given.Released receipt parcels)) e held is =
+      spent_by k s ticket rest e held _ refl (redeemed_by k r s ticket rest (Ok (given.Released receipt parcels))) (given.Released receipt parcels) is refl refl refl
+  redeem_by k s ticket rest (Ok (given.NotYet again)) e held is = x
+  redeem_by k s ticket rest (Ok given.Void) e held is =
+      spent_by k s ticket rest e held _ refl (redeemed_by k r s ticket rest (Ok given.Void)) given.Void is refl refl refl
+  redeem_by k s ticket rest (Err error) e held is =
+      absurd (never_refused q ticket error (ticket_out k s ticket rest e held (record s { tickets = rest }) refl) is)
 
   redeem_of : (k : ℕ) (s : Seat) (tickets : List TicketView) → slice_get r.seats k ≡ Some s → s.tickets ≡ tickets → AreTicketsOut (redeemed_of k r s tickets)
   redeem_of k s [] e held = x
-  redeem_of k s (ticket ∷ rest) e held = redeem_by k s ticket rest (redeemed_for q ticket) e held
+  redeem_of k s (ticket ∷ rest) e held = redeem_by k s ticket rest (redeemed_for q ticket) e held refl
 
   pub redeem_tickets : (k : ℕ) (os : Option Seat) → slice_get r.seats k ≡ os → AreTicketsOut (redeemed k r os)
   redeem_tickets k None e = x

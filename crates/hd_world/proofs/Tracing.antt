@@ -1,18 +1,22 @@
 -- The search of each run is one that the search which a schedule begins with may become.
-use Rattle.std.proofs.Common.{◌≡◌, ◌⊎◌, inl, inr, ℕ, List, [], ◌∷◌, ◌++◌, length, refl, sym, ap, subst}
+use Rattle.std.proofs.Common.{◌≡◌, ◌⊎◌, inl, inr, ℕ, true, false, Option, Some, None, List, [], ◌∷◌, ◌++◌, length, slice_get, refl, sym, ap, subst}
 use Rattle.hd_task.specs.declared.task.Task.{Task}
 use Rattle.hd_image.specs.declared.header.TheConstants.{DIGEST_LEN}
 use Rattle.hd_image.specs.Image.{most_of}
+use Rattle.hd_journal.specs.Group.{GroupView}
 use Rattle.hd_entries.specs.Settling.{IsKept}
 use Rattle.hd_entries.specs.Resuming.{resumed_state}
+use Rattle.hd_book.specs.Refusing.{refusal_to}
+use Rattle.hd_turns.specs.Calls.{batch_of}
 use Rattle.hd_world.specs.declared.moves.Move.{Move}
 use Rattle.hd_world.specs.declared.moves.Move.TheVariants as moves
-use Rattle.hd_world.specs.Seats.{Run}
+use Rattle.hd_world.specs.Seats.{Seat, Run}
+use Rattle.hd_world.specs.Moves.{may_commit}
 use Rattle.hd_world.specs.Stops.{File, Anything, entries_of}
 use Rattle.hd_world.specs.World.{World, Stopped, Running, StepsTo, Plays, IsBeginning, Reaches}
 use Rattle.hd_world.specs.Search.{Search, search_in, IsMoved, Stays, Lengthens, IsAcknowledged, IsCut, LeadsOver, MayBecome, search_of}
 use Rattle.hd_world.specs.Once.{IsWhole}
-use Rattle.hd_world.specs.Headline.{MovesSearch}
+use Rattle.hd_world.specs.Headline.{IfCommits, IfAcked, MovesSearch}
 use Rattle.hd_world.specs.Sound.{IsSound}
 use Rattle.hd_world.specs.Left.{Doing, IsLeft}
 use Rattle.hd_world.specs.Lasting.{doing_in, IsRunAfter}
@@ -32,22 +36,36 @@ leads_then t a (v ∷ via) b c leads moved = (leads.0, leads_then t v via b c le
 becomes_then : (t : Task) (a b c : Search) → MayBecome t a b → IsMoved t b c → MayBecome t a c
 becomes_then t a b c may moved = (may.0 ++ c ∷ [], leads_then t a may.0 b c may.1 moved)
 
+commit_moved : (t : Task) (r r' : Run) (k : ℕ) (os : Option Seat) → IfCommits t r k os r' → IsMoved t (search_of r) (search_of r')
+commit_moved t r r' k None x = Stays x
+commit_moved t r r' k (Some s) x =
+    elim (may_commit s) as (λ v. may_commit s ≡ v → IsMoved t (search_of r) (search_of r')) [
+      | false ↦ λ may. Stays (x.idle may)
+      | true ↦ λ may.
+          elim (refusal_to r.book (batch_of s.worker)) as (λ o. refusal_to r.book (batch_of s.worker) ≡ o → IsMoved t (search_of r) (search_of r')) [
+            | None ↦ λ free. let is = x.accepted may free in Lengthens is.more is.extends
+            | Some why ↦ λ is. Stays (x.refused why is)
+          ] refl
+    ] refl
+
+ack_moved : (t : Task) (r r' : Run) (g : Option GroupView) → IfAcked r g r' → IsMoved t (search_of r) (search_of r')
+ack_moved t r r' None x = Stays x
+ack_moved t r r' (Some g) x = IsAcknowledged x.more
+
 -- what a move makes of the search of a run
 is_moved : (t : Task) (r r' : Run) (m : Move) → MovesSearch t r m r' → IsMoved t (search_of r) (search_of r')
 is_moved t r r' (moves.Resume workers stop) x = Stays x
 is_moved t r r' (moves.Pop k) x = Stays x
 is_moved t r r' (moves.Take k) x = Stays x
 is_moved t r r' (moves.Expand k place) x = Stays x
-is_moved t r r' (moves.Commit k) (inl same) = Stays same
-is_moved t r r' (moves.Commit k) (inr accepted) = Lengthens accepted.more accepted.extends
+is_moved t r r' (moves.Commit k) x = commit_moved t r r' k (slice_get r.seats k) x
 is_moved t r r' (moves.Redeem k) x = Stays x
 is_moved t r r' (moves.Push k) x = Stays x
 is_moved t r r' (moves.Offer k) x = Stays x
 is_moved t r r' (moves.Load k) x = Stays x
 is_moved t r r' moves.Pull x = Stays x
 is_moved t r r' moves.Flush x = Stays x
-is_moved t r r' moves.Ack (inl same) = Stays same
-is_moved t r r' moves.Ack (inr more) = IsAcknowledged more
+is_moved t r r' moves.Ack x = ack_moved t r r' r.flushed x
 is_moved t r r' (moves.Stop stop) x = Stays x
 
 -- ---- worlds

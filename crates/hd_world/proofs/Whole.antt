@@ -10,8 +10,9 @@ use Rattle.hd_world.specs.Sound.{IsSound}
 use Rattle.hd_world.specs.Headline.{IsHeadline, Headline}
 use Rattle.hd_world.proofs.Admitting.{all_admissible}
 use Rattle.hd_world.proofs.Ending.{nothing_left}
+use Rattle.hd_world.proofs.Closing.{run_ends}
 use Rattle.hd_world.proofs.Playing.{reached_sound}
-use Rattle.hd_world.proofs.Clauses.{empty, first, stops, opens, unrefused, recovers}
+use Rattle.hd_world.proofs.Clauses.{empty, first, stops, rebuilt, opens, unrefused, recovers, resumes}
 use Rattle.hd_world.proofs.Answering.{answers_truly}
 use Rattle.hd_world.proofs.Stepping.{steps_search}
 use Rattle.hd_world.proofs.Tracing.{runs, whole}
@@ -26,10 +27,13 @@ module _ (t : Task) (digest : List ℕ) (len : length digest ≡ DIGEST_LEN) (st
     first = first t digest len start earlier begins;
     runs = runs t digest len start earlier begins;
     moves = λ moves f f' r r' m reaches step. steps_search t digest f f' r r' (sound moves f r reaches) m step;
+    closes = λ moves f r m content reaches step. run_ends t digest f r (sound moves f r reaches) content m step;
     stops = stops t digest len start earlier begins;
+    rebuilt = λ moves content workers stop f r reaches step. rebuilt t digest len start earlier begins moves content reaches workers stop f r step;
     opens = λ moves content reaches. opens t digest len start earlier begins moves content reaches;
     unrefused = λ moves content error reaches refused. unrefused t digest len start earlier begins moves content reaches error refused;
     recovers = λ moves content calls f reaches o. recovers t digest len start earlier begins moves content reaches calls f o;
+    resumes = λ moves content workers some most reaches. resumes t digest len start earlier begins moves content reaches workers some most;
     admissible = λ moves f r reaches. all_admissible t f r (sound moves f r reaches);
     whole = whole t digest len start earlier begins;
     ends = λ moves f r reaches idle. nothing_left r (sound moves f r reaches).truth.kept (whole t digest len start earlier begins moves f r reaches) idle;

@@ -1,7 +1,8 @@
 -- The headline: what holds of every schedule, whatever its stops leave of the disk. (Our own.)
-use Rattle.std.specs.Prelude.{◌≡◌, ◌⊎◌, ℕ, ◌≤◌, true, List, [], ◌∷◌, ◌++◌, length, take, flat_map, map, Option, Some, None, slice_get}
+use Rattle.std.specs.Prelude.{◌≡◌, ◌⊎◌, ℕ, ◌+◌, ◌<◌, ◌≤◌, true, false, List, [], ◌∷◌, ◌++◌, length, take, flat_map, map, Option, Some, None, slice_get}
 use Rattle.std.specs.List.{AllByRecursion}
 use Rattle.hd_task.specs.declared.task.Task.{Task}
+use Rattle.hd_task.specs.declared.plan.Kid.{Kid}
 use Rattle.hd_task.specs.Entries.{plan_of}
 use Rattle.hd_zobrist.specs.declared.owners.TheConstants.{MAX_WORKERS}
 use Rattle.hd_image.specs.declared.error.ImageError.{ImageError}
@@ -13,10 +14,12 @@ use Rattle.hd_journal.specs.Calls.{Call}
 use Rattle.hd_journal.specs.Group.{GroupView}
 use Rattle.hd_entries.specs.declared.refusal.Refusal.TheVariants.{Full}
 use Rattle.hd_entries.specs.declared.verdict.Verdict.{Verdict}
-use Rattle.hd_entries.specs.Settling.{expansions, entry_of}
+use Rattle.hd_entries.specs.Settling.{expansions, entry_of, is_posted}
+use Rattle.hd_entries.specs.Resuming.{has}
 use Rattle.hd_entries.specs.Answers.{is_over, IsCoveredBook, IsAnswerOf, IsBoundPlanOf, IsValidPlan, IsTrueAnswer}
 use Rattle.hd_book.specs.Batches.{TicketView, is_ticket_out}
 use Rattle.hd_book.specs.Queue.{group_end, is_idle}
+use Rattle.hd_book.specs.declared.refusal.CommitRefusal.{CommitRefusal}
 use Rattle.hd_book.specs.declared.refusal.CommitRefusal.TheVariants.{Refused}
 use Rattle.hd_book.specs.View.{BookView}
 use Rattle.hd_book.specs.Groups.{is_group_out}
@@ -26,11 +29,13 @@ use Rattle.hd_world.specs.declared.moves.Move.{Move}
 use Rattle.hd_world.specs.declared.moves.StopAt.{StopAt}
 use Rattle.hd_world.specs.declared.moves.Move.TheVariants.{Resume, Pop, Take, Expand, Commit, Redeem, Push, Offer, Load, Pull, Flush, Ack, Stop}
 use Rattle.hd_world.specs.Seats.{Seat, Run}
-use Rattle.hd_world.specs.Once.{IsWhole, IsIdle, times_held}
+use Rattle.hd_world.specs.Moves.{may_commit}
+use Rattle.hd_world.specs.Once.{IsWhole, IsIdle, times_held, times_out}
+use Rattle.hd_world.specs.Owners.{IsOpenIn, IsClosedIn}
 use Rattle.hd_world.specs.Starting.{run_after}
 use Rattle.hd_world.specs.Stops.{File, Anything, Opens, entries_of, is_next}
 use Rattle.hd_world.specs.World.{Stopped, Running, is_recovered, StepsTo, IsBeginning, Reaches}
-use Rattle.hd_world.specs.Search.{first_search, search_in, Extends, Acknowledges, IsCutTo, MayBecome, search_of}
+use Rattle.hd_world.specs.Search.{Search, first_search, search_in, Extends, Acknowledges, IsCutTo, MayBecome, search_of}
 
 -- ---- one run
 
@@ -43,22 +48,61 @@ pub record IsAccepted (t : Task) (r : Run) (k : ℕ) (r' : Run) : Type 0 where
   pub plans : map (plan_of (expansions r'.book.state)) (flat_map entry_of (batch_of seat.worker)) ≡ map Some more
   pub extends : Extends t (search_of r) (search_of r') more
 
+-- what a commit of a worker makes of the search: it is accepted exactly where the worker may commit
+-- and the book does not refuse its batch, and else changes nothing
+pub record CommitsSearch (t : Task) (r : Run) (k : ℕ) (s : Seat) (r' : Run) : Type 0 where
+  pub accepted : may_commit s ≡ true → refusal_to r.book (batch_of s.worker) ≡ None → IsAccepted t r k r'
+  pub refused : (why : CommitRefusal) → refusal_to r.book (batch_of s.worker) ≡ Some why → search_of r' ≡ search_of r
+  pub idle : may_commit s ≡ false → search_of r' ≡ search_of r
+
+-- what a commit makes of it, by the seat of its worker, if there is one
+abbrev pub IfCommits : Task → Run → ℕ → Option Seat → Run → Type 0
+IfCommits t r k None r' = search_of r' ≡ search_of r
+IfCommits t r k (Some s) r' = CommitsSearch t r k s r'
+
+-- all entries are acknowledged up to the end of a group
+pub record IsAcked (a : Search) (g : GroupView) (b : Search) : Type 0 where
+  pub more : Acknowledges a b
+  pub all : b.acknowledged ≡ g.first + length g.kids
+
+-- what `ack` makes of it, by the group that was appended, if one was
+abbrev pub IfAcked : Run → Option GroupView → Run → Type 0
+IfAcked r None r' = search_of r' ≡ search_of r
+IfAcked r (Some g) r' = IsAcked (search_of r) g (search_of r')
+
 -- what a move makes of the search of a run: a commit that is accepted lengthens it by exactly its
--- expansions, `ack` acknowledges, and no other move changes it
+-- expansions, `ack` acknowledges the group that was appended, and no other move changes it
 abbrev pub MovesSearch : Task → Run → Move → Run → Type 0
 MovesSearch t r (Resume workers stop) r' = search_of r' ≡ search_of r
 MovesSearch t r (Pop k) r' = search_of r' ≡ search_of r
 MovesSearch t r (Take k) r' = search_of r' ≡ search_of r
 MovesSearch t r (Expand k place) r' = search_of r' ≡ search_of r
-MovesSearch t r (Commit k) r' = (search_of r' ≡ search_of r) ⊎ IsAccepted t r k r'
+MovesSearch t r (Commit k) r' = IfCommits t r k (slice_get r.seats k) r'
 MovesSearch t r (Redeem k) r' = search_of r' ≡ search_of r
 MovesSearch t r (Push k) r' = search_of r' ≡ search_of r
 MovesSearch t r (Offer k) r' = search_of r' ≡ search_of r
 MovesSearch t r (Load k) r' = search_of r' ≡ search_of r
 MovesSearch t r Pull r' = search_of r' ≡ search_of r
 MovesSearch t r Flush r' = search_of r' ≡ search_of r
-MovesSearch t r Ack r' = (search_of r' ≡ search_of r) ⊎ Acknowledges (search_of r) (search_of r')
+MovesSearch t r Ack r' = IfAcked r r.flushed r'
 MovesSearch t r (Stop stop) r' = search_of r' ≡ search_of r
+
+-- a run ends where a stop falls, or where the book has no room for a batch that a worker commits
+abbrev pub IsEnding : Run → Move → Type 0
+IsEnding r (Resume workers stop) = ⊥
+IsEnding r (Pop k) = ⊥
+IsEnding r (Take k) = ⊥
+IsEnding r (Expand k place) = ⊥
+IsEnding r (Commit k) =
+    (s : Seat) × (slice_get r.seats k ≡ Some s) × (may_commit s ≡ true) × (refusal_to r.book (batch_of s.worker) ≡ Some (Refused Full))
+IsEnding r (Redeem k) = ⊥
+IsEnding r (Push k) = ⊥
+IsEnding r (Offer k) = ⊥
+IsEnding r (Load k) = ⊥
+IsEnding r Pull = ⊥
+IsEnding r Flush = ⊥
+IsEnding r Ack = ⊥
+IsEnding r (Stop stop) = Unit {0}
 
 -- the group is the one that is out, if there is one
 abbrev pub IfOut : Run → Option GroupView → Type 0
@@ -82,15 +126,16 @@ abbrev pub written_count : BookView → Option GroupView → ℕ
 written_count b None = b.batches.queue.acknowledged
 written_count b (Some g) = group_end b.batches.queue
 
--- no batch is refused for what it says; and no ticket and no group is refused: each ticket is
--- out, and held once; the group that was pulled may be appended, or handed back, and the one that
--- was appended may be acknowledged; and the journal's entries are the book's first ones
+-- no batch is refused for what it says; and no ticket and no group is refused: each ticket that is
+-- held is out, and each one that is out is held once, by one worker; the group that was pulled may
+-- be appended, or handed back, and the one that was appended may be acknowledged; and the journal's
+-- entries are the book's first ones
 pub record AllIsAdmissible (f : File) (r : Run) : Type 0 where
   pub seats : AllByRecursion (IsAdmissible r) r.seats
   pub group : IfNext f r.group
   pub pulled : IfOut r r.group
   pub flushed : IfOut r r.flushed
-  pub once : (n : ℕ) → times_held n r.seats ≤ 1
+  pub held : (n : ℕ) → times_held n r.seats ≡ times_out n r.book.batches.tickets
   pub written : entries_of f ≡ take (written_count r.book r.flushed) r.book.state.entries
 
 -- what a run answers is true of all plans, or names the first departure that was recorded; the
@@ -119,14 +164,15 @@ MayBeLeftBy b None None left = left ≡ b.batches.queue.acknowledged
 abbrev pub MayBeLeft : Run → ℕ → Type 0
 MayBeLeft r left = MayBeLeftBy r.book r.group r.flushed left
 
--- a search goes on, with so many workers, from what was left of another: it is the search after a
--- beginning that has all acknowledged entries
-pub record IsResumed (r : Run) (t : Task) (workers : ℕ) (f' : File) (r' : Run) : Type 0 where
+-- a search goes on, with so many workers, from what was left of another over a journal: it is the
+-- search after a beginning that has all acknowledged entries, and the journal's version stays
+pub record IsResumed (f : File) (r : Run) (t : Task) (workers : ℕ) (f' : File) (r' : Run) : Type 0 where
   pub left : ℕ
   pub some : 1 ≤ workers
   pub most : workers ≤ MAX_WORKERS
   pub cut : IsCutTo (search_of r) (search_of r') left
   pub may : MayBeLeft r left
+  pub version : f'.version ≡ f.version
   pub is : r' ≡ run_after t (most_of f'.version) workers (take left r.book.state.entries)
 
 -- a search goes on, with so many workers, from a journal that was there before
@@ -134,6 +180,14 @@ pub record IsFirst (t : Task) (earlier : File) (workers : ℕ) (f : File) (r : R
   pub file : f ≡ earlier
   pub is : r ≡ run_after t (most_of earlier.version) workers (entries_of earlier)
   pub search : search_of r ≡ search_in t earlier
+
+-- where a run begins, with so many workers: its entries are those of its journal; and each of them
+-- is closed, and each other successor open, at the worker that owns its state
+pub record IsRebuilt (workers : ℕ) (f : File) (r : Run) : Type 0 where
+  pub seats : length r.seats ≡ workers
+  pub entries : r.book.state.entries ≡ entries_of f
+  pub closed : (n : ℕ) → n < length (entries_of f) → IsClosedIn r n
+  pub waiting : (k : Kid) → is_posted r.book.state k ≡ true → has (entries_of f) k ≡ false → IsOpenIn r k
 
 -- ---- all of it
 
@@ -151,13 +205,22 @@ pub record IsHeadline (t : Task) (digest start : List ℕ) (earlier : File) : Ty
   pub moves :
       (moves : List Move) (f f' : File) (r r' : Run) (m : Move) → Reaches Anything t digest start moves (Running f r)
       → StepsTo Anything t digest (Running f r) m (Running f' r') → MovesSearch t r m r'
+  -- a run ends by nothing but a stop, or a batch for which the book has no room
+  pub closes :
+      (moves : List Move) (f : File) (r : Run) (m : Move) (content : List ℕ) → Reaches Anything t digest start moves (Running f r)
+      → StepsTo Anything t digest (Running f r) m (Stopped content) → IsEnding r m
   -- where a run ends, and after moves during which nothing runs one goes on, a beginning of the
   -- search is left that has all acknowledged entries
   pub stops :
       (before between : List Move) (f f' : File) (r r' : Run) (m : Move) (workers : ℕ) (stop : Option StopAt) (content left : List ℕ)
       → Reaches Anything t digest start before (Running f r) → StepsTo Anything t digest (Running f r) m (Stopped content)
       → Rests t digest content between left → StepsTo Anything t digest (Stopped left) (Resume workers stop) (Running f' r')
-      → IsResumed r t workers f' r'
+      → IsResumed f r t workers f' r'
+  -- each run begins with all entries closed and all else open, each at its owner
+  pub rebuilt :
+      (moves : List Move) (content : List ℕ) (workers : ℕ) (stop : Option StopAt) (f : File) (r : Run)
+      → Reaches Anything t digest start moves (Stopped content)
+      → StepsTo Anything t digest (Stopped content) (Resume workers stop) (Running f r) → IsRebuilt workers f r
   -- so the search of each run is one that the earlier search may become
   pub runs : (moves : List Move) (f : File) (r : Run) → Reaches Anything t digest start moves (Running f r) → MayBecome t (search_in t earlier) (search_of r)
   -- no file that stops left is refused, and no entry of it is faulty
@@ -168,6 +231,11 @@ pub record IsHeadline (t : Task) (digest start : List ℕ) (earlier : File) : Ty
   pub recovers :
       (moves : List Move) (content : List ℕ) (calls : List Call) (f : File) → Reaches Anything t digest start moves (Stopped content)
       → Opens digest content calls f → is_recovered t f ≡ true
+  -- so what is left is resumed, with any number of workers from 1 to `MAX_WORKERS`
+  pub resumes :
+      (moves : List Move) (content : List ℕ) (workers : ℕ) → 1 ≤ workers → workers ≤ MAX_WORKERS
+      → Reaches Anything t digest start moves (Stopped content)
+      → (f : File) × (r : Run) × StepsTo Anything t digest (Stopped content) (Resume workers None) (Running f r)
   -- no commit, no ticket and no group is refused for what it says
   pub admissible : (moves : List Move) (f : File) (r : Run) → Reaches Anything t digest start moves (Running f r) → AllIsAdmissible f r
   -- no successor is lost: each that is posted and not settled is in exactly one place; so where

@@ -3,9 +3,10 @@ use Rattle.std.specs.Prelude.{◌≡◌, ◌⊎◌, ℕ, List}
 use Rattle.hd_task.specs.declared.plan.Kid.{Kid}
 use Rattle.hd_store.specs.Device.{Device}
 use Rattle.hd_store.specs.Stop.{MayLeave}
+use Rattle.hd_image.specs.declared.version.Version.{Version}
 use Rattle.hd_image.specs.declared.version.Version.TheVariants.{Two}
 use Rattle.hd_image.specs.Image.{IsGroup}
-use Rattle.hd_image.specs.Stops.{IsClosed, IsBeforeOrAfter, IsMaking}
+use Rattle.hd_image.specs.Stops.{IsClosed, IsBeforeOrAfter, IsMaking, IsOpeningHeader}
 use Rattle.hd_world.specs.Stops.{File, first_file, AreGroups, with_group}
 
 -- what was going on when the first of some stops fell: a journal was being made; or one stood
@@ -32,6 +33,11 @@ abbrev pub IsFoundAfter : Doing → File → Type 0
 IsFoundAfter Making found = found ≡ first_file
 IsFoundAfter (Standing f) found = found ≡ f
 IsFoundAfter (Appending f next) found = (found ≡ f) ⊎ (found ≡ with_group next f)
+
+-- what stops leave while a header of this version is opened that has no groups after it: it stands
+-- there, whatever its gate reads; or, if that read 0, the header of a new journal is being made
+abbrev pub IsHeaderLeft : Version → List ℕ → List ℕ → Type 0
+IsHeaderLeft v digest content = IsMaking Two digest content ⊎ IsOpeningHeader v digest content
 
 -- a stop may leave this content of a disk
 abbrev pub StopMayLeave : Device → List ℕ → Type 0

@@ -1,5 +1,5 @@
 -- In how many places of a running search a successor is. (Our own.)
-use Rattle.std.specs.Prelude.{◌≡◌, ℕ, ◌+◌, ◌≤◌, ◌==◌, if◌then◌else◌, List, [], ◌∷◌, Option, Some, None}
+use Rattle.std.specs.Prelude.{◌≡◌, ℕ, ◌+◌, ◌≤◌, ◌==◌, if◌then◌else◌, List, [], ◌∷◌, Option, Some, None, is_some}
 use Rattle.hd_task.specs.declared.plan.Kid.{Kid}
 use Rattle.hd_tables.specs.Kids.{same_kid}
 use Rattle.hd_node.specs.declared.batch.Outcome.{Outcome}
@@ -8,6 +8,7 @@ use Rattle.hd_entries.specs.Settling.{BookState, is_marked}
 use Rattle.hd_entries.specs.Holding.{Released}
 use Rattle.hd_book.specs.declared.outgoing.Outgoing.{Outgoing}
 use Rattle.hd_book.specs.Batches.{TicketView}
+use Rattle.hd_book.specs.Slots.{ticket_at}
 use Rattle.hd_book.specs.View.{ParcelsView}
 use Rattle.hd_turns.specs.Worker.{WorkerView}
 use Rattle.hd_world.specs.Seats.{Seat, Run}
@@ -81,3 +82,7 @@ times_in n s = total (λ (k : TicketView). if k.number == n then 1 else 0) s.tic
 -- how often some workers do
 abbrev pub times_held : ℕ → List Seat → ℕ
 times_held n seats = total (times_in n) seats
+
+-- how often the ticket of a number is out: once, or not at all
+abbrev pub times_out : ℕ → List (Option (Outgoing ParcelsView)) → ℕ
+times_out n tickets = if is_some (ticket_at tickets n) then 1 else 0

@@ -13,7 +13,7 @@ use Rattle.hd_book.specs.Queue.{QueueView, group_end, IsQueue}
 use Rattle.hd_book.specs.View.{ParcelsView, BookView}
 use Rattle.hd_book.specs.Groups.{group_of}
 use Rattle.hd_world.specs.Seats.{Seat, Run}
-use Rattle.hd_world.specs.Once.{total, times_held}
+use Rattle.hd_world.specs.Once.{total, times_held, times_out}
 use Rattle.hd_world.specs.Stops.{File, entries_of}
 
 -- ---- tickets
@@ -22,10 +22,10 @@ use Rattle.hd_world.specs.Stops.{File, entries_of}
 abbrev pub AreOut : BookView → Seat → Type 0
 AreOut b s = AllByRecursion (λ (k : TicketView). is_ticket_out b.batches k ≡ true) s.tickets
 
--- each ticket that a worker holds is out, and none is held twice
+-- each ticket that a worker holds is out, and each one that is out is held exactly once
 pub record AreTicketsOut (r : Run) : Type 0 where
   pub out : AllByRecursion (AreOut r.book) r.seats
-  pub apart : (n : ℕ) → times_held n r.seats ≤ 1
+  pub held : (n : ℕ) → times_held n r.seats ≡ times_out n r.book.batches.tickets
 
 -- how many successors a ticket releases that is out
 abbrev pub released_count : Option (Outgoing ParcelsView) → ℕ

@@ -1,18 +1,26 @@
-//! Laws of the disk alone: what a stop leaves in a file, and what is found there. Each function
-//! does nothing: its contract is the law.
-ghost use Rattle.std.specs.Prelude.{◌≡◌, ℕ, List, length};
+//! Laws of the disk alone: what a stop leaves in a file, and what is found there; and that the
+//! journal of a run is hd_journal's. Each function does nothing: its contract is the law.
+ghost use Rattle.std.specs.Prelude.{◌≡◌, ℕ, List, Some, Result, length, true};
 ghost use Rattle.hd_task.specs.declared.plan.Kid.{Kid};
-ghost use Rattle.hd_store.specs.Device.{content_of};
+ghost use Rattle.hd_store.specs.declared.error.StoreError.{StoreError};
+ghost use Rattle.hd_store.specs.Device.{Device, content_of};
 ghost use Rattle.hd_image.specs.declared.header.TheConstants.{DIGEST_LEN};
 ghost use Rattle.hd_image.specs.declared.error.ImageError.{ImageError};
 ghost use Rattle.hd_image.specs.declared.error.ImageError.TheVariants.{NoMemory};
+ghost use Rattle.hd_image.specs.declared.version.Version.{Version};
+ghost use Rattle.hd_image.specs.declared.contents.Found.{Found};
 ghost use Rattle.hd_image.specs.Image.{front};
-ghost use Rattle.hd_image.specs.Reading.{IsRefused};
-ghost use Rattle.hd_journal.specs.Calls.{Call, after_calls};
-ghost use Rattle.hd_journal.specs.Journal.{append_calls};
-ghost use Rattle.hd_journal.specs.Moments.{IsSettled};
-ghost use Rattle.hd_world.specs.Stops.{File, at_rest, bytes_of, stopped_in, with_group, Opens};
-ghost use Rattle.hd_world.specs.Left.{Doing, Appending, IsFoundAfter, IsLeft, HasGroups, StopMayLeave};
+ghost use Rattle.hd_image.specs.Reading.{IsFound, IsRefused};
+ghost use Rattle.hd_journal.specs.Calls.{Call, Ran, after_calls};
+ghost use Rattle.hd_journal.specs.Answers as journals;
+ghost use Rattle.hd_journal.specs.Group.{GroupView};
+ghost use Rattle.hd_journal.specs.Journal.{IsOf, append_calls, kids_of, open_calls};
+ghost use Rattle.hd_journal.specs.Moments.{IsSettled, LeavesSince};
+ghost use Rattle.hd_world.specs.Stops.{File, appending, at_rest, bytes_of, entries_of, is_next, stopped_in, with_group, Opens};
+ghost use Rattle.hd_world.specs.Left.{Doing, Appending, IsFoundAfter, IsHeaderLeft, IsLeft, HasGroups, StopMayLeave};
+
+use hd_journal::Journal;
+use hd_store::Store;
 
 /// Law: a stop within any of the calls that append a group, or before them, leaves the groups with
 /// anything after their closed gate, or the whole new group after a gate that reads anything.
@@ -30,6 +38,17 @@ pub fn a_stop_in_an_opening_leaves_as_much()
         (c : ℕ) (left : List ℕ) → length digest ≡ DIGEST_LEN → HasGroups doing
         → IsLeft digest doing content → Opens digest content calls f
         → StopMayLeave (stopped_in (at_rest content) calls c) left → IsLeft digest doing left }
+{}
+
+/// Law: while a header of either version is opened that an earlier stop left, whatever its gate
+/// reads, and no group stands after it, a stop at any moment leaves again what that one may have
+/// left: from the device as it was, until `Journal::open` has made these calls or broken off.
+pub fn a_stop_in_the_opening_of_a_header_leaves_as_much()
+    ensures { (v : Version) (digest : List ℕ) (found : Found) (old new : Device)
+        (result : Result (Unit {0}) StoreError) → length digest ≡ DIGEST_LEN → IsSettled old
+        → IsHeaderLeft v digest (content_of old) → IsFound digest (content_of old) found
+        → Ran old (open_calls digest found) result new
+        → LeavesSince (IsHeaderLeft v digest) old new }
 {}
 
 /// Law: what stops left is opened, and the journal that is there then is the one that stood there,
@@ -75,4 +94,18 @@ pub fn calls_that_were_done_leave_a_journal()
     ensures appended_surely { (digest : List ℕ) (f : File) (next : List Kid)
         → IsSettled (after_calls (at_rest (bytes_of digest f))
         (append_calls f.version (length (front f.version digest f.groups)) next)) }
+{}
+
+/// Law: where the journal of a run stands on a store, its entries are the run's, it takes just the
+/// groups that may be appended there, and by the same calls.
+pub fn the_journal_of_a_run_is_a_journal<S: Store>(_journal: &Journal<S>)
+    ensures entries { (digest : List ℕ) (f : File) → IsOf digest f.groups _journal.now
+        → kids_of _journal.now ≡ entries_of f }
+    ensures next { (digest : List ℕ) (f : File) (g : GroupView)
+        → IsOf digest f.groups _journal.now → _journal.now.version ≡ f.version
+        → journals.is_next _journal.now g ≡ is_next f g }
+    ensures calls { (digest : List ℕ) (f : File) (g : GroupView)
+        → IsOf digest f.groups _journal.now → _journal.now.version ≡ f.version
+        → journals.is_next _journal.now g ≡ true → appending f digest (Some g)
+        ≡ append_calls _journal.now.version _journal.now.last_gate g.kids }
 {}

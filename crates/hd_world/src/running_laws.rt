@@ -2,17 +2,22 @@
 ghost use Rattle.std.specs.Prelude.{◌≡◌, ◌⊎◌, ◌≤◌, ℕ, Some, None, [], length, slice_get, false, true};
 ghost use Rattle.std.specs.List.{AllByRecursion};
 ghost use Rattle.hd_task.specs.declared.task.Task.{Task};
+ghost use Rattle.hd_hmax.specs.Rounds.{hmax};
+ghost use Rattle.hd_node.specs.declared.batch.Outcome.{Outcome};
 ghost use Rattle.hd_entries.specs.declared.refusal.Refusal.TheVariants.{SettledBefore};
 ghost use Rattle.hd_image.specs.Image.{IsGroup, most_of};
 ghost use Rattle.hd_journal.specs.Group.{GroupView};
 ghost use Rattle.hd_entries.specs.Settling.{first_refusal};
 ghost use Rattle.hd_entries.specs.Resuming.{first_fault};
 ghost use Rattle.hd_entries.specs.Answers.{is_over};
+ghost use Rattle.hd_entries.specs.Holding.{Released};
 ghost use Rattle.hd_book.specs.declared.refusal.CommitRefusal.{CommitRefusal};
 ghost use Rattle.hd_book.specs.Groups.{is_group_out};
 ghost use Rattle.hd_book.specs.Refusing.{refusal_to};
 ghost use Rattle.hd_turns.specs.Calls.{batch_of};
+ghost use Rattle.hd_turns.specs.Settling.{IsOutcomeOf};
 ghost use Rattle.hd_world.specs.declared.moves.Move.{Move};
+ghost use Rattle.hd_world.specs.declared.moves.Move.TheVariants.{Expand};
 ghost use Rattle.hd_world.specs.Seats.{Seat, Run};
 ghost use Rattle.hd_world.specs.Moves.{is_dropped, TurnsTo};
 ghost use Rattle.hd_world.specs.Truth.{IsTrueRun};
@@ -51,10 +56,21 @@ pub fn kids_stay_once()
         → IsTrueRun t r → IsOnce r → TurnsTo t r m r' → IsOnce r' }
 {}
 
-/// Law: each ticket that a worker holds is out, none is held twice, and the worker has room for
-/// what they release: it stays so over each move. And so does the order of a run with its journal:
-/// where a group was pulled, it is whole batches after the entries of the journal, and where one
-/// was appended, it is the one that is out.
+/// Law: where all that a run holds is true of its book, each open node has an outcome; so `expand`
+/// comes to a run, whatever the worker and the place.
+pub fn open_nodes_have_outcomes()
+    ensures outcomes { (t : Task) (r : Run) (k place : ℕ) (s : Seat) (p : Released)
+        → IsTrueRun t r → slice_get r.seats k ≡ Some s
+        → slice_get s.worker.waiting place ≡ Some p
+        → (o : Outcome) × IsOutcomeOf t (hmax t) s.worker.closed s.worker.seen p o }
+    ensures expands { (t : Task) (r : Run) (k place : ℕ) → IsTrueRun t r
+        → (r' : Run) × TurnsTo t r (Expand k place) r' }
+{}
+
+/// Law: each ticket that a worker holds is out, each one that is out is held exactly once, and the
+/// worker has room for what they release: it stays so over each move. And so does the order of a
+/// run with its journal: where a group was pulled, it is whole batches after the entries of the
+/// journal, and where one was appended, it is the one that is out.
 pub fn tickets_and_groups_stay_out()
     ensures tickets { (t : Task) (r r' : Run) (m : Move)
         → AreTicketsOut r → TurnsTo t r m r' → AreTicketsOut r' }
@@ -92,14 +108,16 @@ pub fn runs_stay_sound()
         → r.group ≡ Some g → IsGroup f.version g.kids }
 {}
 
-/// Law: in a sound run no batch is refused for what it says, and no ticket and no group is refused.
+/// Law: in a sound run no batch is refused for what it says, and no ticket and no group is refused;
+/// and each ticket that is out is held by exactly one worker, once.
 pub fn nothing_is_refused()
     ensures { (t : Task) (f : File) (r : Run) → IsSound t f r → AllIsAdmissible f r }
 {}
 
-/// Law: each move of a sound run moves its search as an abstract search may be moved: a commit that
-/// is accepted lengthens it by exactly its expansions, `ack` acknowledges, and no other move
-/// changes it.
+/// Law: each move of a sound run moves its search as an abstract search may be moved: a commit
+/// lengthens it by exactly the expansions of the batch, if the worker may commit one and the book
+/// does not refuse it; else it changes nothing. `ack` acknowledges the group that was appended, if
+/// there is one. No other move changes it.
 pub fn moves_move_the_search()
     ensures { (t : Task) (f : File) (r r' : Run) (m : Move)
         → IsSound t f r → TurnsTo t r m r' → MovesSearch t r m r' }

@@ -62,7 +62,7 @@ pub fn searches_go_on()
         → StepsTo Anything t digest (Running f r) m (Stopped content)
         → Rests t digest content between left
         → StepsTo Anything t digest (Stopped left) (Resume workers stop) (Running f2 r2)
-        → IsResumed r t workers f2 r2 }
+        → IsResumed f r t workers f2 r2 }
 {}
 
 /// Law: whatever stops left, in any number, is opened and not refused, and a search goes on from

@@ -1,5 +1,5 @@
 -- From what a journal's entries show to what is reported of it.
-use Rattle.std.proofs.Common.{◌≡◌, ℕ, false, Bool, List, Option, Some, None, IfSome, sym, ◌∙◌, subst}
+use Rattle.std.proofs.Common.{◌≡◌, ◌⊎◌, inl, inr, refl, ℕ, false, Bool, List, Option, Some, None, IfSome, sym, ◌∙◌, subst}
 use Rattle.std.proofs.lemmas.Option.{none-some, same_Some}
 use Rattle.std.specs.Prelude.{Result, Ok, Err, IfOk, IfErr, MatchOption}
 use Rattle.std.specs.declared.io.ErrorKind.{ErrorKind}
@@ -25,7 +25,7 @@ use Rattle.hd_texts.specs.Tasks.{IsTaskOf, Explains}
 use Rattle.hplan.specs.declared.fault.Fault.{Fault}
 use Rattle.hplan.specs.declared.certifying.Certificate.{Certificate}
 use Rattle.hplan.specs.Fault.{task_in, certify_in, AnswersFault}
-use Rattle.hplan.specs.Certifying.{CanBeTold, IsTrueThere, IsToldBy, IsCertified, OnContent, IsCertificate, IsCertificateText, FailsOnFile, HasNoCertificate, HasNoCertificateYet, ShowsNothing, OfEntries, OfTexts, OfFile, OfOutput, verdict_text, optimal_text}
+use Rattle.hplan.specs.Certifying.{CanBeTold, IsTrueThere, IsToldBy, IsCertified, OnContent, IsCertificate, IsCertificateText, FailsOnFile, IsUnread, IsNotRead, HasNoCertificate, HasNoCertificateYet, ShowsNothing, OfEntries, OfTexts, OfFile, OfOutput, verdict_text, optimal_text}
 use Rattle.hplan.specs.PlanText.{goes_through}
 use Rattle.hplan.proofs.Going.{bound_plan_goes}
 use Rattle.hplan.proofs.Writing.{untouched, failed}
@@ -56,6 +56,18 @@ certified_there domain problem t task content answer text s = record {
 
 pub on_content : (file : Option (List ℕ)) (P Q : List ℕ → Type 0) → ((content : List ℕ) → P content → Q content) → OnContent file P → OnContent file Q
 on_content file P Q f s = record { content = s.content; known = s.known; holds = f s.content s.holds }
+
+-- what is answered of the bytes of a file that was read is answered of the file
+pub of_file : {A : Type 0} (file : Option (List ℕ)) (content : List ℕ) (P : A → List ℕ → Type 0) (r : Result A Fault)
+    → IfSome file (λ bytes. content ≡ bytes) → IfOk r (λ x. P x content) → IfOk r (λ x. OnContent file (P x))
+of_file file content P (Ok x) known s = record { content = content; known = known; holds = s }
+of_file file content P (Err f) known s = tt
+
+-- the same of what is reported of them
+pub fails_on_file : {A : Type 0} (file : Option (List ℕ)) (content : List ℕ) (P : List ℕ → Fault → Type 0) (r : Result A Fault)
+    → IfSome file (λ bytes. content ≡ bytes) → IfErr r (P content) → IfErr r (λ f. IsUnread file f ⊎ OnContent file (λ c. P c f))
+fails_on_file file content P (Ok x) known s = tt
+fails_on_file file content P (Err f) known s = inr (record { content = content; known = known; holds = s })
 
 -- the same of what is answered of a file
 pub certificate_by : (domain problem : List ℕ) (t : Task) (task : IsTaskOf domain problem t) (digest : List ℕ) (file : Option (List ℕ))
@@ -111,6 +123,12 @@ pub texts_untold : (domain problem : List ℕ) (file : Option (List ℕ)) (f : T
     → Explains domain problem f → HasNoCertificateYet domain problem file fault
 texts_untold domain problem file f fault is told bytes noted =
     subst (HasNoCertificate domain problem file bytes bytes noted noted) (sym is) (OfTexts (untouched bytes noted) f told)
+
+-- the texts, or the file, were not read
+pub not_read : (domain problem : List ℕ) (file : Option (List ℕ)) (f : Fault) → IsNotRead domain problem file f
+    → HasNoCertificateYet domain problem file f
+not_read domain problem file f (inl k) = texts_untold domain problem file k.0 f k.1 k.2
+not_read domain problem file f (inr k) = λ bytes noted. OfFile (untouched bytes noted) k.0 f k.1 (inl k.2)
 
 -- a fault of the output
 pub certificate_fails : (domain problem : List ℕ) (file : Option (List ℕ)) (answer : Bool) (text : List ℕ) (old new : Option (List ℕ))

@@ -9,7 +9,7 @@ use Rattle.hplan.specs.Fault.{AnswersFault}
 use Rattle.hplan.specs.Inspection.{IsInspection, IsNotTold, HasNoInspection, HasNoInspectionYet, Unread, Untold, OfOutput}
 use Rattle.hplan.proofs.Writing.{untouched, failed}
 
-pub file_unread : (file : Option (List ℕ)) (f : Fault) → IsUnread f → HasNoInspectionYet file f
+pub file_unread : (file : Option (List ℕ)) (f : Fault) → IsUnread file f → HasNoInspectionYet file f
 file_unread file f k bytes noted = Unread (untouched bytes noted) f k
 
 pub content_untold : {A : Type 0} (file : Option (List ℕ)) (content lent : List ℕ) (r : Result A Fault) → IfSome file (λ bytes. content ≡ bytes)

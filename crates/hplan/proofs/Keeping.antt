@@ -1,5 +1,5 @@
 -- From what is reported of a journal to what is reported of the file that holds it.
-use Rattle.std.proofs.Common.{◌≡◌, ◌⊎◌, inl, inr, ℕ, ◌+◌, true, false, Ok, Err, Option, List, [], ◌∷◌, ◌++◌, map, length, refl, sym, ap, ◌∙◌, subst, IfSome, arith}
+use Rattle.std.proofs.Common.{◌≡◌, ◌⊎◌, inl, inr, ℕ, ◌+◌, ◌≤◌, true, false, Ok, Err, Option, List, [], ◌∷◌, ◌++◌, map, length, refl, sym, ap, ◌∙◌, subst, IfSome, arith}
 use Rattle.std.specs.Prelude.{Result, IfOk, IfErr, OnOk}
 use Rattle.std.proofs.lemmas.List.{append-nil, map-append}
 use Rattle.std.proofs.lemmas.Option.{none-some}
@@ -30,12 +30,13 @@ use Rattle.hd_threads.specs.declared.fault.RunFault.TheVariants as searching
 use Rattle.hd_certify.specs.Error.{IsDamagedAt}
 use Rattle.hd_search.specs.declared.fault.ThreadsFault.{ThreadsFault}
 use Rattle.hd_search.specs.declared.fault.ThreadsFault.TheVariants as threads
-use Rattle.hd_search.specs.Fault.{IsFaulty, StopsRunning, Tells}
+use Rattle.hd_search.specs.Fault.{IsFaulty, IsFullRightly, IsShortOfRoom, StopsRunning, Tells}
 use Rattle.hd_threads.specs.Growing.{Grows}
 use Rattle.hd_entries.specs.Resuming.{AreLegal}
 use Rattle.hd_threads.specs.Surviving.{StillStand, Survives}
 use Rattle.hd_journal.proofs.Staying.{mending_grows_not}
 use Rattle.hd_journal.proofs.Contents.{create_ends}
+use Rattle.hplan.proofs.Mended.{mended_stands, still_made}
 use Rattle.hplan.specs.declared.fault.Fault.{Fault}
 use Rattle.hplan.specs.declared.fault.Fault.TheVariants.{Search}
 use Rattle.hplan.specs.declared.kept.Start.{Start}
@@ -44,7 +45,7 @@ use Rattle.hplan.specs.Fault.{journal_in, run_in, search_in}
 use Rattle.hplan.specs.declared.told.Told.{Told}
 use Rattle.hplan.specs.Answer.{IsSolution, IsKeptSolution}
 use Rattle.hplan.specs.PlanText.{printed}
-use Rattle.hplan.specs.Kept.{FailsIn, InMemory, InFile, IsJournalOf, BeganWith, GoesOn, IsKept, WereThere, AreKept, HasNoHeader, IsAsItWasOrMaking, IsLeftByDevice, TellsOfFile, HasFaultyEntry, HasNoSolution, OfMemory, OfMemoryLater, OfThreads, OfFile, OfEntry, OfSearch, IsResumed, IsBegun, IsRefusedRun, StandsOrFails}
+use Rattle.hplan.specs.Kept.{FailsIn, InMemory, InFile, IsJournalOf, BeganWith, GoesOn, IsKept, WereThere, AreKept, IsStillMaking, StandsBetween, StandsStill, first_changed, first_kept, IsAsItWasOrMaking, IsLeftByDevice, IsShortIn, TellsOfFile, HasFaultyEntry, HasNoSolution, OfMemory, OfMemoryLater, OfThreads, OfFile, OfEntry, OfSearch, IsResumed, IsBegun, IsRefusedRun, StandsOrFails}
 
 -- ---- a journal that is not begun
 
@@ -186,45 +187,67 @@ module _ {S : Type 0} {G : Ghosts S} where
     (
       kids_of new,
       subst (λ v. StillStand t v digest [] (kids_of new) after) begun.1
-          (subst (StillStand t old.version digest [] (kids_of new)) left (survives.read digest [] begun.2 begun.3)),
+          (subst (StillStand t old.version digest [] (kids_of new)) left (survives.read digest [] begun.2)),
     ),
   )
-  left_by_device Kept t digest before after old new begun survives left = tt
+  left_by_device Kept t digest before after old new begun survives left = record {
+    found = begun.found;
+    is_found = begun.is_found;
+    groups = begun.groups;
+    entries =
+        sym begun.entries
+        ∙ (begun.is.entries ∙ ap (λ (v : Version). entries_in v FIRST_GATE begun.groups) begun.version);
+    kids = kids_of new;
+    stand =
+        subst (λ v. StillStand t v digest begun.groups (kids_of new) after) begun.version
+        (subst (StillStand t old.version digest begun.groups (kids_of new)) left (survives.read digest begun.groups begun.is));
+  }
+
+  -- the journal that stands in the file is short of room
+  short_in : (start : Start) (digest before after : List ℕ) (old new : of.Journal S G) → IsBegun start digest before old → Grows old new
+      → content_of (device_of new) ≡ after → IsShortOfRoom new → IsShortIn digest after
+  short_in start digest before after old new begun grows left short =
+      let all = grown start digest before old new begun grows in
+      subst (IsShortIn digest) left (kids_of new, journal_by digest all.0 new all.1, short)
 
   refused_first : (start : Start) (t : Task) (digest before after : List ℕ) (old new : of.Journal S G) (why : RunFault)
       → IsBegun start digest before old → Survives t old new → new ≡ old → content_of (device_of new) ≡ after → IsFaulty t (most_of old.version) old.entries.items why
-      → HasNoSolution start t digest before after (run_in why)
-  refused_first start t digest before after old new searching.Full begun survives same left k =
-      OfSearch searching.Full (are_kept start t digest before after old new begun (stays old new same) survives left)
-  refused_first start t digest before after old new (searching.Damaged at) begun survives same left k =
+      → IsFullRightly new (threads.Run why) → HasNoSolution start t digest before after (run_in why)
+  refused_first start t digest before after old new searching.Full begun survives same left k full =
+      let grows = stays old new same in
+      OfSearch searching.Full
+      (are_kept start t digest before after old new begun grows survives left, short_in start digest before after old new begun grows left (full refl))
+  refused_first start t digest before after old new (searching.Damaged at) begun survives same left k full =
       OfEntry at (faulty_entry start t digest before after old new at begun same left k.1)
-  refused_first start t digest before after old new searching.Device begun survives same left k = absurd (k)
-  refused_first start t digest before after old new searching.Failed begun survives same left k = absurd (k)
-  refused_first start t digest before after old new searching.NotOut begun survives same left k = absurd (k)
-  refused_first start t digest before after old new searching.NoMemory begun survives same left k =
+  refused_first start t digest before after old new searching.Device begun survives same left k full = absurd (k)
+  refused_first start t digest before after old new searching.Failed begun survives same left k full = absurd (k)
+  refused_first start t digest before after old new searching.NotOut begun survives same left k full = absurd (k)
+  refused_first start t digest before after old new searching.NoMemory begun survives same left k full =
       OfMemoryLater (are_kept start t digest before after old new begun (stays old new same) survives left)
 
   stopped : (start : Start) (t : Task) (digest before after : List ℕ) (old new : of.Journal S G) (why : RunFault)
       → IsBegun start digest before old → Survives t old new → content_of (device_of new) ≡ after → StopsRunning old new why
-      → HasNoSolution start t digest before after (run_in why)
-  stopped start t digest before after old new searching.Full begun survives left k =
-      OfSearch searching.Full (are_kept start t digest before after old new begun k survives left)
-  stopped start t digest before after old new (searching.Damaged at) begun survives left k = absurd (k)
-  stopped start t digest before after old new searching.Device begun survives left k = OfSearch searching.Device (left_by_device start t digest before after old new begun survives left)
-  stopped start t digest before after old new searching.Failed begun survives left k =
+      → IsFullRightly new (threads.Run why) → HasNoSolution start t digest before after (run_in why)
+  stopped start t digest before after old new searching.Full begun survives left k full =
+      OfSearch searching.Full
+      (are_kept start t digest before after old new begun k survives left, short_in start digest before after old new begun k left (full refl))
+  stopped start t digest before after old new (searching.Damaged at) begun survives left k full = absurd (k)
+  stopped start t digest before after old new searching.Device begun survives left k full = OfSearch searching.Device (left_by_device start t digest before after old new begun survives left)
+  stopped start t digest before after old new searching.Failed begun survives left k full =
       let no : false ≡ true = sym (runs_on start digest before old begun) ∙ k.0 in absurd (cc)
-  stopped start t digest before after old new searching.NotOut begun survives left k =
+  stopped start t digest before after old new searching.NotOut begun survives left k full =
       OfSearch searching.NotOut (are_kept start t digest before after old new begun k survives left)
-  stopped start t digest before after old new searching.NoMemory begun survives left k =
+  stopped start t digest before after old new searching.NoMemory begun survives left k full =
       OfMemoryLater (are_kept start t digest before after old new begun k survives left)
 
   told_by : (start : Start) (t : Task) (digest before after : List ℕ) (old new : of.Journal S G) (why : ThreadsFault)
       → IsBegun start digest before old → Survives t old new → content_of (device_of new) ≡ after → Tells t old new why
-      → HasNoSolution start t digest before after (search_in why)
-  told_by start t digest before after old new (threads.Run why) begun survives left (inl k) =
-      refused_first start t digest before after old new why begun survives k.0 left k.1
-  told_by start t digest before after old new (threads.Run why) begun survives left (inr k) = stopped start t digest before after old new why begun survives left k
-  told_by start t digest before after old new threads.NoThread begun survives left k = OfThreads (are_kept start t digest before after old new begun k survives left)
+      → IsFullRightly new why → HasNoSolution start t digest before after (search_in why)
+  told_by start t digest before after old new (threads.Run why) begun survives left (inl k) full =
+      refused_first start t digest before after old new why begun survives k.0 left k.1 full
+  told_by start t digest before after old new (threads.Run why) begun survives left (inr k) full =
+      stopped start t digest before after old new why begun survives left k full
+  told_by start t digest before after old new threads.NoThread begun survives left k full = OfThreads (are_kept start t digest before after old new begun k survives left)
 
   pub refused_run : (start : Start) (t : Task) (digest before after : List ℕ) (old new : of.Journal S G) (f : Fault)
       → IsBegun start digest before old → Survives t old new → content_of (device_of new) ≡ after → IsRefusedRun t old new f
@@ -233,7 +256,7 @@ module _ {S : Type 0} {G : Ghosts S} where
       subst (HasNoSolution start t digest before after) (sym k.0)
       (OfMemoryLater (are_kept start t digest before after old new begun k.1 survives left))
   refused_run start t digest before after old new f begun survives left (inr k) =
-      subst (HasNoSolution start t digest before after) (sym k.1) (told_by start t digest before after old new k.0 begun survives left k.2)
+      subst (HasNoSolution start t digest before after) (sym k.1) (told_by start t digest before after old new k.0 begun survives left k.2 k.3)
 
 -- ---- a journal that is not begun, by what is answered
 
@@ -262,29 +285,63 @@ module _ (digest : List ℕ) (old : Device) (len : length digest ≡ DIGEST_LEN)
   made_not (Ok j) k = tt
   made_not {S} {G} (Err e) k = not_made e.1 (G.device e.0) k
 
-module _ (digest : List ℕ) (old : Device) where
+module _ (digest : List ℕ) (old : Device) (len : length digest ≡ DIGEST_LEN) where
   seen_same : (new : Device) → IsSeen old new → content_of new ≡ content_of old
   seen_same new k = ap content_of k.2
 
+  -- a header was still to be made
+  made_in_part : (seen new : Device) (error : StoreError) → content_of seen ≡ content_of old → IsFound digest (content_of old) Unmade
+      → Ran seen (open_calls digest Unmade) (Err error) new → IsStillMaking digest (content_of old) (content_of new)
+  made_in_part seen new error same is ran = (
+    inl is,
+    create_ends digest seen new (Err error) len (subst (λ (c : List ℕ). length c ≤ 1) (sym same) is) ran,
+  )
+
+  filled_in_part : (seen new : Device) (error : StoreError) → content_of seen ≡ content_of old → IsFound digest (content_of old) HalfMade
+      → Ran seen (open_calls digest HalfMade) (Err error) new → IsStillMaking digest (content_of old) (content_of new)
+  filled_in_part seen new error same is ran = (inr is, still_made digest is.rest seen new (Err error) len (same ∙ is.closed) is.short ran)
+
   -- memory ran out while a journal was mended: it was still to be made
   unmade : (seen new : Device) (found : Found) → content_of seen ≡ content_of old → IsFound digest (content_of old) found
-      → Ran seen (open_calls digest found) (Err store.NoMemory) new → HasNoHeader digest (content_of old)
-  unmade seen new Unmade same is ran = inl is
-  unmade seen new HalfMade same is ran = inr is
+      → Ran seen (open_calls digest found) (Err store.NoMemory) new → IsStillMaking digest (content_of old) (content_of new)
+  unmade seen new Unmade same is ran = made_in_part seen new store.NoMemory same is ran
+  unmade seen new HalfMade same is ran = filled_in_part seen new store.NoMemory same is ran
   unmade seen new (Journal contents) same is ran =
       absurd (mending_grows_not digest seen new contents (subst (λ c. IsFound digest c (Journal contents)) (sym same) is) ran)
 
   mended_not : (new : Device) → (MayTellLength old (Ok tt) × (new ≡ old)) ⊎ (IsSeen old new ⊎ BreaksMending digest old store.NoMemory new)
-      → (content_of new ≡ content_of old) ⊎ HasNoHeader digest (content_of old)
+      → (content_of new ≡ content_of old) ⊎ IsStillMaking digest (content_of old) (content_of new)
   mended_not new (inl k) = inl (ap content_of k.1)
   mended_not new (inr (inl k)) = inl (seen_same new k)
   mended_not new (inr (inr k)) = inr (unmade k.seen new k.found (ap content_of k.looked.2) k.is k.ran)
+
+  -- the device failed while a journal was mended
+  mended_in_part : (seen new : Device) (found : Found) → content_of seen ≡ content_of old → IsFound digest (content_of old) found
+      → Ran seen (open_calls digest found) (Err store.Failed) new
+      → IsStillMaking digest (content_of old) (content_of new) ⊎ StandsStill digest (content_of old) (content_of new)
+  mended_in_part seen new Unmade same is ran = inl (made_in_part seen new store.Failed same is ran)
+  mended_in_part seen new HalfMade same is ran = inl (filled_in_part seen new store.Failed same is ran)
+  mended_in_part seen new (Journal contents) same is ran = inr (record {
+    found = contents;
+    is_found = is;
+    stands =
+        subst (λ (c : List ℕ). StandsBetween (first_kept contents.header_open) (first_changed contents) c (content_of new)) same
+        (mended_stands digest seen new contents (Err store.Failed) (subst (λ c. IsFound digest c (Journal contents)) (sym same) is) ran);
+  })
+
+  broke_off : (new : Device) → BreaksMending digest old store.Failed new
+      → IsStillMaking digest (content_of old) (content_of new) ⊎ StandsStill digest (content_of old) (content_of new)
+  broke_off new k = mended_in_part k.seen new k.found (ap content_of k.looked.2) k.is k.ran
 
   not_opened : (e : JournalError) (new : Device) → IsNotOpened digest old e new → TellsOfFile Kept digest (content_of old) (content_of new) e
   not_opened journal.NotAJournal new k = (k.0, seen_same new k.1)
   not_opened journal.OtherTask new k = (k.0, seen_same new k.1)
   not_opened (journal.Damaged at) new k = (k.0, seen_same new k.1)
-  not_opened journal.Device new k = tt
+  not_opened journal.Device new k =
+      elim k [
+        | inl length_fails ↦ inl (ap content_of length_fails.1)
+        | inr later ↦ elim later [ inl read_fails ↦ inl (ap content_of read_fails.2) | inr broke ↦ inr (broke_off new broke) ]
+      ]
   not_opened journal.Failed new k = k
   not_opened journal.JournalExists new k = k
   not_opened journal.NotOut new k = k

@@ -7,11 +7,13 @@ pub mod Going
 pub mod Inspections
 pub mod Keeping
 pub mod Legal
+pub mod Mended
 pub mod Moving
 pub mod Shelves
 pub mod Solving
 pub mod Replays
 pub mod Standing
+pub mod Stops
 pub mod StepTexts
 pub mod Surveys
 pub mod TaskLines

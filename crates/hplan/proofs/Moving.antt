@@ -27,7 +27,7 @@ use Rattle.hplan.specs.declared.fault.Fault.TheVariants.{Journal}
 use Rattle.hplan.specs.declared.migrating.Extent.{Extent}
 use Rattle.hplan.specs.declared.migrating.NamedKids.{NamedKids}
 use Rattle.hplan.specs.Fault.{task_in, journal_in, certify_in, AnswersFault}
-use Rattle.hplan.specs.Certifying.{OnContent}
+use Rattle.hplan.specs.Certifying.{OnContent, IsNotRead}
 use Rattle.hplan.specs.Kept.{OnFile}
 use Rattle.hplan.specs.Migrating.{IsFoundBy, IsNamedIn, AreRead, NamesNothing, OfEntries, FailsToName, HasNoKids, OfTexts, OfFile, IsCopied, IsLeft, TellsOfCopy, IsNotCopied, FailsToCopy, Moving, moving, AreMoved, IsMigration, AreNotMoved, Unread, Unwritten, HasNoMigration, HasNoMigrationYet, NotMoved, OfOutput, migrated_text}
 use Rattle.hplan.proofs.Certificates.{on_content}
@@ -83,6 +83,12 @@ unread_by domain problem t task digest extent file (Err f) is fails =
 pub no_texts : (domain problem : List ℕ) (extent : Extent) (file : Option (List ℕ)) (f : TaskFault) (fault : Fault) → fault ≡ task_in f
     → Explains domain problem f → HasNoKids domain problem extent file fault
 no_texts domain problem extent file f fault is told = subst (HasNoKids domain problem extent file) (sym is) (OfTexts f told)
+
+-- the texts, or the file, were not read
+pub kids_not_read : (domain problem : List ℕ) (extent : Extent) (file : Option (List ℕ)) (f : Fault) → IsNotRead domain problem file f
+    → HasNoKids domain problem extent file f
+kids_not_read domain problem extent file f (inl k) = no_texts domain problem extent file k.0 f k.1 k.2
+kids_not_read domain problem extent file f (inr k) = OfFile k.0 f k.1 (inl k.2)
 
 -- ---- what is written
 

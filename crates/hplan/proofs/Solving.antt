@@ -3,10 +3,9 @@ use Rattle.std.proofs.Common.{◌≡◌, ◌⊎◌, inr, ℕ, true, List, Option
 use Rattle.std.specs.Prelude.{Result, IfOk, IfErr, OnOk, OnErr}
 use Rattle.std.specs.Io.KnownBytes.{Appends}
 use Rattle.hplan.specs.declared.told.Told.{Told}
-use Rattle.hplan.specs.PlanText.{goes_through, printed}
+use Rattle.hplan.specs.PlanText.{printed}
 use Rattle.hd_threads.specs.declared.ending.Outcome.{Outcome}
 use Rattle.hd_threads.specs.declared.ending.Outcome.TheVariants.{Optimal, NoPlan, RangeLeft, Stopped}
-use Rattle.hplan.proofs.Going.{bound_plan_goes}
 use Rattle.hd_task.specs.declared.task.Task.{Task}
 use Rattle.hplan.specs.declared.fault.Fault.{Fault}
 use Rattle.hplan.specs.declared.told.Ending.{Ending}
@@ -19,7 +18,7 @@ use Rattle.hd_plan.specs.Output.{AppendsShort, KeepsFor, IsNoted}
 use Rattle.hd_texts.specs.declared.fault.TaskFault.{TaskFault}
 use Rattle.hd_texts.specs.Tasks.{IsTaskOf, Explains}
 use Rattle.hplan.specs.Fault.{task_in, TellsUnwritten}
-use Rattle.hplan.specs.Answer.{plan_in, IsValidInDomain, IsTrueOfDomain, IsKeptSolution, IsKeptAnswer, IsAnswerText, IsUnwritten, Writes, HasNoAnswer, HasNoAnswerYet, OfTexts, OfSearch, OfWriting, OfOutput}
+use Rattle.hplan.specs.Answer.{IsValidInDomain, IsTrueOfDomain, IsKeptSolution, IsKeptAnswer, IsAnswerText, IsUnwritten, Writes, HasNoAnswer, HasNoAnswerYet, OfTexts, OfSearch, OfWriting, OfOutput}
 use Rattle.hplan.specs.Kept.{Keeping, IsLeftAlone, FailsIn}
 use Rattle.hplan.specs.Written.{WritesFrontOfA}
 use Rattle.hd_texts.specs.Digest.{digest_of}
@@ -29,16 +28,6 @@ use Rattle.hd_lifted.specs.declared.task.LiftedTask.{LiftedTask}
 use Rattle.hd_grounding.specs.Grounding.{IsGrounding}
 use Rattle.hd_grounding.proofs.Runs.{valid_there}
 use Rattle.hd_grounding.proofs.Telling.{optimal_there, none_there}
-
--- the plan of an answer goes through, if there is one
-pub answer_goes : (t : Task) (limit : Option ℕ) (kids : List Kid) (o : Outcome) → IsOutcomeOf t limit kids o
-    → IfSome (plan_in o) (λ p. goes_through t p ≡ true)
-answer_goes t limit kids (Optimal p) a = bound_plan_goes t a.expanded p a.answer.legal a.answer.answers.1
-answer_goes t limit kids NoPlan a = tt
-answer_goes t limit kids (RangeLeft d None) a = tt
-answer_goes t limit kids (RangeLeft d (Some p)) a = bound_plan_goes t a.expanded p a.answer.legal a.answer.answers.1
-answer_goes t limit kids (Stopped None) a = tt
-answer_goes t limit kids (Stopped (Some p)) a = bound_plan_goes t a.expanded p a.legal a.plan
 
 -- a true answer of the grounding is true of the domain
 valid_in_domain : (l : LiftedTask) (t : Task) (p : Option (List ℕ)) → IsGrounding l t → IsValidPlan t p → IsValidInDomain l t p

@@ -1,5 +1,5 @@
 -- From what a journal's entries tell to what is reported of it.
-use Rattle.std.proofs.Common.{◌≡◌, ◌++◌, ℕ, List, Option, sym, ◌∙◌, subst}
+use Rattle.std.proofs.Common.{◌≡◌, inl, inr, refl, ◌++◌, ℕ, List, Option, sym, ◌∙◌, subst}
 use Rattle.std.specs.Prelude.{Result, Ok, Err, IfOk, IfErr}
 use Rattle.std.specs.declared.io.ErrorKind.{ErrorKind}
 use Rattle.hd_task.specs.declared.task.Task.{Task}
@@ -17,7 +17,7 @@ use Rattle.hd_texts.specs.declared.fault.TaskFault.{TaskFault}
 use Rattle.hd_texts.specs.Tasks.{IsTaskOf, Explains}
 use Rattle.hplan.specs.declared.fault.Fault.{Fault}
 use Rattle.hplan.specs.Fault.{task_in, AnswersFault}
-use Rattle.hplan.specs.Certifying.{OnContent}
+use Rattle.hplan.specs.Certifying.{OnContent, IsNotRead}
 use Rattle.hplan.specs.Inspection.{inspected_text}
 use Rattle.hplan.specs.Surveying.{survey_text, IsSurveyedIn, IsSurveyed, IsSurveyText, FailsOnSurvey, HasNoSurvey, HasNoSurveyYet, OfTexts, OfFile, OfOutput}
 use Rattle.hplan.proofs.Certificates.{on_content}
@@ -69,6 +69,11 @@ pub texts_untold : (domain problem : List ℕ) (file : Option (List ℕ)) (f : T
     → Explains domain problem f → HasNoSurveyYet domain problem file fault
 texts_untold domain problem file f fault is told bytes noted =
     subst (HasNoSurvey domain problem file bytes bytes noted noted) (sym is) (OfTexts (untouched bytes noted) f told)
+
+-- the texts, or the file, were not read
+pub not_read : (domain problem : List ℕ) (file : Option (List ℕ)) (f : Fault) → IsNotRead domain problem file f → HasNoSurveyYet domain problem file f
+not_read domain problem file f (inl k) = texts_untold domain problem file k.0 f k.1 k.2
+not_read domain problem file f (inr k) = λ bytes noted. OfFile (untouched bytes noted) k.0 f k.1 (inl k.2)
 
 -- a fault of the output
 pub survey_fails : (domain problem : List ℕ) (file : Option (List ℕ)) (text : List ℕ) (old new : Option (List ℕ))

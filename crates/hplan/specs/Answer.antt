@@ -11,7 +11,7 @@ use Rattle.hplan.specs.declared.told.Ending.{Ending}
 use Rattle.hplan.specs.declared.fault.Fault.{Fault}
 use Rattle.hd_threads.specs.declared.ending.Outcome.{Outcome}
 use Rattle.hd_threads.specs.declared.ending.Outcome.TheVariants.{Optimal, NoPlan, RangeLeft, Stopped}
-use Rattle.hd_threads.specs.Ending.{IsOutcomeOf, IsTrueOutcome}
+use Rattle.hd_threads.specs.Ending.{IsOutcomeOf, IsTrueOutcome, plan_in}
 use Rattle.hd_texts.specs.Digest.{digest_of}
 use Rattle.hd_texts.specs.declared.fault.TaskFault.{TaskFault}
 use Rattle.hd_texts.specs.Tasks.{IsTaskOf, Explains}
@@ -38,13 +38,6 @@ IsTrueOfDomain l t (Optimal p) = plans.IsOptimal l (plan_of t p)
 IsTrueOfDomain l t NoPlan = plans.HasNoPlan l
 IsTrueOfDomain l t (RangeLeft d p) = IsValidInDomain l t p
 IsTrueOfDomain l t (Stopped p) = IsValidInDomain l t p
-
--- the plan of an answer, if it has one
-abbrev pub plan_in : Outcome → Option (List ℕ)
-plan_in (Optimal p) = Some p
-plan_in NoPlan = None
-plan_in (RangeLeft d p) = p
-plan_in (Stopped p) = p
 
 -- the text of a plan that may be there
 abbrev pub text_if : Task → Option (List ℕ) → List ℕ

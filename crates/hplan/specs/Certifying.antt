@@ -25,6 +25,7 @@ use Rattle.hd_texts.specs.Tasks.{IsTaskOf, Explains}
 use Rattle.hplan.specs.declared.fault.Fault.{Fault}
 use Rattle.hplan.specs.declared.fault.Fault.TheVariants.{NoMemory}
 use Rattle.hplan.specs.Fault.{task_in, journal_in, certify_in, TellsKind}
+use Rattle.hplan.specs.Places.{MissesFile}
 use Rattle.hplan.specs.PlanText.{goes_through}
 use Rattle.hplan.specs.Written.{IsUntouched, FailsToWrite}
 
@@ -113,12 +114,18 @@ pub data ShowsNothing (t : Task) (digest content : List ℕ) : Fault → Type 0 
       → IsRefusal t (most_of (version_in found)) (found_in found) error → ShowsNothing t digest content (certify_in error)
 
 -- a file was not read, and this is reported of its error
-abbrev pub IsUnread : Fault → Type 0
-IsUnread fault = (kind : ErrorKind) × TellsKind kind fault
+abbrev pub IsUnread : Option (List ℕ) → Fault → Type 0
+IsUnread file fault = (kind : ErrorKind) × TellsKind kind fault × MissesFile file kind
+
+-- why the task of two texts and the bytes of a file are not there: what is reported of the texts;
+-- or they say a task, and the file was not read
+abbrev pub IsNotRead : List ℕ → List ℕ → Option (List ℕ) → Fault → Type 0
+IsNotRead domain problem file fault =
+    ((f : TaskFault) × (fault ≡ task_in f) × Explains domain problem f) ⊎ ((t : Task) × IsTaskOf domain problem t × IsUnread file fault)
 
 -- why nothing is shown of a task in a file: it was not read; or nothing is shown in its bytes
 abbrev pub FailsOnFile : Task → List ℕ → Option (List ℕ) → Fault → Type 0
-FailsOnFile t digest file fault = IsUnread fault ⊎ OnContent file (λ content. ShowsNothing t digest content fault)
+FailsOnFile t digest file fault = IsUnread file fault ⊎ OnContent file (λ content. ShowsNothing t digest content fault)
 
 -- why nothing is reported, or not all: what is reported of the texts; or they say a task, and
 -- nothing is shown of it; or a beginning of what is to be told is written, and what is reported of

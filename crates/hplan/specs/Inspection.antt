@@ -59,7 +59,7 @@ pub data IsNotTold (content : List ℕ) : Fault → Type 0 where
 -- bytes; or a beginning of what is to be told is written, and what is reported of the error that
 -- the writer has answered. The writer is untouched where it is not to blame
 pub data HasNoInspection (file old new : Option (List ℕ)) (before noted : Option ErrorKind) : Fault → Type 0 where
-  Unread : IsUntouched old new before noted → (f : Fault) → IsUnread f → HasNoInspection file old new before noted f
+  Unread : IsUntouched old new before noted → (f : Fault) → IsUnread file f → HasNoInspection file old new before noted f
   Untold : IsUntouched old new before noted → (f : Fault) → OnContent file (λ content. IsNotTold content f)
       → HasNoInspection file old new before noted f
   OfOutput : (f : Fault) → FailsToWrite (IsInspection file) old new noted f → HasNoInspection file old new before noted f

@@ -1,22 +1,25 @@
 -- Where a search is kept, and what a file holds of it before and afterwards. (Our own.)
-use Rattle.std.specs.Prelude.{◌≡◌, ◌≢◌, ◌⊎◌, ℕ, List, [], ◌++◌, map, Option, IfSome, Result, Err}
+use Rattle.std.specs.Prelude.{◌≡◌, ◌≢◌, ◌⊎◌, ℕ, ◌+◌, ◌<◌, ◌≤◌, Bool, true, false, List, [], ◌++◌, length, map, slice_index, Option, IfSome, Result, Err, if◌then◌else◌}
 use Rattle.std.specs.List.{AllByRecursion}
 use Rattle.hd_task.specs.declared.task.Task.{Task}
 use Rattle.hd_task.specs.declared.plan.Kid.{Kid}
 use Rattle.hd_store.specs.declared.store.Store.{Ghosts}
 use Rattle.hd_store.specs.declared.error.StoreError.{StoreError}
+use Rattle.hd_store.specs.Device.{Device, content_of}
 use Rattle.hd_image.specs.declared.version.Version.{Version}
 use Rattle.hd_image.specs.declared.version.Version.TheVariants.{Two}
+use Rattle.hd_image.specs.declared.contents.Contents.{Contents}
 use Rattle.hd_image.specs.declared.contents.Found.{Found}
-use Rattle.hd_image.specs.declared.contents.Found.TheVariants.{Unmade, HalfMade}
+use Rattle.hd_image.specs.declared.contents.Found.TheVariants as contents
 use Rattle.hd_image.specs.declared.header.TheConstants.{FIRST_GATE}
 use Rattle.hd_image.specs.declared.error.ImageError.TheVariants as image
-use Rattle.hd_image.specs.Image.{IsGroup, entries_in, image}
+use Rattle.hd_image.specs.Image.{IsGroup, entries_in, image, most_of}
 use Rattle.hd_image.specs.Reading.{IsFound, IsRefused}
-use Rattle.hd_image.specs.Stops.{IsMaking}
+use Rattle.hd_image.specs.Stops.{IsBeforeOrAfter, IsMaking}
 use Rattle.hd_journal.specs.declared.error.JournalError.{JournalError}
 use Rattle.hd_journal.specs.declared.error.JournalError.TheVariants as journal
 use Rattle.hd_journal.specs.declared.journal.Journal as of
+use Rattle.hd_journal.specs.Answers.{StandsIn}
 use Rattle.hd_journal.specs.Journal.{IsOf, device_of, kid_of, found_in, version_in}
 use Rattle.hd_journal.specs.Moments.{IsSettled}
 use Rattle.hd_entries.specs.Resuming.{AreLegal}
@@ -24,15 +27,17 @@ use Rattle.hd_journal.specs.Copy.{kids_in}
 use Rattle.hd_threads.specs.declared.fault.RunFault.{RunFault}
 use Rattle.hd_threads.specs.declared.fault.RunFault.TheVariants as searching
 use Rattle.hd_certify.specs.Error.{IsDamagedAt}
+use Rattle.hd_node.specs.declared.batch.TheConstants.{MAX_OUTCOMES}
 use Rattle.hd_threads.specs.Surviving.{StillStand}
 use Rattle.hd_search.specs.declared.fault.ThreadsFault.{ThreadsFault}
 use Rattle.hd_threads.specs.Growing.{Grows}
-use Rattle.hd_search.specs.Fault.{Tells}
+use Rattle.hd_search.specs.Fault.{IsFullRightly, Tells}
 use Rattle.hplan.specs.declared.fault.Fault.{Fault}
 use Rattle.hplan.specs.declared.fault.Fault.TheVariants.{Journal, Search, NoThread, NoMemory}
 use Rattle.hplan.specs.declared.kept.Start.{Start}
 use Rattle.hplan.specs.declared.kept.Start.TheVariants.{New, Kept}
 use Rattle.hplan.specs.Fault.{search_in, store_in}
+use Rattle.hplan.specs.Places.{KeepsFile}
 
 -- ---- what a file holds
 
@@ -68,6 +73,24 @@ pub record IsKept (start : Start) (digest : List ℕ) (kids : List Kid) (before 
   pub holds : IsJournalOf digest kids after
   pub began : BeganWith start digest before holds.version holds.groups
 
+-- ---- what a stop leaves
+
+-- a device is as a stop left it while a group was appended to these: nothing is pending on it
+pub record WasStopped (v : Version) (digest : List ℕ) (groups : List (List Kid)) (next : List Kid) (device : Device) : Type 0 where
+  pub settled : IsSettled device
+  pub sound : AllByRecursion (IsGroup v) groups
+  pub group : IsGroup v next
+  pub left : IsBeforeOrAfter v digest groups next (content_of device)
+
+-- these groups stand in a content, and maybe more after them
+abbrev pub HasGroups : Version → List ℕ → List (List Kid) → List ℕ → Type 0
+HasGroups v digest groups content = (more : List (List Kid)) × StandsIn v digest (groups ++ more) content
+
+-- nothing was done to a device but to look at it
+pub record HasSamePast (old new : Device) : Type 0 where
+  pub start : new.start ≡ old.start
+  pub steps : new.steps ≡ old.steps
+
 -- ---- why a search over a file has no answer
 
 -- a file is as it was; or it was empty, and a header is being made in it, or is made: whoever
@@ -77,13 +100,39 @@ IsAsItWasOrMaking digest before after = (after ≡ before) ⊎ ((before ≡ []) 
 
 -- a header is still to be made in a file, which has no entries
 abbrev pub HasNoHeader : List ℕ → List ℕ → Type 0
-HasNoHeader digest content = IsFound digest content Unmade ⊎ IsFound digest content HalfMade
+HasNoHeader digest content = IsFound digest content contents.Unmade ⊎ IsFound digest content contents.HalfMade
+
+-- what stood from one place on, before another, stands there still, and a file is no longer
+pub record StandsBetween (from upto : ℕ) (before after : List ℕ) : Type 0 where
+  pub there : upto ≤ length after
+  pub no_longer : length after ≤ length before
+  pub same : (place : ℕ) → from ≤ place → place < upto → slice_index after place ≡ slice_index before place
+
+-- the first place that mending leaves alone: that of the header's gate, where it is open
+abbrev pub first_kept : Bool → ℕ
+first_kept true = 0
+first_kept false = 1
+
+-- the first place that mending may change: that of the last gate, where it is not closed
+abbrev pub first_changed : Contents → ℕ
+first_changed found = if found.gate_closed then found.last_gate + 1 else found.last_gate
+
+-- a header was still to be made in a file, and is being made there still, or is made
+abbrev pub IsStillMaking : List ℕ → List ℕ → List ℕ → Type 0
+IsStillMaking digest before after = HasNoHeader digest before × IsMaking Two digest after
+
+-- a journal was found in a file, and all its entries stand there still, up to its last gate, with
+-- that where it was closed. The header's gate may read anything where it was not open
+pub record StandsStill (digest before after : List ℕ) : Type 0 where
+  pub found : Contents
+  pub is_found : IsFound digest before (contents.Journal found)
+  pub stands : StandsBetween (first_kept found.header_open) (first_changed found) before after
 
 -- what is reported of a file that is to be begun, or gone on with: it is not empty; or it is no
 -- journal, one of another task or damaged. It is as it was then. Where a journal is to be begun,
 -- and the device failed or memory ran out, nothing is lost. Where one is to be gone on with,
--- memory runs out over a file that is left as it was, or over one in which a header was still to
--- be made: it had no entries. What it holds there after a fault of the device is not said here
+-- memory runs out over a file that is left as it was, or while its header is made. The device fails
+-- over one of these too, or over one that has all its entries still
 abbrev pub TellsOfFile : Start → List ℕ → List ℕ → List ℕ → JournalError → Type 0
 TellsOfFile New digest before after journal.NotAJournal = ⊥
 TellsOfFile New digest before after journal.OtherTask = ⊥
@@ -96,11 +145,12 @@ TellsOfFile New digest before after journal.NoMemory = (before ≡ []) × IsMaki
 TellsOfFile Kept digest before after journal.NotAJournal = IsRefused digest before image.NotAJournal × (after ≡ before)
 TellsOfFile Kept digest before after journal.OtherTask = IsRefused digest before image.OtherTask × (after ≡ before)
 TellsOfFile Kept digest before after (journal.Damaged at) = IsRefused digest before (image.Damaged at) × (after ≡ before)
-TellsOfFile Kept digest before after journal.Device = Unit {0}
+TellsOfFile Kept digest before after journal.Device =
+    (after ≡ before) ⊎ (IsStillMaking digest before after ⊎ StandsStill digest before after)
 TellsOfFile Kept digest before after journal.Failed = ⊥
 TellsOfFile Kept digest before after journal.JournalExists = ⊥
 TellsOfFile Kept digest before after journal.NotOut = ⊥
-TellsOfFile Kept digest before after journal.NoMemory = (after ≡ before) ⊎ HasNoHeader digest before
+TellsOfFile Kept digest before after journal.NoMemory = (after ≡ before) ⊎ IsStillMaking digest before after
 
 -- the entry that is found at this place of a file is the first that is faulty, and the file has
 -- just the entries that were found; a new file has none
@@ -119,17 +169,32 @@ abbrev pub AreKept : Start → Task → List ℕ → List ℕ → List ℕ → T
 AreKept start t digest before after =
     (kids : List Kid) × IsKept start digest kids before after × (WereThere start digest before kids ⊎ AreLegal t kids)
 
+-- the groups that were found in a file stand there still, and maybe more after them, which with
+-- them name a legal list
+pub record StillHolds (t : Task) (digest before after : List ℕ) : Type 0 where
+  pub found : Found
+  pub is_found : IsFound digest before found
+  pub groups : List (List Kid)
+  pub entries : found_in found ≡ entries_in (version_in found) FIRST_GATE groups
+  pub kids : List Kid
+  pub stand : StillStand t (version_in found) digest groups kids after
+
 -- the device failed while it was searched: a new file was empty, and groups stand in it, or none,
--- whose entries name a legal list; of one that was gone on with nothing is said here
+-- whose entries name a legal list; one that was gone on with has all that it had
 abbrev pub IsLeftByDevice : Start → Task → List ℕ → List ℕ → List ℕ → Type 0
 IsLeftByDevice New t digest before after = (before ≡ []) × ((kids : List Kid) × StillStand t Two digest [] kids after)
-IsLeftByDevice Kept t digest before after = Unit {0}
+IsLeftByDevice Kept t digest before after = StillHolds t digest before after
 
--- what a fault of the search itself may be: there is no room for more entries, or what the
--- threads share did not fit together, and those that there are are kept; or the device failed. No
--- other is reported
+-- a content is the whole journal of some entries, and with all the outcomes that a batch may have
+-- there would be more than its version may have
+abbrev pub IsShortIn : List ℕ → List ℕ → Type 0
+IsShortIn digest content = (kids : List Kid) × (journal : IsJournalOf digest kids content) × (most_of journal.version < length kids + MAX_OUTCOMES)
+
+-- what a fault of the search itself may be: there is no room for the outcomes of a batch more, or
+-- what the threads share did not fit together, and the entries that there are are kept; or the
+-- device failed. No other is reported
 abbrev pub TellsOfSearch : Start → Task → List ℕ → List ℕ → List ℕ → RunFault → Type 0
-TellsOfSearch start t digest before after searching.Full = AreKept start t digest before after
+TellsOfSearch start t digest before after searching.Full = AreKept start t digest before after × IsShortIn digest after
 TellsOfSearch start t digest before after (searching.Damaged at) = ⊥
 TellsOfSearch start t digest before after searching.Device = IsLeftByDevice start t digest before after
 TellsOfSearch start t digest before after searching.Failed = ⊥
@@ -175,7 +240,7 @@ IsLeftAlone (InFile start old new) = new ≡ old
 
 -- a file was not lent, and is as it was, and this is reported of it
 abbrev pub IsNotLent : Option (List ℕ) → Option (List ℕ) → Fault → Type 0
-IsNotLent old new fault = (error : StoreError) × (fault ≡ store_in error) × (new ≡ old)
+IsNotLent old new fault = (error : StoreError) × (fault ≡ store_in error) × KeepsFile old error × (new ≡ old)
 
 -- why the search of a task that is kept there has no answer
 abbrev pub FailsIn : Keeping → Task → List ℕ → Fault → Type 0
@@ -203,7 +268,8 @@ IsBegun Kept digest before begun = IsResumed digest before begun
 -- a search over a journal has no answer: memory ran out, and the journal is the same or a later
 -- one; or this is reported of the fault by which it ended
 abbrev pub IsRefusedRun : {S : Type 0} {G : Ghosts S} → Task → of.Journal S G → of.Journal S G → Fault → Type 0
-IsRefusedRun t old new fault = ((fault ≡ NoMemory) × Grows old new) ⊎ ((why : ThreadsFault) × (fault ≡ search_in why) × Tells t old new why)
+IsRefusedRun t old new fault =
+    ((fault ≡ NoMemory) × Grows old new) ⊎ ((why : ThreadsFault) × (fault ≡ search_in why) × Tells t old new why × IsFullRightly new why)
 
 -- an answer stands as it was found, or the device failed after it
 abbrev pub StandsOrFails : {X : Type 0} → Result X Fault → Result X Fault → Type 0

@@ -65,7 +65,7 @@ pub data NamesNothing (t : Task) (digest : List ℕ) (extent : Extent) (content 
 
 -- why a file names nothing: it was not read; or its bytes name nothing
 abbrev pub FailsToName : Task → List ℕ → Extent → Option (List ℕ) → Fault → Type 0
-FailsToName t digest extent file fault = IsUnread fault ⊎ OnContent file (λ content. NamesNothing t digest extent content fault)
+FailsToName t digest extent file fault = IsUnread file fault ⊎ OnContent file (λ content. NamesNothing t digest extent content fault)
 
 -- why no pairs are read: what is reported of the texts; or they say a task, and its journal in a
 -- file names nothing

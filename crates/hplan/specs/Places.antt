@@ -1,9 +1,21 @@
 -- Files in memory. (Our own.)
-use Rattle.std.specs.Prelude.{ℕ, ◌+◌, List, [], ◌∷◌, Option, Some, None, if◌then◌else◌, map, option_map, String, string_bytes}
+use Rattle.std.specs.Prelude.{◌≡◌, ℕ, ◌+◌, List, [], ◌∷◌, Option, Some, None, IfSome, if◌then◌else◌, map, option_map, String, string_bytes}
 use Rattle.std.specs.Str.{bytes_eq}
+use Rattle.std.specs.declared.io.ErrorKind.{ErrorKind}
+use Rattle.std.specs.declared.io.ErrorKind.TheVariants.{OutOfMemory}
+use Rattle.hd_store.specs.declared.error.StoreError.{StoreError}
+use Rattle.hd_store.specs.declared.error.StoreError.TheVariants.{NoMemory}
 use Rattle.hd_store.specs.declared.memory.MemoryDisk.{MemoryDisk}
 use Rattle.hd_store.specs.MemoryDisk.{device_of}
 use Rattle.hd_store.specs.Device.{content_of}
+
+-- why a file is not read: where its bytes are known, memory ran out
+abbrev pub MissesFile : Option (List ℕ) → ErrorKind → Type 0
+MissesFile file kind = IfSome file (λ bytes. kind ≡ OutOfMemory)
+
+-- why a file is not lent: where its bytes are known, memory ran out
+abbrev pub KeepsFile : Option (List ℕ) → StoreError → Type 0
+KeepsFile file error = IfSome file (λ bytes. error ≡ NoMemory)
 
 -- files as names with their bytes
 abbrev pub shown : {A : Type 0} → List (String A × MemoryDisk) → List (List ℕ × List ℕ)

@@ -92,7 +92,7 @@ TellsNothing t digest content fault = ShowsNothing t digest content fault ⊎ Is
 
 -- of a file: it was not read, or nothing is reported of its bytes
 abbrev pub FailsOnSurvey : Task → List ℕ → Option (List ℕ) → Fault → Type 0
-FailsOnSurvey t digest file fault = IsUnread fault ⊎ OnContent file (λ content. TellsNothing t digest content fault)
+FailsOnSurvey t digest file fault = IsUnread file fault ⊎ OnContent file (λ content. TellsNothing t digest content fault)
 
 -- why nothing is reported, or not all: what is reported of the texts; or they say a task, and
 -- nothing is reported of the file; or a beginning of what is to be told is written, and what is

@@ -3,12 +3,13 @@ ghost use Rattle.std.specs.Prelude.{◌≡◌, ◌⊎◌, IfOk, IfErr, IfSome, O
 ghost use Rattle.hd_image.specs.Image.{most_of};
 ghost use Rattle.hd_journal.specs.Journal.{found_in, version_in};
 ghost use Rattle.hd_certify.specs.Certificate.{IsTrueOf};
-ghost use Rattle.hplan.specs.Certifying.{CanBeTold, IsShownIn, IsToldBy, IsCertificate, IsCertificateText, OnContent, ShowsNothing, FailsOnFile, HasNoCertificate, HasNoCertificateYet};
+ghost use Rattle.hplan.specs.Certifying.{CanBeTold, IsShownIn, IsToldBy, IsCertificate, IsCertificateText, ShowsNothing, HasNoCertificate, HasNoCertificateYet};
 ghost use Rattle.hplan.specs.Written.{WritesA, WritesFrontOfA};
 
-use crate::fault::{Fault, certify_in, device_fault, journal_in};
+use crate::fault::{Fault, certify_in, journal_in};
 use crate::output::write_out;
 use crate::places::Places;
+use crate::reading::task_file;
 use crate::text::certified_text;
 use hd_base::Sequence;
 use hd_certify::Certified;
@@ -16,7 +17,6 @@ use hd_image::{Entry, Found, Version, read};
 use hd_journal::{DIGEST_LEN, JournalError};
 use hd_plan::Watched;
 use hd_task::Task;
-use hd_texts::{digest_of, task_of};
 use std::alloc::Global;
 use std::io::Write;
 
@@ -89,30 +89,6 @@ fn told_in(
     }
 }
 
-/// Returns what is reported of what the file of a journal shows of a task. The file is read, and
-/// left alone.
-fn told_of_file<P: Places>(
-    alloc: Global,
-    places: &mut P,
-    name: &str,
-    task: &Task,
-    digest: &[u8; DIGEST_LEN],
-) -> Result<Certificate, Fault>
-    ensures told { IfOk result (λ c. OnContent (P.file_of places.old name.now)
-        (λ content. IsToldBy task.now digest.now content c.is_certified c.text.items)) }
-    ensures refusal { IfErr result
-        (FailsOnFile task.now digest.now (P.file_of places.old name.now)) }
-    ensures alone { places.new ≡ places.old }
-{
-    let content = match places.read(alloc, name) {
-        Ok(content) => content,
-        Err(error) => return Err(device_fault(error)),
-    };
-    let told = told_in(alloc, task, digest, &content);
-    drop(content);
-    told
-}
-
 /// Returns what is reported of what the file of a journal shows of the task of two texts.
 fn certificate_of<P: Places>(
     alloc: Global,
@@ -127,15 +103,13 @@ fn certificate_of<P: Places>(
         (P.file_of places.old name.now)) }
     ensures alone { places.new ≡ places.old }
 {
-    match task_of(alloc, domain, problem) {
-        Ok(task) => {
-            let digest = digest_of(domain, problem);
-            let told = told_of_file(alloc, places, name, &task, &digest);
-            drop(task);
-            told
-        }
-        Err(fault) => Err(Fault::from(fault)),
-    }
+    let read = match task_file(alloc, places, name, domain, problem) {
+        Ok(read) => read,
+        Err(fault) => return Err(fault),
+    };
+    let told = told_in(alloc, &read.task, &read.digest, &read.content);
+    drop(read);
+    told
 }
 
 /// Reports what the journal in a file shows by itself of the task that two texts say, whoever made

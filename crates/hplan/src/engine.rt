@@ -128,9 +128,9 @@ fn write_told<W: Write>(
     }
 }
 
-/// Solves the task that two texts say, and writes the text of its plan, if it has one. It is
-/// searched by so many threads as there are to be workers, until as many plans are expanded as
-/// its limit says, if it has one. The search is kept in memory.
+/// Solves the task of `domain` and `problem`, and writes the text of its plan, if it has one. As
+/// many threads search as `how` has workers. If it has a limit, they stop once so many nodes, or
+/// some more, are expanded. The search is kept in memory.
 ///
 /// # Errors
 /// - The first fault of the texts, or why the search fails, or what is reported of the error that

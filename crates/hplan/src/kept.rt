@@ -1,16 +1,20 @@
 //! The search of a task by threads over a journal, in memory or in a file.
-ghost use Rattle.std.specs.Prelude.{◌≡◌, ◌≢◌, ℕ, true, is_some, List, IfOk, IfErr, OnOk};
+ghost use Rattle.std.specs.Prelude.{◌≡◌, ◌≢◌, ◌⊎◌, ℕ, true, is_some, List, IfOk, IfErr, OnOk};
 ghost use Rattle.hd_task.specs.declared.plan.Kid.{Kid};
-ghost use Rattle.hd_store.specs.Device.{content_of};
-ghost use Rattle.hd_journal.specs.Journal.{kids_of};
+ghost use Rattle.hd_image.specs.declared.version.Version.{Version};
+ghost use Rattle.hd_store.specs.Device.{content_of, refused};
+ghost use Rattle.hd_journal.specs.Journal.{IsOf, device_of, kids_of};
+ghost use Rattle.hd_journal.specs.Answers.{StandsIn, device_left};
+ghost use Rattle.hd_journal.specs.Moments.{IsSettled, LeavesSince};
 ghost use Rattle.hd_threads.specs.Growing.{Grows};
-ghost use Rattle.hd_threads.specs.Ending.{IsOutcomeOf, IsTrueOutcome};
+ghost use Rattle.hd_threads.specs.Ending.{IsOutcomeOf, IsTrueOutcome, cost_by, plan_in};
 ghost use Rattle.hd_threads.specs.Surviving.{Survives};
-ghost use Rattle.hd_search.specs.Fault.{Tells};
+ghost use Rattle.hd_search.specs.Fault.{IsFullRightly, Tells};
 ghost use Rattle.hd_words.specs.Request.{IsWorkers};
 ghost use Rattle.hplan.specs.declared.fault.Fault.TheVariants as faults;
 ghost use Rattle.hplan.specs.Answer.{IsSolution, IsKeptSolution};
-ghost use Rattle.hplan.specs.Kept.{IsBegun, IsKept, TellsOfFile, HasNoSolution, FailsIn, IsRefusedRun, StandsOrFails, InMemory, InFile};
+ghost use Rattle.hplan.specs.declared.kept.Start.TheVariants.{Kept};
+ghost use Rattle.hplan.specs.Kept.{HasGroups, HasSamePast, WasStopped, IsBegun, IsKept, TellsOfFile, HasNoSolution, FailsIn, IsRefusedRun, StandsOrFails, InMemory, InFile};
 ghost use Rattle.hplan.specs.PlanText.{printed};
 
 use crate::fault::{Fault, journal_in, search_in, store_in};
@@ -66,9 +70,13 @@ fn concluded_of<S: Store, R: Threads + Wait + Sync + Eprint + Clock>(
     ensures answer { IfOk result (λ e.
         IsOutcomeOf task.now how.limit (kids_of journal.new) e.outcome) }
     ensures truth { IfOk result (λ e. IsTrueOutcome task.now e.outcome) }
+    ensures cost { IfOk result (λ e. e.cost ≡ cost_by task.now (plan_in e.outcome)) }
     ensures grows { OnOk result (Grows journal.old journal.new) }
     ensures told { IfErr result (Tells task.now journal.old journal.new) }
+    ensures full { IfErr result (IsFullRightly journal.new) }
     ensures survives { Survives task.now journal.old journal.new }
+    ensures settled { IsSettled (device_of journal.old)
+        → OnOk result (IsSettled (device_of journal.new)) }
 {
     let workers = how.workers as usize;
     let found = journal.entries().len() as u64;
@@ -102,12 +110,14 @@ fn solution_of<S: Store, R: Threads + Wait + Sync + Eprint + Clock>(
     ensures grows { OnOk result (Grows journal.old journal.new) }
     ensures refusal { IfErr result (IsRefusedRun task.now journal.old journal.new) }
     ensures survives { Survives task.now journal.old journal.new }
+    ensures settled { IsSettled (device_of journal.old)
+        → OnOk result (IsSettled (device_of journal.new)) }
 {
     let concluded = match concluded_of(rt, alloc, task, journal, how) {
         Ok(concluded) => concluded,
         Err(fault) => return Err(search_in(fault)),
     };
-    match told_of(alloc, task, &concluded.outcome) {
+    match told_of(alloc, task, &concluded.outcome, concluded.cost) {
         Ok(told) => Ok(told),
         Err(_) => Err(Fault::NoMemory),
     }
@@ -121,6 +131,14 @@ fn journal_on<S: Store>(
     store: S,
 ) -> Result<Journal<S>, (S, JournalError)>
     ensures begun { IfOk result (IsBegun start digest.now (content_of (S.device store))) }
+    ensures settled { IsSettled (S.device store)
+        → IfOk result (λ journal. IsSettled (device_of journal)) }
+    ensures groups { (v : Version) (groups : List (List Kid)) → start ≡ Kept
+        → StandsIn v digest.now groups (content_of (S.device store))
+        → IfOk result (λ journal. (journal.version ≡ v) × IsOf digest.now groups journal) }
+    ensures moments { (v : Version) (groups : List (List Kid)) (next : List Kid) → start ≡ Kept
+        → WasStopped v digest.now groups next (S.device store)
+        → LeavesSince (HasGroups v digest.now groups) (S.device store) (device_left result) }
     ensures refused { IfErr result (λ e. TellsOfFile start digest.now
         (content_of (S.device store)) (content_of (S.device e.0)) e.1) }
 {
@@ -135,6 +153,8 @@ fn journal_on<S: Store>(
 fn looked_again<S: Store>(store: S, found: Result<Told, Fault>) -> (S, Result<Told, Fault>)
     ensures same { content_of (S.device result.0) ≡ content_of (S.device store) }
     ensures stands { StandsOrFails found result.1 }
+    ensures past { HasSamePast (S.device store) (S.device result.0) }
+    ensures failed { (result.1 ≡ found) ⊎ (S.device result.0 ≡ refused (S.device store)) }
 {
     let mut store = store;
     match (store.len(), found) {
@@ -161,6 +181,13 @@ fn solution_on<S: Store, R: Threads + Wait + Sync + Eprint + Clock>(
         (content_of (S.device result.0))) }
     ensures refusal { IfErr result.1 (HasNoSolution start task.now digest.now
         (content_of (S.device store)) (content_of (S.device result.0))) }
+    // Where nothing was pending on the device: all that the answer stands on is made sure of.
+    ensures settled { IsSettled (S.device store)
+        → OnOk result.1 (IsSettled (S.device result.0)) }
+    // Whatever a further stop leaves, at any moment, has the groups that the earlier one left.
+    ensures moments { (v : Version) (groups : List (List Kid)) (next : List Kid) → start ≡ Kept
+        → WasStopped v digest.now groups next (S.device store)
+        → LeavesSince (HasGroups v digest.now groups) (S.device store) (S.device result.0) }
 {
     match journal_on(alloc, start, digest, store) {
         Ok(journal) => {

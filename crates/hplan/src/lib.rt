@@ -24,6 +24,7 @@ mod naming;
 mod output;
 mod places;
 mod program;
+mod reading;
 mod reasons;
 mod replaying;
 mod streams;

@@ -3,22 +3,22 @@ ghost use Rattle.std.specs.Prelude.{◌≡◌, ◌≢◌, ◌⊎◌, ℕ, List, 
 ghost use Rattle.std.specs.List.{list_all};
 ghost use Rattle.hd_image.specs.declared.version.Version.TheVariants.{Two};
 ghost use Rattle.hd_image.specs.Image.{fits_parent};
-ghost use Rattle.hplan.specs.Certifying.{OnContent};
 ghost use Rattle.hplan.specs.Kept.{OnFile};
-ghost use Rattle.hplan.specs.Migrating.{AreNotMoved, AreRead, FailsToCopy, FailsToName, HasNoKids, HasNoMigration, HasNoMigrationYet, IsCopied, IsFoundBy, IsLostBy, IsMigration, IsNamedIn, NamesNothing, migrated_text, moving};
+ghost use Rattle.hplan.specs.Migrating.{AreNotMoved, AreRead, FailsToCopy, HasNoKids, HasNoMigration, HasNoMigrationYet, IsCopied, IsFoundBy, IsLostBy, IsMigration, IsNamedIn, NamesNothing, migrated_text, moving};
 ghost use Rattle.hplan.specs.Written.{WritesA, WritesFrontOfA};
 
 use crate::certifying::entries_of;
-use crate::fault::{Fault, certify_in, device_fault, journal_in, store_in};
+use crate::fault::{Fault, certify_in, journal_in, store_in};
 use crate::output::write_out;
 use crate::places::Places;
+use crate::reading::task_file;
 use crate::text::migrated_text;
 use hd_certify::legal_kids;
 use hd_image::read;
 use hd_journal::{DIGEST_LEN, ImageError, JournalError, Kid, Salvaged, copy, salvage};
 use hd_plan::Watched;
 use hd_task::Task;
-use hd_texts::{digest_of, task_of};
+use hd_texts::digest_of;
 use std::alloc::Global;
 use std::io::Write;
 
@@ -96,31 +96,6 @@ fn named_in(
     }
 }
 
-/// Returns the pairs of the entries of the file `name`, which name a legal list of `task`. The file
-/// is read, and left alone.
-fn named_in_file<P: Places>(
-    alloc: Global,
-    places: &mut P,
-    name: &str,
-    task: &Task,
-    digest: &[u8; DIGEST_LEN],
-    extent: Extent,
-) -> Result<NamedKids, Fault>
-    ensures named { IfOk result (λ n. OnContent (P.file_of places.old name.now)
-        (λ content. IsNamedIn task.now digest.now extent content n.dropped n.kids.items)) }
-    ensures fit { IfOk result (λ n.
-        list_all (λ kid. fits_parent Two kid.parent) n.kids.items ≡ true) }
-    ensures refusal { IfErr result
-        (FailsToName task.now digest.now extent (P.file_of places.old name.now)) }
-    ensures alone { places.new ≡ places.old }
-{
-    let content = match places.read(alloc, name) {
-        Ok(content) => content,
-        Err(error) => return Err(device_fault(error)),
-    };
-    named_in(alloc, task, digest, extent, content)
-}
-
 /// Returns the pairs of the entries of the journal of two texts, in a file.
 fn kids_of<P: Places>(
     alloc: Global,
@@ -138,15 +113,14 @@ fn kids_of<P: Places>(
         (HasNoKids domain.now problem.now extent (P.file_of places.old name.now)) }
     ensures alone { places.new ≡ places.old }
 {
-    match task_of(alloc, domain, problem) {
-        Ok(task) => {
-            let digest = digest_of(domain, problem);
-            let named = named_in_file(alloc, places, name, &task, &digest, extent);
-            drop(task);
-            named
-        }
-        Err(fault) => Err(Fault::from(fault)),
-    }
+    let read = match task_file(alloc, places, name, domain, problem) {
+        Ok(read) => read,
+        Err(fault) => return Err(fault),
+    };
+    let content = read.content;
+    let named = named_in(alloc, &read.task, &read.digest, extent, content);
+    drop(read.task);
+    named
 }
 
 /// Writes entries to a file that is not there or empty, as a journal of version two.

@@ -1,11 +1,10 @@
 //! Plans by the names of their steps.
-ghost use Rattle.std.specs.Prelude.{◌≡◌, false, IfOk, MatchOption, map};
-ghost use Rattle.hd_plan.specs.PlanText as plans;
+ghost use Rattle.std.specs.Prelude.{◌≡◌, Some, IfOk, map};
 ghost use Rattle.hd_task.specs.FormText.{name_at};
 ghost use Rattle.hd_texts.specs.Printing.{step_of, step_at, steps_of};
-ghost use Rattle.hplan.specs.PlanText.{plan_text, goes_through};
+ghost use Rattle.hd_threads.specs.Ending.{cost_by};
+ghost use Rattle.hplan.specs.PlanText.{plan_text, printed};
 
-use crate::cost::cost_of;
 use hd_base::{Name, NoMemory, Sequence};
 use hd_plan::Step;
 use hd_task::{ActionId, GroundForm, Names, Plan, Task};
@@ -73,13 +72,17 @@ fn steps_of(alloc: Global, task: &Task, plan: &Plan) -> Result<Sequence<Step>, N
     Ok(Sequence::from_vec(steps))
 }
 
-/// Returns `plan` by the names of its steps, with its cost; none if a step is not applicable.
-pub fn named_plan(alloc: Global, task: &Task, plan: &Plan) -> Result<Option<NamedPlan>, NoMemory>
-    ensures { IfOk result (λ found. MatchOption found
-        (goes_through task.now plan.now ≡ false)
-        (λ named. plans.plan_text named.steps named.cost ≡ plan_text task.now plan.now)) }
+/// Returns `plan` by the names of its steps, with its cost; none if it has none.
+pub fn named_plan(
+    alloc: Global,
+    task: &Task,
+    plan: &Plan,
+    cost: Option<u64>,
+) -> Result<Option<NamedPlan>, NoMemory>
+    requires { cost ≡ cost_by task.now (Some plan.now) }
+    ensures { IfOk result (λ named. printed named ≡ plan_text task.now plan.now) }
 {
-    let Some(cost) = cost_of(alloc, task, plan)? else {
+    let Some(cost) = cost else {
         return Ok(None);
     };
     let steps = steps_of(alloc, task, plan)?;

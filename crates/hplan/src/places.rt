@@ -1,8 +1,9 @@
 //! Where the program's files are.
-ghost use Rattle.std.specs.Prelude.{◌≡◌, ◌≢◌, List, ℕ, ◌++◌, ◌<◌, [], ◌∷◌, None, Some, true, is_some, IfOk, IfSome, OnOk, OnErr, MatchResult, length, option_map, slice_get, slice_set};
+ghost use Rattle.std.specs.Prelude.{◌≡◌, ◌≢◌, List, ℕ, ◌++◌, ◌<◌, [], ◌∷◌, None, Some, true, is_some, IfErr, IfOk, IfSome, OnOk, OnErr, MatchResult, length, option_map, slice_get, slice_set};
+ghost use Rattle.std.specs.IoError.{error_kind};
 ghost use Rattle.hd_store.specs.Device.{content_of};
 ghost use Rattle.hd_store.specs.MemoryDisk.{device_of};
-ghost use Rattle.hplan.specs.Places.{file_in, place_in, shown};
+ghost use Rattle.hplan.specs.Places.{KeepsFile, MissesFile, file_in, place_in, shown};
 
 use crate::streams::{is_output, is_same_file};
 use hd_image::FIRST_GATE;
@@ -23,17 +24,20 @@ pub trait Places {
     /// A file that is lent.
     type Disk: Store + Drop;
 
-    /// Returns the bytes of a file, whole.
+    /// Returns the bytes of a file, whole. One whose bytes are known is read, if there is memory.
     fn read(&mut self, alloc: Global, name: &str) -> io::Result<Vec<u8>>
         ensures bytes { IfOk result (λ v.
             IfSome (file_of self.old name.now) (λ bytes. v.items ≡ bytes)) }
+        ensures missed { IfErr result (λ e.
+            MissesFile (file_of self.old name.now) (error_kind e)) }
         ensures alone { self.new ≡ self.old };
 
     /// Lends a file, and makes it, empty, if it is to be made and is not there. It is to be given
     /// back. All others are as they were.
     ///
     /// # Errors
-    /// - A failure where it can't be had. Lack of memory. All files are then as they were.
+    /// - A failure where it can't be had: one whose bytes are known can. Lack of memory. All files
+    ///   are then as they were.
     fn store(&mut self, alloc: Global, name: &str, make: bool) -> Result<Self::Disk, StoreError>
         ensures lent { IfOk result (λ disk. IfSome (file_of self.old name.now)
             (λ bytes. content_of (Self.Disk.device disk) ≡ bytes)) }
@@ -41,6 +45,7 @@ pub trait Places {
             → is_some (file_of self.new name.now) ≡ true }
         ensures others { (other : List ℕ) → other ≢ name.now
             → file_of self.new other ≡ file_of self.old other }
+        ensures kept { IfErr result (KeepsFile (file_of self.old name.now)) }
         ensures err { OnErr result (self.new ≡ self.old) };
 
     /// Takes a file back, as it is now: one that is known is known still. All others are as they
@@ -270,6 +275,8 @@ impl Places for Shelf {
 
     fn read(&mut self, alloc: Global, name: &str) -> io::Result<Vec<u8>>
         ensures found { IfOk result (λ v. file_in self.old name.now ≡ Some v.items) }
+        ensures missed { IfErr result (λ e.
+            MissesFile (file_in self.old name.now) (error_kind e)) }
         ensures alone { self.new ≡ self.old }
     {
         let Some(bytes) = find(self.files.as_slice(), name) else {

@@ -4,21 +4,21 @@ ghost use Rattle.hd_journal.specs.Journal.{found_in};
 ghost use Rattle.hd_image.specs.Reading.{IsFound};
 ghost use Rattle.hd_image.specs.declared.contents.Found.{Found as FoundData};
 ghost use Rattle.hd_certify.specs.Survey.{IsSurveyOf};
-ghost use Rattle.hplan.specs.Certifying.{OnContent, ShowsNothing};
-ghost use Rattle.hplan.specs.Surveying.{FailsOnSurvey, HasNoSurvey, HasNoSurveyYet, IsSurveyText, IsSurveyedIn, TellsNothing};
+ghost use Rattle.hplan.specs.Certifying.{ShowsNothing};
+ghost use Rattle.hplan.specs.Surveying.{HasNoSurvey, HasNoSurveyYet, IsSurveyText, IsSurveyedIn, TellsNothing};
 ghost use Rattle.hplan.specs.Written.{WritesA, WritesFrontOfA};
 
 use crate::certifying::entries_of;
-use crate::fault::{Fault, certify_in, device_fault, journal_in};
+use crate::fault::{Fault, certify_in, journal_in};
 use crate::output::write_out;
 use crate::places::Places;
+use crate::reading::task_file;
 use crate::survey_text::survey_text;
 use hd_certify::Survey;
 use hd_image::read;
 use hd_journal::{DIGEST_LEN, JournalError};
 use hd_plan::Watched;
 use hd_task::Task;
-use hd_texts::{digest_of, task_of};
 use std::alloc::Global;
 use std::io::Write;
 
@@ -70,30 +70,6 @@ fn surveyed_in(
     }
 }
 
-/// Returns what is reported of the content of the file `name`, and of the search in it. The file is
-/// read, and left alone.
-fn surveyed_in_file<P: Places>(
-    alloc: Global,
-    places: &mut P,
-    name: &str,
-    task: &Task,
-    digest: &[u8; DIGEST_LEN],
-) -> Result<Vec<u8>, Fault>
-    ensures told { IfOk result (λ text. OnContent (P.file_of places.old name.now)
-        (λ content. IsSurveyedIn task.now digest.now content text.items)) }
-    ensures refusal { IfErr result
-        (FailsOnSurvey task.now digest.now (P.file_of places.old name.now)) }
-    ensures alone { places.new ≡ places.old }
-{
-    let content = match places.read(alloc, name) {
-        Ok(content) => content,
-        Err(error) => return Err(device_fault(error)),
-    };
-    let told = surveyed_in(alloc, task, digest, &content);
-    drop(content);
-    told
-}
-
 /// Returns what is reported of the journal of two texts in a file, and of the search in it.
 fn survey_of<P: Places>(
     alloc: Global,
@@ -108,15 +84,13 @@ fn survey_of<P: Places>(
         (P.file_of places.old name.now)) }
     ensures alone { places.new ≡ places.old }
 {
-    match task_of(alloc, domain, problem) {
-        Ok(task) => {
-            let digest = digest_of(domain, problem);
-            let told = surveyed_in_file(alloc, places, name, &task, &digest);
-            drop(task);
-            told
-        }
-        Err(fault) => Err(Fault::from(fault)),
-    }
+    let read = match task_file(alloc, places, name, domain, problem) {
+        Ok(read) => read,
+        Err(fault) => return Err(fault),
+    };
+    let told = surveyed_in(alloc, &read.task, &read.digest, &read.content);
+    drop(read);
+    told
 }
 
 /// Reports what the bytes of a file are, as `inspect` does, and after it how far the search of the
@@ -126,10 +100,7 @@ fn survey_of<P: Places>(
 /// alone.
 ///
 /// # Errors
-/// - The first fault of the texts; that the file can't be read; why its bytes are no journal of
-///   theirs; the first entry that is no step of a search of the task; or what is reported of the
-///   error that the writer has answered. A beginning of the text has then been written, and not all
-///   of it, and else nothing.
+/// - As [`certify`](crate::certify), with the text of the survey.
 pub fn survey<P: Places, W: Write>(
     alloc: Global,
     places: &mut P,

@@ -18,3 +18,6 @@ returns-clause-committer g c =
       some = c.requires.some;
       counted = c.in_ok-desk.ensures.amount ∙ c.requires.acknowledged;
     }
+
+pub returns-clause-bound : goal.returns-clause-bound
+returns-clause-bound g c = record { start = c.in_ok-desk.ensures.bound; seen = c.in_ok-places.ensures.bound }

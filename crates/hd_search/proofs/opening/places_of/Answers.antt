@@ -5,7 +5,7 @@ use Rattle.std.proofs.lemmas.List.{nil_from_length}
 use Rattle.hd_base.proofs.Lists.{AllByRecursion-push}
 use Rattle.hd_turns.specs.Worker.{WorkerView}
 use Rattle.hd_threads.specs.Placing.{IsAt}
-use Rattle.hd_search.specs.Opening.{IsFresh}
+use Rattle.hd_search.specs.Opening.{IsFresh, HasSeenStart}
 use Rattle.hd_search.proofs.Places.{one_more, workers_at}
 use Rattle.hd_search.proofs.Seating.{room_for}
 use Rattle.hd_search.proofs.opening.places_of.Goals as goal
@@ -19,6 +19,7 @@ loop-worker-init g c =
       fresh = subst (AllByRecursion (IsFresh c.args.task.now)) (sym gives.0) c.requires.fresh;
       room = λ log room. room_for _ _ _ _ _ _ (sym (ap length gives.0)) room;
       each = subst (AllByRecursion (IsAt c.args.desk.now)) (sym none) tt;
+      seen = subst (AllByRecursion (HasSeenStart c.args.desk.now)) (sym none) tt;
       same = ap (λ xs. workers_at xs ++ into_iter_items c.into_iter-worker-iterator.result) none ∙ gives.0;
     }
 
@@ -51,6 +52,9 @@ loop-worker-preserved g c =
       each =
           subst (AllByRecursion (IsAt c.args.desk.now)) (sym c.in_ok-push.ensures.items)
           (AllByRecursion-push (IsAt c.args.desk.now) c.loop-worker.places.items _ was.each place.ensures.at);
+      seen =
+          subst (AllByRecursion (HasSeenStart c.args.desk.now)) (sym c.in_ok-push.ensures.items)
+          (AllByRecursion-push (HasSeenStart c.args.desk.now) c.loop-worker.places.items _ was.seen place.ensures.bound);
       same =
           ap (λ xs. workers_at xs ++ rest) c.in_ok-push.ensures.items
           ∙ one_more c.loop-worker.places.items _ rest c.args.workers.items

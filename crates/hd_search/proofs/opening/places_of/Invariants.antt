@@ -3,7 +3,7 @@ use Rattle.std.specs.List.{AllByRecursion}
 use Rattle.std.specs.Vec.Iter.{into_iter_items, into_iter_len}
 use Rattle.hd_task.specs.declared.plan.Kid.{Kid}
 use Rattle.hd_threads.specs.Placing.{IsAt}
-use Rattle.hd_search.specs.Opening.{IsFresh, HasRoom}
+use Rattle.hd_search.specs.Opening.{IsFresh, HasRoom, HasSeenStart}
 use Rattle.hd_search.proofs.opening.places_of.Given as goal
 
 -- the workers so far are at their places, and there is room for the others
@@ -15,5 +15,6 @@ invariant-loop-worker g l = record {
       (log : List Kid) → HasRoom l.task log l.desk (length l.fn.workers.items) l.fn.rest
       → HasRoom l.task log l.desk (length (into_iter_items l.worker-iterator)) l.rest;
   each : AllByRecursion (IsAt l.desk) l.places.items;
+  seen : AllByRecursion (HasSeenStart l.desk) l.places.items;
   same : map (λ p. p.worker) l.places.items ++ into_iter_items l.worker-iterator ≡ l.fn.workers.items;
 }

@@ -6,6 +6,7 @@ use Rattle.hd_entries.specs.Holding.{parcel_of}
 use Rattle.hd_turns.specs.Calls.{after_releasing}
 use Rattle.hd_threads.specs.declared.shared.Given.TheVariants.{Parcels, NotYet}
 use Rattle.hd_threads.specs.Shared.{IsGivenBy, IsGivenIn}
+use Rattle.hd_threads.proofs.Redeeming.{given_released}
 use Rattle.hd_threads.proofs.working.redeem_next.Goals as goal
 
 pub returns-else-len-kids-clause-redeemed : goal.returns-else-len-kids-clause-redeemed
@@ -16,10 +17,12 @@ returns-else-len-kids-clause-redeemed g c =
     let count : length parcels.kids ≡ length items = ap length (sym kids) ∙ length-map items parcel_of in
     let log = (view c.redeem_inside.new.pass).seen.log in
     let ticket = c.args.held.ticket in
-    let given = subst (IsGivenIn (view c.args.pass.now).seen.task log ticket) c.in-Ok-Parcels.field-0-is c.in-Ok-Parcels.ensures.given in
+    let first = subst (IsGivenIn (view c.args.pass.now).seen.task log ticket) c.in-Ok-Parcels.field-0-is c.in-Ok-Parcels.ensures.given in
+    let given = subst (λ t. IsGivenBy t log ticket (Parcels parcels)) c.requires.task first in
     record {
       parcels = parcels;
-      given = subst (λ t. IsGivenBy t log ticket (Parcels parcels)) c.requires.task given;
+      given = given;
+      released = given_released c.args.worker.now.task log ticket parcels given;
       few = omega (arith, count, c.len.ensures, c.if-len-kids.false);
       opens = subst (λ ks. c.released.new.self ≡ after_releasing ks c.args.worker.now) kids c.released.ensures;
     }

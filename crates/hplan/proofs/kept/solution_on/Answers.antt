@@ -7,6 +7,7 @@ use Rattle.hplan.specs.Answer.{IsSolution}
 use Rattle.hplan.specs.PlanText.{printed}
 use Rattle.hplan.specs.Kept.{IsKept, HasNoSolution}
 use Rattle.hplan.proofs.Keeping.{not_begun, solved_on, unsolved_on, failed_behind, answer_stands, fault_stands}
+use Rattle.hplan.proofs.Stops.{has_while_searched, has_throughout}
 use Rattle.hplan.proofs.kept.solution_on.Goals as goal
 
 pub returns-in-Ok-clause-found : goal.returns-in-Ok-clause-found
@@ -38,3 +39,17 @@ returns-in-Err-clause-refusal g c =
     let after = content_of (g.S.Store.device c.in-Err.store) in
     subst (HasNoSolution c.args.start c.args.task.now c.args.digest.now before after) (sym c.journal_in.ensures)
     (not_begun c.args.start c.args.task.now c.args.digest.now before after c.in-Err.error c.in-Err.ensures.refused)
+
+pub returns-in-Ok-clause-moments : goal.returns-in-Ok-clause-moments
+returns-in-Ok-clause-moments g c = λ v groups next kept stopped.
+    let settled = c.in-Ok.ensures.settled stopped.settled in
+    let searched =
+    has_while_searched v c.args.digest.now groups c.args.task.now c.in-Ok.journal c.solution_of-found.new.journal
+    c.solution_of-found.ensures.survives settled next _ stopped
+    (λ all stand. c.in-Ok.ensures.groups v all kept stand)
+    in
+    has_throughout v c.args.digest.now groups _ _ _ _ (c.in-Ok.ensures.moments v groups next kept stopped) searched
+    (record {
+      start = c.looked_again.ensures.past.start ∙ ap (λ d. d.start) c.into_store.ensures;
+      steps = c.looked_again.ensures.past.steps ∙ ap (λ d. d.steps) c.into_store.ensures;
+    })
